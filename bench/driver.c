@@ -96,7 +96,7 @@ static int race(char *names, double limit)
             double start = processor_time();
             measured();
             double took = processor_time() - start;
-            least[at] = took < least[at] ? took : least[at];
+            least[at] = took > 0 && took < least[at] ? took : least[at];
         }
     for (int at = 0; at < count; at++)
         printf("%.0f%c", least[at], at + 1 < count ? ' ' : '\n');

@@ -6,7 +6,7 @@ pub use Rattle.fax_bits.specs.CodeReading.{Has, IsCut, NoneStands, PrefixFree, R
 pub use Rattle.fax_bits.specs.CodeReading.{is_cut, is_prefix, is_prefix_free, leading_zeros, read_code, word_at}
 pub use Rattle.fax_bits.specs.EndOfLine.{after_eol, all_eols, eols, eols_with_tags, next_eol, one_more, pass_last_tag}
 pub use Rattle.fax_bits.specs.EndOfLine.{past_tag, tagged_eols}
-pub use Rattle.fax_bits.specs.Faults.{ByKind, ErrorKind, IsFault, kind_of}
+pub use Rattle.fax_bits.specs.Faults.{ByKind, ErrorKind, IsFault, is_memory, kind_of, misses_end, no_memory}
 pub use Rattle.fax_bits.specs.LookUps.{AreEntriesOf, lookup_bits}
 pub use Rattle.fax_bits.specs.LookUps.{AreEntries, ArePairs, ColorEntries, entries_of, entry_of, is_row, longest_agreement}
 pub use Rattle.fax_bits.specs.LookUps.{mode_told, padded, pair_entry, run_or_none, telling_bits, index_bits}

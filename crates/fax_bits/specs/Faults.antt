@@ -1,4 +1,6 @@
--- The errors of decoding by their kind: faults of the data, allocation failures, and refusals.
+-- The errors of decoding by their kind: faults of the data, allocation failures, and refusals. Only here and for their texts are
+-- they listed.
+use Rattle.std.specs.Prelude.{ℕ, Bool, true, false}
 use Rattle.fax_bits.specs.declared.error.DecodeError.{DecodeError}
 use Rattle.fax_bits.specs.declared.error.DecodeError.TheVariants.{UnexpectedEof, InvalidCode, Overflow, OutOfMemory, Refused}
 
@@ -25,3 +27,28 @@ ByKind ErrorKind.refusal OfFault OfMemory OfRefusal = OfRefusal
 -- an error that is a fault of the data
 abbrev pub IsFault : DecodeError → Type 0
 IsFault e = ByKind (kind_of e) (Unit {0}) ⊥ ⊥
+
+-- auxiliary: it is the end of the data that is missing
+abbrev pub misses_end : DecodeError → Bool
+misses_end UnexpectedEof = true
+misses_end InvalidCode = false
+misses_end Overflow = false
+misses_end OutOfMemory = false
+misses_end Refused = false
+
+-- one, if a word that was looked for isn't there (auxiliary)
+abbrev pub missed_words : DecodeError → ℕ
+missed_words UnexpectedEof = 1
+missed_words InvalidCode = 1
+missed_words Overflow = 0
+missed_words OutOfMemory = 0
+missed_words Refused = 0
+
+-- auxiliary: an allocation failed
+abbrev pub is_memory : ErrorKind → Bool
+is_memory ErrorKind.fault = false
+is_memory ErrorKind.memory = true
+is_memory ErrorKind.refusal = false
+
+abbrev pub no_memory : DecodeError → Bool
+no_memory e = is_memory (kind_of e)

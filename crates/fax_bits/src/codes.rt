@@ -169,7 +169,8 @@ pub fn mode_of(bits: u32) -> (Option<Mode>, usize)
 /// Returns whether a mode is V0.
 #[inline(always)]
 fn is_v0(mode: Option<Mode>) -> bool
-    ensures { result ≡ true → mode ≡ Some (Mode.Vertical (pos 0)) }
+    ensures v0 { result ≡ true → mode ≡ Some (Mode.Vertical (pos 0)) }
+    ensures other { result ≡ false → mode ≢ Some (Mode.Vertical (pos 0)) }
 {
     matches!(mode, Some(Mode::Vertical(0)))
 }
@@ -268,6 +269,16 @@ impl<'a> BitReader<'a> {
         ensures narrow { result.1 ≤ 15 }
     {
         let entry = tables.lookup(color)[self.run_index(skip, color)];
+        (u32::from(entry & LOOKUP_INVALID), usize::from(entry >> 12))
+    }
+
+    /// Returns the run and the number of bits of the code word that may be after the next `skip` bits: it is, as far as the window
+    /// reaches.
+    #[inline(always)]
+    fn word_ahead(&self, skip: usize, color: Color, tables: &Tables) -> (u32, usize)
+        ensures narrow { result.1 ≤ 15 }
+    {
+        let entry = tables.lookup(color)[self.index_ahead(skip, color)];
         (u32::from(entry & LOOKUP_INVALID), usize::from(entry >> 12))
     }
 
@@ -803,6 +814,7 @@ impl<'a> BitScanner<'a> {
     pub fn pass_v0(&mut self) -> bool
         ensures mode { result ≡ true
             → read_code mode_codes (here self.old) ≡ Ok (Mode.Vertical (pos 0), here self.new) }
+        ensures other { result ≡ false → (rest : Bits) → read_code mode_codes (here self.old) ≢ Ok (Mode.Vertical (pos 0), rest) }
         ensures same_bits { self.new.bits ≡ self.old.bits }
         ensures unchanged { result ≡ false → self.new ≡ self.old }
     {
@@ -840,36 +852,61 @@ impl<'a> BitScanner<'a> {
     }
 }
 
-/// Returns whether a white run and a black one, after the next `skip` bits, are likely not to have one or two words each: one of
-/// them begins with the longest make-up word and another one, or the black one with the longest.
+/// For each seven bits, how many of them there are up to the end of a horizontal mode that is the first of them, or is after V0,
+/// VR1, VL1 or pass mode; or 0. The first run is black if it is after a vertical mode, and then the number is even.
+#[rattlefmt::skip]
+const HORIZONTAL_ENDS: [u8; 128] = [
+    0, 0, 0, 0, 0, 0, 0, 0, 0, 7, 0, 0, 0, 0, 0, 0,
+    3, 3, 3, 3, 3, 3, 3, 3, 3, 3, 3, 3, 3, 3, 3, 3,
+    0, 0, 6, 6, 0, 0, 0, 0, 0, 0, 0, 0, 0, 0, 0, 0,
+    0, 0, 6, 6, 0, 0, 0, 0, 0, 0, 0, 0, 0, 0, 0, 0,
+    0, 0, 0, 0, 0, 0, 0, 0, 4, 4, 4, 4, 4, 4, 4, 4,
+    0, 0, 0, 0, 0, 0, 0, 0, 0, 0, 0, 0, 0, 0, 0, 0,
+    0, 0, 0, 0, 0, 0, 0, 0, 0, 0, 0, 0, 0, 0, 0, 0,
+    0, 0, 0, 0, 0, 0, 0, 0, 0, 0, 0, 0, 0, 0, 0, 0,
+];
+
+/// Returns how many bits there are up to the end of a horizontal mode that is next, or after V0, VR1, VL1 or pass mode; or 0 if there
+/// is none.
 #[inline(always)]
-pub fn is_long_pair(reader: &BitReader<'_>, skip: usize, tables: &Tables) -> bool
-    requires near { skip ≤ 5 }
-{
-    let (first, width) = reader.word_behind(skip, Color::White, tables);
-    let mut behind = skip + width;
+pub fn horizontal_ends(reader: &BitReader<'_>) -> u8 {
+    HORIZONTAL_ENDS[(reader.peek_u32() >> 25) as usize]
+}
+
+/// Returns whether two runs after the next `skip` bits, the first of this colour, are likely not to have one or two words each: one
+/// of them begins with a make-up word and another one, or the second with the longest.
+#[inline(always)]
+pub fn is_long_pair(reader: &BitReader<'_>, skip: u8, color: Color, tables: &Tables) -> bool {
+    let start = usize::from(skip);
+    let (first, width) = reader.word_ahead(start, color, tables);
+    let mut behind = start + width;
     if first >= 64 {
-        let (second, more) = reader.word_behind(behind, Color::White, tables);
-        if second >= 64 {
+        let (next, more) = reader.word_ahead(behind, color, tables);
+        if next >= 64 {
             return true;
         }
         behind += more;
-        if behind > 20 {
-            return false;
-        }
     }
-    let (black, _) = reader.word_behind(behind, Color::Black, tables);
-    black == 2560
+    let (second, _) = reader.word_ahead(behind, color.opposite(), tables);
+    second == 2560
+}
+
+/// The same behind the modes of `horizontal_ends`. This is a call, so that other lines cost nothing for it.
+#[inline(never)]
+pub fn is_long_behind_modes(reader: &BitReader<'_>, skip: u8, tables: &Tables) -> bool {
+    if skip % 2 == 0 {
+        is_long_pair(reader, skip, Color::Black, tables)
+    } else {
+        is_long_pair(reader, skip, Color::White, tables)
+    }
 }
 
 /// Consumes V0 if it is here, and returns whether it is; otherwise nothing changes.
 #[inline(always)]
 pub fn pass_v0(reader: &mut BitReader<'_>) -> bool
-    ensures mode { result ≡ true → read_code mode_codes (here reader.old) ≡ Ok (
-      Mode.Vertical (pos 0),
-      here (moved 1
-          reader.old),
-    ) }
+    ensures mode { result ≡ true → read_code mode_codes (here reader.old)
+        ≡ Ok (Mode.Vertical (pos 0), here (moved 1 reader.old)) }
+    ensures other { result ≡ false → (rest : Bits) → read_code mode_codes (here reader.old) ≢ Ok (Mode.Vertical (pos 0), rest) }
     ensures passed { result ≡ true → reader.new ≡ moved 1 reader.old }
     ensures unchanged { result ≡ false → reader.new ≡ reader.old }
 {

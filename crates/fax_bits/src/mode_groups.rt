@@ -1,6 +1,7 @@
 //! Groups of modes: the vertical modes that ten bits begin with, four at most, by those bits (T.4, table 4).
 
-ghost use Rattle.std.specs.Prelude.{◌≡◌, ◌-◌, ◌%◌, ◌^◌, ◌+◌, ◌<◌, ◌≤◌, ℕ, Some, true, Ok, length, get_or, take};
+ghost use Rattle.std.specs.Prelude.{◌≡◌, ◌-◌, ◌%◌, ◌^◌, ◌+◌, ◌<◌, ◌≤◌, ◌≢◌, ℕ, Some, false, true, Ok};
+ghost use Rattle.std.specs.Prelude.{length, get_or, take};
 ghost use Rattle.fax_bits.specs.Bits.{here};
 ghost use Rattle.fax_bits.specs.CodeLists.{mode_codes};
 ghost use Rattle.fax_bits.specs.CodeReading.{read_code};
@@ -117,7 +118,8 @@ impl ModeGroup {
     /// Returns whether the first mode is the horizontal mode.
     #[inline(always)]
     pub fn is_horizontal(self) -> bool
-        ensures { result ≡ true → first_mode self ≡ Some Mode.Horizontal }
+        ensures horizontal { result ≡ true → first_mode self ≡ Some Mode.Horizontal }
+        ensures other { result ≡ false → first_mode self ≢ Some Mode.Horizontal }
     {
         self.bits / 128 == 1
     }
@@ -125,7 +127,8 @@ impl ModeGroup {
     /// Returns whether the first mode is the pass mode.
     #[inline(always)]
     pub fn is_pass(self) -> bool
-        ensures { result ≡ true → first_mode self ≡ Some Mode.Pass }
+        ensures pass { result ≡ true → first_mode self ≡ Some Mode.Pass }
+        ensures other { result ≡ false → first_mode self ≢ Some Mode.Pass }
     {
         self.bits / 64 == 1
     }

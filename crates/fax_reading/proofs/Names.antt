@@ -8,7 +8,7 @@ pub use Rattle.fax_bits.specs.CodeLists.{Code, mode_codes}
 pub use Rattle.fax_bits.specs.CodeReading.{Has, is_prefix_free, leading_zeros, read_code}
 pub use Rattle.fax_reading.specs.Context.{Context, Held, Repairs, continued, fresh, no_repairs, passed_changes, redrawn}
 pub use Rattle.fax_reading.specs.Context.{right_of_painted, with_missed, exceeds, painted_front}
-pub use Rattle.fax_reading.specs.Continuations.{LineIsSettled, LinesSettle, StaysAsRead, is_short, line_before, misses_end}
+pub use Rattle.fax_reading.specs.Continuations.{LineIsSettled, LinesSettle, StaysAsRead, is_short, line_before}
 pub use Rattle.fax_reading.specs.Continuations.{row_continued}
 pub use Rattle.fax_reading.specs.Damage.{Damaged, damage_of, damaged_by_turn, missed_behind, missed_by_turn, misses_by_line}
 pub use Rattle.fax_reading.specs.Damage.{repaired_by_turn, repaired_in, repairs_by_line, cut_by_turn, cut_in, cuts_by_line}
@@ -19,7 +19,7 @@ pub use Rattle.fax_reading.specs.Encodings.{ClosesWithEols, EncodesLine, Encodes
 pub use Rattle.fax_reading.specs.Encodings.{EncodesRowsWithEols, IsPicture, PictureT4, PictureT6, Spells, eol, padding, tag_of}
 pub use Rattle.fax_bits.specs.EndOfLine.{after_eol, all_eols, eols, eols_with_tags, next_eol, one_more, pass_last_tag, past_tag}
 pub use Rattle.fax_bits.specs.EndOfLine.{tagged_eols}
-pub use Rattle.fax_bits.specs.Faults.{kind_of}
+pub use Rattle.fax_bits.specs.Faults.{kind_of, misses_end}
 pub use Rattle.fax_reading.specs.Laws.{AfterEofb, AreWords, BytesBeginWithAnyBits, ComesToEofb, EndBeforeEol}
 pub use Rattle.fax_reading.specs.Laws.{EveryPictureHasAnEncoding, HoldsZeros, IsWord, OnePictureT4, OnePictureT6}
 pub use Rattle.fax_reading.specs.Laws.{PicturesAreUndamaged, PicturesComeToEofb, ReadsClosedPictures, ReadsLimitedPictureT4}
@@ -50,6 +50,7 @@ pub use Rattle.fax_reading.specs.PlainReading.{line_of_turn, lines_of, misses_eo
 pub use Rattle.fax_reading.specs.PlainReading.{plain, row_before, row_of_line, turns_behind, turns_from, turns_of, whole_reading}
 pub use Rattle.fax_reading.specs.PlainReading.{with_row}
 pub use Rattle.fax_bits.specs.Repetition.{Reaches, Turn, gathered, repeated}
+pub use Rattle.fax_reading.specs.Rows.{too_many_pixels}
 pub use Rattle.fax_reading.specs.Rows.{AreChanges, AscendFrom, HaveWidth, Row, a1, a2, b1, b2, changes, is_black, is_change}
 pub use Rattle.fax_reading.specs.Rows.{last_pixel, least_below, opposite, paint, pixel, pixel_before, pixels, pixels_from}
 pub use Rattle.fax_reading.specs.Rows.{repaired, right_of, white_row}

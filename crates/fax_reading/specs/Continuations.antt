@@ -1,22 +1,14 @@
 -- What more bits change of what begins in some: the line there (T.4, 4.1 and 4.2; T.6, 2.2).
-use Rattle.std.specs.Prelude.{◌≡◌, ◌↔◌, Bool, true, false, ◌++◌, replicate, Result, Ok, Err}
+use Rattle.std.specs.Prelude.{◌≡◌, ◌↔◌, Bool, false, ◌++◌, replicate, Result, Ok, Err}
 use Rattle.fax_bits.specs.Bits.{Bits, AreWholeBytes}
 use Rattle.fax_bits.specs.declared.error.DecodeError.{DecodeError}
-use Rattle.fax_bits.specs.declared.error.DecodeError.TheVariants.{UnexpectedEof, InvalidCode, Overflow, OutOfMemory, Refused}
+use Rattle.fax_bits.specs.Faults.{misses_end}
 use Rattle.fax_bits.specs.declared.settings.DecodeSettings.{DecodeSettings}
 use Rattle.fax_reading.specs.Laws.{strictly}
 use Rattle.fax_reading.specs.Lines.{Line}
 use Rattle.fax_reading.specs.PlainReading.{line_here, row_of_line}
 use Rattle.fax_reading.specs.Rows.{Row}
 use Rattle.fax_reading.specs.Work.{found_here}
-
--- auxiliary: it is the end of the data that is missing
-abbrev pub misses_end : DecodeError → Bool
-misses_end UnexpectedEof = true
-misses_end InvalidCode = false
-misses_end Overflow = false
-misses_end OutOfMemory = false
-misses_end Refused = false
 
 -- a line is short: the bits end within it, and no word before their end is wrong (T.4, 4.1 and 4.2; T.6, 2.2)
 abbrev pub is_short : Line → Bool

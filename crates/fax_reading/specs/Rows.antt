@@ -102,9 +102,13 @@ a1 row from = least_below (length row) (λ p. nat_le from p && is_change row p)
 abbrev pub a2 : Row → ℕ → ℕ
 a2 row from = least_below (length row) (λ p. nat_lt (a1 row from) p && is_change row p)
 
--- The front and some more pixels of a colour. Where there are more than the row has room for, a strict reading fails
--- with `InvalidCode`, and a lenient one cuts them off at the row's end (T.4, 4.1.1 and 4.2.1.3).
+-- how a strict reading fails where a row has no room for so many pixels (T.4, 4.1.1 and 4.2.1.3)
+abbrev pub too_many_pixels : DecodeError
+too_many_pixels = InvalidCode
+
+-- The front and some more pixels of a colour. Where there are more than the row has room for, a strict reading fails,
+-- and a lenient one cuts them off at the row's end (T.4, 4.1.1 and 4.2.1.3).
 abbrev pub paint : Bool → ℕ → Row → Color → ℕ → Result Row DecodeError
 paint strict columns front color n =
-    if strict && nat_lt (columns - length front) n then Err InvalidCode
+    if strict && nat_lt (columns - length front) n then Err too_many_pixels
     else Ok (front ++ replicate (min n (columns - length front)) (is_black color))

@@ -1,4 +1,5 @@
 -- The contract of `decode`, from the accepted rows and the result.
+use Rattle.hayro_ccitt.proofs.Names.{common_steps}
 use Rattle.hayro_ccitt.proofs.Names.{◌≡◌, ◌⊎◌, ℕ, Bool, List, take, take_all, Option, None, Some, Result, Ok, Err, true, false}
 use Rattle.hayro_ccitt.proofs.Names.{sym, ap, subst, ◌∙◌, arith, IsOk, OnErr, OnOk, length-flat_map, DecodeError, DecodeSettings}
 use Rattle.hayro_ccitt.proofs.Names.{Group4, OnAnswer, meaning_after, Bits, AreWholeBytes, Held, Decodes, Damaged}
@@ -28,27 +29,12 @@ to_the_end rows outcome step before after held (Err error) takes =
 taken_still : {M : Type 0} (rows : List Row) (outcome : Result ℕ DecodeError) (sought : Bool) (step : M → List ℕ → M)
     (before after : SinkState M) (held : Held) (place : Option ℕ) (answer : Result ℕ DecodeError) → TakesRows rows outcome sought
     step before after held answer → TakesRows rows outcome sought step before after (record held { fault_start = place }) answer
-taken_still rows outcome sought step before after held place answer takes =
-    record {
-      taken = takes.taken;
-      meaning = takes.meaning;
-      all = takes.all;
-      ok = takes.ok;
-      fault = takes.fault;
-      has_eols = takes.has_eols;
-    }
+taken_still rows outcome sought step before after held place answer takes = grind (arith, common_steps)
 
 short_still : {M : Type 0} (rows : List Row) (lines : List Line) (before after : SinkState M)
     (held : Held) (place : Option ℕ) (answer : Result ℕ DecodeError) → StopsShort rows lines before after held answer
     → StopsShort rows lines before after (record held { fault_start = place }) answer
-short_still rows lines before after held place answer short =
-    record {
-      memory = short.memory;
-      refused = short.refused;
-      refused_row = short.refused_row;
-      flag = short.flag;
-      no_flag = short.no_flag;
-    }
+short_still rows lines before after held place answer short = grind (arith, common_steps)
 
 -- all damage is counted
 counted_whole : {T : Type 0} (by_line : List (List Damaged)) (n : ℕ) (answer : Result T DecodeError)

@@ -1,5 +1,6 @@
 -- The names of std and of the definitions that proofs cite.
 pub use Rattle.hayro_ccitt.specs.Answers.{DrawsLine, DrawsStep, IsFault, OnAnswer, Step, front_of, line_from_1d, line_from_2d}
+pub use Rattle.hayro_ccitt.specs.Faults.{kind_of, no_memory}
 pub use Rattle.hayro_ccitt.specs.Answers.{meaning_after, pen_of, step_of_mode, step_of_run, words_from_1d, words_from_2d}
 pub use Rattle.hayro_ccitt.specs.Answers.{words_of_mode, TellsCut, is_broken, strict_step_of_mode, strict_step_of_run}
 pub use Rattle.hayro_ccitt.specs.Bits.{AreWholeBytes, Bits, BitsAt, IsPrefix, bits_in, bits_of, here}
@@ -34,6 +35,7 @@ pub use Rattle.hayro_ccitt.specs.PlainReading.{plain, row_before, row_ends, row_
 pub use Rattle.hayro_ccitt.specs.PlainReading.{turns_of, whole_reading, with_row}
 pub use Rattle.hayro_ccitt.specs.Repetition.{Reaches, Turn}
 pub use Rattle.hayro_ccitt.specs.RowCursors.{Paused}
+pub use Rattle.hayro_ccitt.specs.Rows.{too_many_pixels}
 pub use Rattle.hayro_ccitt.specs.Rows.{AreChanges, AscendFrom, HaveWidth, Row, a1, a2, b1, b2, changes, is_black, is_change}
 pub use Rattle.hayro_ccitt.specs.Rows.{last_pixel, opposite, paint, pixel, pixel_before, pixels, repaired, right_of, white_row}
 pub use Rattle.hayro_ccitt.specs.RowsKept.{EndsByWords, IsInStepFrom, RowsBeforeStay, RowsBehindStay, RowsFollow, TellsStep}

@@ -28,7 +28,8 @@ use Rattle.hayro_ccitt.specs.WhiteLines.{PassesLine}
 use Rattle.hayro_ccitt.specs.declared.white_lines.WhiteLines.{WhiteLines}
 use Rattle.hayro_ccitt.specs.RowsRead.{IsStanding, IsStandingAtLine, ReachesNextLine, ReadsNext, RowsRead, ended, is_at_line}
 use Rattle.hayro_ccitt.specs.RowsRead.{seen}
-use Rattle.hayro_ccitt.specs.RowsTried.{CanCome, IsLeft, TriesRow, no_memory}
+use Rattle.hayro_ccitt.specs.RowsTried.{CanCome, IsLeft, TriesRow}
+use Rattle.hayro_ccitt.specs.Faults.{no_memory}
 
 -- ---- What is seen
 

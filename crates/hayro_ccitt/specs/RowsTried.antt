@@ -4,11 +4,12 @@ use Rattle.std.specs.Prelude.{Err}
 use Rattle.std.specs.Prelude.{OnErr, OnOk, IfErr, IfOk}
 use Rattle.fax_bits.specs.declared.codes.Color.TheVariants.{White}
 use Rattle.fax_bits.specs.declared.error.DecodeError.{DecodeError}
-use Rattle.fax_bits.specs.declared.error.DecodeError.TheVariants.{UnexpectedEof, InvalidCode, Overflow, OutOfMemory, Refused}
+use Rattle.fax_bits.specs.declared.error.DecodeError.TheVariants.{InvalidCode, OutOfMemory, Refused}
 use Rattle.hayro_ccitt.specs.Answers.{HasBlack, IsFault, front_of}
 use Rattle.hayro_ccitt.specs.Bits.{AreWholeBytes, Bits, BitsAt, here}
 use Rattle.hayro_ccitt.specs.Context.{Context, Repairs, redrawn}
-use Rattle.hayro_ccitt.specs.Continuations.{is_short, misses_end}
+use Rattle.hayro_ccitt.specs.Continuations.{is_short}
+use Rattle.hayro_ccitt.specs.Faults.{misses_end, no_memory}
 use Rattle.hayro_ccitt.specs.GapsContinued.{first_gap_is_settled, gap_is_settled}
 use Rattle.hayro_ccitt.specs.declared.row_reader.RowState.{RowState}
 use Rattle.hayro_ccitt.specs.declared.row_reader.Stand.{Stand}
@@ -68,13 +69,6 @@ abbrev pub needs_more : Bool → Result (Unit {0}) DecodeError → Bool
 needs_more is_last answer = not is_last && falls_short answer
 
 -- a change of the row couldn't be stored
-abbrev pub no_memory : DecodeError → Bool
-no_memory UnexpectedEof = false
-no_memory InvalidCode = false
-no_memory Overflow = false
-no_memory OutOfMemory = true
-no_memory Refused = false
-
 abbrev pub lacks_memory : Result (Unit {0}) DecodeError → Bool
 lacks_memory (Ok x) = false
 lacks_memory (Err error) = no_memory error

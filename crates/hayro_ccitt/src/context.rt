@@ -6,7 +6,7 @@ ghost use Rattle.std.specs.Prelude.{◌||◌, IsOkUnless, IsTrue, if◌then◌el
 ghost use Rattle.hayro_ccitt.specs.LocalityByK.{behind_mode};
 ghost use Rattle.hayro_ccitt.specs.{Ticks.run_found, Work.mode_found};
 ghost use Rattle.hayro_ccitt.specs.Runs.{codes_of, read_run};
-ghost use Rattle.hayro_ccitt.specs.Rows.{AreChanges, right_of, b1, b2, changes, opposite};
+ghost use Rattle.hayro_ccitt.specs.Rows.{AreChanges, right_of, b1, b2, changes, opposite, too_many_pixels};
 ghost use Rattle.hayro_ccitt.specs.Bits.{here};
 ghost use Rattle.hayro_ccitt.specs.Context.{redrawn, painted_front, taken_row, after_repair, passed_changes, with_missed};
 ghost use Rattle.hayro_ccitt.specs.CodeReading.{read_code};
@@ -27,13 +27,15 @@ use crate::modes::{
     put_ends, repeat_changes, take_ends,
 };
 use crate::usual::{draw_runs, draw_two_runs, lay_down, pass_white_row, take_up};
-use crate::white_lines::{WhiteLines, none_known, white_lines};
+use crate::white_lines::{WhiteLines, may_follow, none_known, white_lines};
 use crate::{DecodeError, Decoder, Result};
 use fax_bits::bit_reader::{
-    BitOrder, BitReader, BitScanner, BitsAtHand, at_hand, go_to, may_be_next, none_at_hand,
-    pass_bits, window_at_hand,
+    BitOrder, BitReader, BitScanner, BitsAtHand, at_hand, go_to, none_at_hand, pass_bits,
+    window_at_hand,
 };
-use fax_bits::codes::{Color, Mode, Ticks, is_long_pair, pass_v0, tick_times};
+use fax_bits::codes::{
+    Color, Mode, Ticks, horizontal_ends, is_long_behind_modes, is_long_pair, pass_v0, tick_times,
+};
 use fax_bits::tables::Tables;
 use fax_bits::{DecodeSettings, EncodingMode};
 use std::alloc::Global;
@@ -370,10 +372,9 @@ impl DecoderContext {
           cut = self.old.cut || exceeds self.old.held count;
           space = self.new.space;
         }) }
-        ensures too_many { (result ≡ Err DecodeError.InvalidCode)
-            ↔ (painted_front self.old.held count ≡ Err DecodeError.InvalidCode) }
+        ensures too_many { (result ≡ Err too_many_pixels) ↔ (painted_front self.old.held count ≡ Err too_many_pixels) }
         ensures memory { result ≡ Err DecodeError.OutOfMemory → StoresChange self.old.held count }
-        ensures only { IfErr result (λ e. (e ≡ DecodeError.InvalidCode) ⊎ (e ≡ DecodeError.OutOfMemory)) }
+        ensures only { IfErr result (λ e. (e ≡ too_many_pixels) ⊎ (e ≡ DecodeError.OutOfMemory)) }
         ensures unchanged { OnErr result (self.new ≡ self.old) }
         ensures few { length (changes self.new.held.front) ≤ suc (length (changes self.old.held.front)) }
         ensures space { self.new.space ≤ max self.old.space (room_for (length (changes self.old.held.front))) }
@@ -606,6 +607,17 @@ impl DecoderContext {
             find_white_lines(lines, self.settings, self.has_eols);
         }
         lines.first.count != 0
+    }
+
+    /// Returns whether one of these white lines may be next, as `repeats_white` does, and its bits are next.
+    #[inline(always)]
+    pub(crate) fn white_is_next(&self, lines: &mut WhiteLines, reader: &BitReader<'_>) -> bool
+        requires { AreKnown self.now.held.settings lines.old }
+        ensures known { AreKnown self.now.held.settings lines.new }
+        ensures follow { result ≡ true
+            → MayFollow self.now.held.settings self.now.held.has_eols self.now.held.reference lines.new }
+    {
+        self.repeats_white(lines) && may_follow(lines, reader, 0)
     }
 
     /// Counts one more row that is the reference row again, with two ticks: for its mode and for b1, or for the words of its run.
@@ -880,7 +892,7 @@ impl DecoderContext {
         if before <= stored + 5 && stored <= before + 1 {
             return true;
         }
-        is_long_pair(reader, 0, &self.tables)
+        is_long_pair(reader, 0, Color::White, &self.tables)
     }
 
     /// The same, without a call where the row is full or black is next.
@@ -1058,12 +1070,18 @@ impl DecoderContext {
         self.draw_usual_runs(reader);
     }
 
-    /// Returns whether a row as wide as to have runs of three words or more is likely to begin with them: plain calls draw them.
+    /// Returns whether a row as wide as to have runs of three words or more is likely to have them in its first two modes: plain
+    /// calls draw them.
     #[inline(always)]
     fn begins_with_long_runs(&self, reader: &BitReader<'_>) -> bool {
-        self.settings.columns > 2623
-            && may_be_next(reader, 0b001, 3)
-            && is_long_pair(reader, 3, &self.tables)
+        if self.settings.columns <= 2623 {
+            return false;
+        }
+        let skip = horizontal_ends(reader);
+        if skip == 0 {
+            return false;
+        }
+        is_long_behind_modes(reader, skip, &self.tables)
     }
 
     /// Draws modes from the start of a line as long as they are usual.

@@ -22,10 +22,7 @@ use fax_bits::bit_reader::BitReader;
 fn is_fault(error: DecodeError) -> bool
     ensures { IsTrue result ↔ IsFault error }
 {
-    matches!(
-        error,
-        DecodeError::UnexpectedEof | DecodeError::InvalidCode | DecodeError::Overflow
-    )
+    !matches!(error, DecodeError::OutOfMemory | DecodeError::Refused)
 }
 
 /// Repairs a line that failed with this error and began at `line_start` (T.4, 4.1.2). In lenient data with EOLs,

@@ -4,14 +4,15 @@ ghost use Rattle.std.specs.Prelude.{◌≡◌, ◌≢◌, ◌≤◌, ◌<◌, �
 ghost use Rattle.std.specs.Prelude.{Ok, None, Some, [], suc};
 ghost use Rattle.hayro_ccitt.specs.Bits.{Bits, here};
 ghost use Rattle.hayro_ccitt.specs.Context.{right_of_painted};
-ghost use Rattle.hayro_ccitt.specs.Continuations.{is_short, misses_end};
+ghost use Rattle.hayro_ccitt.specs.Continuations.{is_short};
+ghost use Rattle.hayro_ccitt.specs.Faults.{misses_end};
 ghost use Rattle.hayro_ccitt.specs.LineParts.{ContinuesLine, GoesOnBy, IsLawfulPart, IsPartOf, Leads, PaintsTo};
 ghost use Rattle.hayro_ccitt.specs.LineParts.{ReadsWord, first_kept, is_missing, left_to_read, pen_of_part};
 ghost use Rattle.hayro_ccitt.specs.LineParts.{run_of_part};
 ghost use Rattle.hayro_ccitt.specs.Lines.{place_from};
 ghost use Rattle.hayro_ccitt.specs.LinesGoOn.{OpenRun, mode_added, word_added};
 ghost use Rattle.hayro_ccitt.specs.PlainReading.{line_here};
-ghost use Rattle.hayro_ccitt.specs.Rows.{Row, paint};
+ghost use Rattle.hayro_ccitt.specs.Rows.{Row, paint, too_many_pixels};
 
 use crate::context::DecoderContext;
 use crate::{DecodeError, EncodingMode};
@@ -53,7 +54,7 @@ fn paint(part: &mut KeptPart, settings: DecodeSettings, count: u32) -> bool
     ensures painted { result ≡ true → (front : Row) → length front ≡ part.old.painted
         → PaintsTo settings front part.old.color count part.new.painted }
     ensures too_many { result ≡ false → (front : Row) → length front ≡ part.old.painted
-        → paint settings.strict settings.columns front part.old.color count ≡ Err DecodeError.InvalidCode }
+        → paint settings.strict settings.columns front part.old.color count ≡ Err too_many_pixels }
     ensures frame { part.new ≡ record part.old { painted = part.new.painted } }
     ensures onward { part.old.painted ≤ part.new.painted }
     ensures within { part.new.painted ≤ settings.columns }
@@ -91,12 +92,10 @@ fn word_of_fault(error: DecodeError) -> Word
     ensures missing { is_missing result ≡ misses_end error }
     ensures ends { result ≢ Word.GoesOn }
 {
-    match error {
-        DecodeError::UnexpectedEof => Word::Missing,
-        DecodeError::InvalidCode
-        | DecodeError::Overflow
-        | DecodeError::OutOfMemory
-        | DecodeError::Refused => Word::Ends,
+    if matches!(error, DecodeError::UnexpectedEof) {
+        Word::Missing
+    } else {
+        Word::Ends
     }
 }
 

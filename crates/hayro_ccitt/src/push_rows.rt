@@ -146,7 +146,7 @@ pub(crate) fn push_rows<D: Decoder>(
             *reader = at_bit(reader, rows.started_at);
             return Err(refusal);
         }
-        let repeats = ctx.repeats_white(&mut lines);
+        let repeats = ctx.white_is_next(&mut lines, reader);
         // The number of bits is known to be small once it is read.
         let _length = bit_len(reader);
         if let Err(refusal) = push_white_rows(

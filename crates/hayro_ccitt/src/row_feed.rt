@@ -11,7 +11,8 @@ ghost use Rattle.hayro_ccitt.specs.RowsRead.{at_end_of_rows, ended, is_at_line};
 ghost use Rattle.hayro_ccitt.specs.RowsTried.{IsLeft};
 ghost use Rattle.hayro_ccitt.specs.RowFeeds.{Begins, ComeNext, ComesInFeed, DropsRead, ReadsInFeed, ComesOn, FeedsNext};
 ghost use Rattle.hayro_ccitt.specs.RowFeeds.{IsFeedOf, KeepsBits, TriesLine, fed_bits, fed_end, fed_none, fed_row, is_left};
-ghost use Rattle.hayro_ccitt.specs.RowFeeds.{HoldsMore, KeepsPart, LineGoesOn, ScansLine, StaysShort, line_answer, some_line};
+ghost use Rattle.hayro_ccitt.specs.RowFeeds.{HoldsMore, KeepsPart, LineGoesOn, Scans, ScansLine, StaysShort, line_answer};
+ghost use Rattle.hayro_ccitt.specs.RowFeeds.{some_line};
 ghost use Rattle.hayro_ccitt.specs.RowFeeds.{CountsRow, PushesRows, unused};
 ghost use Rattle.hayro_ccitt.specs.Rows.{AreChanges, changes};
 
@@ -44,6 +45,9 @@ pub enum Fed {
 
 /// The most bytes whose bits have offsets that fit, with 64 bits more.
 const MOST_BYTES: usize = (usize::MAX - 64) / 8;
+
+/// Data of which no more bytes are kept came in small pieces.
+const SMALL_PIECES: usize = 1024;
 
 /// Looks on at the gap that begins here, by these rules, and returns whether it must wait for more data.
 #[inline(always)]
@@ -334,9 +338,9 @@ impl RowState {
 /// Reads the rows of an image from data that comes in pieces, each as soon as no data that follows can change its line.
 ///
 /// It keeps the bits that weren't read, and after [`feed`](RowFeed::feed) fewer than eight before them. After
-/// [`Fed::NeedsMore`] they are those of the line that is next, as far as it came, or of the gap before it. So where each piece is
-/// fed after `NeedsMore`, no more is kept than the longest line or gap, and a piece, and there is room for at most twice as much:
-/// [`feeds_keep_little`](crate::laws::feeds_keep_little).
+/// [`Fed::NeedsMore`] each of them is needed for the line that is next, or the gap before it. So where each piece is fed after
+/// `NeedsMore`, no more is kept than the longest line or gap up to the next one needs, a piece, and seven bits, and there is room
+/// for at most twice as much: [`feeds_keep_little`](crate::laws::feeds_keep_little).
 ///
 /// # Example
 ///
@@ -528,7 +532,7 @@ impl RowFeed {
     }
 
     /// Keeps the part from which the line here goes on, which is short, unless it was tried for the first time: mostly it is whole
-    /// at the next.
+    /// at the next, but not where data comes in small pieces, and the line before has over eight bytes.
     #[cold]
     #[inline(never)]
     fn keep_part(&mut self)
@@ -539,8 +543,11 @@ impl RowFeed {
         ensures { KeepsPart self.old self.new }
     {
         let line_start = self.dropped + self.place;
-        if self.tried != line_start {
-            self.tried = line_start;
+        let was_tried = self.tried == line_start;
+        self.tried = line_start;
+        let has_few = self.data.len() <= SMALL_PIECES && self.data.len() <= self.place / 8 + 2;
+        let follows_long = line_start.saturating_sub(self.rows.started_at) > 64;
+        if !was_tried && !(has_few && follows_long) {
             return;
         }
         let mut reader = placed_at(&self.data, self.order, self.place);
@@ -580,6 +587,7 @@ impl RowFeed {
             → FeedsNext whole tried self.old self.new result }
         ensures keeps { KeepsBits self.old self.new }
         ensures counts { CountsRow self.old self.new result }
+        ensures waits { result ≡ Ok Fed.NeedsMore → self.old.part ≢ None → Scans self.old self.new }
     {
         if self.is_still_short() {
             return Ok(Fed::NeedsMore);
@@ -650,8 +658,17 @@ impl RowFeed {
         self.read_from_gap()
     }
 
-    /// Reads the next row, if no data that follows can change it. After [`Fed::NeedsMore`] feed more, or finish the data. At
-    /// the
+    /// Returns whether the line that is next was found to be short, and goes on from a part that is kept. While
+    /// [`next_row`](RowFeed::next_row) then returns [`Fed::NeedsMore`], nothing changes that the other calls tell.
+    #[inline(always)]
+    pub fn is_within_line(&self) -> bool
+        ensures within { result ≡ true → self.now.part ≢ None }
+        ensures outside { result ≡ false → self.now.part ≡ None }
+    {
+        self.part.is_some()
+    }
+
+    /// Reads the next row, if no data that follows can change it. After [`Fed::NeedsMore`] feed more, or finish the data. At the
     /// end of the image each further call returns [`Fed::End`].
     ///
     /// # Errors
@@ -664,6 +681,7 @@ impl RowFeed {
             → FeedsNext whole tried self.old self.new result }
         ensures keeps { KeepsBits self.old self.new }
         ensures counts { CountsRow self.old self.new result }
+        ensures waits { result ≡ Ok Fed.NeedsMore → self.old.part ≢ None → Scans self.old self.new }
         ensures ended { (end : Result (Unit {0}) DecodeError) → ended self.old.rows.stand ≡ Some end
             → (self.new ≡ self.old) × (result ≡ fed_end end) }
     {

@@ -1,6 +1,6 @@
 -- Rows that are given as many as there is room for, from what is left where they were passed to a sink.
 use Rattle.std.proofs.Common.{◌≡◌, ◌≢◌, ◌≤◌, ◌<◌, inl, inr, ℕ, zero, suc, Bool, true, false, List, [], ◌∷◌, length, refl, sym, ap}
-use Rattle.std.proofs.Common.{◌⊎◌, subst, ◌∙◌, arith, Result, Ok, Err}
+use Rattle.std.proofs.Common.{◌⊎◌, subst, ◌∙◌, arith, Result, Ok, Err, None}
 use Rattle.hayro_ccitt.specs.DecodeError.{DecodeError}
 use Rattle.hayro_ccitt.specs.DecodeSettings.{DecodeSettings}
 use Rattle.hayro_ccitt.specs.Answers.{meaning_after}
@@ -31,7 +31,9 @@ reading_of old rows same = record {
   rows = rows;
   is_kept = false;
   layout = old.layout;
+  told = None;
   reaches = subst (λ (s : DecodeSettings). bytes_of_row s.columns ≤ old.layout.stride) (sym same) old.reaches;
+  tells = λ x e. cc;
 }
 
 -- calls that each read a row give them

@@ -8,4 +8,5 @@ pub mod Reports
 pub mod RowsFed
 pub mod RowsGiven
 pub mod RowsTaken
+pub mod RowsTold
 pub mod Settings

@@ -5,7 +5,6 @@ use Rattle.hayro_ccitt.specs.BitOrder.{BitOrder}
 use Rattle.hayro_ccitt.specs.DecodeError.{DecodeError}
 use Rattle.hayro_ccitt.specs.DecodeSettings.{DecodeSettings}
 use Rattle.hayro_ccitt.specs.Bits.{AreWholeBytes, Bits, bits_in}
-use Rattle.hayro_ccitt.specs.RowCursors.{Paused}
 use Rattle.hayro_ccitt.specs.RowFeeds.{Feeding as RowsFed, ComeNext, FeedsNext, HoldsMore, IsFeedOf, KeepsBits, fed_end}
 use Rattle.hayro_ccitt.specs.RowsRead.{ended}
 use Rattle.hayro_ccitt.specs.declared.row_feed.Fed.{Fed}
@@ -51,21 +50,6 @@ pub record GivesFed (old new : Feeding) (status : ℕ) : Type 0 where
   pub kept : (new.is_kept ≡ true) → status ≡ REFUSED
   pub refused : status ≡ REFUSED → new.is_kept ≡ true
   pub layout : new.layout ≡ old.layout
-
--- where a reading is, as a reader of all data is that came to the same place
-abbrev pub as_paused : RowsFed → Paused
-as_paused feed = record {
-  held = feed.ctx.held;
-  order = feed.order;
-  place = feed.dropped + feed.place;
-  line_start = feed.rows.started_at;
-  damage = feed.rows.damage;
-  cut = feed.rows.cut;
-  missed = feed.rows.missed;
-  stand = feed.rows.stand;
-  ticks = feed.ctx.ticks;
-  space = feed.ctx.space;
-}
 
 -- A reading by these settings of whatever data C will pass, before the first byte, whose packed rows have this layout.
 pub record IsFeedOpened (settings : DecodeSettings) (order : BitOrder) (layout : Layout) (opened : Feeding) : Type 0 where

@@ -1,6 +1,6 @@
 //! What a call says that reads a row of data in pieces.
 
-ghost use Rattle.std.specs.Prelude.{◌≡◌, ◌≢◌, false};
+ghost use Rattle.std.specs.Prelude.{◌≡◌, ◌≢◌, Ok, false, true};
 ghost use Rattle.hayro_ccitt_c.specs.GivenRows.{status_behind};
 ghost use Rattle.hayro_ccitt_c.specs.RowsFed.{is_fed_row, status_of_fed};
 ghost use Rattle.hayro_ccitt_c.specs.declared.status.TheConstants.{OK, REFUSED};
@@ -14,6 +14,13 @@ pub(crate) fn is_fed_row(answer: Result<Fed>) -> bool
     ensures { result ≡ is_fed_row answer }
 {
     matches!(answer, Ok(Fed::Row))
+}
+
+/// Returns whether more data is needed.
+pub(crate) fn needs_more(answer: Result<Fed>) -> bool
+    ensures { result ≡ true → answer ≡ Ok Fed.NeedsMore }
+{
+    matches!(answer, Ok(Fed::NeedsMore))
 }
 
 /// Returns the status of a result.

@@ -2,8 +2,9 @@
 
 ghost use Rattle.std.specs.Prelude.{◌≤◌};
 ghost use Rattle.hayro_ccitt_c.specs.Packing.{bytes_of_row};
+ghost use Rattle.hayro_ccitt_c.specs.RowsTold.{IsToldStill};
 
-use crate::fed_status::{is_fed_row, status_behind, status_of_fed};
+use crate::fed_status::{is_fed_row, needs_more, status_behind, status_of_fed};
 use crate::listed_rows::ListedRows;
 use crate::packed_rows::{Layout, PackedRows, spaced};
 use crate::row_outcome::{RowOutcome, damage_told, miss_told};
@@ -13,13 +14,16 @@ use hayro_ccitt::bit_reader::BitOrder;
 use hayro_ccitt::{DecodeError, DecodeSettings, Decoder, Fed, Result, RowFeed};
 use std::alloc::Global;
 
-/// What a handle owns: a reading, whether its last row is still to be returned, and the layout of packed rows.
+/// What a handle owns: a reading, whether its last row is still to be returned, the layout of packed rows, and what C was told
+/// last, unless more was read since.
 #[derive(Drop)]
 pub struct Feeding {
     pub(crate) rows: RowFeed,
     pub(crate) is_kept: bool,
     pub(crate) layout: Layout,
+    pub(crate) told: Option<RowOutcome>,
     ghost reaches: { bytes_of_row rows.ctx.held.settings.columns ≤ layout.stride },
+    ghost tells: { IsToldStill rows told },
 }
 
 impl Feeding {
@@ -28,7 +32,8 @@ impl Feeding {
     ghost use Rattle.hayro_ccitt.specs.Rows.{changes};
     ghost use Rattle.hayro_ccitt_c.specs.Encoding.{AreEncoded, HaveNoRoom};
     ghost use Rattle.hayro_ccitt_c.specs.Packing.{bytes_of_row};
-    ghost use Rattle.hayro_ccitt_c.specs.RowsFed.{FinishesFeed, GivesFed, IsFeedOpened, TakesBytes, TurnsToFed, as_paused};
+    ghost use Rattle.hayro_ccitt_c.specs.RowsFed.{FinishesFeed, GivesFed, IsFeedOpened, TakesBytes, TurnsToFed};
+    ghost use Rattle.hayro_ccitt_c.specs.RowsTold.{as_paused};
     ghost use Rattle.hayro_ccitt_c.specs.GivenRows.{ListsRows, PacksRows, PassesAll};
     ghost use Rattle.hayro_ccitt_c.specs.RowsGiven.{IsListed, IsPacked, TellsOf};
     ghost use Rattle.hayro_ccitt_c.specs.declared.status.TheConstants.{OK, REFUSED};
@@ -48,6 +53,7 @@ impl Feeding {
             rows,
             is_kept: false,
             layout,
+            told: None,
         })
     }
 
@@ -83,7 +89,12 @@ impl Feeding {
             self.is_kept = false;
             return Ok(Fed::Row);
         }
-        self.rows.next_row()
+        let was_within_line = self.rows.is_within_line();
+        let answer = self.rows.next_row();
+        if !was_within_line || !needs_more(answer) {
+            self.told = None;
+        }
+        answer
     }
 
     /// Writes the last row as a list of its changes, or keeps it if there is no room for it. Returns whether there was.
@@ -163,6 +174,7 @@ impl Feeding {
             (record { meaning = D.meaning sink.new; refused = D.has_refused sink.new; refuses = D.refuses sink.new })
             self.old self.new result }
     {
+        self.told = None;
         if !self.is_kept {
             return self.rows.push_rows(sink);
         }
@@ -241,8 +253,25 @@ impl Feeding {
         status::OK
     }
 
+    /// Tells C of the last row: what it was told before, if that is so still.
+    #[inline(always)]
+    pub(crate) fn tell(&mut self, outcome: &mut RowOutcome)
+        ensures told { TellsOf (as_paused self.new.rows) outcome.new }
+        ensures rows { self.new.rows ≡ self.old.rows }
+        ensures kept { self.new.is_kept ≡ self.old.is_kept }
+        ensures layout { self.new.layout ≡ self.old.layout }
+    {
+        if let Some(told) = self.told {
+            *outcome = told;
+            return;
+        }
+        let told = self.told_anew();
+        self.told = Some(told);
+        *outcome = told;
+    }
+
     /// Returns what C gets of the last row.
-    pub(crate) fn told(&self) -> RowOutcome
+    fn told_anew(&self) -> RowOutcome
         ensures { TellsOf (as_paused self.now.rows) result }
     {
         RowOutcome {

@@ -6,7 +6,8 @@ ghost use Rattle.hayro_ccitt.specs.Rows.{changes};
 ghost use Rattle.hayro_ccitt_c.specs.Encoding.{AreEncoded, HaveNoRoom};
 ghost use Rattle.hayro_ccitt_c.specs.Owned.{IfFeeding, IfFeedings, is_feeding};
 ghost use Rattle.hayro_ccitt_c.specs.Packing.{bytes_of_row};
-ghost use Rattle.hayro_ccitt_c.specs.RowsFed.{FinishesFeed, GivesFed, IsFeedOpened, TakesBytes, as_paused};
+ghost use Rattle.hayro_ccitt_c.specs.RowsFed.{FinishesFeed, GivesFed, IsFeedOpened, TakesBytes};
+ghost use Rattle.hayro_ccitt_c.specs.RowsTold.{as_paused};
 ghost use Rattle.hayro_ccitt_c.specs.GivenRows.{ListsRows, PacksRows};
 ghost use Rattle.hayro_ccitt_c.specs.RowsGiven.{IsListed, IsPacked, TellsOf};
 ghost use Rattle.hayro_ccitt_c.specs.declared.status.TheConstants.{OK, REFUSED};
@@ -80,7 +81,7 @@ impl Owned {
         match self {
             Owned::Feeding(feeding) => {
                 let status = feeding.list_next(list);
-                *outcome = feeding.told();
+                feeding.tell(outcome);
                 status
             }
             Owned::Reading(_) | Owned::Strip(_) => status::NOT_TAKEN,
@@ -103,7 +104,7 @@ impl Owned {
         match self {
             Owned::Feeding(feeding) => {
                 let status = feeding.pack_next(bytes);
-                *outcome = feeding.told();
+                feeding.tell(outcome);
                 status
             }
             Owned::Reading(_) | Owned::Strip(_) => status::NOT_TAKEN,
@@ -125,7 +126,7 @@ impl Owned {
         match self {
             Owned::Feeding(feeding) => {
                 let status = feeding.pack_rows(bytes, count);
-                *outcome = feeding.told();
+                feeding.tell(outcome);
                 status
             }
             Owned::Reading(_) | Owned::Strip(_) => status::NOT_TAKEN,
@@ -147,7 +148,7 @@ impl Owned {
         match self {
             Owned::Feeding(feeding) => {
                 let status = feeding.list_rows(lists, count);
-                *outcome = feeding.told();
+                feeding.tell(outcome);
                 status
             }
             Owned::Reading(_) | Owned::Strip(_) => status::NOT_TAKEN,

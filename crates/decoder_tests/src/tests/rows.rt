@@ -352,6 +352,30 @@ fn pushed_rows_are_refused(rt: HostRuntime) {
     same(&rt, found, (Ok(Fed::NeedsMore), 2, 3));
 }
 
+/// A line of 64 pixels in turn white and black that comes byte by byte goes on from a part of it; behind it none does.
+#[test]
+fn a_line_goes_on_where_it_stopped(rt: HostRuntime) {
+    let settings = settings_in(&rt, "Group3_1D 64 columns 1 rows");
+    let mut feed = RowFeed::new(rt.alloc(), BitOrder::HighestFirst, settings).expect(&rt, "memory");
+    let line = bytes_of(
+        &rt,
+        "1D0E8743A1D0E8743A1D0E8743A1D0E8743A1D0E8743A1D0E8743A1D0E8743A1D0E8743A",
+    );
+    let mut within: usize = 0;
+    for byte in &line {
+        assert!(rt; !feed.is_finished());
+        same(&rt, feed.feed(&[*byte]), Ok(()));
+        let fed = feed.next_row();
+        if feed.is_within_line() {
+            same(&rt, fed, Ok(Fed::NeedsMore));
+            within = within.saturating_add(1);
+        }
+    }
+    same(&rt, feed.rows_read(), 1);
+    // Of 36 bytes not behind the first, where nothing is kept yet, and the last, where the row was read.
+    same(&rt, within, 34);
+}
+
 /// Fill, and a damaged stretch before the next EOL, that come byte by byte (T.4, 4.1.2 and 4.1.3): what was looked at once isn't
 /// looked at again, else this would take minutes.
 #[test]

@@ -24,5 +24,4 @@ module _ (r : Inside) (filled : IsFilled r) (count bits : ℕ) (few : count ≤ 
       let left = length-drop r.place at.bits in
       let stands : here at ≡ word ++ drop (length word) (here at) = stands_in_padded count (here at) word []
       (sym (append-nil word)) (omega (arith, long, left)) in
-      stands ∙ ap (λ (n : ℕ). word ++ drop n (here at)) long ∙ ap (λ (b : Bits). word ++ b) (drop-drop count r.place at.bits)
-      ∙ ap (λ (b : Bits). b ++ here (moved count at)) (sym next)
+      grind (arith, drop-drop, next)

@@ -1,11 +1,11 @@
 -- EOLs that follow each other.
+use Rattle.fax_bits.proofs.Names.{common_steps}
 use Rattle.fax_bits.proofs.Names.{◌≡◌, ℕ, zero, suc, ◌+◌, ◌<◌, ◌≤◌, Bool, true, false, cond}
-use Rattle.fax_bits.proofs.Names.{leb, [], ◌∷◌, ◌++◌, length, replicate, Option, Some, None, refl}
-use Rattle.fax_bits.proofs.Names.{sym, ap, subst, ◌∙◌, arith, inl, inr}
+use Rattle.fax_bits.proofs.Names.{[], ◌∷◌, ◌++◌, length, replicate, Option, Some, None, refl}
+use Rattle.fax_bits.proofs.Names.{sym, ap, subst, ◌∙◌, arith}
 use Rattle.fax_bits.proofs.Names.{le-leb, Bits}
 use Rattle.fax_bits.proofs.Names.{after_eol, one_more, eols}
 use Rattle.fax_bits.proofs.Names.{all_eols, next_eol, past_tag, eols_with_tags, pass_last_tag, tagged_eols}
-use Rattle.fax_bits.proofs.CodeWords.ReadRuns.{chosen}
 
 -- enough zeros and a one are an EOL
 pub eol_of : (seen k : ℕ) (rest : Bits) → 11 ≤ seen + k → after_eol seen (replicate k false ++ true ∷ rest) ≡ Some rest
@@ -16,10 +16,7 @@ eol_of seen (suc k) rest le = eol_of (suc seen) k rest (omega arith)
 pub after_eol_shorter : (seen : ℕ) (here rest : Bits) → after_eol seen here ≡ Some rest → length rest < length here
 after_eol_shorter seen [] rest e = absurd cc
 after_eol_shorter seen (false ∷ here) rest e = omega (arith, after_eol_shorter (suc seen) here rest e)
-after_eol_shorter seen (true ∷ here) rest e = elim (chosen (leb 11 seen) _ _ _ e) [
-  | inl a ↦ let same : here ≡ rest = let f = a.1 in cc in subst (λ (x : Bits). length x < length (true ∷ here)) same (omega arith)
-  | inr a ↦ absurd (let f = a.1 in cc)
-]
+after_eol_shorter seen (true ∷ here) rest e = grind arith
 
 -- one more EOL, and the same bits
 pub length-one_more : (found : ℕ × Bits) → length (one_more found).1 ≡ length found.1
@@ -27,8 +24,7 @@ length-one_more (count, here) = refl
 
 -- of two lists that are short enough either is
 pub cond_le : (b : Bool) (x y : Bits) (n : ℕ) → length x ≤ n → length y ≤ n → length (cond b x y) ≤ n
-cond_le true x y n p q = p
-cond_le false x y n p q = q
+cond_le b x y n p q = grind arith
 
 -- one more EOL
 pub one_more-count : (found : ℕ × Bits) → (one_more found).0 ≡ suc found.0
@@ -40,8 +36,7 @@ eols-some most here rest e = rw (e, eols) refl
 
 -- if there is no EOL, none is counted
 pub eols-none : (most : ℕ) (here : Bits) → after_eol 0 here ≡ None → eols most here ≡ (0, here)
-eols-none zero here e = refl
-eols-none (suc most) here e = rw (e, eols) refl
+eols-none most here e = grind arith
 
 -- ---- Counting consecutive EOLs, where bits are passed after each.
 pub record CountsEols (pass : Bits → Bits) (count : ℕ → Bits → ℕ × Bits) : Type 0 where
@@ -60,13 +55,8 @@ module _ {pass : Bits → Bits} {count : ℕ → Bits → ℕ × Bits} (counts :
       by_after_eol : ((rest : Bits) → length (count most rest).1 ≤ length rest) → (o : Option Bits) → after_eol 0 here ≡ o
           → length (count (suc most) here).1 ≤ length here
       by_after_eol on None e = rw (counts.none (suc most) here e) (omega arith)
-      by_after_eol on (Some rest) e = rw (counts.some most here rest e) (omega (
-        arith,
-        length-one_more (count most (pass rest)),
-        on (pass rest),
-        counts.passes rest,
-        after_eol_shorter 0 here rest e,
-      ))
+      by_after_eol on (Some rest) e =
+          grind (arith, length-one_more (count most (pass rest)), after_eol_shorter 0 here rest e)
 
   -- each of them moves the offset on
   pub count_moves : (most : ℕ) (here : Bits) → 0 < (count most here).0 → length (count most here).1 < length here
@@ -74,31 +64,20 @@ module _ {pass : Bits → Bits} {count : ℕ → Bits → ℕ × Bits} (counts :
   count_moves (suc most) here some = by_after_eol (after_eol 0 here) refl
     where
       by_after_eol : (o : Option Bits) → after_eol 0 here ≡ o → length (count (suc most) here).1 < length here
-      by_after_eol None e =
-          absurd (omega (arith, some, ap (λ (found : ℕ × Bits). found.0) (counts.none (suc most) here e)))
-      by_after_eol (Some rest) e = rw (counts.some most here rest e) (omega (
-        arith,
-        length-one_more (count most (pass rest)),
-        count_shorter most (pass rest),
-        counts.passes rest,
-        after_eol_shorter 0 here rest e,
-      ))
+      by_after_eol None e = grind arith
+      by_after_eol (Some rest) e = rw (counts.some most here rest e)
+          grind (arith, length-one_more, count_shorter, after_eol_shorter)
 
   -- an EOL that is there is counted
   pub count_some : (here rest : Bits) → after_eol 0 here ≡ Some rest → 0 < (count (length here) here).0
   count_some [] rest e = absurd cc
-  count_some (bit ∷ here) rest e =
-      rw (counts.some (length here) (bit ∷ here) rest e) (omega (arith, one_more-count (count (length here) (pass rest))))
+  count_some (bit ∷ here) rest e = grind (arith, one_more-count (count (length here) (pass rest)))
 
   -- and consumed
   pub count_past : (here rest : Bits) → after_eol 0 here ≡ Some rest → length (count (length here) here).1 ≤ length rest
   count_past [] rest e = absurd cc
-  count_past (bit ∷ here) rest e = rw (counts.some (length here) (bit ∷ here) rest e) (omega (
-    arith,
-    length-one_more (count (length here) (pass rest)),
-    count_shorter (length here) (pass rest),
-    counts.passes rest,
-  ))
+  count_past (bit ∷ here) rest e =
+      grind (arith, length-one_more (count (length here) (pass rest)), count_shorter (length here) (pass rest))
 
   -- the number of EOLs asked for doesn't matter, if there are no more bits
   pub count_same : (n m : ℕ) (here : Bits) → length here ≤ n → length here ≤ m → count n here ≡ count m here
@@ -110,10 +89,7 @@ module _ {pass : Bits → Bits} {count : ℕ → Bits → ℕ × Bits} (counts :
       by_after_eol : ((rest : Bits) → length rest ≤ n → length rest ≤ m → count n rest ≡ count m rest) → (o : Option Bits)
           → after_eol 0 (b ∷ here) ≡ o → count (suc n) (b ∷ here) ≡ count (suc m) (b ∷ here)
       by_after_eol on None e = counts.none (suc n) (b ∷ here) e ∙ sym (counts.none (suc m) (b ∷ here) e)
-      by_after_eol on (Some rest) e =
-          let shorter = after_eol_shorter 0 (b ∷ here) rest e in
-          counts.some n (b ∷ here) rest e ∙ ap one_more (on (pass rest) (omega (arith, shorter, counts.passes rest, h))
-          (omega (arith, shorter, counts.passes rest, k))) ∙ sym (counts.some m (b ∷ here) rest e)
+      by_after_eol on (Some rest) e = grind (arith, after_eol_shorter 0 (b ∷ here) rest e)
 
   -- if there is an EOL, it is counted, and those after it
   pub count_all-some : (here rest : Bits) → after_eol 0 here ≡ Some rest
@@ -133,8 +109,7 @@ next_eol_found (bit ∷ here) found e = by_after_eol (next_eol_found here found)
     by_after_eol : (next_eol here ≡ Some found → (length found ≤ length here)
         × ((after : Bits) × (after_eol 0 found ≡ Some after))) → (o : Option Bits) → after_eol 0 (bit ∷ here) ≡ o
         → (length found ≤ length (bit ∷ here)) × ((after : Bits) × (after_eol 0 found ≡ Some after))
-    by_after_eol on None f = let g : next_eol here ≡ Some found = rw (f, next_eol) at e in let h = on g in
-        (omega (arith, h.0), h.1)
+    by_after_eol on None f = grind arith
     by_after_eol on (Some rest) f =
         let g : ◌≡◌ {A = Option Bits} (Some (bit ∷ here)) (Some found) = rw (f, next_eol) at e in
         let same : (bit ∷ here) ≡ found = cc in
@@ -143,13 +118,7 @@ next_eol_found (bit ∷ here) found e = by_after_eol (next_eol_found here found)
 
 -- a tag is consumed, or nothing
 pub past_tag_shorter : (here : Bits) → length (past_tag here) ≤ length here
-past_tag_shorter [] = omega arith
-past_tag_shorter (false ∷ here) = omega arith
-past_tag_shorter (true ∷ here) = by_after_eol (after_eol 0 here) refl
-  where
-    by_after_eol : (o : Option Bits) → after_eol 0 here ≡ o → length (past_tag (true ∷ here)) ≤ length (true ∷ here)
-    by_after_eol None e = rw (e, past_tag) (omega arith)
-    by_after_eol (Some rest) e = rw (e, past_tag) (omega arith)
+past_tag_shorter here = grind arith
 
 -- if there is an EOL, the count of EOLs with their tags is that of those after it and its tag, and one more
 pub eols_with_tags-some : (most : ℕ) (here rest : Bits) → after_eol 0 here ≡ Some rest
@@ -158,35 +127,20 @@ eols_with_tags-some most here rest e = rw (e, eols_with_tags) refl
 
 -- if there is no EOL, none is counted
 pub eols_with_tags-none : (most : ℕ) (here : Bits) → after_eol 0 here ≡ None → eols_with_tags most here ≡ (0, here)
-eols_with_tags-none zero here e = refl
-eols_with_tags-none (suc most) here e = rw (e, eols_with_tags) refl
+eols_with_tags-none most here e = grind arith
 
 -- both are counts of EOLs
 pub counts_plain : CountsEols (λ here. here) eols
-counts_plain =
-    record { passes = λ here. omega arith; start = λ here. refl; none = eols-none; some = eols-some }
+counts_plain = grind (arith, common_steps)
 
 pub counts_tagged : CountsEols past_tag eols_with_tags
-counts_tagged =
-    record { passes = past_tag_shorter; start = λ here. refl; none = eols_with_tags-none; some = eols_with_tags-some }
+counts_tagged = grind (arith, common_steps)
 
 pub last_tag_count : (found : ℕ × Bits) → (pass_last_tag found).0 ≡ found.0
-last_tag_count (count, []) = refl
-last_tag_count (count, false ∷ here) = refl
-last_tag_count (count, true ∷ here) = either_way (leb 6 count)
-  where
-    either_way : (b : Bool) → (cond {A = ℕ × Bits} b (count, here) (count, true ∷ here)).0 ≡ count
-    either_way true = refl
-    either_way false = refl
+last_tag_count found = grind arith
 
 pub last_tag_shorter : (found : ℕ × Bits) → length (pass_last_tag found).1 ≤ length found.1
-last_tag_shorter (count, []) = omega arith
-last_tag_shorter (count, false ∷ here) = omega arith
-last_tag_shorter (count, true ∷ here) = either_way (leb 6 count)
-  where
-    either_way : (b : Bool) → length (cond {A = ℕ × Bits} b (count, here) (count, true ∷ here)).1 ≤ length (true ∷ here)
-    either_way true = omega arith
-    either_way false = omega arith
+last_tag_shorter found = grind arith
 
 -- counting EOLs leaves at most the bits that were there, and fewer where one came
 abbrev pub Counted : Bits → ℕ × Bits → Type 0

@@ -1,6 +1,7 @@
 -- What the row of ten bits says of their modes.
+use Rattle.fax_bits.proofs.Names.{common_steps}
 use Rattle.fax_bits.proofs.Names.{◌≡◌, ℕ, suc, zero, ◌+◌, ◌*◌, ◌^◌, ◌-◌, ◌/◌, ◌%◌, ◌<◌, ◌≤◌, get_or, length, ap, refl, arith}
-use Rattle.fax_bits.proofs.Names.{take, take_all, pow_pos, eqb, eqb-true, true}
+use Rattle.fax_bits.proofs.Names.{take, take_all, pow_pos, eqb, true}
 use Rattle.std.proofs.lemmas.Bool.{agree_below_at}
 use Rattle.fax_bits.proofs.Names.{Some, Horizontal, Pass, Vertical, Mode, Option, None}
 use Rattle.fax_bits.proofs.BitReading.BitLists.{length-low_bits}
@@ -14,11 +15,7 @@ row_count number = refl
 
 pub row_offset : (number k d : ℕ) → k < 4 → get_or (group_row number) k d ≡ offset_at (words_of number) k
 unfolding group_row
-row_offset number zero d h = refl
-row_offset number (suc zero) d h = refl
-row_offset number (suc (suc zero)) d h = refl
-row_offset number (suc (suc (suc zero))) d h = refl
-row_offset number (suc (suc (suc (suc k)))) d h = absurd (omega arith)
+row_offset number k d h = grind arith
 
 -- ---- How many modes there are, their bits and offsets
 pub four_words : (number : ℕ) → length (words_of number) ≤ 4
@@ -65,11 +62,7 @@ below_sixteen (suc (suc (suc (suc (suc n))))) few = absurd (omega (arith, few))
 
 pub row_used : (number : ℕ) → get_or (group_row number) 4 0 % 16 ≡ 2 ^ length (words_of number) - 1
 unfolding group_row
-row_used number = omega (
-  arith,
-  below_sixteen (length (words_of number)) (four_words number),
-  pow_pos (length (words_of number)),
-)
+row_used number = grind (arith, below_sixteen, four_words, pow_pos)
 
 pub row_first_width : (number count : ℕ) → 0 < count → count ≤ 4
     → get_or (group_row number) (4 + count / 2) 0 / 2 ^ (4 * (count % 2)) % 16 ≡ width_of (take count (words_of number))
@@ -88,34 +81,23 @@ row_first_width number (suc (suc (suc (suc (suc n))))) some few = absurd (omega 
 
 -- ---- The mode that is first
 -- the number of a mode that isn't vertical
-abbrev mode_number : Option Mode → ℕ
+abbrev pub mode_number : Option Mode → ℕ
 mode_number None = 0
 mode_number (Some Horizontal) = 1
 mode_number (Some Pass) = 2
 mode_number (Some (Vertical distance)) = 0
 
-pub first_horizontal : (number : ℕ) → number / 128 ≡ 1 → first_mode number ≡ Some Horizontal
+-- whether it has a number shows in the first bits
+pub first_horizontal : (number : ℕ) → number < 1024 → eqb (mode_number (first_mode number)) 1 ≡ eqb (number / 128) 1
 unfolding first_mode ten_bits
-first_horizontal number e =
-    let at : 128 + number % 128 ≡ number = omega (arith, e) in
-    by_mode (first_mode number) (rw at at (eqb-true _ 1
-    (agree_below_at (λ k. eqb (mode_number (first_mode (128 + k))) 1) (λ k. true) 128 (number % 128) refl (omega arith))))
-  where
-    by_mode : (mode : Option Mode) → mode_number mode ≡ 1 → mode ≡ Some Horizontal
-    by_mode None e = absurd (omega (arith, e))
-    by_mode (Some Horizontal) e = refl
-    by_mode (Some Pass) e = absurd (omega (arith, e))
-    by_mode (Some (Vertical distance)) e = absurd (omega (arith, e))
+first_horizontal number h = agree_below_at (λ k. eqb (mode_number (first_mode k)) 1) (λ k. eqb (k / 128) 1) 1024 number refl h
 
-pub first_pass : (number : ℕ) → number / 64 ≡ 1 → first_mode number ≡ Some Pass
+pub first_pass : (number : ℕ) → number < 1024 → eqb (mode_number (first_mode number)) 2 ≡ eqb (number / 64) 1
 unfolding first_mode ten_bits
-first_pass number e =
-    let at : 64 + number % 64 ≡ number = omega (arith, e) in
-    by_mode (first_mode number) (rw at at (eqb-true _ 2
-    (agree_below_at (λ k. eqb (mode_number (first_mode (64 + k))) 2) (λ k. true) 64 (number % 64) refl (omega arith))))
-  where
-    by_mode : (mode : Option Mode) → mode_number mode ≡ 2 → mode ≡ Some Pass
-    by_mode None e = absurd (omega (arith, e))
-    by_mode (Some Horizontal) e = absurd (omega (arith, e))
-    by_mode (Some Pass) e = refl
-    by_mode (Some (Vertical distance)) e = absurd (omega (arith, e))
+first_pass number h = agree_below_at (λ k. eqb (mode_number (first_mode k)) 2) (λ k. eqb (k / 64) 1) 1024 number refl h
+
+pub numbered_one : (mode : Option Mode) → eqb (mode_number mode) 1 ≡ true → mode ≡ Some Horizontal
+numbered_one mode e = grind (arith, common_steps)
+
+pub numbered_two : (mode : Option Mode) → eqb (mode_number mode) 2 ≡ true → mode ≡ Some Pass
+numbered_two mode e = grind (arith, common_steps)

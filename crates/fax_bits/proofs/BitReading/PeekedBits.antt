@@ -1,7 +1,7 @@
 -- The highest bits of a word that contains the bits from here on.
 use Rattle.fax_bits.proofs.Names.{◌≡◌, ℕ, zero, suc, ◌+◌, ◌-◌, ◌/◌, ◌^◌, ◌<◌, ◌≤◌, false, [], ◌∷◌, get_or, refl, sym, ap, ◌∙◌}
-use Rattle.fax_bits.proofs.Names.{div_below, pow-add, pow_pos, arith, get_or-drop, shr-shr, Bits, BitsAt, bit_of, low_bits}
-use Rattle.fax_bits.proofs.Names.{here, padded, common_steps}
+use Rattle.fax_bits.proofs.Names.{arith, get_or-drop, shr-shr, Bits, BitsAt, bit_of, low_bits}
+use Rattle.fax_bits.proofs.Names.{div_below, here, padded, pow-add, pow_pos}
 use Rattle.fax_bits.specs.LookUps.{index_bits, seven_bits, twelve_bits}
 use Rattle.fax_bits.specs.ModeGroups.{ten_bits}
 
@@ -25,10 +25,7 @@ low_bits-padded (suc n) x (b ∷ here) h =
 -- the highest n bits of a word that contains the next ones
 pub highest_bits : (wide : ℕ) (at : BitsAt) (word n : ℕ) → n ≤ wide → ((k : ℕ) → k < n
     → bit_of word (wide - 1 - k) ≡ get_or at.bits (at.place + k) false) → low_bits n (word / 2 ^ (wide - n)) ≡ padded n (here at)
-highest_bits wide at word n le h = low_bits-padded n (word / 2 ^ (wide - n)) (here at) each
-  where
-    each : (k : ℕ) → k < n → bit_of (word / 2 ^ (wide - n)) (n - 1 - k) ≡ get_or (here at) k false
-    each k lt = grind (arith, common_steps, get_or-drop at.place at.bits k false, shr-shr word (wide - n) (n - 1 - k))
+highest_bits wide at word n le h = grind (arith, low_bits-padded, get_or-drop, shr-shr)
 
 -- of what is peeked
 pub peeked_index : (at : BitsAt) (word n : ℕ) → n ≤ 32
@@ -49,7 +46,6 @@ pub first_index : (at : BitsAt) (word n : ℕ) → n ≤ 64
 unfolding index_bits
 first_index at word n le h = highest_bits 64 at word n le h
 
--- they are a number below the number of entries
 pub index_below : (wide n word : ℕ) → n ≤ wide → word < 2 ^ wide → word / 2 ^ (wide - n) < 2 ^ n
 index_below wide n word le lt =
     let e : n + (wide - n) ≡ wide = omega (arith, le) in

@@ -2,11 +2,11 @@
 use Rattle.fax_bits.proofs.Names.{◌≡◌, ℕ, suc, zero, ◌+◌, ◌-◌, ◌*◌, ◌/◌, ◌%◌, ◌^◌, ◌<◌, ◌≤◌, ◌++◌, ◌∷◌, eqb, false, true, List}
 use Rattle.fax_bits.proofs.Names.{[]}
 use Rattle.fax_bits.proofs.Names.{get_or, drop, length, refl, sym, ap, ◌∙◌, arith, eqb-true, drop-drop, length-drop, get_or-drop}
-use Rattle.fax_bits.proofs.Names.{append-nil, bit_and, bit_at, bit_at-lt, BitOrder, HighestFirst, LowestFirst, Bits, BitsAt}
+use Rattle.fax_bits.proofs.Names.{append-nil, bit_and, bit_at-lt, BitOrder, HighestFirst, LowestFirst, Bits, BitsAt}
 use Rattle.fax_bits.proofs.Names.{bit_of}
 use Rattle.fax_bits.proofs.Names.{bits_in, from_be_bytes, w64, here, low_bits, min, moved, padded}
 use Rattle.fax_bits.proofs.BitReading.PeekedBits.{low_bits-padded}
-use Rattle.fax_bits.proofs.BitReading.WindowWords.{IsBytes, bit_at-shr, filled, get_or-bits_in, shifted_bit, word_bit}
+use Rattle.fax_bits.proofs.BitReading.WindowWords.{IsBytes, bit_at-shr, get_or-bits_in, shifted_bit, word_bit}
 use Rattle.fax_bits.proofs.CodeWords.LooksAhead.{length-padded, stands_in_padded}
 use Rattle.fax_bits.specs.Window.{ArePlaced, HoldsNext, PassesPlaced, WordsAt, position_of}
 use Rattle.fax_bits.specs.declared.bit_reader.PlacedBits.{PlacedBits}
@@ -21,15 +21,7 @@ turned_round bytes =
     ∷ get_or bytes 1 0 ∷ get_or bytes 0 0 ∷ []
 
 round_at : (bytes : List ℕ) (k : ℕ) → k < 8 → get_or (turned_round bytes) (7 - k) 0 ≡ get_or bytes k 0
-round_at bytes zero h = refl
-round_at bytes (suc zero) h = refl
-round_at bytes (suc (suc zero)) h = refl
-round_at bytes (suc (suc (suc zero))) h = refl
-round_at bytes (suc (suc (suc (suc zero)))) h = refl
-round_at bytes (suc (suc (suc (suc (suc zero))))) h = refl
-round_at bytes (suc (suc (suc (suc (suc (suc zero)))))) h = refl
-round_at bytes (suc (suc (suc (suc (suc (suc (suc zero))))))) h = refl
-round_at bytes (suc (suc (suc (suc (suc (suc (suc (suc k)))))))) h = absurd (omega arith)
+round_at bytes k h = grind arith
 
 round_fits : (bytes : List ℕ) → IsBytes bytes → IsBytes (turned_round bytes)
 round_fits bytes fits zero = fits 7
@@ -66,12 +58,7 @@ turned_low bytes top turned k fits h same turns =
     let byte : place / 8 ≡ k / 8 = omega arith in
     let bit : 7 - place % 8 ≡ k % 8 = omega arith in
     let to : 8 * ((63 - place) / 8) + (7 - (63 - place) % 8) ≡ 63 - k = omega arith in
-    get_or-bits_in LowestFirst bytes k
-    ∙ sym (get_or-bits_in HighestFirst bytes place ∙ ap (λ (i : ℕ). bit_of (get_or bytes i 0) (7 - place % 8)) byte
-    ∙ ap (bit_of (get_or bytes (k / 8) 0)) bit)
-    ∙ sym (word_bit bytes place fits (omega arith))
-    ∙ ap (λ (w : ℕ). bit_of w (63 - place)) same
-    ∙ turns (63 - place) (omega arith) ∙ ap (bit_of top) to
+    grind (arith, get_or-bits_in, word_bit)
 
 -- the bytes of a word
 pub bytes_of_word : (word : ℕ) → IsBytes (to_be_bytes w64 word)
@@ -97,15 +84,7 @@ pub placed_high : (count bits : ℕ) → 0 < count → count ≤ 57
       mask = (2 ^ 64 - 1) * 2 ^ (64 - count) % 2 ^ 64;
       word = bits * 2 ^ (64 - count) % 2 ^ 64;
     })
-placed_high count bits some few = record {
-  count_is = refl;
-  few = few;
-  masked = λ k h. shifted_bit (2 ^ 64 - 1) (64 - count) k (omega (arith, h, few))
-      ∙ ones_bit (63 - (64 - count + k)) (omega arith);
-  there = λ k h.
-      let at : 63 - (64 - count + k) ≡ count - 1 - k = omega (arith, h, few) in
-      shifted_bit bits (64 - count) k (omega (arith, h, few)) ∙ ap (bit_of bits) at;
-}
+placed_high count bits some few = grind (arith, shifted_bit, ones_bit)
 
 pub placed_low : (count bits word : ℕ) → 0 < count → count ≤ 57
     → ((k : ℕ) → k < 64 → bit_of word k ≡ bit_of (bits * 2 ^ (64 - count) % 2 ^ 64) (63 - k))
@@ -113,21 +92,12 @@ pub placed_low : (count bits word : ℕ) → 0 < count → count ≤ 57
 placed_low count bits word some few is = record {
   count_is = refl;
   few = few;
-  masked = λ k h. ap (λ (v : ℕ). eqb v 1) (bit_at-shr (2 ^ 64 - 1) (64 - count) k)
-      ∙ ones_bit (64 - count + k) (omega (arith, h, few));
+  masked = grind (arith, bit_at-shr, ones_bit);
   there = λ k h.
-      let at : 63 - (64 - count + k) ≡ count - 1 - k = omega (arith, h, few) in
-      is k (omega (arith, h, few)) ∙ shifted_bit bits (64 - count) k (omega (arith, h, few)) ∙ ap (bit_of bits) at;
+      grind (arith, shifted_bit) steps 200000;
 }
 
 -- ---- What is compared
-
--- a bit under the mask is that of the word
-masked_bit : (word mask i : ℕ) → bit_of mask i ≡ true → bit_of (bit_and word mask) i ≡ bit_of word i
-masked_bit word mask i one =
-    let is : bit_at mask i ≡ 1 = eqb-true (bit_at mask i) 1 one in
-    let least : min (bit_at word i) (bit_at mask i) ≡ bit_at word i = omega (arith, is, bit_at-lt word i) in
-    ap (λ (v : ℕ). eqb v 1) (bit_at_and word mask i ∙ least)
 
 -- where the next bits are those of a word that is moved to the offset, and these are placed bits, those are the next ones
 module _ (order : BitOrder) (at : BitsAt) (word count bits : ℕ) (placed : PlacedBits)
@@ -135,10 +105,7 @@ module _ (order : BitOrder) (at : BitsAt) (word count bits : ℕ) (placed : Plac
     (are : ArePlaced order count bits placed) (same : bit_and word placed.mask ≡ placed.word)
     (room : at.place + count ≤ length at.bits) where
   each : (k : ℕ) → k < count → bit_of bits (count - 1 - k) ≡ get_or (here at) k false
-  each k h =
-      sym (are.there k h) ∙ ap (λ (w : ℕ). bit_of w (position_of order k)) (sym same)
-      ∙ masked_bit word placed.mask (position_of order k) (are.masked k h) ∙ next k (omega (arith, h, are.few))
-      ∙ sym (get_or-drop at.place at.bits k false)
+  each k h = grind (arith, eqb-true, min, bit_at-lt, bit_at_and, get_or-drop)
 
   pub placed_there : here at ≡ low_bits count bits ++ here (moved count at)
   placed_there =
@@ -155,22 +122,4 @@ module _ (order : BitOrder) (at : BitsAt) (word count bits : ℕ) (placed : Plac
 pub placed_passed : (words : WordsAt) (word : ℕ) (placed : PlacedBits) (next : BitsAt) → HoldsNext words word
     → bit_and word placed.mask ≡ placed.word → next ≡ moved placed.count words.at → PassesPlaced placed words next
 placed_passed words word placed next holds same is count bits are =
-    let room : words.at.place + count ≤ length words.at.bits = omega (arith, holds.room, are.few) in (
-      placed_there words.order words.at word count bits placed holds.bits are same room,
-      room,
-      is ∙ ap (λ (n : ℕ). moved n words.at) are.count_is,
-    )
-
--- the next bits in a word of eight bytes from the offset's byte on
-pub next_high : (bytes : List ℕ) (place word : ℕ)
-    → ((k : ℕ) → k < 64 → bit_of word (63 - k) ≡ get_or (bits_in HighestFirst bytes) (8 * (place / 8) + k) false)
-    → (k : ℕ) → k < 57 → bit_of (word * 2 ^ (place % 8) % 2 ^ 64) (63 - k) ≡ get_or (bits_in HighestFirst bytes) (place + k) false
-next_high bytes place word is k h = filled HighestFirst bytes place word is k (omega (arith, h))
-
-pub next_low : (bytes : List ℕ) (place word : ℕ)
-    → ((k : ℕ) → k < 64 → bit_of word k ≡ get_or (bits_in LowestFirst bytes) (8 * (place / 8) + k) false)
-    → (k : ℕ) → k < 57 → bit_of (word / 2 ^ (place % 8)) k ≡ get_or (bits_in LowestFirst bytes) (place + k) false
-next_low bytes place word is k h =
-    let at : 8 * (place / 8) + (place % 8 + k) ≡ place + k = omega arith in
-    ap (λ (v : ℕ). eqb v 1) (bit_at-shr word (place % 8) k) ∙ is (place % 8 + k) (omega (arith, h))
-    ∙ ap (λ (i : ℕ). get_or (bits_in LowestFirst bytes) i false) at
+    grind (arith, placed_there words.order words.at word count bits placed holds.bits are same)

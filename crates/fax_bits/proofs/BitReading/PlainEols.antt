@@ -1,9 +1,9 @@
 -- EOLs without fill.
 use Rattle.fax_bits.proofs.Names.{◌≡◌, ℕ, ◌+◌, ◌-◌, ◌*◌, ◌/◌, ◌%◌, ◌^◌, ◌<◌, ◌≤◌, true, false, eqb, length, get_or, cond}
-use Rattle.fax_bits.proofs.Names.{Option, leb, drop, min, Some, None, sym, ap, ◌∙◌, arith, inl, inr, count_leading_zeros}
+use Rattle.fax_bits.proofs.Names.{leb, drop, min, Some, None, sym, ap, ◌∙◌, arith, inl, inr, count_leading_zeros}
 use Rattle.fax_bits.proofs.Names.{count_trailing_zeros, bit_at, cases_lt, get_or-drop, length-drop, drop_min, leading_top}
 use Rattle.fax_bits.proofs.Names.{shr-shr, pow-le-pow_right, bit_at_above, bit_at_cat_low, bit_at-trailing_zeros, Bits, BitsAt}
-use Rattle.fax_bits.proofs.Names.{here, bit_of, looked, after_eol, all_eols, past_tag, pass_last_tag, tagged_eols, common_steps}
+use Rattle.fax_bits.proofs.Names.{here, bit_of, looked, after_eol, all_eols, pass_last_tag, tagged_eols, common_steps}
 use Rattle.fax_bits.proofs.{BitReading.SoughtEols.one_near, BitReading.ZerosPassed.HoldsNextBits}
 use Rattle.fax_bits.proofs.BitReading.ZerosPassed.{run_ahead}
 use Rattle.fax_bits.proofs.BitReading.ZeroRuns.{after_eol_run, eols_one, eols_enough, looked_eol, looked_run}
@@ -16,13 +16,7 @@ eleven_zeros : (w : ℕ) → w < 2 ^ 32 → w / 1048576 ≡ 1 → count_leading_
 eleven_zeros w small one =
     let top = leading_top 32 w (omega (arith, one)) small in
     let above : 20 ≤ top.0 = grind (arith, common_steps, cases_lt, pow-le-pow_right) in
-    let below : top.0 ≤ 20 = elim (cases_lt 20 top.0) [
-      | inl lt ↦
-          let least : 2 ^ 21 ≤ 2 ^ top.0 = pow-le-pow_right {n = 2} (omega arith) {i = 21} {j = top.0} (omega (arith, lt)) in
-          absurd (omega (arith, one, top.2, least))
-      | inr ge ↦ ge
-    ] in
-    omega (arith, top.1, above, below)
+    grind (arith, cases_lt 20 top.0, pow-le-pow_right {n = 2} (omega arith) {i = 21} {j = top.0})
 
 module _ (at : BitsAt) (w : ℕ) (small : w < 2 ^ 32) (held : HoldsNextBits w at) where
   -- a word with a one says whether an EOL is here, and how many bits are examined
@@ -31,27 +25,17 @@ module _ (at : BitsAt) (w : ℕ) (small : w < 2 ^ 32) (held : HoldsNextBits w at
   word_says few =
       let n = count_leading_zeros 32 w in
       let run = run_ahead at w small held few in
-      let place : at.place + n + 1 ≡ at.place + (n + 1) = omega arith in (
-        ap (after_eol 0) run ∙ after_eol_run n (drop (at.place + n + 1) at.bits)
-            ∙ ap (λ (i : ℕ). cond (leb 11 n) (Some (drop i at.bits)) None) place,
-        ap looked run ∙ looked_run n (drop (at.place + n + 1) at.bits),
-      )
+      grind (arith, after_eol_run, looked_run)
 
   -- an EOL without fill is here
   pub plain_eol_here : w / 1048576 ≡ 1
       → (after_eol 0 (here at) ≡ Some (drop (at.place + 12) at.bits)) × (looked (here at) ≡ 12)
-  plain_eol_here one =
-      let eleven = eleven_zeros w small one in
-      let says = word_says (omega (arith, eleven)) in (
-        says.0 ∙ ap (λ (n : ℕ). cond (leb 11 n) (Some (drop (at.place + (n + 1)) at.bits)) None) eleven,
-        omega (arith, says.1, eleven),
-      )
+  plain_eol_here one = grind (arith, eleven_zeros, word_says)
 
   -- it is passed
   module _ (one : w / 1048576 ≡ 1) (next : BitsAt) (e : next ≡ record at { place = min (at.place + 12) (length at.bits) }) where
     pub plain_eol : after_eol 0 (here at) ≡ Some (here next)
-    plain_eol = (plain_eol_here one).0 ∙ ap {B = Option Bits} (λ (b : Bits). Some b)
-        (sym (ap here e ∙ drop_min (at.place + 12) at.bits))
+    plain_eol = grind (arith, plain_eol_here, drop_min)
 
     pub twelve_more : length (here at) ≡ length (here next) + 12
     twelve_more = omega (arith, looked_eol 0 (here at) (here next) plain_eol, (plain_eol_here one).1)
@@ -93,18 +77,13 @@ module _ (at : BitsAt) (w : ℕ) (small : w < 2 ^ 32) (held : HoldsNextBits w at
     none_behind next same place =
         let step = one_near 0 (9 - zeros_behind) (drop 1 (here next)) (omega arith) in
         let step2 = get_or-drop next.place next.bits (10 - zeros_behind) false in
-        let step3 = one_near 0 (10 - zeros_behind) (here next) (omega arith) in
-        grind (arith, common_steps, step2, get_or-drop 1 (here next) (9 - zeros_behind) false, step3, step, one_there, within_ten)
+        grind (arith, one_near, get_or-drop, one_there, within_ten)
 
 -- ---- The EOLs.
 -- the first, and the others
 pub eol_and_others : (here rest : Bits) → after_eol 0 here ≡ Some rest
     → all_eols here ≡ (1 + (all_eols rest).0, (all_eols rest).1)
 eol_and_others here rest e = grind (arith, common_steps, after_eol_shorter, eols_enough, eols_one)
-
--- a tag that no EOL follows stays
-tag_stays : (here : Bits) → after_eol 0 (drop 1 here) ≡ None → past_tag here ≡ here
-tag_stays here e = grind (arith, common_steps)
 
 pub few_keep_the_tag : (here : Bits) → pass_last_tag (1, here) ≡ (1, here)
 few_keep_the_tag here = grind (arith, common_steps)
@@ -113,4 +92,4 @@ few_keep_the_tag here = grind (arith, common_steps)
 pub single_tagged_eol : (here rest : Bits) → after_eol 0 here ≡ Some rest → after_eol 0 rest ≡ None
     → after_eol 0 (drop 1 rest) ≡ None → tagged_eols here ≡ (1, rest)
 single_tagged_eol here rest e none later =
-    grind (arith, common_steps, common_steps, eols_with_tags-none, eols_with_tags-some, few_keep_the_tag, tag_stays)
+    grind (arith, common_steps, eols_with_tags-none, eols_with_tags-some, few_keep_the_tag)

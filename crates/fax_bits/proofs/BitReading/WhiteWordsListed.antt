@@ -1,7 +1,8 @@
 -- The tables of white code words have the word of each length at its position.
+use Rattle.fax_bits.proofs.Names.{common_steps}
 use Rattle.fax_bits.proofs.Names.{◌≡◌, ℕ, ◌+◌, ◌*◌, ◌^◌, ◌<◌, ◌≤◌, Bool, true, false, ◌&&◌, ◌||◌, leb, ltb, eqb, List, [], ◌∷◌}
 use Rattle.fax_bits.proofs.Names.{get_or, refl, sym, subst, arith, beq, agree_below_at, leb-true, ltb-true, eqb-true, and_parts}
-use Rattle.fax_bits.proofs.Names.{inl, inr, or_cases, false≢true, WHITE_TERMINATING, WHITE_MAKEUP, COMMON_MAKEUP, Bits, low_bits}
+use Rattle.fax_bits.proofs.Names.{or_cases, false≢true, WHITE_TERMINATING, WHITE_MAKEUP, COMMON_MAKEUP, Bits, low_bits}
 use Rattle.fax_bits.proofs.Names.{Code, Has, white_codes, IsWhiteWord}
 use Rattle.fax_bits.specs.declared.tables.CodeWord.{CodeWord}
 
@@ -11,20 +12,10 @@ same_bits (a ∷ x) (b ∷ y) = beq a b && same_bits x y
 same_bits [] (b ∷ y) = false
 same_bits (a ∷ x) [] = false
 
-beq-true : (a b : Bool) → beq a b ≡ true → a ≡ b
-beq-true true true e = refl
-beq-true false false e = refl
-beq-true true false e = absurd (false≢true e)
-beq-true false true e = absurd (false≢true e)
-
 same_bits-true : (x y : Bits) → same_bits x y ≡ true → x ≡ y
 unfolding same_bits
 same_bits-true [] [] e = refl
-same_bits-true (a ∷ x) (b ∷ y) e =
-    let parts = and_parts (beq a b) (same_bits x y) e in
-    let one = beq-true a b parts.0 in
-    let rest = same_bits-true x y parts.1 in
-    cc
+same_bits-true (a ∷ x) (b ∷ y) e = grind (arith, common_steps, same_bits-true x y)
 same_bits-true [] (b ∷ y) e = absurd (false≢true e)
 same_bits-true (a ∷ x) [] e = absurd (false≢true e)
 
@@ -36,12 +27,8 @@ listed (c ∷ list) n word = (eqb c.value n && same_bits c.word word) || listed 
 has_listed : (list : List (Code ℕ)) (n : ℕ) (word : Bits) → listed list n word ≡ true → Has list n word
 unfolding listed
 has_listed [] n word e = absurd (false≢true e)
-has_listed (c ∷ list) n word e = elim (or_cases (eqb c.value n && same_bits c.word word) (listed list n word) e) [
-  | inl here ↦
-      let both = and_parts (eqb c.value n) (same_bits c.word word) here in
-      inl (eqb-true c.value n both.0, same_bits-true c.word word both.1)
-  | inr later ↦ inr (has_listed list n word later)
-]
+has_listed (c ∷ list) n word e =
+    grind (arith, has_listed list n word, or_cases, and_parts, eqb-true, same_bits-true)
 
 -- whether an entry is the word of a length, with at most this many bits
 is_word : ℕ → ℕ → ℕ × ℕ × ℕ → Bool

@@ -1,6 +1,7 @@
 -- When the rows of groups of modes that are written out are those of the code list.
+use Rattle.fax_bits.proofs.Names.{common_steps}
 use Rattle.fax_bits.proofs.Names.{◌≡◌, ℕ, suc, zero, ◌+◌, ◌<◌, Bool, true, false, ◌&&◌, eqb, List, [], ◌∷◌, length, get_or, refl}
-use Rattle.fax_bits.proofs.Names.{arith, and_parts, eqb-true, false≢true}
+use Rattle.fax_bits.proofs.Names.{arith, and_parts, false≢true}
 use Rattle.fax_bits.specs.ModeGroups.{group_row, AreRows}
 
 -- whether two lists are the same
@@ -14,11 +15,7 @@ same_items-true : (xs ys : List ℕ) → same_items xs ys ≡ true → xs ≡ ys
 same_items-true [] [] e = refl
 same_items-true [] (y ∷ ys) e = absurd (false≢true e)
 same_items-true (x ∷ xs) [] e = absurd (false≢true e)
-same_items-true (x ∷ xs) (y ∷ ys) e =
-    let both = and_parts (eqb x y) (same_items xs ys) e in
-    let first : x ≡ y = eqb-true x y both.0 in
-    let others : xs ≡ ys = same_items-true xs ys both.1 in
-    cc
+same_items-true (x ∷ xs) (y ∷ ys) e = grind (arith, common_steps, same_items-true xs ys)
 
 -- each of some rows, from an index on, is that of its bits
 abbrev pub are_rows : List (List ℕ) → ℕ → Bool
@@ -28,18 +25,8 @@ are_rows (row ∷ rows) index = same_items row (group_row index) && are_rows row
 rows_agree_at : (rows : List (List ℕ)) (from index : ℕ) → are_rows rows from ≡ true → index < length rows
     → get_or rows index [] ≡ group_row (from + index)
 rows_agree_at [] from index e lt = absurd (omega arith)
-rows_agree_at (row ∷ rows) from zero e lt =
-    let both = and_parts (same_items row (group_row from)) (are_rows rows (suc from)) e in
-    let at : from + zero ≡ from = omega arith in
-    rw at (same_items-true row (group_row from) both.0)
-rows_agree_at (row ∷ rows) from (suc index) e lt =
-    let both = and_parts (same_items row (group_row from)) (are_rows rows (suc from)) e in
-    let at : from + suc index ≡ suc from + index = omega arith in
-    rw at (rows_agree_at rows (suc from) index both.1 (omega arith))
+rows_agree_at (row ∷ rows) from zero e lt = grind (arith, and_parts, same_items-true)
+rows_agree_at (row ∷ rows) from (suc index) e lt = grind (arith, rows_agree_at rows (suc from) index, and_parts)
 
 pub rows_agree : (rows : List (List ℕ)) → length rows ≡ 1024 → are_rows rows 0 ≡ true → AreRows rows
-rows_agree rows count all = record {
-  count = count;
-  each = λ index below.
-      let same : 0 + index ≡ index = omega arith in rw same at (rows_agree_at rows 0 index all (omega (arith, count, below)));
-}
+rows_agree rows count all = grind (arith, rows_agree_at rows 0)

@@ -25,8 +25,7 @@ after_eol_run k rest = from 0 k ∙ let e : 0 + k ≡ k = omega arith in ap (λ 
   where
     from : (seen k : ℕ) → after_eol seen (replicate k false ++ true ∷ rest) ≡ cond (leb 11 (seen + k)) (Some rest) None
     from seen zero = let e : seen + 0 ≡ seen = omega arith in rw e refl
-    from seen (suc k) = let e : suc seen + k ≡ seen + suc k = omega arith in
-        from (suc seen) k ∙ ap (λ (n : ℕ). cond (leb 11 n) (Some rest) None) e
+    from seen (suc k) = grind (arith, from (suc seen) k)
 
 -- a count of zeros examines the bits of an EOL
 pub looked_eol : (seen : ℕ) (here after : Bits) → after_eol seen here ≡ Some after → looked here + length after ≡ length here
@@ -43,8 +42,7 @@ eols_one most here after e lt = grind (arith, common_steps)
 pub eols_stepped : (max count : ℕ) (start now after : Bits)
     → eols max start ≡ (count + (eols (max - count) now).0, (eols (max - count) now).1) → after_eol 0 now ≡ Some after
     → count < max → eols max start ≡ (count + 1 + (eols (max - (count + 1)) after).0, (eols (max - (count + 1)) after).1)
-eols_stepped max count start now after e h lt =
-    grind (arith, common_steps, common_steps, eols_one (max - count) now after h (omega arith))
+eols_stepped max count start now after e h lt = grind (arith, eols_one (max - count) now after h (omega arith))
 
 -- an EOL has at least one bit
 pub eols_fewer : (most : ℕ) (here : Bits) → (eols most here).0 + length (eols most here).1 ≤ length here

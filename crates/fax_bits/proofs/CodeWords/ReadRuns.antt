@@ -18,14 +18,10 @@ has_no_empty_word list = list_all (λ c. not (is_empty c.word)) list
 pub words_not_empty : (color : Color) → has_no_empty_word (codes_of color) ≡ true
 words_not_empty color = grind (arith, common_steps)
 
-not_empty : (w : Bits) → not (is_empty w) ≡ true → 0 < length w
-not_empty w e = grind (arith, common_steps)
-
 pub word_length : {V : Type 0} (list : List (Code V)) (v : V) (w : Bits) → has_no_empty_word list ≡ true → Has list v w
     → 0 < length w
 word_length [] v w e i = elim i [ ]
-word_length (c ∷ list) v w e (inl i) =
-    rw (← i.1) (not_empty c.word (and_parts (not (is_empty c.word)) (has_no_empty_word list) e).0)
+word_length (c ∷ list) v w e (inl i) = grind (arith, common_steps)
 word_length (c ∷ list) v w e (inr i) = word_length list v w (and_parts (not (is_empty c.word)) (has_no_empty_word list) e).1 i
 
 -- what is left after a word is shorter
@@ -79,13 +75,11 @@ run_passes color total n here rest h k = run_is color total here ∙ rw (h, run_
 
 pub run_ends : (color : Color) (total n : ℕ) (here rest : Bits) → read_code (codes_of color) here ≡ Ok (n, rest)
     → total + n ≤ 4294967295 → n < 64 → run_from color (total, here) ≡ Ok (total + n, rest)
-run_ends color total n here rest h k l =
-    run_is color total here ∙ rw (h, run_turn, le-ltb 4294967295 (total + n) k, lt-ltb n 64 l) refl
+run_ends color total n here rest h k l = grind (arith, common_steps)
 
 pub run_goes_on : (color : Color) (total n : ℕ) (here rest : Bits) → read_code (codes_of color) here ≡ Ok (n, rest)
     → total + n ≤ 4294967295 → 64 ≤ n → run_from color (total, here) ≡ run_from color (total + n, rest)
-run_goes_on color total n here rest h k l =
-    run_is color total here ∙ rw (h, run_turn, le-ltb 4294967295 (total + n) k, le-ltb n 64 l) refl
+run_goes_on color total n here rest h k l = grind (arith, run_is, le-ltb)
 
 -- ---- What a run leaves is shorter.
 abbrev leaves_below : ℕ → Result (ℕ × Bits) DecodeError → Type 0

@@ -1,7 +1,7 @@
 -- The vertical modes that bits begin with are next to each other.
 use Rattle.fax_bits.proofs.Names.{◌≡◌, ℕ, zero, suc, ◌-◌, ◌<◌, ◌≤◌, ◌∷◌, List, [], ◌++◌, length, take, drop, Option, Some, None}
 use Rattle.fax_bits.proofs.Names.{Ok, refl, sym, ap, ◌∙◌, arith, ◌⊎◌, inl, inr, append_assoc, length-append, drop-drop, drop_at}
-use Rattle.fax_bits.proofs.Names.{pos, negsuc, subst, common_steps, padded, Mode, Pass, Horizontal, Vertical, Bits, BitsAt, here}
+use Rattle.fax_bits.proofs.Names.{common_steps, padded, Mode, Pass, Horizontal, Vertical, Bits, BitsAt, here}
 use Rattle.fax_bits.proofs.Names.{mode_codes, word_at, read_code, Has, moved}
 use Rattle.fax_bits.proofs.BitReading.ZerosInWords.{modes_free}
 use Rattle.fax_bits.proofs.CodeWords.ReadCodes.{read_code_again, word_at_found}
@@ -35,39 +35,17 @@ record IsVertical (mode : Mode) (word : Bits) (offset : ℕ) : Type 0 where
   few : length word ≤ 7
   near : offset ≤ 6
 
-of_row : (row mode : Mode) (bits word : Bits) (this offset : ℕ) → row ≡ mode → bits ≡ word → offset_of row ≡ Some this
-    → IsVertical row bits this → offset_of mode ≡ Some offset → IsVertical mode word offset
-of_row row mode bits word this offset same spelled is vertical e =
-    let named : Option.Some this ≡ Some offset = sym is ∙ ap offset_of same ∙ e in
-    let at : this ≡ offset = cc in
-    rw (← same, ← spelled, ← at) vertical
-
 is_vertical : (mode : Mode) (word : Bits) (offset : ℕ) → Has mode_codes mode word → offset_of mode ≡ Some offset
     → IsVertical mode word offset
 is_vertical mode word offset (inl i) e = absurd (let no : offset_of Pass ≡ Some offset = ap offset_of i.0 ∙ e in cc)
-is_vertical mode word offset (inr (inl i)) e =
-    absurd (let no : offset_of Horizontal ≡ Some offset = ap offset_of i.0 ∙ e in cc)
-is_vertical mode word offset (inr (inr (inl i))) e =
-    of_row (Vertical (pos 0)) mode _ word 3 offset i.0 i.1 refl
-    record { is = refl; some = omega arith; few = omega arith; near = omega arith } e
-is_vertical mode word offset (inr (inr (inr (inl i)))) e =
-    of_row (Vertical (pos 1)) mode _ word 4 offset i.0 i.1 refl
-    record { is = refl; some = omega arith; few = omega arith; near = omega arith } e
-is_vertical mode word offset (inr (inr (inr (inr (inl i))))) e =
-    of_row (Vertical (pos 2)) mode _ word 5 offset i.0 i.1 refl
-    record { is = refl; some = omega arith; few = omega arith; near = omega arith } e
-is_vertical mode word offset (inr (inr (inr (inr (inr (inl i)))))) e =
-    of_row (Vertical (pos 3)) mode _ word 6 offset i.0 i.1 refl
-    record { is = refl; some = omega arith; few = omega arith; near = omega arith } e
-is_vertical mode word offset (inr (inr (inr (inr (inr (inr (inl i))))))) e =
-    of_row (Vertical (negsuc 0)) mode _ word 2 offset i.0 i.1 refl
-    record { is = refl; some = omega arith; few = omega arith; near = omega arith } e
-is_vertical mode word offset (inr (inr (inr (inr (inr (inr (inr (inl i)))))))) e =
-    of_row (Vertical (negsuc 1)) mode _ word 1 offset i.0 i.1 refl
-    record { is = refl; some = omega arith; few = omega arith; near = omega arith } e
-is_vertical mode word offset (inr (inr (inr (inr (inr (inr (inr (inr (inl i))))))))) e =
-    of_row (Vertical (negsuc 2)) mode _ word 0 offset i.0 i.1 refl
-    record { is = refl; some = omega arith; few = omega arith; near = omega arith } e
+is_vertical mode word offset (inr (inl i)) e = grind arith
+is_vertical mode word offset (inr (inr (inl i))) e = grind (arith)
+is_vertical mode word offset (inr (inr (inr (inl i)))) e = grind (arith)
+is_vertical mode word offset (inr (inr (inr (inr (inl i))))) e = grind (arith)
+is_vertical mode word offset (inr (inr (inr (inr (inr (inl i)))))) e = grind (arith)
+is_vertical mode word offset (inr (inr (inr (inr (inr (inr (inl i))))))) e = grind (arith)
+is_vertical mode word offset (inr (inr (inr (inr (inr (inr (inr (inl i)))))))) e = grind (arith)
+is_vertical mode word offset (inr (inr (inr (inr (inr (inr (inr (inr (inl i))))))))) e = grind (arith)
 is_vertical mode word offset (inr (inr (inr (inr (inr (inr (inr (inr (inr i))))))))) e = elim i [ ]
 
 -- ---- One after another
@@ -86,19 +64,7 @@ begin_with_word : (most : ℕ) (seen : Bits) (found : Mode × Bits) (offset : �
     → offset_of found.0 ≡ Some offset → BeginWithWord most seen
 begin_with_word most seen found offset e o =
     let (word, has, there) = word_at_found mode_codes seen found e in
-    let width : length seen - length found.1 ≡ length word
-    = omega (arith, ap (λ (x : Bits). length x) there, length-append word found.1) in
-    record {
-      mode = found.0;
-      offset = offset;
-      word = word;
-      rest = found.1;
-      has = has;
-      there = there;
-      vertical = is_vertical found.0 word offset has o;
-      words = words_on most seen found offset e o
-          ∙ ap (λ (n : ℕ). record { offset = offset; width = n } ∷ vertical_words most found.1) width;
-    }
+    grind (arith, length-append word found.1, is_vertical found.0 word offset has o, words_on most seen found offset e o)
 
 -- none is first, or one is
 one_or_none : (most : ℕ) (seen : Bits) → (vertical_words (suc most) seen ≡ []) ⊎ BeginWithWord most seen
@@ -126,67 +92,32 @@ behind_word at seen more word rest is there =
 pub read_on : (at : BitsAt) (seen more word rest : Bits) (mode : Mode) → here at ≡ seen ++ more → Has mode_codes mode word
     → seen ≡ word ++ rest → read_code mode_codes (here at) ≡ Ok (mode, here (moved (length word) at))
 read_on at seen more word rest mode is has there =
-    ap (λ (x : Bits). read_code mode_codes x) (is ∙ ap (λ (x : Bits). x ++ more) there ∙ append_assoc word rest more)
-    ∙ read_code_again mode_codes mode word (rest ++ more) modes_free has
-    ∙ ap (λ (x : Bits). Ok (mode, x)) (sym (behind_word at seen more word rest is there))
+    grind (arith, append_assoc, read_code_again, modes_free, behind_word)
 
 pub next_words : (most : ℕ) (at : BitsAt) (seen more : Bits) → here at ≡ seen ++ more → AreNextWords (vertical_words most seen) at
 next_words zero at seen more is = rw (words_zero seen) tt
-next_words (suc most) at seen more is = elim (one_or_none most seen) [
-  | inl none ↦ rw none tt
-  | inr on ↦ rw on.words (
-    record {
-      read = read_on at seen more on.word on.rest on.mode is on.has on.there
-          ∙ ap (λ (m : Mode). Ok (m, here (moved (length on.word) at))) on.vertical.is;
-      some = on.vertical.some;
-      few = on.vertical.few;
-      near = on.vertical.near;
-    },
-    next_words most (moved (length on.word) at) on.rest more (behind_word at seen more on.word on.rest is on.there),
-  )
-]
+next_words (suc most) at seen more is = grind (arith, next_words most, one_or_none, read_on, behind_word)
 
 -- ---- How many there are, and their bits
 pub words_few : (most : ℕ) (seen : Bits) → length (vertical_words most seen) ≤ most
 words_few zero seen = rw (words_zero seen) (omega arith)
-words_few (suc most) seen = elim (one_or_none most seen) [
-  | inl none ↦ rw none (omega arith)
-  | inr on ↦ rw on.words (omega (arith, words_few most on.rest))
-]
+words_few (suc most) seen = grind (arith, words_few most, one_or_none)
 
 pub words_within : (most : ℕ) (seen : Bits) → width_of (vertical_words most seen) ≤ length seen
 words_within zero seen = rw (words_zero seen) (omega arith)
-words_within (suc most) seen = elim (one_or_none most seen) [
-  | inl none ↦ rw none (omega arith)
-  | inr on ↦ rw on.words
-      (omega (arith, words_within most on.rest, ap (λ (x : Bits). length x) on.there, length-append on.word on.rest))
-]
+words_within (suc most) seen = grind (arith, words_within most, one_or_none, length-append)
 
 -- each has bits
 pub words_have_bits : (most count : ℕ) (seen : Bits) → count ≤ length (vertical_words most seen)
     → count ≤ width_of (take count (vertical_words most seen))
 words_have_bits most zero seen h = omega arith
 words_have_bits zero (suc count) seen h = absurd (omega (arith, h, words_few zero seen))
-words_have_bits (suc most) (suc count) seen h = elim (one_or_none most seen) [
-  | inl none ↦ absurd (omega (arith, h, ap (λ (words : List VerticalWord). length words) none))
-  | inr on ↦
-      let long : suc count ≤ suc (length (vertical_words most on.rest)) = rw on.words at h in
-      rw on.words (omega (arith, on.vertical.some, words_have_bits most count on.rest (omega (arith, long))))
-]
+words_have_bits (suc most) (suc count) seen h = grind (arith, words_have_bits most count, one_or_none)
 
 -- their offsets
 pub words_near : (most : ℕ) (seen : Bits) (k : ℕ) → offset_at (vertical_words most seen) k ≤ 6
 words_near zero seen k = rw (words_zero seen) (omega arith)
-words_near (suc most) seen k = elim (one_or_none most seen) [
-  | inl none ↦ rw none (omega arith)
-  | inr on ↦ rw on.words
-      (by_index (vertical_words most on.rest) (length on.word) (words_near most on.rest) on.offset on.vertical.near k)
-]
-  where
-    by_index : (words : List VerticalWord) (width : ℕ) → ((k : ℕ) → offset_at words k ≤ 6) → (offset : ℕ) → offset ≤ 6 → (k : ℕ)
-        → offset_at (record { offset = offset; width = width } ∷ words) k ≤ 6
-    by_index words width near offset first zero = first
-    by_index words width near offset first (suc k) = near k
+words_near (suc most) seen k = grind (arith, words_near most, one_or_none)
 
 -- the bits of the first ones
 pub words_part : (count : ℕ) (words : List VerticalWord) → width_of (take count words) ≤ width_of words
@@ -217,11 +148,7 @@ module _ (at : BitsAt) (number : ℕ) (is : ten_bits number ≡ padded 10 (here 
       by_word : (o : Option (Mode × Bits)) → word_at mode_codes (ten_bits number) ≡ o → (word : Bits) × (rest : Bits)
           × Has mode_codes mode word × (ten_bits number ≡ word ++ rest)
       by_word None f = absurd (let no : Option.None ≡ Some mode = rw f at e in cc)
-      by_word (Some found) f =
-          let same : Option.Some found.0 ≡ Some mode = rw f at e in
-          let at : found.0 ≡ mode = cc in
-          let its = word_at_found mode_codes (ten_bits number) found f in
-          (its.0, found.1, subst (λ (m : Mode). Has mode_codes m its.0) at its.1, its.2)
+      by_word (Some found) f = grind (arith, word_at_found mode_codes (ten_bits number) found f)
 
   pub first_next : (mode : Mode) (width : ℕ) → ((word : Bits) → Has mode_codes mode word → length word ≡ width)
       → first_mode number ≡ Some mode → read_code mode_codes (here at) ≡ Ok (mode, here (moved width at))

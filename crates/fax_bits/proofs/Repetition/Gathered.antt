@@ -13,13 +13,7 @@ pub gathered_same : {S R A : Type 0} (step : S → Turn S R) (gives : S → List
 gathered_same step gives size shrinks zero m s h k = absurd (omega arith)
 gathered_same step gives size shrinks (suc n) zero s h k = absurd (omega arith)
 gathered_same {S} {R} {A} step gives size shrinks (suc n) (suc m) s h k =
-    by_step (gathered_same step gives size shrinks n m) (step s) refl
-  where
-    by_step : ((t : S) → size t < n → size t < m → gathered step gives n t ≡ gathered step gives m t) → (turn : Turn S R) → step s
-        ≡ turn → gives s ++ gathered_after (gathered step gives n) turn ≡ gives s ++ gathered_after (gathered step gives m) turn
-    by_step on (Turn.next t) e =
-        ap (λ (x : List A). gives s ++ x) (on t (omega (arith, shrinks s t e)) (omega (arith, shrinks s t e)))
-    by_step on (Turn.done r) e = refl
+    grind (arith, gathered_same step gives size shrinks n m)
 
 -- a turn of a repetition that is allowed more turns than the size of its state
 pub gathered_turn : {S R A : Type 0} (step : S → Turn S R) (gives : S → List A) (size : S → ℕ) → Shrinks step size → (s : S)

@@ -1,11 +1,11 @@
 -- The words that a line finds are consecutive from where it begins, and end before each EOL's one.
 use Rattle.fax_bits.proofs.Repetition.Gathered.{gathered_after}
-use Rattle.fax_reading.proofs.Names.{◌≡◌, take, Result, Ok, Err, subst, append_assoc, ℕ, zero, suc, ◌+◌, ◌<◌, Bool, true, false}
+use Rattle.fax_reading.proofs.Names.{◌≡◌, Result, Ok, Err, subst, append_assoc, ℕ, zero, suc, ◌+◌, ◌<◌, Bool, true, false}
 use Rattle.fax_reading.proofs.Names.{List, [], ◌∷◌, ◌++◌, length, replicate, refl, sym, ap, ◌∙◌, arith, inl, inr, false≢true}
 use Rattle.fax_reading.proofs.Names.{cases_lt, length-append, length-replicate, append-nil, DecodeError, UnexpectedEof, Color}
 use Rattle.fax_reading.proofs.Names.{Mode, Pass, Horizontal, Vertical, EncodingMode, Group4, Group3_1D, Group3_2D, Bits, Code}
 use Rattle.fax_reading.proofs.Names.{mode_codes, read_code, Has, Turn, repeated, gathered, Row, opposite, b2, right_of, codes_of}
-use Rattle.fax_reading.proofs.Names.{run_of_word, run_turn, run_from, Line, Pen, Drawing, ◌>>=◌, go_on, unless_fault, finds}
+use Rattle.fax_reading.proofs.Names.{run_turn, run_from, Line, Pen, Drawing, ◌>>=◌, go_on, unless_fault, finds}
 use Rattle.fax_reading.proofs.Names.{run_here, mode_here, painted, painted_to, place_by, unless_full, draw_run, draw_mode}
 use Rattle.fax_reading.proofs.Names.{draw_1d, draw_2d, start, line_1d, line_2d, found_1d, found_2d, tag_at, line_found}
 use Rattle.fax_reading.proofs.Names.{word_found, run_gives, run_found, line_by, IsWord, AreWords, joined, HoldsZeros}
@@ -54,20 +54,15 @@ gathered_stands {S} {R} step late gives here_of Ends l goes ends (suc n) s =
     (gives s ++ gathered_after (gathered step gives n) t) rest × Ends (after_turn (repeated step late n) t) rest) [
       | Turn.next t ↦ λ e. let more = gathered_stands step late gives here_of Ends l goes ends n t in
           (more.0, stands_append (here_of s) (here_of t) more.0 (gives s) (gathered step gives n t) (goes s t e) more.1, more.2)
-      | Turn.done r ↦ λ e. let last = ends s r e in
-          (last.0, stands_append (here_of s) last.0 last.0 (gives s) [] last.1 (stands_none last.0), last.2)
+      | Turn.done r ↦ grind (arith, common_steps, stands_append, stands_none)
     ] in
     by_turn (step s) refl
-
-take_append : (a b : Bits) → take (length a) (a ++ b) ≡ a
-take_append [] b = refl
-take_append (x ∷ a) b = ap (λ (y : Bits). x ∷ y) (take_append a b)
 
 -- a word that a reading found is here
 pub word_stands : {V : Type 0} (list : List (Code V)) (here : Bits) (v : V) (rest : Bits) → ((w : Bits) → Has list v w → IsWord w)
     → read_code list here ≡ Ok (v, rest) → WordsStand here (word_found list here) rest
 word_stands {V} list here v rest is e =
-    grind (arith, common_steps, append-nil, common_steps, length-append, read_code_found list here v rest e, take_append)
+    grind (arith, common_steps, append-nil, length-append, read_code_found list here v rest e)
 
 -- a reading that found no word
 pub no_word_stands : {V : Type 0} (list : List (Code V)) (here : Bits) (fault : DecodeError) → read_code list here ≡ Err fault
@@ -95,7 +90,6 @@ run_stands_at_end : (color : Color) (total : ℕ) (here : Bits)
     color (total, here) ≡ Turn.done r → (rest : Bits) × WordsStand here (word_found (codes_of color) here) rest × RunEnds r rest
 run_stands_at_end color total here r (Err e) h k = grind (arith, common_steps, done_is, no_word_stands (codes_of color) here e h)
 run_stands_at_end color total here r (Ok found) h k =
-    let g : run_of_word total found ≡ Turn.done r = rw (h, run_turn) at k in
     let stands = word_stands (codes_of color) here found.0 found.1 (run_word color found.0) h in
     grind (arith, common_steps, chosen, done_is, not_done)
 
@@ -275,22 +269,19 @@ found_end Group4 strict columns reference here = let found
     = line_2d_stands strict columns reference here in untagged_end here found.0 (found_2d strict columns reference here) found.1
 
 -- ---- A whole line ends with the last of its words.
-whole_rest : (line : Line) (row : Row) (end rest here words : Bits) → line ≡ Line.whole row rest → LineEnds line end
-    → here ≡ words ++ end → here ≡ words ++ rest
-whole_rest line row end rest here words whole ends is = grind (arith, common_steps)
 
 found_to_the_end : (encoding : EncodingMode) (strict : Bool) (columns : ℕ) (reference row : Row) (here rest : Bits)
     → line_by encoding strict columns reference here ≡ Line.whole row rest
     → here ≡ (tag_at encoding here ++ joined (line_found encoding strict columns reference here)) ++ rest
 found_to_the_end Group3_2D strict columns reference row [] rest whole = absurd cc
 found_to_the_end Group3_2D strict columns reference row (true ∷ here) rest whole =
-    grind (arith, common_steps, common_steps, line_1d_stands strict columns here, whole_rest)
+    grind (arith, common_steps, line_1d_stands strict columns here)
 found_to_the_end Group3_2D strict columns reference row (false ∷ here) rest whole =
-    grind (arith, common_steps, common_steps, line_2d_stands strict columns reference here, whole_rest)
+    grind (arith, common_steps, line_2d_stands strict columns reference here)
 found_to_the_end Group3_1D strict columns reference row here rest whole =
-    grind (arith, common_steps, line_1d_stands strict columns here, whole_rest (line_1d strict columns here) row)
+    grind (arith, common_steps, line_1d_stands strict columns here)
 found_to_the_end Group4 strict columns reference row here rest whole =
-    grind (arith, common_steps, common_steps, line_2d_stands strict columns reference here, whole_rest)
+    grind (arith, common_steps, line_2d_stands strict columns reference here)
 
 -- the law
 pub words_synchronised : Synchronised

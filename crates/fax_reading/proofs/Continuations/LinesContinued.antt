@@ -1,8 +1,8 @@
 -- Lines where more bits follow.
-use Rattle.fax_reading.proofs.Names.{common_steps, ◌≡◌, ℕ, suc, Bool, true, false, cond, ◌||◌, not, List, [], ◌∷◌, ◌++◌, length}
-use Rattle.fax_reading.proofs.Names.{Result, Ok, Err, refl, sym, ap, ◌∙◌, arith, false≢true, length-append, Mode, Pass}
-use Rattle.fax_reading.proofs.Names.{Horizontal, Vertical, DecodeError, DecodeSettings, EncodingMode, Group4, Group3_1D}
-use Rattle.fax_reading.proofs.Names.{Group3_2D, UnexpectedEof, Bits, AreWholeBytes, mode_codes, read_code, Turn, Row, opposite}
+use Rattle.fax_reading.proofs.Names.{common_steps, ◌≡◌, ℕ, suc, Bool, false, List, [], ◌++◌, length}
+use Rattle.fax_reading.proofs.Names.{Result, ap, ◌∙◌, arith, false≢true, length-append, Mode, Pass}
+use Rattle.fax_reading.proofs.Names.{Horizontal, Vertical, DecodeError, DecodeSettings, EncodingMode}
+use Rattle.fax_reading.proofs.Names.{UnexpectedEof, Bits, AreWholeBytes, mode_codes, read_code, Turn, Row, opposite}
 use Rattle.fax_reading.proofs.Names.{run_from, run_found, word_found, Line, Pen, Drawing, start, draw_1d, draw_2d, draw_mode}
 use Rattle.fax_reading.proofs.Names.{draw_run, go_on, mode_here, run_here, painted, unless_fault, unless_full, turn_behind, ◌>>=◌}
 use Rattle.fax_reading.proofs.Names.{words_behind, line_by, line_here, line_found, found_here, line_1d, line_2d, found_1d}
@@ -29,8 +29,7 @@ module _ (more : Bits) where
     turns_continue : (turn other : Turn A Line) (words others : List Bits) → AreContinued more on turn other words others
         → AreContinued more further (turn_behind turn (λ x. (behind x).turn)) (turn_behind other (λ x. (other_behind x).turn))
         (words ++ words_behind turn (λ x. (behind x).words)) (others ++ words_behind other (λ x. (other_behind x).words))
-    turns_continue (Turn.next x) other words others first known = grind (arith, common_steps)
-    turns_continue (Turn.done line) other words others first known = grind (arith, common_steps)
+    turns_continue turn other words others first known = grind arith
 
     -- one step after another
     pub then_continues : (drawing other : Drawing A) → Continues more on drawing other
@@ -41,14 +40,12 @@ module _ (more : Bits) where
   pub finds_continue : {A : Type 0} (on : A → A) (front : Row) (result other : Result A DecodeError) (words others : List Bits)
       → (result_waits result ≡ false → (other ≡ result_on on result) × (others ≡ words))
       → AreContinued more on (unless_fault front result) (unless_fault front other) words others
-  finds_continue {A} on front (Ok x) other words others first known = grind (arith, common_steps)
-  finds_continue {A} on front (Err fault) other words others first known = grind (arith, common_steps)
+  finds_continue {A} on front result other words others first known = grind arith
 
   -- what needs no bits is the same
   pub same_continues : {A : Type 0} (front : Row) (result : Result A DecodeError)
       → AreContinued more (λ x. x) (unless_fault front result) (unless_fault front result) [] []
-  same_continues front (Ok x) known = (refl, refl)
-  same_continues front (Err fault) known = (refl, refl)
+  same_continues front result known = grind arith
 
   -- a pen, where more bits follow
   abbrev pub pen_on : Pen → Pen
@@ -134,11 +131,7 @@ module _ (more : Bits) where
       → (line_by encoding strict columns reference (here ++ more)
       ≡ line_before more (line_by encoding strict columns reference here))
       × (line_found encoding strict columns reference (here ++ more) ≡ line_found encoding strict columns reference here)
-  line_on Group3_1D strict columns reference here known = line_1d_on strict columns here known
-  line_on Group3_2D strict columns reference [] known = absurd (false≢true (sym known))
-  line_on Group3_2D strict columns reference (true ∷ here) known = line_1d_on strict columns here known
-  line_on Group3_2D strict columns reference (false ∷ here) known = line_2d_on strict columns reference here known
-  line_on Group4 strict columns reference here known = line_2d_on strict columns reference here known
+  line_on encoding strict columns reference here known = grind (arith, line_1d_on, false≢true, line_2d_on)
 
 -- A line that isn't short is settled.
 pub line_settled : (settings : DecodeSettings) (reference : Row) (here : Bits)
@@ -165,13 +158,6 @@ pub row_continues : (settings : DecodeSettings) (reference : Row) (has_eols : Bo
 row_continues settings reference has_eols here more bytes known = ap (row_of_line settings has_eols (here ++ more))
     (line_settled settings reference here known more) ∙ by_line (line_here settings reference here)
   where
-    repaired_or_not : (front : Row) (fault : DecodeError) (b : Bool)
-        → cond b (Err fault) (Ok (front, behind_row settings has_eols (here ++ more)))
-        ≡ row_continued more (cond b (Err fault) (Ok (front, behind_row settings has_eols here)))
-    repaired_or_not front fault true = refl
-    repaired_or_not front fault false = grind (arith, common_steps, behind_continues)
-
     by_line : (line : Line) → row_of_line settings has_eols (here ++ more) (line_before more line)
         ≡ row_continued more (row_of_line settings has_eols here line)
-    by_line (Line.whole row rest) = grind (arith, common_steps, behind_continues)
-    by_line (Line.broken front fault) = repaired_or_not _ fault (settings.strict || not has_eols)
+    by_line line = grind (arith, behind_continues)

@@ -1,14 +1,14 @@
 -- Lines that go on from a part of them.
-use Rattle.fax_reading.proofs.Names.{◌≡◌, ℕ, zero, suc, ◌+◌, ◌*◌, ◌<◌, ◌≤◌, Bool, true, false, cond, ltb, leb, List, [], ◌∷◌}
+use Rattle.fax_reading.proofs.Names.{◌≡◌, ℕ, zero, suc, ◌+◌, ◌*◌, ◌<◌, ◌≤◌, Bool, true, false, cond, leb, List, [], ◌∷◌}
 use Rattle.fax_reading.proofs.Names.{◌++◌, length, Result, Ok, Err, refl, sym, ap, ◌∙◌, arith, false≢true, length-append}
 use Rattle.fax_reading.proofs.Names.{append_assoc, append-nil, and_parts, leb-true, inl, inr, Color, Mode, Pass, Horizontal}
 use Rattle.fax_reading.proofs.Names.{Vertical, DecodeError, DecodeSettings, EncodingMode, Group4, Group3_1D, Group3_2D}
-use Rattle.fax_reading.proofs.Names.{UnexpectedEof, InvalidCode, Overflow, OutOfMemory, Refused, Bits, Code, Has, mode_codes}
+use Rattle.fax_reading.proofs.Names.{UnexpectedEof, Overflow, Bits, Code, Has, mode_codes}
 use Rattle.fax_reading.proofs.Names.{read_code, codes_of, Turn, run_turn, run_from, run_of_word, word_found, Row, opposite, paint}
 use Rattle.fax_reading.proofs.Names.{Line, Pen, Drawing, Step, drawn, draw_run, go_on, mode_here, painted, unless_fault}
-use Rattle.fax_reading.proofs.Names.{turn_behind, ◌>>=◌, line_here, is_short, line_before, common_steps, is_prefix_free, OpenRun}
+use Rattle.fax_reading.proofs.Names.{turn_behind, ◌>>=◌, line_here, is_short, common_steps, is_prefix_free, OpenRun}
 use Rattle.fax_reading.proofs.Names.{LinePart, left_of, part_before, draw_step, line_after_turn, line_from_part, word_here}
-use Rattle.fax_reading.proofs.Names.{behind_run, run_summed, word_added, mode_added, begin_step, begin_line, read_on, LacksWord}
+use Rattle.fax_reading.proofs.Names.{behind_run, word_added, mode_added, begin_step, begin_line, read_on, LacksWord}
 use Rattle.fax_reading.proofs.Names.{GoesOnFrom, LinesGoOn}
 use Rattle.std.specs.List.{list_all}
 use Rattle.fax_bits.specs.CodeReading.{NoneStands}
@@ -23,6 +23,7 @@ use Rattle.fax_reading.proofs.Continuations.ShortLines.{GoesOrEnds, Anything, pa
 use Rattle.fax_reading.proofs.Continuations.WordsContinued.{code_continues, rest_on}
 use Rattle.fax_reading.proofs.DrawingLines.Drawings.{run_then, mode_step, step_1d_is, step_2d_is}
 use Rattle.fax_reading.proofs.DrawingLines.ReadLines.{drawn1, drawn2, modes_not_empty}
+use Rattle.fax_bits.proofs.ErrorKinds.{missing_end}
 
 -- ---- A line from a part of it on is what one word more leads to
 
@@ -32,8 +33,7 @@ if_read front result behind = turn_behind (unless_fault front result) behind
 
 -- a turn that goes on with its state is that turn
 same_turn : (f : Pen → Line) (turn : Step) → after_turn f turn ≡ after_turn f (turn_behind turn Turn.next)
-same_turn f (Turn.next pen) = refl
-same_turn f (Turn.done line) = refl
+same_turn f turn = grind arith
 
 run_is : (color : Color) (total : ℕ) (here : Bits)
     → run_from color (total, here) ≡ after_turn (run_from color) (run_turn color (total, here))
@@ -100,8 +100,7 @@ module _ (settings : DecodeSettings) (reference : Row) where
 
       by_read_code : (r : Result (ℕ × Bits) DecodeError)
           → behind (after_turn (run_from pen.color) (turn_of r)) ≡ line_then (if_read pen.front r added)
-      by_read_code (Ok (n, rest)) = either_way n rest (ltb 4294967295 (run.total + n)) (ltb n 64)
-      by_read_code (Err fault) = refl
+      by_read_code r = grind (arith, either_way)
 
   -- a line before a mode
   mode_is : (pen : Pen) (mode : Mode)
@@ -136,15 +135,13 @@ module _ (settings : DecodeSettings) (reference : Row) where
 
       by_read_code : (r : Result (Mode × Bits) DecodeError)
           → after_turn (steps_from true) (if_read pen.front r drew) ≡ line_then (if_read pen.front r (added pen))
-      by_read_code (Ok (mode, rest)) = mode_is (record pen { rest = rest }) mode
-      by_read_code (Err fault) = refl
+      by_read_code r = grind (arith, mode_is)
 
       either_way : (full : Bool) → after_turn (steps_from true)
           (cond full (Turn.done (Line.whole pen.front pen.rest)) (if_read pen.front (read_code mode_codes pen.rest) drew))
           ≡ line_then (turn_behind (cond full (Turn.done (Line.whole pen.front pen.rest)) (Turn.next pen))
           (λ p. if_read p.front (read_code mode_codes p.rest) (added p)))
-      either_way true = refl
-      either_way false = by_read_code (read_code mode_codes pen.rest)
+      either_way full = grind (arith, by_read_code)
   line_from_is (LinePart.in_run run pen) = in_run_is run pen
 
 -- ---- One word more, where more bits follow
@@ -162,31 +159,14 @@ module _ (settings : DecodeSettings) (reference : Row) (more : Bits) where
   abbrev longer : Pen → Pen
   longer pen = record pen { rest = pen.rest ++ more }
 
-  behind_run_on : (run : OpenRun) (pen : Pen) → behind_run run (longer pen) ≡ part_before more (behind_run run pen)
-  behind_run_on run pen = grind (arith, common_steps)
-
-  run_painted_on : (run : OpenRun) (pen : Pen) (total : ℕ)
-      → Continues more (part_before more) (painted settings.strict settings.columns pen total >>= (λ front.
-      go_on (behind_run run (record pen { front = front; color = opposite pen.color }))))
-      (painted settings.strict settings.columns (longer pen) total >>= (λ front.
-      go_on (behind_run run (record (longer pen) { front = front; color = opposite pen.color }))))
-  run_painted_on run pen total = grind (arith, common_steps, then_continues, behind_run_on, same_continues)
-
-  run_summed_on : (run : OpenRun) (pen : Pen) (n total : ℕ)
-      → Continues more (part_before more) (run_summed settings.strict settings.columns run pen n total)
-      (run_summed settings.strict settings.columns run (longer pen) n total)
-  run_summed_on run pen n total = grind (arith, common_steps, run_painted_on)
-
   word_added_on : (run : OpenRun) (pen : Pen) (n : ℕ) → Continues more (part_before more)
       (word_added settings.strict settings.columns run pen n) (word_added settings.strict settings.columns run (longer pen) n)
-  word_added_on run pen n = grind (arith, common_steps, then_continues, run_summed_on, same_continues)
+  word_added_on run pen n = grind (arith, common_steps, then_continues, same_continues)
 
   mode_added_on : (pen : Pen) (mode : Mode)
       → Continues more (part_before more) (mode_added settings.strict settings.columns reference pen mode)
       (mode_added settings.strict settings.columns reference (longer pen) mode)
-  mode_added_on pen Pass = grind (arith, common_steps, then_continues, same_continues)
-  mode_added_on pen Horizontal = λ known. (refl, refl)
-  mode_added_on pen (Vertical k) = grind (arith, common_steps, then_continues, same_continues)
+  mode_added_on pen mode = grind (arith, common_steps, then_continues, same_continues)
 
   begin_step_on : (is_2d : Bool) (pen : Pen)
       → Continues more (part_before more) (begin_step is_2d settings.strict settings.columns reference pen)
@@ -219,12 +199,6 @@ pub word_leads : (settings : DecodeSettings) (reference : Row) (part next : Line
     → line_from_part settings reference (part_before more part) ≡ line_from_part settings reference (part_before more next)
 word_leads settings reference part next e more = grind (arith, common_steps, read_on_continues, line_from_is)
 
--- Where the line ends with one word more, and isn't short, it does so whatever follows.
-pub word_ends : (settings : DecodeSettings) (reference : Row) (part : LinePart) (line : Line)
-    → (read_on settings reference part).turn ≡ Turn.done line → is_short line ≡ false → (more : Bits)
-    → line_from_part settings reference (part_before more part) ≡ line_before more line
-word_ends settings reference part line e known more = grind (arith, common_steps, read_on_continues, line_from_is)
-
 -- ---- Short lines: what one word more reads
 
 -- twice the bits that are left, and the steps that read none
@@ -249,21 +223,15 @@ GoesOrLacks part P (Turn.done line) = is_short line ≡ true → LacksWord part
 
 behind_leads : {A : Type 0} (part : LinePart) (P : A → Type 0) (turn : Turn A Line) (behind : A → Turn LinePart Line)
     → GoesOrLacks part P turn → ((x : A) → P x → LeadsOn part (behind x)) → LeadsOn part (turn_behind turn behind)
-behind_leads part P (Turn.next x) behind first second = second x first
-behind_leads part P (Turn.done line) behind first second = first
+behind_leads part P turn behind first second = grind arith
 
 -- what is painted needs no bits
 paint_leads : {A : Type 0} (part : LinePart) (turn : Turn A Line) → GoesOrEnds Anything turn → GoesOrLacks part Anything turn
-paint_leads part (Turn.next x) known = tt
-paint_leads part (Turn.done line) known = λ short. absurd (false≢true (sym known ∙ short))
+paint_leads part turn known = grind (arith, false≢true)
 
 fault_lacks : {V : Type 0} (list : List (Code V)) (here : Bits) (front : Row) (fault : DecodeError)
     → read_code list here ≡ Err fault → is_short (Line.broken front fault) ≡ true → read_code list here ≡ Err UnexpectedEof
-fault_lacks list here front UnexpectedEof e short = e
-fault_lacks list here front InvalidCode e short = absurd (false≢true short)
-fault_lacks list here front Overflow e short = absurd (false≢true short)
-fault_lacks list here front OutOfMemory e short = absurd (false≢true short)
-fault_lacks list here front Refused e short = absurd (false≢true short)
+fault_lacks list here front fault e short = e ∙ ap Err (missing_end fault short)
 
 -- the bits after a word are fewer
 abbrev WordIsRead : {V : Type 0} → Bits → V × Bits → Type 0
@@ -352,8 +320,7 @@ cut_few : {V : Type 0} (n : ℕ) (list : List (Code V)) (here : Bits) → is_pre
     → read_code list here ≡ Err UnexpectedEof → length here < n
 cut_few {V} n list here free few e =
     let cut = ((reads_codes list free).cut here).0 e in
-    let (v, w, has, begins) = cut.1 in
-    by_rest v w has cut.0 begins.0 begins.1
+    grind (arith, by_rest)
   where
     by_rest : (v : V) (w : Bits) → Has list v w → NoneStands list here → (rest : Bits) → w ≡ here ++ rest → length here < n
     by_rest v w has none [] is = absurd (none v [] (w, has, sym (ap (λ (b : Bits). b ++ []) is ∙ append-nil _ ∙ append-nil here)))
@@ -384,10 +351,8 @@ module _ (settings : DecodeSettings) (reference : Row) where
       by_turn later (Turn.next next) e leads =
           let there = line_from_is settings reference part ∙ ap (line_then settings reference) e in
           let (last, goes) = later next (omega (arith, lt, leads.1)) (sym (ap is_short there) ∙ short) in
-          let read : Precedes (left_of part) (left_of last) = (
-            leads.0.0 ++ goes.1.0,
-            leads.0.1 ∙ ap (λ (b : Bits). leads.0.0 ++ b) goes.1.1 ∙ sym (append_assoc leads.0.0 goes.1.0 (left_of last)),
-          ) in
+          let read : Precedes (left_of part) (left_of last) =
+          grind (arith, common_steps, append_assoc leads.0.0 goes.1.0 (left_of last)) in
           (last, (λ more. word_leads settings reference part next e more ∙ goes.0 more, read, goes.2))
       by_turn later (Turn.done line) e leads = grind (arith, common_steps, line_from_is)
 
@@ -401,4 +366,4 @@ short_line_goes_on settings reference here short =
 
 -- the law
 pub lines_go_on : LinesGoOn
-lines_go_on = grind (arith, common_steps, word_leads, word_ends, short_line_goes_on)
+lines_go_on = grind (arith, common_steps, word_leads, read_on_continues, line_from_is, short_line_goes_on)

@@ -1,8 +1,8 @@
 -- Lines before zeros: none is short.
-use Rattle.fax_reading.proofs.Names.{common_steps, ◌≡◌, ◌↔◌, ℕ, suc, ◌+◌, Bool, true, false, cond, ltb, List, [], ◌∷◌, ◌++◌}
-use Rattle.fax_reading.proofs.Names.{length, replicate, None, Result, Ok, Err, refl, sym, ap, subst, ◌∙◌, arith, inl, inr, ℤ, pos}
-use Rattle.fax_reading.proofs.Names.{negsuc, Color, Mode, Pass, Horizontal, Vertical, DecodeError, DecodeSettings, EncodingMode}
-use Rattle.fax_reading.proofs.Names.{Group4, Group3_1D, Group3_2D, UnexpectedEof, InvalidCode, Overflow, OutOfMemory, Refused}
+use Rattle.fax_reading.proofs.Names.{common_steps, ◌≡◌, ◌↔◌, ℕ, suc, ◌+◌, Bool, true, false, cond, List, [], ◌∷◌, ◌++◌}
+use Rattle.fax_reading.proofs.Names.{length, replicate, None, Result, Ok, Err, refl, sym, ap, subst, ◌∙◌, arith, inl, inr, ℤ}
+use Rattle.fax_reading.proofs.Names.{Color, Mode, Pass, Horizontal, Vertical, DecodeError, DecodeSettings, EncodingMode}
+use Rattle.fax_reading.proofs.Names.{Group4, Group3_1D, Group3_2D, UnexpectedEof, Overflow}
 use Rattle.fax_reading.proofs.Names.{Bits, Code, mode_codes, Has, is_prefix_free, read_code, IsWord, Turn, Row, opposite, paint}
 use Rattle.fax_reading.proofs.Names.{codes_of, run_turn, run_from, Line, Pen, Drawing, start, draw_1d, draw_2d, draw_mode}
 use Rattle.fax_reading.proofs.Names.{draw_run, go_on, mode_here, run_here, painted, place_from, unless_fault, unless_full}
@@ -18,6 +18,7 @@ use Rattle.fax_reading.proofs.Continuations.LinesContinued.{found_settled, line_
 use Rattle.fax_reading.proofs.Continuations.StrictLines.{strict_settled}
 use Rattle.fax_reading.proofs.DamagedLines.LinesBeforeEol.{scan_above, scan_stays}
 use Rattle.fax_reading.proofs.DrawingLines.ReadLines.{pen_left, step_1d_shrinks, step_2d_shrinks}
+use Rattle.fax_bits.proofs.ErrorKinds.{not_missing_end}
 
 -- eleven zeros are here, of which three may be before
 abbrev HasZeros : Bits → Type 0
@@ -40,8 +41,7 @@ module _ {V : Type 0} (list : List (Code V)) (free : is_prefix_free list ≡ tru
   uncut_zeros : (here : Bits) → HasZeros here → IsCut list here → ⊥
   uncut_zeros here zeros (v, w, has, begins) =
       let q = quiet_is (scan 3 w) (word_quiet w (words v w has)) in
-      let none : scan 3 w ≡ None = ap (scan 3) begins.1 ∙ scan_stays 3 here begins.0 zeros in
-      let g = q.1 in cc
+      grind (arith, scan_stays)
 
   code_known : (here : Bits) → HasZeros here → IsKnown (λ found. HasZeros found.1) (read_code list here)
   code_known here zeros = by_read_code (read_code list here) refl
@@ -49,11 +49,8 @@ module _ {V : Type 0} (list : List (Code V)) (free : is_prefix_free list ≡ tru
       by_read_code : (r : Result (V × Bits) DecodeError) → read_code list here ≡ r → IsKnown (λ found. HasZeros found.1) r
       by_read_code (Ok (v, rest)) e =
           let (w, has, is) = read_code_found list here v rest e in zeros_behind here w rest (words v w has) zeros is
-      by_read_code (Err UnexpectedEof) e = absurd (uncut_zeros here zeros (((reads_codes list free).cut here).0 e).1)
-      by_read_code (Err InvalidCode) e = refl
-      by_read_code (Err Overflow) e = refl
-      by_read_code (Err OutOfMemory) e = refl
-      by_read_code (Err Refused) e = refl
+      by_read_code (Err fault) e = not_missing_end fault
+          (λ is. uncut_zeros here zeros (((reads_codes list free).cut here).0 (e ∙ ap Err is)).1)
 
 -- a turn of a run
 abbrev TurnIsKnown : Turn (ℕ × Bits) (Result (ℕ × Bits) DecodeError) → Type 0
@@ -66,14 +63,11 @@ run_turn_known color (total, here) zeros = by_read_code (read_code (codes_of col
   where
     either_way : (n : ℕ) (rest : Bits) → HasZeros rest → (b c : Bool) → TurnIsKnown
         (cond b (Turn.done (Err Overflow)) (cond c (Turn.done (Ok (total + n, rest))) (Turn.next (total + n, rest))))
-    either_way n rest left true c = refl
-    either_way n rest left false true = left
-    either_way n rest left false false = left
+    either_way n rest left b c = grind arith
 
     by_read_code : (r : Result (ℕ × Bits) DecodeError) → read_code (codes_of color) here ≡ r
         → IsKnown (λ found. HasZeros found.1) r → TurnIsKnown (run_turn color (total, here))
-    by_read_code (Ok (n, rest)) e left = rw (e, run_turn) (either_way n rest left (ltb 4294967295 (total + n)) (ltb n 64))
-    by_read_code (Err fault) e known = rw (e, run_turn) known
+    by_read_code r e left = grind (arith, either_way)
 
 run_known : (color : Color) (here : Bits) → HasZeros here → IsKnown (λ found. HasZeros found.1) (run_from color (0, here))
 run_known color here zeros =
@@ -91,13 +85,11 @@ GoesOrEnds P (Turn.done line) = is_short line ≡ false
 
 behind_known : {A B : Type 0} (P : A → Type 0) (Q : B → Type 0) (turn : Turn A Line) (behind : A → Turn B Line)
     → GoesOrEnds P turn → ((x : A) → P x → GoesOrEnds Q (behind x)) → GoesOrEnds Q (turn_behind turn behind)
-behind_known P Q (Turn.next x) behind first second = second x first
-behind_known P Q (Turn.done line) behind first second = first
+behind_known P Q turn behind first second = grind arith
 
 found_known : {A : Type 0} (P : A → Type 0) (front : Row) (r : Result A DecodeError) → IsKnown P r
     → GoesOrEnds P (unless_fault front r)
-found_known P front (Ok x) known = known
-found_known P front (Err fault) known = known
+found_known P front r known = grind arith
 
 -- painting needs no bits
 abbrev pub Anything : {A : Type 0} → A → Type 0
@@ -108,8 +100,7 @@ pub paint_known : (strict : Bool) (columns : ℕ) (front : Row) (color : Color) 
 paint_known strict columns front color n = grind (arith, common_steps)
 
 pub place_known : (front : Row) (z : ℤ) → GoesOrEnds Anything (unless_fault front (place_from (length front) z))
-place_known front (pos p) = grind (arith, common_steps)
-place_known front (negsuc p) = refl
+place_known front z = grind arith
 
 -- a pen before such zeros
 abbrev IsBeforeZeros : Pen → Type 0
@@ -193,20 +184,16 @@ pub eol_ends_line : (settings : DecodeSettings) (reference : Row) (fill behind :
     → is_short (line_here settings reference (fill ++ replicate 11 false ++ true ∷ behind)) ≡ false
 eol_ends_line settings reference fill behind = by_encoding settings.encoding fill
   where
-    eol_there : (fill : Bits) → HasZeros (fill ++ replicate 11 false ++ true ∷ behind)
-    eol_there fill = grind (arith, common_steps, append_assoc, scan_holds)
-
     by_encoding : (encoding : EncodingMode) (fill : Bits) → is_short (line_by encoding settings.strict settings.columns
         reference (fill ++ replicate 11 false ++ true ∷ behind)) ≡ false
-    by_encoding Group3_1D fill = grind (arith, common_steps, line_1d_known, eol_there)
+    by_encoding Group3_1D fill = grind (arith, common_steps, line_1d_known, append_assoc, scan_holds)
     by_encoding Group3_2D [] = grind (arith, common_steps, line_2d_known)
-    by_encoding Group3_2D (true ∷ fill) = grind (arith, common_steps, line_1d_known, eol_there)
-    by_encoding Group3_2D (false ∷ fill) = grind (arith, common_steps, line_2d_known, eol_there)
-    by_encoding Group4 fill = grind (arith, common_steps, line_2d_known, eol_there)
+    by_encoding Group3_2D (true ∷ fill) = grind (arith, common_steps, line_1d_known, append_assoc, scan_holds)
+    by_encoding Group3_2D (false ∷ fill) = grind (arith, common_steps, line_2d_known, append_assoc, scan_holds)
+    by_encoding Group4 fill = grind (arith, common_steps, line_2d_known, append_assoc, scan_holds)
 
 same_shortness : (more : Bits) (line : Line) → is_short (line_before more line) ≡ is_short line
-same_shortness more (Line.whole row rest) = refl
-same_shortness more (Line.broken front fault) = refl
+same_shortness more line = grind arith
 
 -- A line that is settled isn't short.
 pub settled_not_short : (settings : DecodeSettings) (reference : Row) (here : Bits) → LineIsSettled settings reference here

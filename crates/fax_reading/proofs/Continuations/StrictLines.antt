@@ -1,17 +1,17 @@
 -- The strict reading of a line that isn't short.
-use Rattle.fax_reading.proofs.Names.{arith, common_steps, ◌≡◌, ℕ, zero, suc, ◌-◌, Bool, true, false, [], ◌∷◌, length, refl, ap}
+use Rattle.fax_reading.proofs.Names.{arith, common_steps, ◌≡◌, ℕ, zero, suc, ◌-◌, Bool, true, false, [], ◌∷◌, length, refl}
 use Rattle.fax_reading.proofs.Names.{◌⊎◌, inl, inr, Color, Mode, Pass, Horizontal, Vertical, DecodeSettings, EncodingMode, Group4}
-use Rattle.fax_reading.proofs.Names.{Group3_1D, Group3_2D, UnexpectedEof, InvalidCode, Bits, Turn, repeated, Row, opposite}
+use Rattle.fax_reading.proofs.Names.{Group3_1D, Group3_2D, UnexpectedEof, Bits, Turn, repeated, Row, opposite}
 use Rattle.fax_reading.proofs.Names.{paint, Line, Pen, Drawing, start, draw_1d, draw_2d, draw_mode, draw_run, go_on}
 use Rattle.fax_reading.proofs.Names.{mode_here, run_here, painted, painted_to, place_by, unless_fault, unless_full, turn_behind}
 use Rattle.fax_reading.proofs.Names.{◌>>=◌, line_by, line_here, line_1d, line_2d, LineIsSettled, is_short}
 use Rattle.fax_reading.specs.Laws.{strictly}
 use Rattle.fax_reading.proofs.Continuations.LinesContinued.{line_settled}
-use Rattle.fax_bits.proofs.Repetition.Repeated.{after_turn}
+use Rattle.fax_reading.proofs.Names.{too_many_pixels}
 
 -- a turn of the strict reading is the same, or a run that is too long ends its line
 abbrev pub IsStricter : {A : Type 0} → Turn A Line → Turn A Line → Type 0
-IsStricter turn other = (turn ≡ other) ⊎ ((front : Row) × (turn ≡ Turn.done (Line.broken front InvalidCode)))
+IsStricter turn other = (turn ≡ other) ⊎ ((front : Row) × (turn ≡ Turn.done (Line.broken front too_many_pixels)))
 
 -- one step after another
 strict_behind : {A B : Type 0} (turn other : Turn A Line) (behind other_behind : A → Turn B Line) → IsStricter turn other
@@ -22,8 +22,7 @@ strict_behind {A} turn other behind other_behind (inr ends) second = grind (arit
 -- painting
 strict_paint : (strict : Bool) (columns : ℕ) (front : Row) (color : Color) (n : ℕ)
     → IsStricter (unless_fault front (paint true columns front color n)) (unless_fault front (paint strict columns front color n))
-strict_paint true columns front color n = inl refl
-strict_paint false columns front color n = grind (arith, common_steps)
+strict_paint strict columns front color n = grind arith
 
 module _ (strict : Bool) (columns : ℕ) where
   strict_run : (pen : Pen) → IsStricter (draw_run true columns pen).turn (draw_run strict columns pen).turn
@@ -75,15 +74,7 @@ module _ (strict : Bool) (columns : ℕ) where
 strict_turns : (step other : Pen → Turn Pen Line) (late : Line) → ((pen : Pen) → IsStricter (step pen) (other pen)) → (n : ℕ)
     (pen : Pen) → is_short (repeated other late n pen) ≡ false → is_short (repeated step late n pen) ≡ false
 strict_turns step other late stricter zero pen known = known
-strict_turns step other late stricter (suc n) pen known =
-    by_turn (λ p k. strict_turns step other late stricter n p k) (other pen) refl known (stricter pen)
-  where
-    by_turn : ((p : Pen) → is_short (repeated other late n p) ≡ false → is_short (repeated step late n p) ≡ false)
-        → (turn : Turn Pen Line) → other pen ≡ turn → is_short (after_turn (repeated other late n) turn) ≡ false
-        → IsStricter (step pen) (other pen) → is_short (after_turn (repeated step late n) (step pen)) ≡ false
-    by_turn on (Turn.next p) e k (inl same) = grind (arith, common_steps)
-    by_turn on (Turn.done line) e k (inl same) = grind (arith, common_steps)
-    by_turn on turn e k (inr ends) = ap (λ (t : Turn Pen Line). is_short (after_turn (repeated step late n) t)) ends.1
+strict_turns step other late stricter (suc n) pen known = grind (arith, strict_turns step other late stricter n)
 
 -- A line that isn't short isn't when it is read strictly.
 pub strict_not_short : (encoding : EncodingMode) (strict : Bool) (columns : ℕ) (reference : Row) (here : Bits) → is_short

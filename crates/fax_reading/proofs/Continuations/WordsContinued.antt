@@ -1,9 +1,9 @@
 -- Code words and runs where more bits follow.
 use Rattle.fax_reading.proofs.Names.{common_steps, ◌≡◌, ℕ, zero, suc, ◌-◌, ◌<◌, Bool, true, false, List, [], ◌∷◌, ◌++◌, length}
 use Rattle.fax_reading.proofs.Names.{take, Result, Ok, Err, refl, sym, ap, ◌∙◌, append_assoc, arith, inl, inr, cases_lt}
-use Rattle.fax_reading.proofs.Names.{false≢true, length-append, Color, DecodeError, UnexpectedEof, InvalidCode, Overflow}
-use Rattle.fax_reading.proofs.Names.{OutOfMemory, Refused, Bits, Code, is_prefix_free, read_code, Turn, repeated, gathered}
-use Rattle.fax_reading.proofs.Names.{codes_of, run_of_word, run_turn, run_from, run_found, run_gives, word_found, misses_end}
+use Rattle.fax_reading.proofs.Names.{false≢true, Color, DecodeError, UnexpectedEof, InvalidCode}
+use Rattle.fax_reading.proofs.Names.{Bits, Code, is_prefix_free, read_code, Turn, repeated, gathered}
+use Rattle.fax_reading.proofs.Names.{codes_of, run_turn, run_from, run_found, run_gives, word_found, misses_end}
 use Rattle.fax_bits.specs.CodeReading.{NoneStands, IsCut, ReadsCodes}
 use Rattle.fax_bits.proofs.BitReading.ZerosInWords.{prefix_of_prefix, codes_free}
 use Rattle.fax_bits.proofs.CodeWords.CodeReadings.{reads_codes}
@@ -11,7 +11,6 @@ use Rattle.fax_bits.proofs.CodeWords.ReadCodes.{cases_reading}
 use Rattle.fax_bits.proofs.CodeWords.ReadRuns.{run_shrinks, size}
 use Rattle.fax_bits.proofs.Repetition.Gathered.{gathered_after}
 use Rattle.fax_bits.proofs.Repetition.Repeated.{Shrinks, after_turn}
-use Rattle.fax_reading.proofs.DamagedLines.DamageByK.{take_front}
 
 -- ---- Repetitions whose states go on where more follows
 
@@ -51,11 +50,7 @@ module _ {S R A : Type 0} (step : S → Turn S R) (gives : S → List A) (late :
       by_step later (Turn.next t) e k =
           let a = goes s (ap (turn_waits waits) e) in
           let there : step (on s) ≡ Turn.next (on t) = a.0 ∙ ap (turn_on on ends) e in
-          let b = later t (omega (arith, shrinks s t e, lt)) (omega (arith, shrinks (on s) (on t) there, other_lt)) k in (
-            ap (after_turn (repeated step late m)) there ∙ b.0,
-            ap (λ (x : Turn S R). gives (on s) ++ gathered_after (gathered step gives m) x) there
-                ∙ ap (λ (x : List A). gives (on s) ++ x) b.1 ∙ ap (λ (x : List A). x ++ gathered step gives n t) a.1,
-          )
+          grind arith
       by_step later (Turn.done r) e k = grind (arith, common_steps)
 
 -- ---- Code words
@@ -79,9 +74,6 @@ abbrev word_of : {V : Type 0} → Bits → Result (V × Bits) DecodeError → Li
 word_of here (Ok found) = take (length here - length found.1) here ∷ []
 word_of here (Err fault) = []
 
-word_taken : (here word rest : Bits) → here ≡ word ++ rest → take (length here - length rest) here ≡ word
-word_taken here word rest e = grind (arith, common_steps, length-append, take_front)
-
 module _ {V : Type 0} (list : List (Code V)) (free : is_prefix_free list ≡ true) (here more : Bits) where
   codes : ReadsCodes list
   codes = reads_codes list free
@@ -101,34 +93,23 @@ module _ {V : Type 0} (list : List (Code V)) (free : is_prefix_free list ≡ tru
       × (word_found list (here ++ more) ≡ word_found list here)
   code_continues known = by_read_code (read_code list here) refl known
     where
-      other : (fault : DecodeError) → read_code list here ≡ Err fault → (fault ≡ UnexpectedEof → ⊥)
-          → (fault ≡ InvalidCode → ⊥) → ⊥
-      other fault e not_end not_wrong = grind (arith, common_steps, cases_reading)
-
       by_read_code : (r : Result (V × Bits) DecodeError) → read_code list here ≡ r → result_waits r ≡ false
           → (read_code list (here ++ more) ≡ result_on (rest_on more) r)
           × (word_of (here ++ more) (read_code list (here ++ more)) ≡ word_of here r)
       by_read_code (Ok (v, rest)) e k =
           let again = codes.alone here v rest more e in
-          let (w, has, is) = (codes.found here v rest).0 e in
-          let taken : take (length (here ++ more) - length (rest ++ more))
-          (here ++ more) ≡ take (length here - length rest) here = word_taken (here ++ more) w
-          (rest ++ more) (ap (λ (b : Bits). b ++ more) is ∙ append_assoc w rest more) ∙ sym (word_taken here w rest is) in
-          (again, ap (word_of (here ++ more)) again ∙ ap (λ (b : Bits). b ∷ []) taken)
-      by_read_code (Err InvalidCode) e k =
-          let wrong = (codes.wrong here).0 e in
-          let again = (codes.wrong (here ++ more)).1 (none_further wrong.0 wrong.1, uncut_further wrong.1) in
-          (again, ap (word_of (here ++ more)) again)
-      by_read_code (Err UnexpectedEof) e k = absurd (false≢true (sym k))
-      by_read_code (Err Overflow) e k = absurd (other Overflow e (λ f. cc) (λ f. cc))
-      by_read_code (Err OutOfMemory) e k = absurd (other OutOfMemory e (λ f. cc) (λ f. cc))
-      by_read_code (Err Refused) e k = absurd (other Refused e (λ f. cc) (λ f. cc))
+          grind (arith, common_steps, append_assoc)
+      by_read_code (Err fault) e k = elim (cases_reading list here (Err fault) e) [
+        | inl found ↦ absurd cc
+        | inr (inl cut) ↦ let is : fault ≡ UnexpectedEof = cc in absurd (false≢true (sym k ∙ ap misses_end is))
+        | inr (inr none) ↦
+            let is : fault ≡ InvalidCode = cc in
+            let wrong = (codes.wrong here).0 (e ∙ ap Err is) in
+            let again = (codes.wrong (here ++ more)).1 (none_further wrong.0 wrong.1, uncut_further wrong.1) ∙ ap Err (sym is) in
+            (again, ap (word_of (here ++ more)) again)
+      ]
 
 -- ---- Runs
-
-run_word_on : (total : ℕ) (more : Bits) (found : ℕ × Bits)
-    → run_of_word total (rest_on more found) ≡ turn_on (rest_on more) (result_on (rest_on more)) (run_of_word total found)
-run_word_on total more (n, rest) = grind (arith, common_steps)
 
 run_turn_on : (color : Color) (more : Bits)
     → StepGoesOn (run_turn color) (run_gives color) (rest_on more) (result_on (rest_on more)) result_waits
@@ -137,7 +118,7 @@ run_turn_on color more (total, here) known = by_read_code (read_code (codes_of c
     by_read_code : (r : Result (ℕ × Bits) DecodeError) → read_code (codes_of color) here ≡ r →
         (run_turn color (total, here ++ more) ≡ turn_on (rest_on more) (result_on (rest_on more)) (run_turn color (total, here)))
         × (word_found (codes_of color) (here ++ more) ≡ word_found (codes_of color) here)
-    by_read_code (Ok found) e = grind (arith, common_steps, code_continues, codes_free, run_word_on)
+    by_read_code (Ok found) e = grind (arith, common_steps, code_continues, codes_free)
     by_read_code (Err fault) e = grind (arith, common_steps, code_continues, codes_free)
 
 -- A run whose words so far sum to a total stays, with the words that it finds, unless the end is missing.

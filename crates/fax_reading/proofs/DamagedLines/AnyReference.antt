@@ -32,16 +32,12 @@ abbrev pub Quiet : Bits → Type 0
 Quiet bits = (n : ℕ) → n ≤ 3 → (k : ℕ) × (scan n bits ≡ Some k) × (k ≤ 3)
 
 quiet_word : (word : Bits) → is_quiet word ≡ true → Quiet word
-quiet_word word quiet n le =
-    let q = quiet_is (scan 3 word) quiet in
-    let one = scan_below n 3 q.0 word le q.1 in
-    (one.0, one.1, omega (arith, one.2, q.2))
+quiet_word word quiet n le = grind (arith, common_steps, quiet_is (scan 3 word) quiet, scan_below n 3)
 
 pub quiet_append : (a b : Bits) → Quiet a → Quiet b → Quiet (a ++ b)
 quiet_append a b p q n le =
     let f = p n le in
-    let g = q f.0 f.2 in
-    (g.0, scan-append n f.0 a b f.1 ∙ g.1, g.2)
+    grind (arith, common_steps, scan-append n f.0 a b f.1)
 
 pub quiet_run : (color : Color) (n : ℕ) (bits : Bits) → Spells color n bits → Quiet bits
 quiet_run color n bits (Spells.terminating m word has small) = quiet_word bits (word_quiet bits (inl (color, n, has)))
@@ -82,12 +78,7 @@ spelled_is_read color n bits total more (Spells.makeup m word {n = k} {bits = ne
     elim (cases_lt 4294967295 (total + m)) [
       | inl big ↦ inr (Overflow, run_passes color total m ((word ++ next) ++ more) (next ++ more) read big)
       | inr fits ↦
-          let goes = run_goes_on color total m ((word ++ next) ++ more) (next ++ more) read fits large in
-          elim (spelled_is_read color k next (total + m) more rest) [
-            | inl e ↦ inl (goes ∙ e ∙ ap (λ (s : ℕ). Ok (s, more))
-                (let sum : total + m + k ≡ total + (m + k) = omega arith in sum))
-            | inr e ↦ inr (e.0, goes ∙ e.1)
-          ]
+          grind (arith, spelled_is_read color k next (total + m) more rest, run_goes_on)
     ]
 
 -- ---- Modes that are read
@@ -102,8 +93,7 @@ pub left_behind : (color : Color) (here last : Bits) → ReadsModes color here l
 left_behind color here last ReadsModes.over = by_found (behind_mode color here)
   where
     by_found : (found : Option (Color × Bits)) → LeftBehind here here found
-    by_found (Some (next, rest)) = inl refl
-    by_found None = refl
+    by_found found = grind arith
 left_behind color here last (ReadsModes.mode next rest found more) = grind (arith, common_steps)
 
 -- ---- A whole line ends behind modes that are read
@@ -193,8 +183,7 @@ module _ (strict : Bool) (columns : ℕ) (other : Row) where
 -- a mode of an encoding is read
 mode_is : (mode : Mode) (word next tail : Bits) → Has mode_codes mode word
     → read_code mode_codes ((word ++ next) ++ tail) ≡ Ok (mode, next ++ tail)
-mode_is mode word next tail has =
-    ap (read_code mode_codes) (append_assoc word next tail) ∙ read_code_again mode_codes mode word (next ++ tail) modes_free has
+mode_is mode word next tail has = grind (arith, append_assoc, read_code_again, modes_free)
 
 long : (bits tail rest : Bits) → rest ≡ bits ++ tail → length tail ≤ length rest
 long bits tail rest e = omega (arith, ap length e, length-append bits tail)
@@ -209,13 +198,9 @@ runs_are color n m run1 run2 more spells1 spells2 = grind (arith, common_steps, 
 encoded_from : (reference row : Row) (from : ℕ) (color : Color) (bits tail rest : Bits) → EncodesLine2D reference row from color
     bits → read_code mode_codes tail ≡ Err InvalidCode → ReadsModes color (bits ++ tail) rest → length tail ≤ length rest
 encoded_from reference row from color bits tail rest EncodesLine2D.over none reads = grind (arith, common_steps, left_behind)
-encoded_from reference row from color bits tail rest (EncodesLine2D.pass from2 word {bits = next} inside has left_of steps) none
-    reads =
-    elim (subst (LeftBehind ((word ++ next) ++ tail) rest) (ap (behind_read color) (mode_is Pass word next tail has))
-    (left_behind color ((word ++ next) ++ tail) rest reads)) [
-      | inl e ↦ long (word ++ next) tail rest e
-      | inr more ↦ encoded_from reference row _ color next tail rest steps none more
-    ]
+encoded_from reference row from color bits tail rest (EncodesLine2D.pass from2 word {bits = next} inside has left_of steps)
+    none reads =
+    grind (arith, encoded_from reference row _ color next tail rest steps none, mode_is, left_behind, long)
 encoded_from reference row from color bits tail rest
     (EncodesLine2D.vertical from2 word k {bits = next} inside has exact steps) none reads =
     elim (subst (LeftBehind ((word ++ next) ++ tail) rest) (ap (behind_read color) (mode_is (Vertical k) word next tail has))
@@ -223,22 +208,18 @@ encoded_from reference row from color bits tail rest
       | inl e ↦ long (word ++ next) tail rest e
       | inr more ↦ encoded_from reference row _ (opposite color) next tail rest steps none more
     ]
-encoded_from reference row from color bits tail rest (EncodesLine2D.horizontal from2 word {first = run1} {second = run2}
-    {bits = next} inside has spells1 spells2 steps) none reads =
-    let whole = (word ++ (run1 ++ (run2 ++ next))) ++ tail in
-    let split : (run1 ++ (run2 ++ next)) ++ tail ≡ run1 ++ (run2 ++ (next ++ tail))
-    = append_assoc run1 (run2 ++ next) tail ∙ ap (λ (b : Bits). run1 ++ b) (append_assoc run2 next tail) in
-    let found : behind_mode color whole ≡ behind_first_run color (read_run color (run1 ++ (run2 ++ (next ++ tail))))
-    = ap (behind_read color) (mode_is Horizontal word (run1 ++ (run2 ++ next)) tail has)
-    ∙ ap (λ (b : Bits). behind_first_run color (read_run color b)) split in
-    let left = left_behind color whole rest reads in
-    elim (runs_are color _ _ run1 run2 (next ++ tail) spells1 spells2) [
-      | inl e ↦ elim (subst (LeftBehind whole rest) (found ∙ e) left) [
-        | inl f ↦ long (word ++ (run1 ++ (run2 ++ next))) tail rest f
-        | inr more ↦ encoded_from reference row _ color next tail rest steps none more
-      ]
-      | inr e ↦ long (word ++ (run1 ++ (run2 ++ next))) tail rest (subst (LeftBehind whole rest) (found ∙ e) left)
-    ]
+encoded_from reference row from color bits tail rest
+    (EncodesLine2D.horizontal from2 word {first = run1} {second = run2} {bits = next} inside has spells1 spells2 steps) none
+    reads =
+    grind (
+      arith,
+      encoded_from reference row _ color next tail rest steps none,
+      append_assoc,
+      mode_is,
+      left_behind,
+      runs_are,
+      long,
+    )
 
 -- an EOL begins with eleven zeros, which are no mode
 no_mode_at_eol : (next after : Bits) → after_eol 0 next ≡ Some after → read_code mode_codes next ≡ Err InvalidCode

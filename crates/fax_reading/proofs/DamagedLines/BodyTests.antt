@@ -1,6 +1,6 @@
 -- The tests of a local body, as they are made.
 use Rattle.fax_reading.proofs.DamagedLines.LineStarts.{not_some}
-use Rattle.fax_reading.proofs.Names.{◌≡◌, ◌≢◌, ℕ, zero, suc, ◌+◌, ◌-◌, ◌<◌, ◌≤◌, ◌⊎◌, Bool, true, false, cond, eqb, ltb, leb, []}
+use Rattle.fax_reading.proofs.Names.{◌≡◌, ◌≢◌, ℕ, zero, suc, ◌+◌, ◌-◌, ◌<◌, ◌≤◌, ◌⊎◌, Bool, true, false, eqb, ltb, leb, []}
 use Rattle.fax_reading.proofs.Names.{◌∷◌, ◌++◌, length, take, drop, replicate, Option, Some, None, Err, IsTrue, refl, sym, ap}
 use Rattle.fax_reading.proofs.Names.{subst, ◌∙◌, arith, ◌↔◌, is_some, cases_lt, lt-ltb, le-leb, lt-leb, ltb-true}
 use Rattle.fax_reading.proofs.Names.{leb-true, eqb-true, eq-eqb, none-some, length-append, length-drop}
@@ -44,22 +44,13 @@ past-front : (seen : ℕ) (front after more : Bits) → past seen front ≡ Some
     → past seen (front ++ more) ≡ Some (after ++ more)
 past-front seen [] after more e = absurd cc
 past-front seen (false ∷ front) after more e = past-front (suc seen) front after more e
-past-front seen (true ∷ front) after more e = either_way (leb 11 seen) (λ f. past-front 0 front after more f) e
-  where
-    either_way : (b : Bool) → (past 0 front ≡ Some after → past 0 (front ++ more) ≡ Some (after ++ more)) → cond b (Some front)
-        (past 0 front) ≡ Some after → cond b (Some (front ++ more)) (past 0 (front ++ more)) ≡ Some (after ++ more)
-    either_way b on f = grind (arith, common_steps)
+past-front seen (true ∷ front) after more e = grind (arith, past-front 0 front after more)
 
 past-behind : (seen : ℕ) (front after more : Bits) → past seen front ≡ None → past seen (front ++ more) ≡ Some after
     → length after < length more
 past-behind seen [] after more none e = past_shorter seen more after e
 past-behind seen (false ∷ front) after more none e = past-behind (suc seen) front after more none e
-past-behind seen (true ∷ front) after more none e = either_way (leb 11 seen) (λ f g. past-behind 0 front after more f g) none e
-  where
-    either_way : (b : Bool) → (past 0 front ≡ None → past 0 (front ++ more) ≡ Some after → length after < length more)
-        → cond b (Some front) (past 0 front) ≡ None → cond b (Some (front ++ more)) (past 0 (front ++ more)) ≡ Some after
-        → length after < length more
-    either_way b on f g = grind (arith, common_steps)
+past-behind seen (true ∷ front) after more none e = grind (arith, past-behind 0 front after more)
 
 -- an EOL is found where one ends
 found_ends : (here : Bits) → is_some (next_eol here) ≡ is_some (past 0 here)
@@ -89,12 +80,9 @@ eol_in_front m here found after next eol = found_ends (take m here) ∙ by_past 
 
     by_past : (o : Option Bits) → past 0 (take m here) ≡ o
         → is_some (past 0 (take m here)) ≡ leb (length (drop m here)) (length after)
-    by_past None e =
-        rw (e, lt-leb (length (drop m here)) (length after) (past-behind 0 (take m here) after (drop m here) e whole)) refl
+    by_past None e = grind (arith, lt-leb, past-behind, whole)
     by_past (Some front) e =
-        let both : ◌≡◌ {A = Option Bits} (Some (front ++ drop m here)) (Some after) =
-        sym (past-front 0 (take m here) front (drop m here) e) ∙ whole in
-        grind (arith, common_steps, le-leb, length-append)
+        grind (arith, common_steps, past-front 0 (take m here) front (drop m here) e, whole, le-leb, length-append)
 
 -- an EOL is between two positions if the next one ends there
 pub eol_by_ends : (bits : Bits) (from to end : ℕ) (found : Bits) → from ≤ to
@@ -102,17 +90,11 @@ pub eol_by_ends : (bits : Bits) (from to end : ℕ) (found : Bits) → from ≤ 
     → is_some (next_eol (take (to - from) (drop from bits))) ≡ leb end to
 eol_by_ends bits from to end found order within le next eol =
     let step = eol_in_front (to - from) (drop from bits) found (drop end bits) next eol in
-    let step2 = le-leb (length (drop to bits)) (length (drop end bits)) in
-    let step3 = lt-leb (length (drop to bits)) (length (drop end bits)) in
-    let step4 = drop-drop (to - from) from bits in
-    let step5 = length-drop end bits in
-    let step6 = length-drop to bits in
-    grind (arith, common_steps, cases_lt to end, step4, step, step2, le-leb end to, step5, step6, step3, lt-leb end to)
+    grind (arith, le-leb, lt-leb, drop-drop, length-drop, cases_lt)
 
 -- the next EOL, if one is found, is there
 pub eol_found_stands : (here found : Bits) → next_eol here ≡ Some found → after_eol 0 found ≡ None → ⊥
-eol_found_stands here found next none = let stands = next_eol_found here found next in
-    none-some stands.1.0 (sym none ∙ stands.1.1)
+eol_found_stands here found next none = grind (arith, common_steps, next_eol_found here found next, none-some)
 
 -- ---- The end of a line.
 -- the line that a lenient context reads
@@ -126,19 +108,7 @@ pub whole_ends : (columns place end : ℕ) (bits here rest : Bits) (row : Row) �
     → rest ≡ drop place bits → place ≤ length bits → end ≤ length bits → IsTrue (leb (place + 12) end)
     ↔ EndsBefore columns (drop end bits) here
 whole_ends columns place end bits here rest row is at within le = (
-  λ test. λ row2 rest2 is2.
-      let same : ◌≡◌ {A = Line} (Line.whole row rest) (Line.whole row2 rest2) = sym is ∙ is2 in
-      let rests : rest ≡ rest2 = cc in
-      omega (
-        arith,
-        leb-true (place + 12) end test,
-        ap length rests,
-        ap length at,
-        length-drop place bits,
-        length-drop end bits,
-        within,
-        le,
-      ),
+  grind (arith, leb-true, length-drop),
   λ ends. le-leb (place + 12) end
       (omega (arith, ends row rest is, ap length at, length-drop place bits, length-drop end bits, within, le)),
 )

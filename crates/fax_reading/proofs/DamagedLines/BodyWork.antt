@@ -48,10 +48,13 @@ module _ (bits after : Bits) (from to : ℕ) (order : from ≤ to) (within : to 
       let same : ahead.0 ≡ drop place bits = cc in
       let near : place ≤ to =
       omega (arith, ahead.2, ap length same, length-drop place bits, length-drop to bits, inside, within) in
-      let onward = next_eol_found (drop from bits) (drop place bits) next in
-      let zeros = looked_between bits place to near in (
-        omega (arith, passed, again, onward.0),
-        omega (arith, passed, again, zeros, near, order, length-drop place bits, length-drop from bits, inside, within),
+      grind (
+        arith,
+        common_steps,
+        looked_between bits place to near,
+        length-drop place bits,
+        length-drop from bits,
+        next_eol_found,
       )
 
 -- the same bound, for the same words and the same count before

@@ -4,7 +4,7 @@ use Rattle.fax_reading.proofs.Names.{length, take, drop, None, Some, Result, Ok,
 use Rattle.fax_reading.proofs.Names.{append_assoc, arith, ◌⊎◌, inl, inr, cases_lt, cases_eq, or_right, length-append, length-drop}
 use Rattle.fax_reading.proofs.Names.{take-append-drop, append-nil, append_cancel_right, set_at, DecodeError, UnexpectedEof}
 use Rattle.fax_reading.proofs.Names.{Group3_2D, DecodeSettings, Bits, AreWholeBytes, AreSettings, repeated, Reaches, Row}
-use Rattle.fax_reading.proofs.Names.{after_eol, all_eols, eols_here, line_of_turn, row_before, Progress, Ending, first_line}
+use Rattle.fax_reading.proofs.Names.{after_eol, all_eols, line_of_turn, row_before, Progress, Ending, first_line}
 use Rattle.fax_reading.proofs.Names.{move_on, end_of, bytes_before, plain, Reading, IsEol, IsLocal, ComesToLine, OneRowDiffers}
 use Rattle.fax_reading.proofs.Names.{EndsAt, EndAlike, DamageStaysInRow, Locality, IsTagOfLine, common_steps}
 use Rattle.fax_reading.proofs.Readings.GapsAndRows.{end_t4, plain_is}
@@ -21,11 +21,6 @@ use Rattle.fax_reading.proofs.DrawingLines.LinesLeaveBits.{LeavesBits, leaves_tr
 use Rattle.fax_reading.proofs.Readings.TurnsMoveOn.{left_to_read, left_below, move_shrinks}
 
 -- ---- From the ends of two runs to their results
-
--- the count at a position
-count_at : (bits : Bits) (rest : Bits) (place : ℕ) → place + length rest ≡ length bits
-    → bytes_before bits (Ok rest) ≡ Ok ((place + 7) / 8)
-count_at bits rest place e = grind (arith, common_steps)
 
 module _ (settings : DecodeSettings) (wide : 0 < settings.columns) (one two : Bits) (differ from : ℕ)
     (x y after : Bits) (whole_one : AreWholeBytes one) (whole_two : AreWholeBytes two) (length_one : length one ≡ from + length x)
@@ -68,10 +63,7 @@ module _ (settings : DecodeSettings) (wide : 0 < settings.columns) (one two : Bi
 
   ends_at : (bits : Bits) (rest : Bits) (place : ℕ) → (end_of settings bits).outcome ≡ Ok rest
       → place + length rest ≡ length bits → EndsAt settings bits (plain settings bits).outcome place ((place + 7) / 8)
-  ends_at bits rest place e at = grind (arith, common_steps, outcome_of, count_at)
-
-  shorter_x : length after < length x
-  shorter_x = past_shorter 0 x after tail_x.next
+  ends_at bits rest place e at = grind (arith, common_steps, outcome_of)
 
   shorter_y : length after < length y
   shorter_y = past_shorter 0 y after tail_y.next
@@ -98,12 +90,12 @@ module _ (settings : DecodeSettings) (wide : 0 < settings.columns) (one two : Bi
   answers_alike (EndsAlike.later rest short e f rows) =
       let place : ℕ = length one - length rest in
       let place2 : ℕ = length two - length rest in
-      let at_one : place + length rest ≡ length one = omega (arith, short, shorter_x, length_one) in
+      let at_one : place + length rest ≡ length one = omega (arith, short, past_shorter, length_one) in
       let at_two : place2 + length rest ≡ length two = omega (arith, short, shorter_y, length_two) in
       let counts : 8 * ((place + 7) / 8) + length two ≡ 8 * ((place2 + 7) / 8) + length one =
       omega (arith, at_one, at_two, whole_one, whole_two) in (
         rows_differ rows,
-        EndAlike.past place place2 ((place + 7) / 8) ((place2 + 7) / 8) (omega (arith, short, shorter_x, length_one))
+        EndAlike.past place place2 ((place + 7) / 8) ((place2 + 7) / 8) (omega (arith, short, past_shorter, length_one))
             (omega (arith, short, shorter_y, length_two)) (ends_at one rest place e at_one)
             (ends_at two rest place2 f at_two) counts,
       )
@@ -349,11 +341,8 @@ locality settings one are whole_one two from to to2 whole_two differ = in_each_c
       few_one = λ e. absurd (let f = local_one.encoding in cc);
       few_two = λ e. absurd (let f = local_one.encoding in cc);
       stays_one = λ rows reached. stays_1d settings one from to local_one (row_before settings.columns rows);
-      stays_two = λ rows reached. stays_1d settings two from to2 local_two (row_before settings.columns rows)
-          ∙ ap Some same_after;
-      settles = λ found e. inr (λ reference other. sought_line_is settings local_one.encoding local_one.lenient reference
-          (eols_here settings found).1
-          ∙ sym (sought_line_is settings local_one.encoding local_one.lenient other (eols_here settings found).1));
+      stays_two = grind (arith, common_steps, stays_1d settings two from to2 local_two, local_two, same_after);
+      settles = grind (arith, sought_line_is);
     }
 
     in_each_case : (settings.columns ≡ 0) ⊎ (settings.columns ≡ 0 → ⊥)

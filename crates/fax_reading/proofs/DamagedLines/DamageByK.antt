@@ -1,6 +1,6 @@
 -- Damage to a line of two-dimensional data ends at the next one-dimensional line.
-use Rattle.fax_reading.proofs.Names.{common_steps, ◌≡◌, ℕ, zero, suc, ◌+◌, ◌-◌, ◌<◌, ◌≤◌, true, false, List, [], ◌∷◌, ◌++◌}
-use Rattle.fax_reading.proofs.Names.{length, take, drop, Option, Some, None, Result, refl, sym, ap, subst, ◌∙◌, append_assoc}
+use Rattle.fax_reading.proofs.Names.{common_steps, ◌≡◌, ℕ, zero, suc, ◌-◌, ◌<◌, ◌≤◌, true, false, List, [], ◌∷◌, ◌++◌}
+use Rattle.fax_reading.proofs.Names.{length, take, drop, Some, None, Result, refl, sym, ap, subst, ◌∙◌, append_assoc}
 use Rattle.fax_reading.proofs.Names.{arith, ◌⊎◌, inl, inr, cases_lt, cases_eq, cond-true, eq-eqb, length-append, length-replicate}
 use Rattle.fax_reading.proofs.Names.{White, DecodeError, EncodingMode, Group3_2D, DecodeSettings, Bits, AreWholeBytes}
 use Rattle.fax_reading.proofs.Names.{AreSettings, Reaches, Row, EncodesLine2D, after_eol, one_more, pass_last_tag, tagged_eols}
@@ -18,15 +18,10 @@ use Rattle.fax_reading.proofs.Readings.TurnsMoveOn.{eols_end}
 
 -- ---- The lines that follow
 
--- an EOL is twelve bits at least
-eol_longer : (next after : Bits) → after_eol 0 next ≡ Some after → length after + 12 ≤ length next
-eol_longer next after e = grind (arith, common_steps, after_eol_is, length-append, length-replicate)
-
 module _ (settings : DecodeSettings) (encoding : settings.encoding ≡ Group3_2D) where
   -- the EOL before the lines that follow
   pub eol_before_lines : (lines : ℕ) (here : Bits) → ComeBefore1D settings lines here → IsEolAt here
-  eol_before_lines zero here (eol, ends) = eol
-  eol_before_lines (suc lines) here (line, next, e, is, more) = (false ∷ line, e)
+  eol_before_lines lines here e3 = grind arith
 
   -- a one-dimensional line has no reference row
   unreferred : (here : Bits) → ComesBefore1D settings here → Unreferred settings (eols_here settings here)
@@ -69,7 +64,6 @@ module _ (settings : DecodeSettings) (encoding : settings.encoding ≡ Group3_2D
       → Settles settings lines after
   settles zero here after comes e = λ found f. rw (eols_here_same settings found here after f e) (unreferred here comes)
   settles (suc lines) here after (line, next, f, is, more) e =
-      let same : ◌≡◌ {A = Option Bits} (Some (false ∷ line)) (Some after) = sym f ∙ e in
       let after_is : false ∷ line ≡ after = cc in
       subst (Settles settings (suc lines)) after_is (
         is.ends.0,
@@ -84,11 +78,7 @@ module _ (settings : DecodeSettings) (encoding : settings.encoding ≡ Group3_2D
       → ComeBefore1D settings lines here → ComeBefore1D settings lines there
   comes_same zero here there after e f (eol, ends) =
       let same : tagged_eols here ≡ tagged_eols there
-      = ap pass_last_tag (all_tagged-some here after e ∙ sym (all_tagged-some there after f)) in (
-        (after, f),
-        subst (λ (c : ℕ × Bits). ((settings.end_of_block ≡ true) × (6 ≤ c.0))
-            ⊎ (((line : Bits) × (c.1 ≡ true ∷ line)) ⊎ (c.1 ≡ []))) same ends,
-      )
+      = ap pass_last_tag (all_tagged-some here after e ∙ sym (all_tagged-some there after f)) in grind arith
   comes_same (suc lines) here there after e f (line, next, g, is, more) = grind (arith, common_steps)
 
   -- a two-dimensional line of an encoding is such a line
@@ -97,26 +87,19 @@ module _ (settings : DecodeSettings) (encoding : settings.encoding ≡ Group3_2D
   encoded_follows lines reference row line next here encodes more e =
       let eol = eol_before_lines lines next more in
       let after = eol.0 in
-      let q = quiet_line reference row 0 White line encodes 1 (omega arith) in
-      let found = found_next (false ∷ line ++ next) after
-      (past_before 0 (false ∷ line) next after (scan_past 1 q.0 line (omega arith) q.1) eol.1) in (
-        line ++ next,
-        found.0,
-        e,
-        record {
-          no_eol = line_2d_after_tag reference row 0 White line next encodes (omega arith);
-          next_is = found.1;
-          ends = (
-            after,
-            found.2,
-            λ rest reads. omega (
-              arith,
-              eol_longer next after eol.1,
-              encoded_ends reference row line next after rest encodes eol.1 reads,
-            ),
-          );
-        },
-        comes_same lines next found.0 after eol.1 found.2 more,
+      grind (
+        arith,
+        common_steps,
+        quiet_line reference row 0 White line encodes 1 (omega arith),
+        found_next (false ∷ line ++ next) after,
+        past_before 0 (false ∷ line) next after,
+        scan_past 1,
+        line_2d_after_tag reference row 0 White line next encodes (omega arith),
+        after_eol_is,
+        length-append,
+        length-replicate,
+        encoded_ends reference row line next after,
+        comes_same lines next,
       )
 
 -- ---- Rows of which some may differ

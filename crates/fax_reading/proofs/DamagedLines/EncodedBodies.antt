@@ -3,8 +3,8 @@ use Rattle.fax_reading.proofs.Names.{◌≡◌, ℕ, zero, suc, ◌+◌, ◌-◌
 use Rattle.fax_reading.proofs.Names.{drop, replicate, Option, Some, None, refl, sym, ap, subst, ◌∙◌, append_assoc, arith, ◌⊎◌}
 use Rattle.fax_reading.proofs.Names.{inl, inr, cases_lt, lt-leb, le-leb, length-append, length-replicate, length-drop, append-nil}
 use Rattle.fax_reading.proofs.Names.{take-append-drop, drop-drop, All-head, All-tail, Color, White, Pass, Horizontal, Vertical}
-use Rattle.fax_reading.proofs.Names.{DecodeSettings, EncodingMode, Group3_2D, IsWord, Line, IsEol, IsTagOfLine, IsTaggedBody}
-use Rattle.fax_reading.proofs.Names.{EncodedLinesAreBodies, row_before, line_by, line_here, Row, HaveWidth, opposite, Bits}
+use Rattle.fax_reading.proofs.Names.{DecodeSettings, Group3_2D, IsWord, Line, IsEol, IsTagOfLine, IsTaggedBody}
+use Rattle.fax_reading.proofs.Names.{EncodedLinesAreBodies, row_before, line_here, Row, HaveWidth, opposite, Bits}
 use Rattle.fax_reading.proofs.Names.{after_eol, one_more, past_tag, Spells, EncodesLine1D, EncodesLine2D, EncodesLine}
 use Rattle.fax_reading.proofs.Names.{EncodesRowsWithEols, eol, common_steps}
 use Rattle.fax_reading.proofs.{EncodedPictures.EncodedRuns.line_1d_again, EncodedPictures.PicturesT4.eol_stands}
@@ -35,15 +35,8 @@ past_first : (seen : ℕ) (before here rest next : Bits) → after_eol 0 here �
     → length rest ≤ length next
 past_first seen [] here rest next e f = grind (arith, common_steps, past-eol, after_eol_more)
 past_first seen (false ∷ before) here rest next e f = past_first (suc seen) before here rest next e f
-past_first seen (true ∷ before) here rest next e f = elim (cases_lt seen 11) [
-  | inl lt ↦
-      let g : past 0 (before ++ here) ≡ Some next = sym (rw (lt-leb 11 seen lt) refl) ∙ f in
-      past_first 0 before here rest next e g
-  | inr ge ↦
-      let g : ◌≡◌ {A = Option Bits} (Some (before ++ here)) (Some next) = sym (rw (le-leb 11 seen ge) refl) ∙ f in
-      let is : before ++ here ≡ next = cc in
-      omega (arith, ap length is, length-append before here, after_eol_shorter 0 here rest e)
-]
+past_first seen (true ∷ before) here rest next e f =
+    grind (arith, past_first 0 before here rest next e, cases_lt, lt-leb, le-leb, length-append, after_eol_shorter)
 
 -- what follows a tag is a suffix
 tag_leaves : (here : Bits) → LeavesBits here (past_tag here)
@@ -57,9 +50,7 @@ tag_leaves (true ∷ here) = by_after_eol (after_eol 0 here) refl
 
 -- one bit at most
 tag_short : (here : Bits) → length here ≤ suc (length (past_tag here))
-tag_short [] = omega arith
-tag_short (false ∷ here) = omega arith
-tag_short (true ∷ here) = grind (arith, common_steps)
+tag_short here = grind arith
 
 -- where there is an EOL some are counted
 not_none : (here rest last : Bits) → after_eol 0 here ≡ Some rest → all_tagged here ≡ (0, last) → ⊥
@@ -67,15 +58,7 @@ not_none here rest last f e = grind (arith, common_steps, all_tagged-some)
 
 -- where no more EOLs are counted behind a tag there was no tag
 no_tag : (here last : Bits) → all_tagged (past_tag here) ≡ (0, last) → here ≡ last
-no_tag [] last e = ap (λ (f : ℕ × Bits). f.1) e
-no_tag (false ∷ here) last e = grind (arith, common_steps, all_tagged-none, not_none)
-no_tag (true ∷ here) last e = by_after_eol (after_eol 0 here) refl
-  where
-    by_after_eol : (o : Option Bits) → after_eol 0 here ≡ o → (true ∷ here) ≡ last
-    by_after_eol None f = grind (arith, common_steps, all_tagged-none)
-    by_after_eol (Some rest) f =
-        let same : past_tag (true ∷ here) ≡ here = rw (f, past_tag) refl in
-        absurd (not_none here rest last f (ap all_tagged (sym same) ∙ e))
+no_tag here last e = grind (arith, common_steps, all_tagged-none, not_none)
 
 -- the last EOL
 one_left : (here last : Bits) → all_tagged here ≡ (1, last) → after_eol 0 here ≡ Some last
@@ -83,10 +66,7 @@ one_left here last e = by_after_eol (after_eol 0 here) refl
   where
     by_after_eol : (o : Option Bits) → after_eol 0 here ≡ o → after_eol 0 here ≡ Some last
     by_after_eol None f = grind (arith, common_steps, all_tagged-none)
-    by_after_eol (Some rest) f =
-        let g : one_more (all_tagged (past_tag rest)) ≡ (1, last) = sym (all_tagged-some here rest f) ∙ e in
-        let none : all_tagged (past_tag rest) ≡ (0, last) = grind (arith, common_steps) in
-        f ∙ ap Some (no_tag rest last none)
+    by_after_eol (Some rest) f = grind (arith, common_steps, all_tagged-some here rest f, no_tag rest last)
 
 -- the last two of consecutive EOLs
 last_two : (n count : ℕ) (here last : Bits) → length here < n → all_tagged here ≡ (suc (suc count), last)
@@ -103,23 +83,19 @@ last_two (suc n) count here last lt e =
         → all_tagged here ≡ (suc (suc count), last) → (o : Option Bits) → after_eol 0 here ≡ o → Two here
     by_after_eol on count e None f = grind (arith, common_steps, all_tagged-none)
     by_after_eol on zero e (Some rest) f =
-        let g : one_more (all_tagged (past_tag rest)) ≡ (2, last) = sym (all_tagged-some here rest f) ∙ e in
-        let one : all_tagged (past_tag rest) ≡ (1, last) = grind (arith, common_steps) in
-        (here, rest, ([], refl), f, one_left (past_tag rest) last one)
+        grind (arith, common_steps, all_tagged-some here rest f, one_left (past_tag rest) last)
     by_after_eol on (suc count) e (Some rest) f =
         let g : one_more (all_tagged (past_tag rest)) ≡ (suc (suc (suc count)), last) = sym (all_tagged-some here rest f) ∙ e in
         let more : all_tagged (past_tag rest) ≡ (suc (suc count), last) = grind (arith, common_steps) in
         let two = on count (past_tag rest) (omega (arith, lt, after_eol_shorter 0 here rest f, past_tag_shorter rest)) more in
         let is = after_eol_is 0 here rest f in
-        let first : LeavesBits here rest = (
-          replicate is.0 false ++ true ∷ [],
-          is.1 ∙ sym (append_assoc (replicate is.0 false) (true ∷ []) rest),
-        ) in (
-          two.0,
-          two.1,
-          leaves_trans here rest two.0 first (leaves_trans rest (past_tag rest) two.0 (tag_leaves rest) two.2),
-          two.3,
-          two.4,
+        grind (
+          arith,
+          common_steps,
+          append_assoc (replicate is.0 false) (true ∷ []) rest,
+          leaves_trans here rest two.0,
+          leaves_trans rest (past_tag rest) two.0 (tag_leaves rest) two.2,
+          tag_leaves rest,
         )
 
 -- ---- One EOL is counted before a line that comes after a line
@@ -168,22 +144,18 @@ module _ (front words next : Bits) (tag : Bool) (fill : ℕ) (quiet : Quiet word
           let covered = suffix_ends_with (more ++ true ∷ tag ∷ []) behind (past_tag rest) tagged
           (omega (arith, sizes, first, tag_short rest)) in
           let others = after_eol_is 0 (past_tag rest) next f in
-          let words_at : past_tag rest ≡ (covered.0 ++ one.0) ++ true ∷ (one.1 ++ (eol fill ++ next))
-          = covered.1 ∙ ap (λ (w : Bits). covered.0 ++ (w ++ (eol fill ++ next))) one.2
-          ∙ ap (λ (b : Bits). covered.0 ++ b) (append_assoc one.0 (true ∷ one.1) (eol fill ++ next))
-          ∙ sym (append_assoc covered.0 one.0 (true ∷ (one.1 ++ (eol fill ++ next)))) in
-          let before = first_one others.0 next (covered.0 ++ one.0) (one.1 ++ (eol fill ++ next)) (sym others.1 ∙ words_at) in
-          omega (
+          grind (
             arith,
-            before,
-            ap length others.1,
-            ap length words_at,
+            common_steps,
+            append_assoc one.0 (true ∷ one.1) (eol fill ++ next),
+            append_assoc covered.0 one.0 (true ∷ (one.1 ++ (eol fill ++ next))),
+            first_one others.0 next (covered.0 ++ one.0) (one.1 ++ (eol fill ++ next)),
             length-append (replicate others.0 false) (true ∷ next),
-            length-replicate others.0 false,
             length-append (covered.0 ++ one.0) (true ∷ (one.1 ++ (eol fill ++ next))),
             length-append one.1 (eol fill ++ next),
             length-append (eol fill) next,
             length-append (replicate (11 + fill) false) (true ∷ []),
+            length-replicate others.0 false,
           )
 
   -- so the tag there isn't that of RTC
@@ -222,9 +194,7 @@ quiet_1d color row bits (EncodesLine1D.run n word {row = others} {bits = next} s
     quiet_append word next (quiet_run color n word spells) (quiet_1d (opposite color) others next rest)
 
 holds_1d : (color : Color) (row : Row) (bits : Bits) → EncodesLine1D color row bits → 0 < length row → HoldsOne bits
-holds_1d color row bits EncodesLine1D.over some = absurd (omega arith)
-holds_1d color row bits (EncodesLine1D.run n word {row = others} {bits = next} spells first maximal rest) some =
-    one_more_bits word next (run_holds color n word spells)
+holds_1d color row bits e4 some = grind (arith, common_steps, one_more_bits, run_holds)
 
 -- those of a two-dimensional one
 holds_2d : (reference row : Row) (from : ℕ) (color : Color) (bits : Bits) → EncodesLine2D reference row from color bits
@@ -270,8 +240,7 @@ last_line columns reference (row ∷ rows) bits wide widths (fill, line, next, e
       [],
       line,
       fill,
-      split ∙ append_assoc (eol fill) line next ∙ ap (λ (b : Bits). eol fill ++ (line ++ b)) e
-          ∙ ap (λ (b : Bits). eol fill ++ b) (append-nil line),
+      grind (arith, append_assoc, append-nil),
       tagged reference row line encodes some,
     )
     in_each_case (inr (before, last, fill2, e, is)) =
@@ -313,17 +282,16 @@ module _ (settings : DecodeSettings) (encoding : settings.encoding ≡ Group3_2D
 
   no_eol_in : (place end : ℕ) → from ≤ place → end ≤ to → IsEol whole place end → ⊥
   no_eol_in place end le le2 (lt, within, stands) =
-      let there : drop (place - from) (line ++ next) ≡ drop place whole
-      = ap (drop (place - from)) (sym line_on) ∙ drop-drop (place - from) from whole
-      ∙ ap (λ (n : ℕ). drop n whole) (let sum : from + (place - from) ≡ place = omega arith in sum) in
-      let first = past_first 0 (take (place - from) (line ++ next)) (drop (place - from) (line ++ next)) (drop end whole) after
-      (ap (after_eol 0) there ∙ stands) (ap (past 0) (take-append-drop (place - from) (line ++ next)) ∙ next_from) in
-      omega (
+      grind (
         arith,
-        first,
+        common_steps,
+        line_on,
+        drop-drop (place - from) from whole,
+        past_first 0 (take (place - from) (line ++ next)) (drop (place - from) (line ++ next)) (drop end whole) after,
+        take-append-drop (place - from) (line ++ next),
+        next_from,
         longer,
         length-drop end whole,
-        le2,
         length-append (front ++ eol fill) (line ++ next),
         length-append line next,
       )
@@ -334,14 +302,12 @@ module _ (settings : DecodeSettings) (encoding : settings.encoding ≡ Group3_2D
     where
       by_premise : EncodesLine Group3_2D above row line → length after + 12 ≤ length rest
       by_premise (words, inl (line_is, encodes)) =
-          let len : length {A = Bool} [] + length row ≡ settings.columns = omega (arith, width) in
-          let read_1d : line_here settings other (line ++ next) ≡ Line.whole row next
-          = ap (λ (b : Bits). line_here settings other (b ++ next)) line_is
-          ∙ ap (λ (e : EncodingMode). line_by e settings.strict settings.columns other (true ∷ words ++ next)) encoding
-          ∙ line_1d_again settings.strict settings.columns [] row White words next encodes small len in
-          let same : Line.whole row next ≡ Line.whole read rest = sym read_1d ∙ e in
-          let rest_is : next ≡ rest = cc in
-          omega (arith, longer, ap length rest_is)
+          grind (
+            arith,
+            common_steps,
+            line_1d_again settings.strict settings.columns [] row White words next encodes small,
+            longer,
+          )
       by_premise (words, inr (line_is, encodes)) =
           omega (
             arith,
@@ -356,15 +322,7 @@ module _ (settings : DecodeSettings) (encoding : settings.encoding ≡ Group3_2D
     within = omega (arith, length-append (front ++ eol fill) (line ++ next), length-append line next);
     starts = inr (length front, (omega (arith, sizes), omega (arith, length-append (front ++ eol fill) (line ++ next)), stands));
     tag = few;
-    one = (
-      from + (1 + length is.one.0),
-      omega arith,
-      omega (arith, ap length is.is, ap length is.one.2, length-append is.one.0 (true ∷ is.one.1)),
-      (
-        is.one.1 ++ next,
-        one_there,
-      ),
-    );
+    one = grind (arith, length-append, one_there);
     no_eol = no_eol_in;
     closes = (
       after,
@@ -401,8 +359,7 @@ few_tags front line fill (inl none) here count leaves e = by_count count e
     by_count (suc (suc count)) e =
         let two = last_two (suc (length here)) count here line (omega arith) e in
         let at = leaves_trans (eol fill ++ line) here two.0 first two.2 in
-        let next : past 0 (at.0 ++ two.0) ≡ Some line = ap (past 0) (sym at.1)
-        ∙ past-eol 0 (eol fill ++ line) line (eol_stands fill line) in
+        let next : past 0 (at.0 ++ two.0) ≡ Some line = grind (arith, past-eol, eol_stands) in
         absurd (omega (
           arith,
           past_first 0 at.0 two.0 two.1 line two.3 next,

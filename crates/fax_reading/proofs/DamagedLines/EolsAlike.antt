@@ -18,16 +18,14 @@ pub no_one_in_zeros : (n : ℕ) (before after : Bits) → before ++ true ∷ aft
 no_one_in_zeros zero [] after e = absurd cc
 no_one_in_zeros zero (b ∷ before) after e = absurd cc
 no_one_in_zeros (suc n) [] after e = absurd cc
-no_one_in_zeros (suc n) (b ∷ before) after e = no_one_in_zeros n before after
-    (let f : before ++ true ∷ after ≡ replicate n false = cc in f)
+no_one_in_zeros (suc n) (b ∷ before) after e = grind (arith, no_one_in_zeros n before after)
 
 -- what follows a one in them ends with these zeros too
 pub closes_after : (before after first : Bits) → before ++ true ∷ after ≡ first ++ replicate 11 false → Closes after
 closes_after [] after [] e = absurd cc
 closes_after [] after (b ∷ first) e = (first, cc)
 closes_after (b ∷ before) after [] e = absurd (no_one_in_zeros 11 (b ∷ before) after e)
-closes_after (b ∷ before) after (c ∷ first) e =
-    closes_after before after first (let f : before ++ true ∷ after ≡ first ++ replicate 11 false = cc in f)
+closes_after (b ∷ before) after (c ∷ first) e = grind (arith, closes_after before after first)
 
 -- what ends with eleven zeros contains them
 pub closes_inside : (bits : Bits) → Closes bits → Inside bits
@@ -53,9 +51,7 @@ after_shorter bits before after e = omega (arith, ap length e, length-append bef
 
 -- the tag after fewer than six EOLs stays
 pub last_tag_few : (count : ℕ) (here : Bits) → count < 6 → pass_last_tag (count, here) ≡ (count, here)
-last_tag_few count [] few = refl
-last_tag_few count (true ∷ here) few = rw (lt-leb 6 count few) refl
-last_tag_few count (false ∷ here) few = refl
+last_tag_few count here few = grind (arith, lt-leb)
 
 -- behind the first of bits that end with the zeros of an EOL there are enough zeros left
 pub closes_tail : (tag : Bool) (bits : Bits) → Closes (tag ∷ bits) → Inside bits
@@ -151,9 +147,8 @@ module _ (x y : Bits) where
               → (o p : Option Bits) → after_eol 0 (bits ++ true ∷ x) ≡ o → after_eol 0 (bits ++ true ∷ y) ≡ p
               → EolAlike bits o p → CountAlike bits (all (bits ++ true ∷ x)) (all (bits ++ true ∷ y))
           by_after_eol on o p e f (inl a) =
-              let shorter = after_shorter bits a.0 a.1 a.2 in
               let past = passed a.1 in
-              let more = on past.0 (omega (arith, shorter, leaves_length a.1 past.0 past.1, lt)) in
+              let more = on past.0 (omega (arith, after_shorter, leaves_length a.1 past.0 past.1, lt)) in
               let keeps : Closes bits → Closes past.0 = λ closes. past.2 (closes_after a.0 a.1 closes.0 (sym a.2 ∙ closes.1)) in
               rw (
                 count_all-some counts (bits ++ true ∷ x) (a.1 ++ true ∷ x) (e ∙ a.3),
@@ -173,15 +168,7 @@ module _ (x y : Bits) where
                   | inr b ↦ inr b
                 ],
               )
-          by_after_eol on o p e f (inr (inl a)) =
-              rw (
-                count_all-some counts (bits ++ true ∷ x) x (e ∙ a.0),
-                count_all-some counts (bits ++ true ∷ y) y (f ∙ a.1),
-                pass_x,
-                pass_y,
-                none x none_x,
-                none y none_y,
-              ) (refl, inr (refl, refl))
+          by_after_eol on o p e f (inr (inl a)) = grind (arith, common_steps, count_all-some, none)
           by_after_eol on o p e f (inr (inr a)) = grind (arith, common_steps)
 
       -- the consecutive EOLs are alike in both
@@ -256,16 +243,8 @@ module _ (x y : Bits) where
         where
           either_way : (b : Bool) → CountAlike bits (cond b (n, rest ++ true ∷ x) (n, true ∷ rest ++ true ∷ x))
               (cond b (n, rest ++ true ∷ y) (n, true ∷ rest ++ true ∷ y))
-          either_way true = (
-            refl,
-            inl (
-              rest,
-              leaves_trans bits (true ∷ rest) rest le (true ∷ [], refl),
-              λ closes. let c = keeps closes in closes_after [] rest c.0 c.1,
-              refl,
-              refl,
-            ),
-          )
+          either_way true =
+              grind (arith, common_steps, leaves_trans bits (true ∷ rest) rest le (true ∷ [], refl), closes_after [] rest)
           either_way false = (refl, inl (true ∷ rest, le, keeps, refl, refl))
       last_tag_alike bits (n, here) (m, there) (same, inr (e, f)) few_x few_y =
           rw (

@@ -2,10 +2,10 @@
 use Rattle.fax_reading.proofs.Readings.TurnsMoveOn.{at_end_length}
 use Rattle.fax_bits.proofs.BitReading.ConsecutiveEols.{after_eol_shorter, eol_of, all_eols-some, all_eols-none}
 use Rattle.fax_reading.proofs.Names.{◌≡◌, ℕ, zero, suc, ◌+◌, ◌<◌, ◌≤◌, Bool, true, false, cond, not, ◌&&◌, leb, List, [], ◌∷◌}
-use Rattle.fax_reading.proofs.Names.{◌++◌, length, take, drop, replicate, Option, Some, None, refl, sym, ap, subst, ◌∙◌}
+use Rattle.fax_reading.proofs.Names.{◌++◌, length, take, drop, replicate, Option, Some, None, refl, sym, ap, ◌∙◌}
 use Rattle.fax_reading.proofs.Names.{append_assoc, arith, ◌⊎◌, inl, inr, Contains, All, is_some, cases_lt, le-leb, leb-true}
 use Rattle.fax_reading.proofs.Names.{and_parts, and_from, not-true, not_from_false, length-append, length-drop, take-append-drop}
-use Rattle.fax_reading.proofs.Names.{length-replicate, append_cancel_left, Contains-append_left, Contains-append_right}
+use Rattle.fax_reading.proofs.Names.{length-replicate, append_cancel_left, Contains-append_right}
 use Rattle.fax_reading.proofs.Names.{Contains-append_cases, All-nil, All-append, All-weaker, Bits, after_eol, all_eols, at_end}
 use Rattle.fax_reading.proofs.Names.{begins_line, later_starts, starts, IsStart, Descends, StartsAre, common_steps}
 use Rattle.fax_reading.proofs.DrawingLines.LinesLeaveBits.{LeavesBits}
@@ -56,19 +56,7 @@ from_later seen (true ∷ here) end c = by_leb (leb 11 seen && begins_line here)
     by_leb false e on (inl found) = absurd (contains_none end found)
     by_leb b e on (inr found) =
         let f = on found in
-        let g = f.0 in (
-          (
-            g.0,
-            (
-              replicate seen false ++ true ∷ g.1.0,
-              ap (λ (h : Bits). replicate seen false ++ true ∷ h) g.1.1
-                  ∙ sym (append_assoc (replicate seen false) (true ∷ g.1.0) g.0),
-            ),
-            g.2,
-            omega (arith, g.3),
-          ),
-          f.1,
-        )
+        let g = f.0 in grind (arith, common_steps, append_assoc (replicate seen false) (true ∷ g.1.0) g.0)
 
 -- of two suffixes of one list the shorter is a suffix of the longer
 shorter_end : (xs ys us vs : Bits) → xs ++ ys ≡ us ++ vs → length vs ≤ length ys → LeavesBits ys vs
@@ -83,18 +71,15 @@ to_later : (seen : ℕ) (here end : Bits) → EndsLater seen here end → begins
 to_later seen [] end (at, leaves, eol, lt) b = absurd (omega arith)
 to_later seen (false ∷ here) end (at, leaves, eol, lt) b =
     let is = after_eol_is 0 at end eol in
-    let whole : replicate seen false ++ false ∷ here ≡ (leaves.0 ++ replicate is.0 false) ++ true ∷ end = leaves.1
-    ∙ ap (λ (h : Bits). leaves.0 ++ h) is.1 ∙ sym (append_assoc leaves.0 (replicate is.0 false) (true ∷ end)) in
-    to_later (suc seen) here end (
-      at,
-      (leaves.0, zeros_along seen here ∙ leaves.1),
-      eol,
-      elim (cases_lt (length end) (length here)) [
-        | inl less ↦ less
-        | inr ge ↦ absurd (let same : false ∷ here ≡ true ∷ end = same_end (replicate seen false) (false ∷ here)
-            (leaves.0 ++ replicate is.0 false) (true ∷ end) whole (omega arith) in cc)
-      ],
-    ) b
+    grind (
+      arith,
+      common_steps,
+      to_later (suc seen) here end,
+      append_assoc leaves.0 (replicate is.0 false) (true ∷ end),
+      zeros_along seen here,
+      cases_lt (length end) (length here),
+      same_end (replicate seen false) (false ∷ here) (leaves.0 ++ replicate is.0 false) (true ∷ end),
+    )
 to_later seen (true ∷ here) end (at, leaves, eol, lt) b = elim (cases_lt (length end) (length here)) [
   | inl less ↦ Contains-append_right (cond (leb 11 seen && begins_line here) (here ∷ []) []) (later_starts 0 here) end
       (to_later 0 here end (at, inside less, eol, less) b)
@@ -105,12 +90,7 @@ to_later seen (true ∷ here) end (at, leaves, eol, lt) b = elim (cases_lt (leng
       let lengths : length (replicate seen false) + length (true ∷ here) ≡ length (leaves.0 ++ replicate is.0 false)
       + length (true ∷ end) = sym (length-append (replicate seen false) (true ∷ here)) ∙ ap length whole
       ∙ length-append (leaves.0 ++ replicate is.0 false) (true ∷ end) in
-      let enough : 11 ≤ seen = grind (arith, common_steps, length-append, length-replicate) in
-      let test : (leb 11 seen && begins_line here) ≡ true =
-      and_from (leb 11 seen) (begins_line here) (le-leb 11 seen enough) (ap begins_line here_is ∙ b) in
-      Contains-append_left (cond (leb 11 seen && begins_line here) (here ∷ []) []) (later_starts 0 here) end
-      (subst (λ (t : Bool). Contains (cond t (here ∷ []) []) end) (sym test)
-      (subst (λ (h : Bits). Contains (h ∷ []) end) (sym here_is) (0, omega arith, refl)))
+      grind (arith, length-append, length-replicate, and_from, le-leb)
 ]
   where
     is : (k : ℕ) × (at ≡ replicate k false ++ true ∷ end) × (11 ≤ 0 + k)
@@ -147,15 +127,11 @@ first_leaves (suc n) bits lt = by_after_eol (first_leaves n) (after_eol 0 bits) 
         let f = on rest (omega (arith, after_eol_shorter 0 bits rest e)) in
         rw (all_eols-some bits rest e) (
           replicate is.0 false ++ true ∷ f.0,
-          is.1 ∙ ap (λ (b : Bits). replicate is.0 false ++ true ∷ b) f.1
-              ∙ sym (append_assoc (replicate is.0 false) (true ∷ f.0) (all_eols rest).1),
+          grind (arith, append_assoc),
           inr (elim f.2 [
             | inl none ↦ (replicate is.0 false, ap (λ (b : Bits). replicate is.0 false ++ true ∷ b) none)
-            | inr more ↦ (
-              replicate is.0 false ++ true ∷ more.0,
-              ap (λ (b : Bits). replicate is.0 false ++ true ∷ b) more.1
-                  ∙ sym (append_assoc (replicate is.0 false) (true ∷ more.0) (true ∷ [])),
-            )
+            | inr more ↦
+                grind (arith, common_steps, append_assoc (replicate is.0 false) (true ∷ more.0) (true ∷ []))
           ]),
         )
 
@@ -188,20 +164,16 @@ module _ (bits : Bits) where
         let front : Bits = leaves_first.0 ++ f.0.1.0 in
         let cut : bits ≡ front ++ f.0.0 =
         leaves_first.1 ∙ ap (λ (b : Bits). leaves_first.0 ++ b) f.0.1.1 ∙ sym (append_assoc leaves_first.0 f.0.1.0 f.0.0) in
-        let shorter = after_eol_shorter 0 f.0.0 (drop place bits) f.0.2 in
-        let lengths : length bits ≡ length front + length f.0.0 = ap length cut ∙ length-append front f.0.0 in
-        inr (
-          omega (arith, f.0.3, length-drop place bits, first_length),
-          omega (arith, begins, length-drop place bits),
-          (
-            length front,
-            (
-              omega (arith, shorter, lengths, length-drop place bits, le),
-              le,
-              ap (after_eol 0) (drop_at bits front f.0.0 (length front) cut refl) ∙ f.0.2,
-            ),
-          ),
+        grind (
+          arith,
+          common_steps,
+          after_eol_shorter 0 f.0.0 (drop place bits) f.0.2,
+          length-append front f.0.0,
+          length-drop place bits,
+          first_length,
+          drop_at bits front f.0.0 (length front) cut refl,
           not_some (after_eol 0 (drop place bits)) (not-true (is_some (after_eol 0 (drop place bits))) both.1),
+          not-true (is_some (after_eol 0 (drop place bits))) both.1,
         )
   ]
 
@@ -231,13 +203,7 @@ module _ (bits : Bits) where
               (append_assoc more (true ∷ []) (all_eols bits).1) ∙ ap (λ (b : Bits). b ++ (all_eols bits).1) (sym is) ∙ whole in
               let f =
               shorter_end (take at bits) (drop at bits) more (true ∷ (all_eols bits).1) (sym split) (omega (arith, longer)) in
-              let zeros_one = after_eol_is 0 (drop at bits) (drop place bits) eol.2 in
-              let step = first_one zeros_one.0 (drop place bits) f.0 (all_eols bits).1 (sym zeros_one.1 ∙ f.1) in
-              let step2 = length-append (replicate zeros_one.0 false) (true ∷ drop place bits) in
-              let step3 = length-append f.0 (true ∷ (all_eols bits).1) in
-              let step4 = length-replicate zeros_one.0 false in
-              let step5 = length-drop place bits in
-              omega (arith, step, ap length f.1, step3, ap length zeros_one.1, step2, step4, step5, later, below, first_length)
+              grind (arith, after_eol_is, first_one, length-append, length-replicate, length-drop, first_length)
 
 -- the law
 pub starts_are : StartsAre

@@ -45,13 +45,7 @@ zeros_of_eol here rest e =
 -- what precedes its one ends with them
 pub eol_closes : (before here rest : Bits) → after_eol 0 here ≡ Some rest → (front : Bits) × Closes front
     × (before ++ here ≡ front ++ true ∷ rest)
-eol_closes before here rest e =
-    let is = zeros_of_eol here rest e in
-    let zeros : Bits = replicate is.0 false ++ replicate 11 false in (
-      before ++ zeros,
-      (before ++ replicate is.0 false, sym (append_assoc before (replicate is.0 false) (replicate 11 false))),
-      ap (λ (b : Bits). before ++ b) is.1 ∙ sym (append_assoc before zeros (true ∷ rest)),
-    )
+eol_closes before here rest e = grind (arith, common_steps, zeros_of_eol here rest e, append_assoc before)
 
 -- the first one is at or before any other
 pub first_one : (k : ℕ) (rest before after : Bits) → replicate k false ++ true ∷ rest ≡ before ++ true ∷ after → k ≤ length before
@@ -146,11 +140,7 @@ module _ (bits : Bits) (from to : ℕ) (after : Bits) (local : IsBody bits from 
           let next = found_next body rest e in
           let before = next_eol_leaves body next.0 next.1 in
           let is = after_eol_is 0 next.0 rest next.2 in
-          let e2 : line_on ≡ before.0 ++ (next.0 ++ eol_on) =
-          cut ∙ ap (λ (b : Bits). b ++ eol_on) before.1 ∙ append_assoc before.0 next.0 eol_on in
-          let f2 : next.0 ++ eol_on ≡ replicate is.0 false ++ true ∷ (rest ++ eol_on) = ap (λ (b : Bits). b ++ eol_on) is.1
-          ∙ append_assoc (replicate is.0 false) (true ∷ rest) eol_on in
-          grind (arith, common_steps, after_eol-append, body_length, length-append, length-replicate, not_within)
+          grind (arith, append_assoc, after_eol-append, body_length, length-append, length-replicate, not_within, cut)
 
   pub no_eol_here : after_eol 0 line_on ≡ None
   no_eol_here = by_after_eol (after_eol 0 line_on) refl
@@ -167,8 +157,7 @@ module _ (bits : Bits) (from to : ℕ) (after : Bits) (local : IsBody bits from 
           sym is.1 ∙ sym (take-append-drop n line_on) ∙ ap (λ (b : Bits). take n line_on ++ b) there in
           let short : length (take n line_on) ≡ n =
           length-take-le n line_on (omega (arith, length-drop from bits, local.one.1, local.one.2, local.within)) in
-          let first = first_one is.0 rest (take n line_on) local.one.3.0 split in
-          absurd (not_within [] rest is.0 line_on refl is.1 e (omega (arith, first, short, local.one.1, local.one.2)))
+          absurd (not_within [] rest is.0 line_on refl is.1 e (omega (arith, first_one, short, local.one.1, local.one.2)))
 
   pub next_line_is : past 0 line_on ≡ Some after
   next_line_is = ap (past 0) cut ∙ past_before 0 body eol_on after none_in_body local.eol
@@ -241,12 +230,7 @@ is_tagged_tail settings bits from to local =
     by_drop : (here : Bits) → drop from bits ≡ here → past_tag here ≡ here
     by_drop [] e = refl
     by_drop (false ∷ here) e = refl
-    by_drop (true ∷ here) e =
-        let next : from + 1 ≡ suc from = omega arith in
-        let behind : here ≡ drop (suc from) bits = sym (ap (drop 1) e) ∙ drop-drop 1 from bits
-        ∙ ap (λ (n : ℕ). drop n bits) next in
-        let no_eol : after_eol 0 here ≡ None = ap (after_eol 0) behind ∙ none in
-        rw (no_eol, past_tag) refl
+    by_drop (true ∷ here) e = grind (arith, common_steps, drop-drop 1 from bits, none)
 
 -- the next EOL behind its line, as it is read, is the one behind it
 pub stays_2d : (settings : DecodeSettings) (bits : Bits) (from to : ℕ) (local : IsTaggedBody settings bits from to)

@@ -1,6 +1,6 @@
 -- A line that begins before the zeros of an EOL ends before their end, whatever comes after them.
 use Rattle.fax_reading.proofs.Names.{◌≡◌, ℕ, suc, ◌≤◌, Bool, true, false, cond, leb, List, [], ◌∷◌, ◌++◌, length, replicate}
-use Rattle.fax_reading.proofs.Names.{Option, Some, None, Result, Ok, Err, refl, sym, ap, ◌∙◌, append_assoc, arith, inl, inr}
+use Rattle.fax_reading.proofs.Names.{Option, Some, None, Result, Ok, Err, refl, sym, append_assoc, arith, inl, inr}
 use Rattle.fax_reading.proofs.Names.{cases_lt, lt-ltb, le-ltb, append_cancel_left, Color, Mode, Pass, Horizontal, Vertical}
 use Rattle.fax_reading.proofs.Names.{DecodeError, UnexpectedEof, Bits, Code, mode_codes, Has, is_prefix_free, read_code, IsWord}
 use Rattle.fax_reading.proofs.Names.{Turn, Row, opposite, paint, codes_of, run_turn, run_from, Line, Pen, start}
@@ -42,26 +42,18 @@ word_inside : (bits x word rest : Bits) → Inside bits → is_quiet word ≡ tr
 word_inside bits x word rest inside quiet e =
     let q = quiet_is (scan 3 word) quiet in
     elim (cases_lt (length bits) (length word)) [
-      | inl lt ↦ absurd (
-          let f = prefix_of_prefix bits x word rest (sym e) (omega arith) in
-          let none : scan 3 word ≡ None = ap (scan 3) f.1 ∙ scan_stays 3 bits f.0 inside.holds in
-          let g = q.1 in cc)
+      | inl lt ↦
+          grind (arith, common_steps, prefix_of_prefix bits x word rest (sym e) (omega arith), scan_stays 3 bits)
       | inr ge ↦
           let f = prefix_of_prefix word rest bits x e ge in
-          let none : scan q.0 f.0 ≡ None = sym (scan-append 3 q.0 word f.0 q.1) ∙ ap (scan 3) (sym f.1) ∙ inside.holds in
-          let after : word ++ (f.0 ++ x) ≡ word ++ rest =
-          sym (append_assoc word f.0 x) ∙ ap (λ (b : Bits). b ++ x) (sym f.1) ∙ e in (
-            f.0,
-            record {
-              holds = scan_above q.0 3 f.0 q.2 none;
-              last = (
-                inside.last.0 ++ word,
-                inside.last.1,
-                append_assoc inside.last.0 word f.0 ∙ ap (λ (b : Bits). inside.last.0 ++ b) (sym f.1) ∙ inside.last.2,
-              );
-            },
-            f.1,
-            sym (append_cancel_left word (f.0 ++ x) rest after),
+          grind (
+            arith,
+            common_steps,
+            scan-append 3 q.0 word f.0 q.1,
+            append_assoc word f.0 x,
+            append_assoc inside.last.0 word f.0,
+            scan_above q.0 3 f.0 q.2,
+            append_cancel_left word (f.0 ++ x) rest,
           )
     ]
 
@@ -79,8 +71,7 @@ module _ {V : Type 0} (list : List (Code V)) (free : is_prefix_free list ≡ tru
   reads_too bits x y v rest inside e =
       let f = read_code_found list (bits ++ x) v rest e in
       let g = word_inside bits x f.0 rest inside (word_quiet f.0 (words v f.0 f.1)) f.2 in
-      let there : bits ++ y ≡ f.0 ++ (g.0 ++ y) = ap (λ (b : Bits). b ++ y) g.2 ∙ append_assoc f.0 g.0 y in
-      (g.0, g.1, g.3, ap (read_code list) there ∙ read_code_again list v f.0 (g.0 ++ y) free f.1)
+      grind (arith, append_assoc, read_code_again)
 
   words_alike : (bits x y : Bits) → Inside bits → FoundAlike x y (read_code list (bits ++ x)) (read_code list (bits ++ y))
   words_alike bits x y inside = by_read_code (read_code list (bits ++ x)) (read_code list (bits ++ y)) refl refl
@@ -225,10 +216,7 @@ module _ (x y : Bits) where
             (record { front = front; color = color; rest = mode.1 }) mode.0)
 
         by_result : (r q : Result (Mode × Bits) DecodeError) → FoundAlike x y r q → Both (step r) (step q)
-        by_result (Ok (mode, left)) (Ok (same_mode, other)) (same, still) = grind (arith, common_steps, mode_alike)
-        by_result (Ok found) (Err fault) alike = absurd alike
-        by_result (Err fault) (Ok found) alike = absurd alike
-        by_result (Err fault) (Err other) alike = refl
+        by_result r q alike = grind (arith, mode_alike)
 
         full : (whole : Bool) → Both (cond whole (Turn.done (Line.whole front here)) (step (read_code mode_codes here)))
             (cond whole (Turn.done (Line.whole front there)) (step (read_code mode_codes there)))

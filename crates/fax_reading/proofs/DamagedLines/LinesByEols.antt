@@ -1,8 +1,8 @@
 -- Lines by EOLs.
 use Rattle.fax_reading.proofs.Readings.TurnsAddRows.{turn_extends, after_row_keeps, move_adds, repeated_adds}
-use Rattle.fax_reading.proofs.Names.{◌≡◌, ℕ, zero, suc, ◌<◌, Bool, true, false, cond, ◌||◌, eqb, ltb, List, [], ◌∷◌, ◌++◌, length}
+use Rattle.fax_reading.proofs.Names.{◌≡◌, ℕ, zero, suc, ◌<◌, Bool, true, false, cond, ◌||◌, ltb, List, [], ◌∷◌, ◌++◌, length}
 use Rattle.fax_reading.proofs.Names.{map, Option, Some, None, Ok, Err, refl, sym, ap, subst, ◌∙◌, append_assoc, arith, ◌⊎◌, All}
-use Rattle.fax_reading.proofs.Names.{All-head, All-tail, All-same, append-nil, cases_lt, lt-leb, le-leb, ne_eqb, and_right}
+use Rattle.fax_reading.proofs.Names.{All-head, All-tail, All-same, append-nil, cases_lt, lt-leb, le-leb, and_right}
 use Rattle.fax_reading.proofs.Names.{cond-false, UnexpectedEof, Group3_1D, DecodeSettings, Bits, IsPrefix, Turn, repeated, Row}
 use Rattle.fax_reading.proofs.Names.{line_1d, after_eol, all_eols, Progress, Ending, Move, limit_met, at_end, ends_with, move_on}
 use Rattle.fax_reading.proofs.Names.{begins_line, later_starts, starts, row_at, StaysBefore, IsEolAt, LinesByEols, common_steps}
@@ -132,11 +132,7 @@ module _ (settings : DecodeSettings) (encoding : settings.encoding ≡ Group3_1D
               let tail = All-same (StaysBefore settings.columns) ((b ∷ there) ∷ later_starts 0 (b ∷ there)) (later_starts 0 here)
               (sym some) (All-tail (StaysBefore settings.columns) here (later_starts 0 here) stay) in
               let further = on others (b ∷ there) smaller tail in
-              let all : rows ++ map (row_at settings.columns) (here ∷ later_starts 0 here) ≡ others ++ map (row_at
-              settings.columns) ((b ∷ there) ∷ later_starts 0 (b ∷ there)) = grind (arith, common_steps, append_assoc, map) in
-              subst (λ (m : Move). IsPrefix (rows ++ map (row_at settings.columns) (here ∷ later_starts 0 here))
-              (after_turn rest_end m).rows) (sym (turn (b ∷ there) is))
-              (subst (λ (x : List Row). IsPrefix x (rest_end (sought others (b ∷ there))).rows) (sym all) further)
+              grind (arith, common_steps, map, append_assoc, turn (b ∷ there) is)
 
   -- the whole run begins at the first of them
   by_run : (run : Progress) (here : Bits) → run ≡ sought [] here → All (StaysBefore settings.columns) (here ∷ later_starts 0 here)
@@ -157,7 +153,6 @@ seeks bits end_of_line given = grind (arith, common_steps)
 -- the law
 pub lines_by_eols : LinesByEols
 lines_by_eols settings bits are encoding lenient no_block unlimited wide sought_by stay =
-    let columns : eqb settings.columns 0 ≡ false = ne_eqb settings.columns 0 (λ e. absurd (omega (arith, e, wide))) in
     let first : Progress =
     record { rows = []; has_eols = ltb 0 (all_eols bits).0 || settings.end_of_line; rest = (all_eols bits).1 } in
     let first_is : first ≡ sought [] (all_eols bits).1 =

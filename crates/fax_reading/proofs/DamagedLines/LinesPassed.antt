@@ -1,7 +1,7 @@
 -- Two-dimensional lines that are passed without their reference rows.
 use Rattle.fax_reading.proofs.Names.{common_steps, ◌≡◌, ℕ, zero, suc, ◌+◌, ◌-◌, ◌<◌, ◌≤◌, ◌⊎◌, Bool, cond, true, false, [], ◌∷◌}
-use Rattle.fax_reading.proofs.Names.{length, drop, Option, Some, None, Result, Ok, Err, refl, sym, ap, subst, ◌∙◌, arith, inl}
-use Rattle.fax_reading.proofs.Names.{inr, ◌↔◌, Color, White, Mode, Pass, Horizontal, Vertical, DecodeError, DecodeSettings}
+use Rattle.fax_reading.proofs.Names.{length, drop, Option, Some, None, Result, Ok, Err, refl, sym, ap, subst, ◌∙◌, arith}
+use Rattle.fax_reading.proofs.Names.{◌↔◌, Color, White, Mode, Pass, Horizontal, Vertical, DecodeError, DecodeSettings}
 use Rattle.fax_reading.proofs.Names.{Group3_2D, Bits, mode_codes, read_code, after_eol, next_eol, one_more, pass_last_tag}
 use Rattle.fax_reading.proofs.Names.{tagged_eols, ReadsModes, IsLine2D, ComesBefore1D, ComeBefore1D, IsFollowedBy, behind_mode}
 use Rattle.fax_reading.proofs.Names.{behind_read, behind_word, behind_first_run, behind_second_run, opposite, read_run}
@@ -62,8 +62,7 @@ further start color here next rest so_far found =
 
     by_last : (last : Bits) → ReadsModes color here last ⊎ (length here ≤ length last)
         → ReadsModes next rest last ⊎ (length rest ≤ length last)
-    by_last last (inl reads) = grind (arith, common_steps, left_behind, less)
-    by_last last (inr le) = inr (omega (arith, less, le))
+    by_last last e2 = grind (arith, left_behind, less)
 
 -- where no more is read all were
 pub all_read : (start : Bits) (color : Color) (here : Bits) → ReadFurther start color here → behind_mode color here ≡ None
@@ -79,8 +78,7 @@ line_passed here line found after rest is none next eol all le = grind (arith, c
 -- where there is an EOL, it is what was passed
 pub eol_passed : (is_one : Bool) (found rest new : Bits) → after_eol 0 found ≡ Some rest
     → after_eol 0 found ≡ cond is_one (Some new) None → after_eol 0 found ≡ Some new
-eol_passed true found rest new e f = f
-eol_passed false found rest new e f = absurd (let none : ◌≡◌ {A = Option Bits} None (Some rest) = sym f ∙ e in cc)
+eol_passed is_one found rest new e f = grind arith
 
 -- ---- Lines that are counted
 
@@ -90,15 +88,12 @@ pub before_1d : (settings : DecodeSettings) (here after rest : Bits) (count : �
     ⊎ (((line : Bits) × (rest ≡ true ∷ line)) ⊎ (rest ≡ [])) → ComesBefore1D settings here
 before_1d settings here after rest count eol counted ends = grind (arith, common_steps)
 
-no_tag_of_one : (rest line other : Bits) → rest ≡ false ∷ line → rest ≡ true ∷ other → ⊥
-no_tag_of_one rest line other e f = let both : false ∷ line ≡ true ∷ other = sym e ∙ f in cc
-
 not_over : (rest line : Bits) → rest ≡ false ∷ line → rest ≡ [] → ⊥
 not_over rest line e f = let both : ◌≡◌ {A = Bits} (false ∷ line) [] = sym e ∙ f in cc
 
 pub not_before_1d : (settings : DecodeSettings) (here rest line : Bits) (count : ℕ) → tagged_eols here ≡ (count, rest)
     → (settings.end_of_block ≡ true → 6 ≤ count → ⊥) → rest ≡ false ∷ line → ComesBefore1D settings here → ⊥
-not_before_1d settings here rest line count counted no_rtc tag (eol, ends) = grind (arith, common_steps, no_tag_of_one, not_over)
+not_before_1d settings here rest line count counted no_rtc tag (eol, ends) = grind (arith, common_steps, not_over)
 
 -- a two-dimensional line is none of these
 line_not_before_1d : (settings : DecodeSettings) (here line next : Bits) → after_eol 0 here ≡ Some (false ∷ line)

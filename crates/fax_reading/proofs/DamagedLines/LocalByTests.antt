@@ -23,10 +23,7 @@ none_further [] here e = by_here here e
     by_here : (here : Bits) → next_eol here ≡ None → after_eol 0 here ≡ None
     by_here [] e = refl
     by_here (bit ∷ here) e = grind (arith, common_steps)
-none_further (bit ∷ before) here e = none_further before here (rest (after_eol 0 (bit ∷ (before ++ here))) refl)
-  where
-    rest : (o : Option Bits) → after_eol 0 (bit ∷ (before ++ here)) ≡ o → next_eol (before ++ here) ≡ None
-    rest o f = grind (arith, common_steps)
+none_further (bit ∷ before) here e = grind (arith, none_further before here)
 
 take_zeros : (k m : ℕ) (rest : Bits) → k < m
     → take m (replicate k false ++ true ∷ rest) ≡ replicate k false ++ true ∷ take (m - (k + 1)) rest
@@ -54,8 +51,7 @@ module _ (settings : DecodeSettings) (bits : Bits) (from to : ℕ) where
     lenient = tests.lenient;
     order = tests.order;
     within = tests.within;
-    starts = elim tests.starts
-        [ inl e ↦ inl e | inr e ↦ inr (from - 12, (omega (arith, e.0), omega (arith, tests.order, tests.within), e.1)) ];
+    starts = grind arith;
     one = one;
     no_eol = no_eol;
     closes = tests.closes;
@@ -96,10 +92,7 @@ module _ (settings : DecodeSettings) (bits : Bits) (from to : ℕ) where
           (drop end bits)) = take-split j (to - from) (drop from bits) (omega (arith, le, le2, lt))
           ∙ ap (λ (b : Bits). take j (drop from bits) ++ take ((to - from) - j) b) there
           ∙ ap (λ (b : Bits). take j (drop from bits) ++ b) (take_zeros is.0 ((to - from) - j) (drop end bits) fits) in
-          let none = none_further (take j (drop from bits)) (replicate is.0 false ++ true ∷ take (((to - from) - j) - (is.0 + 1))
-          (drop end bits)) (ap next_eol (sym split) ∙ tests.no_eol) in
-          let some = eol_of 0 is.0 (take (((to - from) - j) - (is.0 + 1)) (drop end bits)) is.2 in
-          grind (arith, common_steps)
+          grind (arith, none_further, eol_of)
 
   -- a local body passes the tests
   pub to_tests : IsLocal settings bits from to → IsLocalByTests settings bits from to
@@ -119,17 +112,15 @@ module _ (settings : DecodeSettings) (bits : Bits) (from to : ℕ) where
           let is = after_eol_is 0 (drop place bits) (drop from bits) eol in
           let lengths = eol_lengths bits place from is.0 is.1 in
           let more : ℕ = is.0 - 11 in
-          let sum : more + 11 ≡ is.0 = omega (arith, is.2) in
-          let fill : replicate is.0 false ≡ replicate more false ++ replicate 11 false =
-          ap (λ (n : ℕ). replicate n false) (sym sum) ∙ sym (replicate-append-replicate more 11 false) in
-          let whole : drop place bits ≡ replicate more false ++ (replicate 11 false ++ true ∷ drop from bits) =
-          is.1 ∙ ap (λ (b : Bits). b ++ true ∷ drop from bits) fill
-          ∙ append_assoc (replicate more false) (replicate 11 false) (true ∷ drop from bits) in
-          let at : place + more ≡ from - 12 = omega (arith, lengths, is.2, lt, local.order, local.within) in
-          let there : drop (from - 12) bits ≡ replicate 11 false ++ true ∷ drop from bits =
-          ap (λ (n : ℕ). drop n bits) (sym at) ∙ sym (drop-drop more place bits) ∙ drop_at (drop place bits)
-          (replicate more false) (replicate 11 false ++ true ∷ drop from bits) more whole (length-replicate more false) in
-          (omega (arith, lengths, is.2, lt, local.order, local.within), ap (after_eol 0) there)
+          grind (
+            arith,
+            common_steps,
+            replicate-append-replicate more 11 false,
+            append_assoc (replicate more false) (replicate 11 false) (true ∷ drop from bits),
+            drop-drop more place bits,
+            drop_at (drop place bits) (replicate more false) (replicate 11 false ++ true ∷ drop from bits) more,
+            length-replicate more false,
+          )
 
       one : take (to - from) (drop from bits) ≢ replicate (to - from) false
       one e =

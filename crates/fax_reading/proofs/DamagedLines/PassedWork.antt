@@ -1,6 +1,6 @@
 -- What passing lines counts.
 use Rattle.fax_reading.proofs.Names.{common_steps, ◌≡◌, ℕ, suc, ◌+◌, ◌*◌, ◌<◌, ◌≤◌, true, false, List, [], ◌∷◌, ◌++◌, length}
-use Rattle.fax_reading.proofs.Names.{drop, Option, Some, None, Result, Ok, Err, refl, sym, ap, subst, ◌∙◌, arith, none-some, inr}
+use Rattle.fax_reading.proofs.Names.{drop, Option, Some, None, Result, Ok, Err, refl, subst, arith, none-some, inr}
 use Rattle.fax_reading.proofs.Names.{length-append, Color, Mode, Pass, Horizontal, Vertical, DecodeError, Bits, mode_codes}
 use Rattle.fax_reading.proofs.Names.{read_code, opposite, read_run, after_eol, next_eol, tagged_eols}
 use Rattle.fax_reading.proofs.Names.{behind_mode, behind_read, behind_word, behind_first_run, behind_second_run, looked}
@@ -23,8 +23,7 @@ ModeEnds None rest = Unit {0}
 
 second_ends : (color : Color) (r : Result (ℕ × Bits) DecodeError) (rest : Bits) → RunEnds r rest
     → ModeEnds (behind_second_run color r) rest
-second_ends color (Ok run) rest ends = ends
-second_ends color (Err fault) rest ends = tt
+second_ends color r rest ends = grind arith
 
 second_stands : (color : Color) (r : Result (ℕ × Bits) DecodeError) (middle : Bits) → RunEnds r middle
     → (rest : Bits) × WordsStand middle (second_run_found color r) rest × ModeEnds (behind_first_run color r) rest
@@ -77,8 +76,7 @@ passed_mode start color here next rest begun before now (found, stands, most) e 
     let mode = mode_words_stand color here in
     let same : rest ≡ mode.0 = subst (λ (o : Option (Color × Bits)). ModeEnds o mode.0) e mode.2 in (
       found ++ mode_found color here,
-      stands_append start here rest found (mode_found color here) stands
-          (subst (λ (b : Bits). WordsStand here (mode_found color here) b) (sym same) mode.1),
+      grind (arith, common_steps, stands_append start here rest found (mode_found color here) stands),
       omega (arith, most, work, length-append found (mode_found color here)),
     )
 
@@ -87,14 +85,11 @@ words_before_eol : (here next after rest : Bits) (found : List Bits) → WordsSt
     → after_eol 0 next ≡ Some after → length found + length after < length here
 words_before_eol here next after rest found stands sought eol =
     let within = next_eol_within here next sought in
-    let same : ◌≡◌ {A = Option Bits} (Some within.0) (Some after) = sym within.1 ∙ eol in
-    let end : within.0 ≡ after = cc in
-    omega (
+    grind (
       arith,
-      ap length end,
+      common_steps,
       stands_count here found rest stands,
-      stands_before_eol true here found rest (true ∷ within.2.fill) within.0 stands
-          (ap (λ (b : Bits). true ∷ b) within.2.place),
+      stands_before_eol true here found rest (true ∷ within.2.fill) within.0 stands,
     )
 
 -- the mode that isn't read, and those before it
@@ -161,8 +156,7 @@ pub lines_end : (start here : Bits) (begun before now : ℕ) → LinesPaid start
 lines_end start here begun before now paid read = omega (arith, paid, read, looked_most here)
 
 looked_behind : (rest : Bits) → looked (drop 1 rest) ≤ 2 * length rest
-looked_behind [] = omega arith
-looked_behind (bit ∷ rest) = omega (arith, looked_most rest)
+looked_behind rest = grind (arith, looked_most)
 
 -- an EOL, and no line behind it
 pub lines_end_behind : (start here behind rest : Bits) (begun before eol tags now : ℕ) → LinesPaid start here begun before

@@ -1,10 +1,10 @@
 -- Two runs over data that differ in one line.
-use Rattle.fax_reading.proofs.Names.{common_steps, ◌≡◌, ℕ, zero, suc, ◌+◌, ◌%◌, ◌<◌, ◌≤◌, Bool, true, false, cond, not, ◌&&◌}
+use Rattle.fax_reading.proofs.Names.{common_steps, ◌≡◌, ℕ, zero, suc, ◌+◌, ◌<◌, ◌≤◌, Bool, true, false, cond, not, ◌&&◌}
 use Rattle.fax_reading.proofs.Names.{◌||◌, eqb, List, [], ◌∷◌, ◌++◌, length, Option, Some, None, Ok, Err, refl, sym, ap, subst}
 use Rattle.fax_reading.proofs.Names.{◌∙◌, append_assoc, arith, ◌⊎◌, inl, inr, cases_Bool, and_parts, eqb-true, length-append}
 use Rattle.fax_reading.proofs.Names.{length-drop, append_cancel_right, DecodeError, InvalidCode, EncodingMode, Group4, Group3_1D}
 use Rattle.fax_reading.proofs.Names.{Group3_2D, DecodeSettings, Bits, Turn, Row, Line, after_eol, next_eol, past_tag}
-use Rattle.fax_reading.proofs.Names.{is_end_of_block, is_over, misses_eol, Progress, Ending, Move, row_before, aligned, limit_met}
+use Rattle.fax_reading.proofs.Names.{is_end_of_block, misses_eol, Progress, Ending, Move, row_before, limit_met}
 use Rattle.fax_reading.proofs.Names.{at_end, ends_with, eols_by, eols_here, line_here, line_of_turn, after_line, move_on, row_of}
 use Rattle.fax_reading.proofs.Names.{repaired, eols, eols_with_tags, ◌≢◌}
 use Rattle.fax_bits.proofs.Repetition.Repeated.{Follows}
@@ -32,9 +32,7 @@ RowsAlike differ Begins xs ys = (xs ≡ ys) ⊎ ((before these those more : List
     × (length these ≤ differ) × (xs ≡ before ++ (these ++ more)) × (ys ≡ before ++ (those ++ more)) × Begins before)
 
 rows_length : (differ : ℕ) (Begins : List Row → Type 0) (xs ys : List Row) → RowsAlike differ Begins xs ys → length xs ≡ length ys
-rows_length differ Begins xs ys (inl e) = ap length e
-rows_length differ Begins xs ys (inr (before, these, those, more, same, few, e, f, begins)) =
-    grind (arith, common_steps, length-append)
+rows_length differ Begins xs ys e5 = grind (arith, length-append)
 
 rows_more : (differ : ℕ) (Begins : List Row → Type 0) (xs ys : List Row) (row : Row) → RowsAlike differ Begins xs ys
     → RowsAlike differ Begins (xs ++ row ∷ []) (ys ++ row ∷ [])
@@ -87,36 +85,23 @@ module _ (settings : DecodeSettings) (most : ℕ) (Alike : List Row → List Row
       passed rows t = cond t (seek_eol settings (run_at rows h here))
           (unless_over settings (run_at rows h here) (eols_here settings here))
 
-      from_next : (o : Option Bits) → next_eol here ≡ o
-          → Together (seek_from settings (run_at xs h here) o) (seek_from settings (run_at ys h here) o)
-      from_next None e = stay.goes_on xs ys false here alike short (same here)
-      from_next (Some found) e = unless_beyond xs ys h here here (eols_here settings found) alike
-          (omega (arith, (next_eol_found here found e).0, (eols_here_counted settings found).0, short))
-          (inr (same (eols_here settings found).1))
-
       sought_in : List Row → Bool → Move
       sought_in rows t = cond t (ends_with (run_at rows h here) (Err InvalidCode))
           (seek_from settings (run_at rows h here) (next_eol here))
 
       strictly : (t : Bool) → Together (sought_in xs t) (sought_in ys t)
-      strictly true = stay.fails xs ys h InvalidCode alike
-      strictly false = from_next (next_eol here) refl
+      strictly t = grind (arith, unless_beyond, next_eol_found, eols_here_counted)
 
       either_way : (t : Bool) → Together (passed xs t) (passed ys t)
       either_way true = strictly settings.strict
-      either_way false = unless_beyond xs ys h here here (eols_here settings here) alike
-          (omega (arith, (eols_here_counted settings here).0, short)) (inr (same (eols_here settings here).1))
+      either_way false = grind (arith, unless_beyond, eols_here_counted)
 
   -- a row is added to both, after which the next line is the same
   added_beyond : (xs ys : List Row) (h : Bool) (u v : Bits) (row : Row) (here : Bits) → Alike xs ys → length here ≤ most
       → Together (row_added settings (run_at xs h u) row here) (row_added settings (run_at ys h v) row here)
   added_beyond xs ys h u v row here alike short =
       let al : Bool = settings.rows_are_byte_aligned && not h in
-      let shorter : length (cond al (aligned here) here) ≤ length here
-      = cond_le al (aligned here) here (length here) (omega (arith, length-drop (length here % 8) here)) (omega arith) in
-      row_beyond (xs ++ row ∷ []) (ys ++ row ∷ []) h (cond al (aligned here) here) (stay.longer xs ys row alike)
-      (omega (arith, shorter, short)) (λ there. ap (λ (r : Row). line_here settings r there)
-      (row_before_push settings.columns xs row ∙ sym (row_before_push settings.columns ys row)))
+      grind (arith, row_beyond, row_before_push, cond_le, length-drop)
 
   line_beyond : (xs ys : List Row) (h : Bool) (here : Bits) (line : Line) → Alike xs ys → length here ≤ most
       → LineLeaves here line
@@ -189,8 +174,7 @@ abbrev pub IsGroup3 : EncodingMode → Type 0
 IsGroup3 encoding = (encoding ≡ Group3_1D) ⊎ (encoding ≡ Group3_2D)
 
 pub not_group4 : (encoding : EncodingMode) → IsGroup3 encoding → encoding ≢ Group4
-not_group4 encoding (inl is) e = cc
-not_group4 encoding (inr is) e = cc
+not_group4 encoding e2 e = grind arith
 
 -- bits before a one aren't the end
 pub not_end : (bits z : Bits) → at_end (bits ++ true ∷ z) ≡ false
@@ -307,8 +291,7 @@ module _ (settings : DecodeSettings) (group3 : IsGroup3 settings.encoding) (leni
       → CountAlike x y bits found other
       → Both (unless_over settings (sought rows u) found) (unless_over settings (sought rows v) other)
   unless_ahead rows u v bits (count, here) (count2, other) closes within (same, inl (a, leaves, keeps, e, f)) =
-      rw (← same, e, f, not_end a x, not_end a y) (either_way
-      ((is_end_of_block settings count || limit_met settings (length rows)) || false))
+      rw (← same, e, f, not_end a x, not_end a y) grind (arith, either_way)
     where
       still : Within a
       still = within_later bits a within leaves
@@ -359,19 +342,11 @@ module _ (settings : DecodeSettings) (group3 : IsGroup3 settings.encoding) (leni
       by_limit (inr open_limit) =
           by_past open_limit (past 0 (bits ++ true ∷ x)) (past 0 (bits ++ true ∷ y)) refl refl (past_alike x y 0 bits)
 
-  -- a line that begins before is the same
-  line_in_front : (reference : Row) (bits : Bits) → Closes bits → LineAlike (true ∷ x) (true ∷ y)
-      (line_here settings reference (bits ++ true ∷ x)) (line_here settings reference (bits ++ true ∷ y))
-  line_in_front reference bits closes = grind (arith, common_steps, line_alike)
-
   line_ahead : (rows : List Row) (bits : Bits) → Closes bits → Within bits
       → Both (move_on settings (sought rows (bits ++ true ∷ x))) (move_on settings (sought rows (bits ++ true ∷ y)))
   line_ahead rows bits closes within =
       rw (move_sought settings lenient rows (bits ++ true ∷ x), move_sought settings lenient rows (bits ++ true ∷ y))
-      (by_line (line_here settings (row_before settings.columns rows) (bits ++ true ∷ x))
-      (line_here settings (row_before settings.columns rows) (bits ++ true ∷ y))
-      (line_in_front (row_before settings.columns rows) bits closes)
-      (line_by_leaves settings.encoding settings.strict settings.columns (row_before settings.columns rows) (bits ++ true ∷ x)))
+      grind (arith, by_line, line_alike, line_by_leaves)
     where
       by_line : (line other : Line) → LineAlike (true ∷ x) (true ∷ y) line other → LineLeaves (bits ++ true ∷ x) line
           → Both (after_row settings (sought (rows ++ row_of settings.columns line ∷ []) (rest_of line (bits ++ true ∷ x))))
@@ -379,8 +354,7 @@ module _ (settings : DecodeSettings) (group3 : IsGroup3 settings.encoding) (leni
       by_line (Line.whole row here) (Line.whole same other) (is, (a, inside, e, f)) leaves =
           let split : bits ++ true ∷ x ≡ (leaves.0 ++ a) ++ true ∷ x
           = leaves.1 ∙ ap (λ (b : Bits). leaves.0 ++ b) e ∙ sym (append_assoc leaves.0 a (true ∷ x)) in
-          let suffix : LeavesBits bits a = (leaves.0, append_cancel_right bits (leaves.0 ++ a) (true ∷ x) split) in
-          rw (← is, e, f) (row_ahead (rows ++ row ∷ []) a inside (within_later bits a within suffix))
+          grind (arith, append_cancel_right, row_ahead)
       by_line (Line.whole row here) (Line.broken front fault) alike leaves = absurd alike
       by_line (Line.broken front fault) (Line.whole row here) alike leaves = absurd alike
       by_line (Line.broken front fault) (Line.broken same other) is leaves = grind (arith, common_steps, row_ahead, closes_inside)
@@ -400,12 +374,8 @@ module _ (settings : DecodeSettings) (group3 : IsGroup3 settings.encoding) (leni
       limit_is : limit_met settings (length (before ++ these)) ≡ true → settings.rows ≡ length before + length these
       limit_is met = grind (arith, common_steps, eqb-true, and_parts, length-append)
 
-      nil : (rows : List Row) → rows ++ [] ≡ rows
-      nil [] = refl
-      nil (row ∷ rows) = ap (λ (r : List Row). row ∷ r) (nil rows)
-
       alike : Alike (before ++ these) (before ++ those)
-      alike = grind (arith, common_steps, nil)
+      alike = grind (arith, common_steps)
 
       settle : (n : ℕ) → length these + n ≤ differ → Settles settings n z → (found : Bits) → after_eol 0 found ≡ Some z
           → Both (unless_over settings (sought (before ++ these) u) (eols_here settings found))
@@ -414,9 +384,7 @@ module _ (settings : DecodeSettings) (group3 : IsGroup3 settings.encoding) (leni
           (before ++ those) true u v (eols_here settings found) alike (omega (arith, eols_past settings found z g, short))
           (elim (unreferred found g) [ inl ends ↦ inl ends | inr line ↦ inr (line _ _) ])
       settle (suc n) most (next, shorter, one, behind, further) found g = rw (one found g)
-          (subst (λ (m : ℕ). Both (unless_over settings (sought (before ++ these) u) (1, z))
-          (cond (is_over settings m (1, z)) (ends_with (sought (before ++ those) v) (Ok z))
-          (Turn.next (sought (before ++ those) z)))) as_many (on (is_over settings (length (before ++ these)) (1, z))))
+          grind (arith, as_many, on)
         where
           on : (t : Bool) → Both (cond t (ends_with (sought (before ++ these) u) (Ok z)) (Turn.next (sought (before ++ these) z)))
               (cond t (ends_with (sought (before ++ those) v) (Ok z)) (Turn.next (sought (before ++ those) z)))
@@ -439,8 +407,7 @@ module _ (settings : DecodeSettings) (group3 : IsGroup3 settings.encoding) (leni
           rw (one.3, two.3, eols_here_same settings two.0 one.0 z two.2 one.2) (settle left few settled one.0 one.2)
 
   rest_shorter : (line : Line) (here : Bits) → LineLeaves here line → length (rest_of line here) ≤ length here
-  rest_shorter (Line.whole row left) here leaves = leaves_length here left leaves
-  rest_shorter (Line.broken front fault) here leaves = omega arith
+  rest_shorter line here leaves = grind (arith, leaves_length)
 
   line_there : (rows : List Row) → Begins rows → Both (move_on settings (sought rows x)) (move_on settings (sought rows y))
   line_there rows begins =
@@ -501,5 +468,4 @@ module _ (settings : DecodeSettings) (group3 : IsGroup3 settings.encoding) (leni
       rw (e, f) (line_among before these those here left given same few (omega (arith, short, le))
       (omega (arith, short, le2)) settled short)
   moves_alike s t begins le le2 (RunsAlike.beyond xs ys has_eols here alike short same e f) = rw (e, f)
-      (move_beyond settings (length after) Alike (RunsAlike settings Begins differ Within x y after)
-      (EndsAlike settings Begins differ from x y after) stay rest xs ys has_eols here alike short same)
+      grind (arith, move_beyond, stay)

@@ -1,14 +1,14 @@
 -- A turn of a lenient run that seeks EOLs.
-use Rattle.fax_reading.proofs.Names.{◌≡◌, ℕ, Bool, true, false, not, eqb, List, [], ◌∷◌, ◌++◌, length, Option, Some, None, Ok}
+use Rattle.fax_reading.proofs.Names.{◌≡◌, Bool, true, false, not, List, [], ◌∷◌, ◌++◌, length, Option, Some, None, Ok}
 use Rattle.fax_reading.proofs.Names.{refl, sym, ap, ◌∙◌, arith, and_from, not_from_false, cond-true, cond-false, ne_eqb}
 use Rattle.fax_reading.proofs.Names.{EncodingMode, Group4, Group3_1D, Group3_2D, DecodeSettings, Bits, Row, Line, line_1d}
 use Rattle.fax_reading.proofs.Names.{after_eol, one_more, all_eols, next_eol, pass_last_tag, Progress, line_by, eols_by}
 use Rattle.fax_reading.proofs.Names.{line_here, limit_met, at_end, ends_with, eols_here, after_line, move_on, line_of_turn}
 use Rattle.fax_reading.proofs.Names.{row_of, row_at, misses_eol, repaired, ◌||◌, common_steps}
-use Rattle.fax_reading.proofs.DamagedLines.PastEol.{past, past-eol, past_is, then_after, eols_here-none, next_eol_leaves}
+use Rattle.fax_reading.proofs.DamagedLines.PastEol.{past, past-eol, past_is, then_after, next_eol_leaves}
 use Rattle.fax_bits.proofs.BitReading.ConsecutiveEols.{all_eols-some, all_tagged-some, eols-some}
 use Rattle.fax_reading.proofs.DrawingLines.LinesLeaveBits.{LeavesBits}
-use Rattle.fax_reading.proofs.Readings.RowsAndGaps.{unless_over, seek_from, after_row, row_added, after_whole-is, after_damage-is}
+use Rattle.fax_reading.proofs.Readings.RowsAndGaps.{unless_over, after_row, row_added, after_whole-is, after_damage-is}
 use Rattle.fax_reading.proofs.Readings.RowsAndGaps.{behind_with_eols}
 use Rattle.fax_reading.proofs.Readings.TurnsMoveOn.{eols_here_some}
 
@@ -54,25 +54,15 @@ module _ (settings : DecodeSettings) where
         × (after_row settings (sought rows here) ≡ unless_over settings (sought rows here) (eols_here settings found))
     row_past rows here after short e = by_after_eol (after_eol 0 here) refl
       where
-        run : Progress
-        run = sought rows here
-
         by_after_eol : (o : Option Bits) → after_eol 0 here ≡ o → (found : Bits) × LeavesBits here found
             × (after_eol 0 found ≡ Some after)
             × (after_row settings (sought rows here) ≡ unless_over settings (sought rows here) (eols_here settings found))
         by_after_eol (Some next) f = grind (arith, common_steps, past-eol, eols_here_some, ne_eqb, cond-false)
         by_after_eol None f =
             let next = found_next here after e in
-            let none : eqb (eols_here settings here).0 0 ≡ true =
-            ap (λ (x : ℕ × Bits). eqb x.0 0) (eols_here-none settings here f) in
             let missed : misses_eol settings (length rows) true here ≡ true =
-            grind (arith, common_steps, and_from, not_from_false, not_past_end) in (
-              next.0,
-              next_eol_leaves here next.0 next.1,
-              next.2,
-              cond-true (misses_eol settings (length rows) true here) _ _ missed
-                  ∙ cond-false settings.strict _ _ lenient ∙ ap (seek_from settings run) next.1,
-            )
+            grind (arith, common_steps, and_from, not_from_false, not_past_end) in
+            grind (arith, next_eol_leaves, cond-true, cond-false)
 
     -- a line's row is added, and what follows it is counted
     pub move_sought : (rows : List Row) (here : Bits)
@@ -94,16 +84,11 @@ module _ (settings : DecodeSettings) where
 -- ---- One-dimensional data
 
 module _ (settings : DecodeSettings) (encoding : settings.encoding ≡ Group3_1D) (lenient : settings.strict ≡ false) where
-  -- EOLs of one-dimensional data have no tags
-  pub eols_here_is : (here : Bits) → eols_here settings here ≡ all_eols here
-  eols_here_is here = ap (λ (e : EncodingMode). eols_by e settings.end_of_block here) encoding
-
   -- if an EOL follows and the limit isn't met, the EOLs are counted that begin with the next
   pub after_row_past : (rows : List Row) (here after : Bits) → limit_met settings (length rows) ≡ false → past 0 here ≡ Some after
       → after_row settings (sought rows here) ≡ unless_over settings (sought rows here) (one_more (all_eols after))
   after_row_past rows here after short e =
-      let next = row_past settings lenient rows here after short e in
-      next.3 ∙ ap (unless_over settings (sought rows here)) (eols_here_is next.0 ∙ all_eols-some next.0 after next.2)
+      grind (arith, common_steps, row_past settings lenient rows here after short e, all_eols-some)
 
   -- its lines have no reference row
   pub sought_line_is : (reference : Row) (here : Bits) → line_here settings reference here ≡ line_1d false settings.columns here

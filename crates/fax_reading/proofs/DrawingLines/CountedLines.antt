@@ -1,6 +1,6 @@
 -- The words that a line finds, step by step.
-use Rattle.fax_reading.proofs.Names.{common_steps, ◌≡◌, ℕ, ◌+◌, ◌*◌, ◌<◌, ◌≤◌, Bool, true, false, cond, leb, List, [], ◌++◌}
-use Rattle.fax_reading.proofs.Names.{length, Result, Ok, Err, refl, sym, ap, subst, ◌∙◌, arith, false≢true, lt-leb, length-append}
+use Rattle.fax_reading.proofs.Names.{common_steps, ◌≡◌, ℕ, ◌+◌, ◌*◌, ◌<◌, ◌≤◌, Bool, false, cond, leb, List, [], ◌++◌}
+use Rattle.fax_reading.proofs.Names.{length, Result, Ok, Err, ap, subst, ◌∙◌, arith, false≢true, lt-leb, length-append}
 use Rattle.fax_reading.proofs.Names.{append-nil, Mode, DecodeError, Bits, Line, Pen, turn_behind, words_behind, unless_fault}
 use Rattle.fax_reading.proofs.Names.{painted, draw_run, draw_mode, draw_1d, draw_2d, words_drawn, IsFault, OnAnswer, Step}
 use Rattle.fax_reading.proofs.Names.{DrawsStep, pen_of, step_of_run, step_of_mode, words_of_run, words_of_mode, Held, redrawn}
@@ -13,8 +13,7 @@ use Rattle.fax_reading.proofs.DrawingLines.ReadLines.{pen_left, step_1d_shrinks,
 -- painting finds no word, nor does what follows it
 none_painted : {A : Type 0} (front : Row) (result : Result A DecodeError)
     → ◌≡◌ {A = List Bits} ([] ++ words_behind (unless_fault front result) (λ x. [])) []
-none_painted front (Ok x) = refl
-none_painted front (Err fault) = refl
+none_painted front result = grind arith
 
 -- the words of a run that is drawn are those that the run finds
 pub words_run : (strict : Bool) (columns : ℕ) (pen : Pen)
@@ -24,8 +23,7 @@ words_run strict columns pen = by_result (run_from pen.color (0, pen.rest))
     by_result : (result : Result (ℕ × Bits) DecodeError)
         → run_found pen.color (0, pen.rest) ++ words_behind (unless_fault pen.front result)
         (λ run. [] ++ words_behind (painted strict columns pen run.0).turn (λ front. [])) ≡ run_found pen.color (0, pen.rest)
-    by_result (Ok run) = grind (arith, common_steps, none_painted, append-nil)
-    by_result (Err fault) = append-nil (run_found pen.color (0, pen.rest))
+    by_result result = grind (arith, none_painted, append-nil)
 
 -- ---- The words that are found from a pen on.
 
@@ -44,14 +42,12 @@ found_2d_from strict columns reference pen = words_drawn (draw_2d strict columns
 -- if a row isn't full, a step finds what its drawing does
 unless_full_words : (full : Bool) (line : Line) (pen : Pen) (words : Pen → List Bits) → full ≡ false
     → ◌≡◌ {A = List Bits} ([] ++ words_behind (cond full (Turn.done line) (Turn.next pen)) words) (words pen)
-unless_full_words true line pen words open_row = absurd (false≢true (sym open_row))
-unless_full_words false line pen words open_row = refl
+unless_full_words full line pen words open_row = grind (arith, false≢true)
 
 -- and it is that drawing
 unless_full_step : (full : Bool) (line : Line) (pen : Pen) (step : Pen → Step) → full ≡ false
     → turn_behind (cond full (Turn.done line) (Turn.next pen)) step ≡ step pen
-unless_full_step true line pen step open_row = absurd (false≢true (sym open_row))
-unless_full_step false line pen step open_row = refl
+unless_full_step full line pen step open_row = grind (arith, false≢true)
 
 -- what a step of a two-dimensional line finds and yields, if its row isn't full
 abbrev mode_words : Bool → ℕ → Row → Pen → List Bits
@@ -136,5 +132,4 @@ pub record IsCountedSoFar (changes begun now passed all left : ℕ) : Type 0 whe
 
 -- what follows from what is true of a result is true of it as well
 pub on_answer_weaker : {T P Q : Type 0} (result : Result T DecodeError) → (P → Q) → OnAnswer result P → OnAnswer result Q
-on_answer_weaker (Ok x) follows p = follows p
-on_answer_weaker (Err fault) follows p = λ is. follows (p is)
+on_answer_weaker result follows p = grind arith

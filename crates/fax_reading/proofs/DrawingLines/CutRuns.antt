@@ -1,50 +1,33 @@
 -- Runs that are cut: where a strict reading breaks a line.
-use Rattle.fax_reading.proofs.Names.{arith, common_steps, ◌≡◌, ◌<◌, ◌≤◌, ◌-◌, inl, inr, ℕ, Bool, true, false, cond, ◌||◌, ltb}
-use Rattle.fax_reading.proofs.Names.{length, [], Ok, Err, Result, refl, sym, ap, subst, ◌∙◌, false≢true, le-leb, OnOk, cond-true}
-use Rattle.fax_reading.proofs.Names.{cond-false, Color, White, DecodeError, InvalidCode, Step, Bits, BitsAt, here, Context, Held}
+use Rattle.fax_reading.proofs.Names.{arith, common_steps, ◌≡◌, ◌<◌, ◌≤◌, ◌-◌, ℕ, Bool, true, false, ◌||◌, ltb}
+use Rattle.fax_reading.proofs.Names.{length, [], Ok, Err, Result, sym, ap, subst, false≢true, OnOk}
+use Rattle.fax_reading.proofs.Names.{Color, White, DecodeError, Step, Bits, BitsAt, here, Context, Held}
 use Rattle.fax_reading.proofs.Names.{redrawn, Mode, Pass, Horizontal, Row, Line, Pen, Turn, turn_behind, is_broken, TellsCut}
 use Rattle.fax_reading.proofs.Names.{exceeds, painted_front, paint, pen_of, line_1d, line_2d, read_code, mode_codes, run_from}
 use Rattle.fax_reading.proofs.Names.{opposite, right_of, b2, strict_step_of_run, strict_step_of_mode, GoesOn, GoesOn2d}
 use Rattle.fax_bits.proofs.Repetition.Repeated.{after_turn}
-use Rattle.fax_reading.proofs.DrawingLines.Drawings.{try, drawn_by, step_1d, step_2d, step_1d_is, step_2d_is}
+use Rattle.fax_reading.proofs.DrawingLines.Drawings.{try, drawn_by, step_1d, step_2d}
 use Rattle.fax_reading.proofs.DrawingLines.DrawnLines.{run_open, line_mode}
-use Rattle.fax_reading.proofs.DrawingLines.ReadLines.{drawn1, drawn2}
 
 -- ---- One step
 
--- what a strict reading paints, where a reading painted a row
-paint_tells : (strict : Bool) (columns : ℕ) (front : Row) (color : Color) (n : ℕ) (row : Row)
-    → paint strict columns front color n ≡ Ok row → (beyond : Bool) → ltb (columns - length front) n ≡ beyond
-    → paint true columns front color n ≡ cond {A = Result Row DecodeError} beyond (Err InvalidCode) (Ok row)
-paint_tells strict columns front color n row paints true e = cond-true (ltb (columns - length front) n) _ _ e
-paint_tells true columns front color n row paints false e = paints
-paint_tells false columns front color n row paints false e = cond-false (ltb (columns - length front) n) _ _ e ∙ paints
-
 pub or_true : (b : Bool) → (b || true) ≡ true
-or_true true = refl
-or_true false = refl
+or_true b = grind arith
 
 pub or_false : (b : Bool) → (b || false) ≡ b
-or_false true = refl
-or_false false = refl
+or_false b = grind arith
 
 -- painting tells whether a run is cut
 pub paint_cuts : (strict : Bool) (columns : ℕ) (front : Row) (color : Color) (n : ℕ) (row : Row) (go_on : Row → Step) (pen : Pen)
     (before now : Bool) → paint strict columns front color n ≡ Ok row → now ≡ (before || ltb (columns - length front) n)
     → go_on row ≡ Turn.next pen → TellsCut (try front (paint true columns front color n) go_on) pen before now
 paint_cuts strict columns front color n row go_on pen before now paints told on =
-    grind (arith, common_steps, false≢true, paint_tells, or_true)
+    grind (arith, common_steps, false≢true, or_true)
 
 -- two steps, one after the other
 pub two_cut : (first : Step) (middle : Pen) (behind : Pen → Step) (last : Pen) (a b c : Bool) → TellsCut first middle a b
     → TellsCut (behind middle) last b c → TellsCut (turn_behind first behind) last a c
-two_cut first middle behind last a true true (inl is) second = inl is
-two_cut (Turn.done line) middle behind last a true true (inr is) second = inr is
-two_cut (Turn.next pen) middle behind last a true true (inr is) second = absurd (false≢true is)
-two_cut first middle behind last a true false tells second = absurd (false≢true (sym second.0))
-two_cut first middle behind last a false true tells (inl is) = absurd (false≢true is)
-two_cut first middle behind last a false true tells (inr is) = grind (arith, common_steps)
-two_cut first middle behind last a false false tells second = grind (arith, common_steps)
+two_cut first middle behind last a b c tells second = grind (arith, false≢true)
 
 -- ---- A line
 
@@ -57,30 +40,15 @@ StrictSoFar line after true = is_broken line ≡ true
 -- after one more step
 pub strict_on : (line : Line) (after : Pen → Line) (now : Line) (step : Step) (pen : Pen) (before cut : Bool)
     → StrictSoFar line now before → now ≡ after_turn after step → TellsCut step pen before cut → StrictSoFar line (after pen) cut
-strict_on line after now step pen true true so_far is tells = so_far
-strict_on line after now step pen true false so_far is tells = absurd (false≢true (sym tells.0))
-strict_on line after now step pen false true so_far is (inl e) = absurd (false≢true e)
-strict_on line after now (Turn.next p) pen false true so_far is (inr e) = absurd (false≢true e)
-strict_on line after now (Turn.done l) pen false true so_far is (inr e) = ap is_broken (so_far ∙ is) ∙ e
-strict_on line after now step pen false false so_far is tells = so_far ∙ is ∙ ap (after_turn after) tells.1
+strict_on line after now step pen before cut so_far is tells = grind (arith, false≢true)
 
 -- after steps that leave the line as it is
 pub strict_same : (line now next : Line) (cut : Bool) → StrictSoFar line now cut → next ≡ now → StrictSoFar line next cut
-strict_same line now next true so_far is = so_far
-strict_same line now next false so_far is = so_far ∙ sym is
+strict_same line now next cut so_far is = grind arith
 
 -- at its end
 pub strict_end : (line now : Line) (cut : Bool) → StrictSoFar line now cut → is_broken now ≡ false → cut ≡ is_broken line
-strict_end line now true so_far whole = sym so_far
-strict_end line now false so_far whole = sym (ap is_broken so_far ∙ whole)
-
--- a full row is whole
-pub full_1d : (columns : ℕ) (pen : Pen) → columns ≤ length pen.front → is_broken (drawn_by (step_1d true columns) pen) ≡ false
-full_1d columns pen full = grind (arith, common_steps, le-leb, drawn1, step_1d_is)
-
-pub full_2d : (columns : ℕ) (reference : Row) (pen : Pen) → columns ≤ length pen.front
-    → is_broken (drawn_by (step_2d true columns reference) pen) ≡ false
-full_2d columns reference pen full = grind (arith, common_steps, le-leb, drawn2, step_2d_is)
+strict_end line now cut so_far whole = grind arith
 
 -- ---- The steps of a context
 
@@ -89,12 +57,7 @@ pub run_cuts : (held new : Held) (n : ℕ) (rest after : Bits) (before now : Boo
     → painted_front held n ≡ Ok new.front → new.color ≡ opposite held.color → now ≡ (before || exceeds held n)
     → TellsCut (strict_step_of_run held rest) (pen_of new after) before now
 run_cuts held new n rest after before now reads paints color told =
-    let go_on : Row → Step = λ front. Turn.next (record { front = front; color = opposite held.color; rest = after }) in
-    let step : strict_step_of_run held rest ≡ try held.front (paint true held.settings.columns held.front held.color n) go_on =
-    rw reads refl in
-    subst (λ (s : Step). TellsCut s (pen_of new after) before now) (sym step)
-    (paint_cuts held.settings.strict held.settings.columns held.front held.color n new.front go_on (pen_of new after) before now
-    paints told (ap (λ (c : Color). Turn.next (record { front = new.front; color = c; rest = after })) (sym color)))
+    grind (arith, common_steps, paint_cuts held.settings.strict held.settings.columns held.front held.color n new.front)
 
 -- pass mode
 pub pass_cuts : (old mid new : Context) (count : ℕ) (rest : Bits) (r : Result (Unit {0}) DecodeError) → mid.held ≡ old.held
@@ -104,8 +67,7 @@ pub pass_cuts : (old mid new : Context) (count : ℕ) (rest : Bits) (r : Result 
       cut = mid.cut || exceeds mid.held count;
       space = new.space;
     }) → OnOk r (TellsCut (strict_step_of_mode old.held rest Pass) (pen_of new.held rest) old.cut new.cut)
-pass_cuts old mid new count rest (Err e) same cut counts painted frame = tt
-pass_cuts old mid new count rest (Ok x) same cut counts painted frame = grind (arith, common_steps, paint_cuts)
+pass_cuts old mid new count rest r same cut counts painted frame = grind (arith, paint_cuts)
 
 -- horizontal mode
 pub horizontal_cuts : (old mid new : Context) (from between after : Bits) (r : Result (Unit {0}) DecodeError)
@@ -168,10 +130,8 @@ pub cut_begun_1d : (before now new : Context) (begun next : BitsAt) → now ≡ 
     new.ticks → new.cut ≡ now.cut → StrictSoFar (line_1d true before.held.settings.columns (here begun))
     (drawn_by (step_1d true before.held.settings.columns) (pen_of new.held (here next))) new.cut
 cut_begun_1d before now new begun next frame goes same =
-    let none : new.cut ≡ false = same ∙ ap (λ (x : Context). x.cut) frame in
     let line = rw frame at goes.strictly in
-    subst (StrictSoFar (line_1d true before.held.settings.columns (here begun))
-    (drawn_by (step_1d true before.held.settings.columns) (pen_of new.held (here next)))) (sym none) (sym line)
+    grind arith
 
 -- a two-dimensional line that is begun
 pub cut_begun_2d : (before now new : Context) (begun next : BitsAt) → now ≡ record before {
@@ -183,19 +143,16 @@ pub cut_begun_2d : (before now new : Context) (begun next : BitsAt) → now ≡ 
     → StrictSoFar (line_2d true before.held.settings.columns before.held.reference (here begun))
     (drawn_by (step_2d true before.held.settings.columns before.held.reference) (pen_of new.held (here next))) new.cut
 cut_begun_2d before now new begun next frame goes same =
-    let none : new.cut ≡ false = same ∙ ap (λ (x : Context). x.cut) frame in
     let line = rw frame at goes.strictly in
-    subst (StrictSoFar (line_2d true before.held.settings.columns before.held.reference (here begun))
-    (drawn_by (step_2d true before.held.settings.columns before.held.reference) (pen_of new.held (here next)))) (sym none)
-    (sym line)
+    grind arith
 
 -- a line that is drawn
 pub cut_drawn_1d : (before now : Held) (cut : Bool) (line : Line) (at : Bits) → now ≡ redrawn before now.front now.color
     → now.settings.columns ≤ length now.front
     → StrictSoFar line (drawn_by (step_1d true before.settings.columns) (pen_of now at)) cut → cut ≡ is_broken line
-cut_drawn_1d before now cut line at kept full so_far = grind (arith, common_steps, strict_end, full_1d)
+cut_drawn_1d before now cut line at kept full so_far = grind (arith, common_steps, strict_end)
 
 pub cut_drawn_2d : (before now : Held) (cut : Bool) (line : Line)
     (at : Bits) → now ≡ redrawn before now.front now.color → now.settings.columns ≤ length now.front → StrictSoFar line
     (drawn_by (step_2d true before.settings.columns before.reference) (pen_of now at)) cut → cut ≡ is_broken line
-cut_drawn_2d before now cut line at kept full so_far = grind (arith, common_steps, strict_end, full_2d)
+cut_drawn_2d before now cut line at kept full so_far = grind (arith, common_steps, strict_end)

@@ -1,6 +1,6 @@
 -- The turns of drawing, one after another.
-use Rattle.fax_reading.proofs.Names.{arith, common_steps, ◌≡◌, ℕ, suc, Bool, true, false, cond, leb, [], length, Result, Ok, Err}
-use Rattle.fax_reading.proofs.Names.{refl, Mode, Horizontal, DecodeError, UnexpectedEof, Step, Bits, mode_codes, read_code, Turn}
+use Rattle.fax_reading.proofs.Names.{arith, common_steps, ◌≡◌, ℕ, suc, Bool, cond, leb, [], length, Result}
+use Rattle.fax_reading.proofs.Names.{Mode, Horizontal, DecodeError, UnexpectedEof, Step, Bits, mode_codes, read_code, Turn}
 use Rattle.fax_reading.proofs.Names.{repeated, Row, opposite, paint, run_from, Line, Pen, turn_behind, unless_fault, draw_run}
 use Rattle.fax_reading.proofs.Names.{draw_mode, draw_1d, draw_2d}
 
@@ -36,8 +36,7 @@ drawn_by step pen = repeated step (Line.broken [] UnexpectedEof) (suc (length pe
 
 unless_full_is : (full : Bool) (line : Line) (pen : Pen) (behind : Pen → Step)
     → turn_behind (cond full (Turn.done line) (Turn.next pen)) behind ≡ cond full (Turn.done line) (behind pen)
-unless_full_is true line pen behind = refl
-unless_full_is false line pen behind = refl
+unless_full_is full line pen behind = grind arith
 
 -- a step of a one-dimensional line is a run, unless the line is whole
 pub step_1d_is : (strict : Bool) (columns : ℕ) (pen : Pen)
@@ -55,18 +54,11 @@ pub run_then_is : (strict : Bool) (columns : ℕ) (pen : Pen) (behind : Pen → 
     → run_then strict columns pen behind ≡ turn_behind (draw_run strict columns pen).turn behind
 run_then_is strict columns pen behind = by_result (run_from pen.color (0, pen.rest))
   where
-    painted : (r : Result Row DecodeError) (rest : Bits)
-        → try pen.front r (λ front. behind (record { front = front; color = opposite pen.color; rest = rest })) ≡ turn_behind
-        (try pen.front r (λ front. Turn.next (record { front = front; color = opposite pen.color; rest = rest }))) behind
-    painted (Ok front) rest = refl
-    painted (Err fault) rest = refl
-
     by_result : (r : Result (ℕ × Bits) DecodeError) → try pen.front r (λ run. try pen.front (paint strict
         columns pen.front pen.color run.0) (λ front. behind (record { front = front; color = opposite pen.color; rest = run.1 })))
         ≡ turn_behind (try pen.front r (λ run. try pen.front (paint strict columns pen.front pen.color run.0)
         (λ front. Turn.next (record { front = front; color = opposite pen.color; rest = run.1 })))) behind
-    by_result (Ok run) = painted (paint strict columns pen.front pen.color run.0) run.1
-    by_result (Err fault) = refl
+    by_result r = grind (arith)
 
 -- the two runs of a horizontal mode
 pub horizontal_is : (strict : Bool) (columns : ℕ) (reference : Row) (pen : Pen)

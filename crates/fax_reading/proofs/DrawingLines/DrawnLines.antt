@@ -1,10 +1,10 @@
 -- What a step of a line paints, and what that says of the finished line.
 use Rattle.fax_reading.proofs.Names.{common_steps, ◌≡◌, ◌≢◌, ℕ, zero, suc, ◌-◌, ◌<◌, ◌≤◌, Bool, true, false, cond, leb, [], ◌∷◌}
 use Rattle.fax_reading.proofs.Names.{◌++◌, length, replicate, append_assoc, w32, Option, Some, Result, Ok, Err, refl, sym, subst}
-use Rattle.fax_reading.proofs.Names.{ap, ◌∙◌, arith, ◌⊎◌, inl, inr, ◌↔◌, IsTrue, IfErr, OnOk, OnErr, SomeIff, ℤ, pos, negsuc}
+use Rattle.fax_reading.proofs.Names.{ap, ◌∙◌, arith, ◌⊎◌, inl, inr, ◌↔◌, IsTrue, IfErr, OnOk, OnErr, SomeIff, ℤ, pos}
 use Rattle.fax_reading.proofs.Names.{◌+ℤ◌, false≢true, cases_lt, le-leb, lt-leb, nat_abs, FitsUnsigned, ints, length-append}
 use Rattle.fax_reading.proofs.Names.{Contains-append_left, Contains-append_right, Color, Mode, Pass, Horizontal, Vertical}
-use Rattle.fax_reading.proofs.Names.{DecodeError, DecodeSettings, UnexpectedEof, InvalidCode, OutOfMemory, kind_of, IsFault}
+use Rattle.fax_reading.proofs.Names.{DecodeError, DecodeSettings, UnexpectedEof, OutOfMemory, kind_of, IsFault}
 use Rattle.fax_reading.proofs.Names.{front_of, HasBlack, StopsAtChange, DrawsLine, pen_of, front_after, DrawsStep, StoresChange}
 use Rattle.fax_reading.proofs.Names.{Step, step_of_run, step_of_mode, Bits, BitsAt, here, mode_codes, read_code, Context, Held}
 use Rattle.fax_reading.proofs.Names.{redrawn, Line, Pen, start, place_from, turn_behind, Turn, repeated, Row, is_black, opposite}
@@ -16,6 +16,7 @@ use Rattle.fax_reading.proofs.DrawingLines.ReadLines.{draw_mode_next, modes_not_
 use Rattle.fax_reading.proofs.DrawingLines.ReadLines.{step_2d_shrinks, pen_left}
 use Rattle.fax_bits.proofs.Repetition.Repeated.{Shrinks, after_turn}
 use Rattle.fax_bits.proofs.ErrorKinds.{kind_weaker, of_fault_kind}
+use Rattle.fax_reading.proofs.Names.{too_many_pixels}
 
 -- ---- What painting yields.
 
@@ -32,18 +33,11 @@ stopping_at front row = StopsAtChange row front
 
 -- a row that continues further has the same change
 later_change : (front row more : Row) → StopsAtChange row front → StopsAtChange (row ++ more) front
-later_change front row more stops =
-    (stops.0, stops.1 ++ more, ap (λ (r : Row). r ++ more) stops.2 ∙ append_assoc front (stops.0 ∷ stops.1) more, stops.3)
-
--- pixels of another colour than the last make a change
-other_pixels : (front : Row) (color : Color) (k : ℕ) → length front < length (front ++ replicate k (is_black color))
-    → last_pixel false front ≢ is_black color → StopsAtChange (front ++ replicate k (is_black color)) front
-other_pixels front color zero more other = absurd (omega (arith, length-append front (replicate zero (is_black color))))
-other_pixels front color (suc k) more other = (is_black color, replicate k (is_black color), refl, λ e. other (sym e))
+later_change front row more stops = grind (arith, common_steps, append_assoc front (stops.0 ∷ stops.1) more)
 
 -- if a change is stored, the front ends at a change of the new row
 pub stores_change : (held : Held) (count : ℕ) → (stored : StoresChange held count) → StopsAtChange stored.0 held.front
-stores_change held count stored = grind (arith, paint_ok, other_pixels)
+stores_change held count stored = grind (arith, paint_ok, length-append)
 
 first_black : (row : Row) → HasBlack (true ∷ row)
 first_black row = (0, omega arith, refl)
@@ -76,15 +70,17 @@ fault_ends step e pen fault is = of_fault_kind (kind_of e) _ _ _ fault is
 
 -- why painting this many pixels is refused
 pub record IsUnpainted (held : Held) (count : ℕ) (e : DecodeError) : Type 0 where
-  pub too_many : ◌≡◌ {A = Result (Unit {0}) DecodeError} (Err e) (Err InvalidCode)
-      → paint held.settings.strict held.settings.columns held.front held.color count ≡ Err InvalidCode
+  pub too_many : ◌≡◌ {A = Result (Unit {0}) DecodeError} (Err e) (Err too_many_pixels)
+      → paint held.settings.strict held.settings.columns held.front held.color count ≡ Err too_many_pixels
   pub memory : ◌≡◌ {A = Result (Unit {0}) DecodeError} (Err e) (Err OutOfMemory) → StoresChange held count
-  pub only : (e ≡ InvalidCode) ⊎ (e ≡ OutOfMemory)
+  pub only : (e ≡ too_many_pixels) ⊎ (e ≡ OutOfMemory)
 
 -- what a result of painting says, if it is an error
-pub unpainted : (held : Held) (count : ℕ) (r : Result (Unit {0}) DecodeError) (e : DecodeError) → r ≡ Err e → ((r
-    ≡ Err InvalidCode) ↔ (paint held.settings.strict held.settings.columns held.front held.color count ≡ Err InvalidCode)) → (r
-    ≡ Err OutOfMemory → StoresChange held count) → IfErr r (λ e. (e ≡ InvalidCode) ⊎ (e ≡ OutOfMemory)) → IsUnpainted held count e
+pub unpainted : (held : Held) (count : ℕ) (r : Result (Unit {0}) DecodeError) (e : DecodeError) → r ≡ Err e
+    → ((r ≡ Err too_many_pixels)
+    ↔ (paint held.settings.strict held.settings.columns held.front held.color count ≡ Err too_many_pixels))
+    → (r ≡ Err OutOfMemory → StoresChange held count) → IfErr r (λ e. (e ≡ too_many_pixels) ⊎ (e ≡ OutOfMemory))
+    → IsUnpainted held count e
 unpainted held count r e is too_many memory only = grind (arith, common_steps)
 
 -- an error of painting is that of the step that paints and continues
@@ -122,8 +118,7 @@ place_ok painted p z is fits above = rw (is, le-leb painted p above, le-leb p 42
 -- a sum that fits in 32 bits unsigned is a position
 pub place_of : (z : ℤ) (o : Option ℕ) (p : ℕ) → SomeIff o (FitsUnsigned w32 z) (nat_abs z) → o ≡ Some p → (z ≡ pos p)
     × (p ≤ 4294967295)
-place_of (pos n) o p iff is = let a = some_where o p iff is in (ap (λ (m : ℕ). pos m) (sym a.1), omega (arith, ints, a.0.1, a.1))
-place_of (negsuc n) o p iff is = absurd (let a = some_where o p iff is in omega (arith, ints, a.0.0))
+place_of z o p iff is = grind (arith, some_where, ints)
 
 -- a vertical mode whose pixels are not painted ends the line
 pub vertical_unpainted : (held new : Held) (k : ℤ) (p : ℕ) (rest : Bits) (e : DecodeError)
@@ -131,11 +126,7 @@ pub vertical_unpainted : (held new : Held) (k : ℤ) (p : ℕ) (rest : Bits) (e 
     → IsUnpainted held (p - length held.front) e → DrawsStep (step_of_mode held rest (Vertical k)) (Err e) (pen_of new rest)
 vertical_unpainted held new k p rest e is fits above same unpainted =
     let go_on : Row → Step = λ front. Turn.next (record { front = front; color = opposite held.color; rest = rest }) in
-    let place = place_ok (length held.front) p (pos (b1 held.reference (right_of held.front) held.color) +ℤ k) is fits above in
-    let whole : step_of_mode held rest (Vertical k) ≡ try held.front
-    (paint held.settings.strict held.settings.columns held.front held.color (p - length held.front)) go_on = rw place refl in
-    subst (λ (s : Step). DrawsStep s (Err e) (pen_of new rest)) (sym whole) (paint_fails held (p - length held.front) go_on e
-    (pen_of new rest) (ap (λ (h : Held). h.front) same) unpainted (λ row stops. stops))
+    grind (arith, common_steps, paint_fails held (p - length held.front) go_on e (pen_of new rest))
 
 -- a run that isn't read ends the line
 pub run_unread : (held : Held) (rest after : Bits) (e : DecodeError) → IsFault e → run_from held.color (0, rest) ≡ Err e
@@ -147,10 +138,7 @@ pub run_unpainted : (held new : Held) (n : ℕ) (rest after : Bits) (e : DecodeE
     ≡ Ok (n, after) → new ≡ held → IsUnpainted held n e → DrawsStep (step_of_run held rest) (Err e) (pen_of new after)
 run_unpainted held new n rest after e reads same unpainted =
     let go_on : Row → Step = λ front. Turn.next (record { front = front; color = opposite held.color; rest = after }) in
-    let whole : step_of_run held rest
-    ≡ try held.front (paint held.settings.strict held.settings.columns held.front held.color n) go_on = rw reads refl in
-    subst (λ (s : Step). DrawsStep s (Err e) (pen_of new after)) (sym whole)
-    (paint_fails held n go_on e (pen_of new after) (ap (λ (h : Held). h.front) same) unpainted (λ row stops. stops))
+    grind (arith, common_steps, paint_fails held n go_on e (pen_of new after))
 
 -- ---- A step keeps what is painted: what is true of a front, however the row continues, is true of the finished row.
 
@@ -169,8 +157,7 @@ paint_keeps P on strict columns front color n row e holds = grind (arith, common
 
 try_keeps : {A : Type 0} (P : Row → Type 0) (front : Row) (r : Result A DecodeError) (go_on : A → Step) → P front
     → ((x : A) → r ≡ Ok x → P (front_after (go_on x))) → P (front_after (try front r go_on))
-try_keeps P front (Ok x) go_on holds keeps = keeps x refl
-try_keeps P front (Err fault) go_on holds keeps = holds
+try_keeps P front r go_on holds keeps = grind arith
 
 draw_run_keeps : (P : Row → Type 0) → Stays P → (strict : Bool) (columns : ℕ) (pen : Pen) (go_on : Pen → Step)
     → ((p : Pen) → P p.front → P (front_after (go_on p))) → P pen.front → P (front_after (run_then strict columns pen go_on))
@@ -188,8 +175,7 @@ draw_mode_keeps P on strict columns reference pen Horizontal holds =
 draw_mode_keeps P on strict columns reference pen (Vertical k) holds = grind (arith, common_steps, try_keeps, paint_keeps)
 
 keeps_either : (P : Row → Type 0) (b : Bool) (x y : Step) → P (front_after x) → P (front_after y) → P (front_after (cond b x y))
-keeps_either P true x y one other = one
-keeps_either P false x y one other = other
+keeps_either P b x y one other = grind arith
 
 step_2d_keeps : (P : Row → Type 0) → Stays P → (strict : Bool) (columns : ℕ) (reference : Row)
     → KeepsFront P (step_2d strict columns reference)
@@ -210,14 +196,7 @@ step_1d_keeps P on strict columns pen holds = subst (λ (step : Step). P (front_
 keeps_on : (P : Row → Type 0) (step : Pen → Step) → Shrinks step pen_left → KeepsFront P step → (n : ℕ) (pen : Pen)
     → pen_left pen < n → P pen.front → P (front_of (repeated step (Line.broken [] UnexpectedEof) n pen))
 keeps_on P step shrinks keeps zero pen lt holds = absurd (omega arith)
-keeps_on P step shrinks keeps (suc n) pen lt holds =
-    by_step (λ p small h. keeps_on P step shrinks keeps n p small h) (step pen) refl (keeps pen holds)
-  where
-    by_step : ((p : Pen) → pen_left p < n → P p.front → P (front_of (repeated step
-        (Line.broken [] UnexpectedEof) n p))) → (turn : Step) → step pen ≡ turn → P (front_after turn)
-        → P (front_of (after_turn (repeated step (Line.broken [] UnexpectedEof) n) turn))
-    by_step on (Turn.next p) e h = on p (omega (arith, shrinks pen p e)) h
-    by_step on (Turn.done line) e h = h
+keeps_on P step shrinks keeps (suc n) pen lt holds = grind (arith, keeps_on P step shrinks keeps n)
 
 -- so what is true of a front is true of the row of the line that continues it, or of the front of a broken one
 pub drawn_1d_keeps : (P : Row → Type 0) → Stays P → (strict : Bool) (columns : ℕ) (pen : Pen) → P pen.front
@@ -283,12 +262,7 @@ pub line_by_run : (before now : Held) (line : Line) (at : Bits) → now ≡ redr
     (step_1d before.settings.strict before.settings.columns) (pen_of now at) ≡ line → length now.front < now.settings.columns
     → line ≡ after_turn (drawn_by (step_1d before.settings.strict before.settings.columns)) (step_of_run now at)
 line_by_run before now line at kept so_far open_row =
-    let settings : now.settings ≡ before.settings = ap (λ (h : Held). h.settings) kept in
-    let columns : length now.front < before.settings.columns =
-    subst (λ (s : DecodeSettings). length now.front < s.columns) settings open_row in
-    let after : Step → Line = after_turn (drawn_by (step_1d before.settings.strict before.settings.columns)) in
-    sym so_far ∙ run_open before.settings.strict before.settings.columns (pen_of now at) columns
-    ∙ ap (λ (s : DecodeSettings). after (run_then s.strict s.columns (pen_of now at) Turn.next)) (sym settings)
+    grind (arith, common_steps, run_open before.settings.strict before.settings.columns (pen_of now at))
 
 -- if the row isn't full, the line of a context is what comes of the mode that is read
 pub line_by_mode : (before now : Held) (line : Line) (at rest : Bits) (mode : Mode) → now ≡ redrawn before now.front now.color
@@ -307,8 +281,7 @@ line_by_mode before now line at rest mode kept so_far open_row reads =
 
 -- a row that isn't said to be full has room
 pub open_by : (full : Bool) (n columns : ℕ) → full ≡ false → (columns ≤ n → IsTrue full) → n < columns
-open_by true n columns e said = absurd (false≢true (sym e))
-open_by false n columns e said = elim (cases_lt n columns) [ inl lt ↦ lt | inr ge ↦ absurd (false≢true (said ge)) ]
+open_by full n columns e said = grind (arith, false≢true, cases_lt)
 
 -- a mode that is read and drawn consumes bits
 pub mode_shorter : (strict : Bool) (columns : ℕ) (reference : Row) (pen t : Pen) (at : Bits) (mode : Mode) → read_code mode_codes

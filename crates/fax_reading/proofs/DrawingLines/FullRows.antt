@@ -1,6 +1,6 @@
 -- A whole line has all its pixels.
-use Rattle.fax_reading.proofs.Names.{arith, common_steps, ◌≡◌, ◌≤◌, ℕ, suc, Bool, true, false, [], ◌∷◌, length, EncodingMode}
-use Rattle.fax_reading.proofs.Names.{Group4, Group3_1D, Group3_2D, line_by, UnexpectedEof, Bits, mode_codes, read_code, Turn, Row}
+use Rattle.fax_reading.proofs.Names.{arith, ◌≡◌, ◌≤◌, ℕ, suc, Bool, [], length, EncodingMode}
+use Rattle.fax_reading.proofs.Names.{line_by, UnexpectedEof, Bits, mode_codes, read_code, Turn, Row}
 use Rattle.fax_reading.proofs.Names.{Line, Pen, start, line_1d, line_2d, Step}
 use Rattle.fax_reading.proofs.DrawingLines.Drawings.{try, run_then, mode_step, step_unless_full, drawn_by, step_1d, step_2d}
 use Rattle.fax_reading.proofs.DrawingLines.Drawings.{step_1d_is, step_2d_is}
@@ -15,8 +15,7 @@ IsFull columns (Line.broken front fault) = Unit {0}
 module _ (columns : ℕ) (step : Pen → Step) (body : Pen → Step) (goes : (p : Pen) → EndsNoLine (body p))
     (same : (p : Pen) → step p ≡ step_unless_full columns p (body p)) where
   ends : (s : Pen) (l : Line) → step s ≡ Turn.done l → IsFull columns l
-  ends s (Line.broken front fault) e = tt
-  ends s (Line.whole row rest) e = grind (arith, common_steps, full_by)
+  ends s l e = grind (arith, full_by)
 
   drawn_full : (pen : Pen) → IsFull columns (drawn_by step pen)
   drawn_full pen = repeated_keeps step (Line.broken [] UnexpectedEof) (λ p. Unit {0}) (IsFull columns) tt (λ s t p e. tt)
@@ -39,8 +38,4 @@ line_2d_full strict columns reference here =
 -- and so is each line of Group 3
 pub line_by_full : (encoding : EncodingMode) (strict : Bool) (columns : ℕ) (reference : Row) (here : Bits)
     → IsFull columns (line_by encoding strict columns reference here)
-line_by_full Group3_1D strict columns reference here = line_1d_full strict columns here
-line_by_full Group3_2D strict columns reference [] = tt
-line_by_full Group3_2D strict columns reference (true ∷ here) = line_1d_full strict columns here
-line_by_full Group3_2D strict columns reference (false ∷ here) = line_2d_full strict columns reference here
-line_by_full Group4 strict columns reference here = line_2d_full strict columns reference here
+line_by_full encoding strict columns reference here = grind (arith, line_1d_full, line_2d_full)

@@ -1,7 +1,7 @@
 -- No line has more pixels than there are columns.
-use Rattle.fax_reading.proofs.Names.{common_steps, ℕ, ◌≤◌, suc, Bool, true, false, [], ◌∷◌, length, Result, Ok, Err, IfOk, subst}
+use Rattle.fax_reading.proofs.Names.{common_steps, ℕ, ◌≤◌, suc, Bool, [], length, Result, IfOk, subst}
 use Rattle.fax_reading.proofs.Names.{arith, length-append, length-replicate, Color, Mode, Pass, Horizontal, Vertical, DecodeError}
-use Rattle.fax_reading.proofs.Names.{UnexpectedEof, EncodingMode, Group4, Group3_1D, Group3_2D, front_of, Bits, Turn, Row, paint}
+use Rattle.fax_reading.proofs.Names.{UnexpectedEof, EncodingMode, front_of, Bits, Turn, Row, paint}
 use Rattle.fax_reading.proofs.Names.{Line, Pen, Drawing, start, drawn, turn_behind, unless_fault, painted, run_here, mode_here}
 use Rattle.fax_reading.proofs.Names.{unless_full, draw_run, draw_mode, draw_1d, draw_2d, line_1d, line_2d, line_by}
 use Rattle.fax_bits.proofs.Repetition.Repeated.{repeated_keeps}
@@ -26,18 +26,11 @@ Any x = Unit {0}
 behind_holds : {A B : Type 0} (columns : ℕ) (P : A → Type 0) (Q : B → Type 0) (turn : Turn A Line) (behind : A → Turn B Line)
     → KeepsWidth columns P turn → ((x : A) → P x → KeepsWidth columns Q (behind x))
     → KeepsWidth columns Q (turn_behind turn behind)
-behind_holds columns P Q (Turn.next x) behind h on = on x h
-behind_holds columns P Q (Turn.done line) behind h on = h
-
-unless_fault_holds : {A : Type 0} (columns : ℕ) (P : A → Type 0) (front : Row) (result : Result A DecodeError)
-    → length front ≤ columns → IfOk result P → KeepsWidth columns P (unless_fault front result)
-unless_fault_holds columns P front (Ok x) within h = h
-unless_fault_holds columns P front (Err fault) within h = within
+behind_holds columns P Q turn behind h on = grind arith
 
 any_holds : {A : Type 0} (columns : ℕ) (front : Row) (result : Result A DecodeError) → length front ≤ columns
     → KeepsWidth columns Any (unless_fault front result)
-any_holds columns front (Ok x) within = tt
-any_holds columns front (Err fault) within = within
+any_holds columns front result within = grind arith
 
 paint_within : (strict : Bool) (columns : ℕ) (front : Row) (color : Color) (n : ℕ) → length front ≤ columns
     → IfOk (paint strict columns front color n) (IsWithin columns)
@@ -46,7 +39,7 @@ paint_within strict columns front color n within = grind (arith, common_steps, l
 module _ (strict : Bool) (columns : ℕ) where
   painted_within : (pen : Pen) (n : ℕ) → PenWithin columns pen
       → KeepsWidth columns (IsWithin columns) (painted strict columns pen n).turn
-  painted_within pen n within = grind (arith, common_steps, unless_fault_holds, paint_within)
+  painted_within pen n within = grind (arith, common_steps, paint_within)
 
   draw_run_within : (pen : Pen) → PenWithin columns pen → KeepsWidth columns (PenWithin columns)
       (draw_run strict columns pen).turn
@@ -95,8 +88,4 @@ line_2d_within strict columns reference here =
 -- no line of any kind has more pixels
 pub line_by_within : (encoding : EncodingMode) (strict : Bool) (columns : ℕ) (reference : Row) (here : Bits)
     → length (front_of (line_by encoding strict columns reference here)) ≤ columns
-line_by_within Group3_1D strict columns reference here = line_1d_within strict columns here
-line_by_within Group3_2D strict columns reference [] = omega arith
-line_by_within Group3_2D strict columns reference (true ∷ here) = line_1d_within strict columns here
-line_by_within Group3_2D strict columns reference (false ∷ here) = line_2d_within strict columns reference here
-line_by_within Group4 strict columns reference here = line_2d_within strict columns reference here
+line_by_within encoding strict columns reference here = grind (arith, line_1d_within, line_2d_within)

@@ -1,7 +1,7 @@
 -- What a line leaves is a suffix of the bits that it began with.
-use Rattle.fax_reading.proofs.Names.{arith, common_steps, ◌≡◌, ℕ, suc, Bool, true, false, cond, leb, [], ◌∷◌, ◌++◌, length}
+use Rattle.fax_reading.proofs.Names.{arith, common_steps, ◌≡◌, ℕ, suc, Bool, cond, leb, [], ◌∷◌, ◌++◌, length}
 use Rattle.fax_reading.proofs.Names.{Result, Ok, Err, refl, sym, ap, subst, ◌∙◌, append_assoc, Color, DecodeError, UnexpectedEof}
-use Rattle.fax_reading.proofs.Names.{EncodingMode, Group4, Group3_1D, Group3_2D, Bits, read_code, Turn, Row, opposite, paint}
+use Rattle.fax_reading.proofs.Names.{EncodingMode, Bits, read_code, Turn, Row, opposite, paint}
 use Rattle.fax_reading.proofs.Names.{codes_of, run_of_word, run_turn, run_from, Line, Pen, start, line_1d, line_2d, line_by, Step}
 use Rattle.fax_bits.proofs.CodeWords.ReadCodes.{read_code_found}
 use Rattle.fax_bits.proofs.Repetition.Repeated.{repeated_keeps}
@@ -61,21 +61,14 @@ step_1d_leaves : (strict : Bool) (columns : ℕ) (pen : Pen) → StepLeaves pen.
 step_1d_leaves strict columns pen =
     subst (StepLeaves pen.rest) (sym (step_1d_is strict columns pen)) (full (leb columns (length pen.front)))
   where
-    painted : (n : ℕ) (rest : Bits) (r : Result Row DecodeError) → LeavesBits pen.rest rest → StepLeaves pen.rest
-        (try pen.front r (λ front. Turn.next (record { front = front; color = opposite pen.color; rest = rest })))
-    painted n rest (Ok front) l = l
-    painted n rest (Err fault) l = tt
-
     drew : (r : Result (ℕ × Bits) DecodeError) → FoundLeaves pen.rest r
         → StepLeaves pen.rest (try pen.front r (λ run. try pen.front (paint strict columns pen.front pen.color run.0)
         (λ front. Turn.next (record { front = front; color = opposite pen.color; rest = run.1 }))))
-    drew (Ok (n, rest)) l = painted n rest (paint strict columns pen.front pen.color n) l
-    drew (Err fault) l = tt
+    drew r l = grind (arith)
 
     full : (b : Bool)
         → StepLeaves pen.rest (cond b (Turn.done (Line.whole pen.front pen.rest)) (run_then strict columns pen Turn.next))
-    full true = ([], refl)
-    full false = drew (run_from pen.color (0, pen.rest)) (run_leaves pen.color 0 pen.rest)
+    full b = grind (arith, drew, run_leaves)
 
 -- a one-dimensional line leaves a suffix of its bits
 pub line_1d_leaves : (strict : Bool) (columns : ℕ) (here : Bits) → LineLeaves here (line_1d strict columns here)
@@ -105,8 +98,4 @@ behind_tag tag here (Line.broken front fault) leaves = tt
 -- so does a line of any kind
 pub line_by_leaves : (encoding : EncodingMode) (strict : Bool) (columns : ℕ) (reference : Row) (here : Bits)
     → LineLeaves here (line_by encoding strict columns reference here)
-line_by_leaves Group3_1D strict columns reference here = line_1d_leaves strict columns here
-line_by_leaves Group3_2D strict columns reference [] = tt
-line_by_leaves Group3_2D strict columns reference (true ∷ here) = grind (arith, common_steps, behind_tag, line_1d_leaves)
-line_by_leaves Group3_2D strict columns reference (false ∷ here) = grind (arith, common_steps, behind_tag, line_2d_leaves)
-line_by_leaves Group4 strict columns reference here = line_2d_leaves strict columns reference here
+line_by_leaves encoding strict columns reference here = grind (arith, line_1d_leaves, behind_tag, line_2d_leaves)

@@ -1,5 +1,5 @@
 -- Lines, a step at a time.
-use Rattle.fax_reading.proofs.Names.{common_steps, refl, ◌∙◌, sym, ◌≡◌, ℕ, suc, ◌<◌, ◌≤◌, Bool, true, [], length, Result, Ok, Err}
+use Rattle.fax_reading.proofs.Names.{common_steps, refl, ◌∙◌, sym, ◌≡◌, ℕ, suc, ◌<◌, ◌≤◌, Bool, true, [], length, Result, Ok}
 use Rattle.fax_reading.proofs.Names.{subst, arith, ◌⊎◌, inl, inr, leb-true, Mode, Pass, Horizontal, Vertical, DecodeError}
 use Rattle.fax_reading.proofs.Names.{UnexpectedEof, Bits, mode_codes, read_code, Turn, Row, opposite, paint, run_from, Line, Pen}
 use Rattle.fax_reading.proofs.Names.{start, line_1d, line_2d, Step}
@@ -14,8 +14,7 @@ modes_not_empty = refl
 -- what continued had no fault
 pub try_next : {A : Type 0} (front : Row) (r : Result A DecodeError) (f : A → Step) (t : Pen) → try front r f ≡ Turn.next t
     → (x : A) × (r ≡ Ok x) × (f x ≡ Turn.next t)
-try_next front (Ok x) f t e = (x, refl, e)
-try_next front (Err fault) f t e = absurd (not_next _ t e)
+try_next front r f t e = grind (arith, not_next)
 
 pub unless_full_next : (columns : ℕ) (pen : Pen) (step : Step) (t : Pen) → step_unless_full columns pen step ≡ Turn.next t
     → step ≡ Turn.next t
@@ -48,17 +47,15 @@ draw_mode_next strict columns reference pen Pass t e = grind (arith, common_step
 draw_mode_next strict columns reference pen Horizontal t e =
     let a = draw_run_next strict columns pen (λ pen. run_then strict columns pen Turn.next) t
     (horizontal_is strict columns reference pen ∙ e) in
-    let b = draw_run_next strict columns a.0 Turn.next t a.1 in
-    subst (λ (p : Pen). pen_left p ≤ pen_left pen) (next_is b.0 t b.1) (omega (arith, a.2, b.2))
+    grind (arith, common_steps, draw_run_next strict columns a.0 Turn.next t a.1, next_is)
 draw_mode_next strict columns reference pen (Vertical k) t e = grind (arith, common_steps, try_next)
 
 pub step_2d_shrinks : (strict : Bool) (columns : ℕ) (reference : Row) → Shrinks (step_2d strict columns reference) pen_left
 step_2d_shrinks strict columns reference s t e =
     let a = try_next s.front (read_code mode_codes s.rest) (λ mode. mode_step strict columns reference
     (record s { rest = mode.1 }) mode.0) t (unless_full_next columns s _ t (sym (step_2d_is strict columns reference s) ∙ e)) in
-    let b = draw_mode_next strict columns reference (record s { rest = a.0.1 }) a.0.0 t a.2 in
     let c = read_code_shorter mode_codes s.rest a.0.0 a.0.1 modes_not_empty a.1 in
-    omega (arith, b, c)
+    omega (arith, draw_mode_next, c)
 
 -- the rule of a line: one step, and the line from there
 pub drawn1 : (strict : Bool) (columns : ℕ) (pen : Pen)
@@ -79,8 +76,7 @@ EndsNoLine (Turn.done (Line.whole row rest)) = ⊥
 
 pub try_goes_on : {A : Type 0} (front : Row) (r : Result A DecodeError) (f : A → Step) → ((x : A) → EndsNoLine (f x))
     → EndsNoLine (try front r f)
-try_goes_on front (Ok x) f g = g x
-try_goes_on front (Err fault) f g = tt
+try_goes_on front r f g = grind arith
 
 pub draw_run_goes_on : (strict : Bool) (columns : ℕ) (pen : Pen) (f : Pen → Step) → ((p : Pen) → EndsNoLine (f p))
     → EndsNoLine (run_then strict columns pen f)
@@ -111,8 +107,7 @@ HasRead n pen = (pen_left pen < n) ⊎ ((pen_left pen ≡ n) × (length pen.fron
 module _ (columns : ℕ) (wide : 0 < columns) (step : Pen → Step) (shrinks : Shrinks step pen_left) (body : Pen → Step)
     (goes : (p : Pen) → EndsNoLine (body p)) (same : (p : Pen) → step p ≡ step_unless_full columns p (body p)) where
   ends : (n : ℕ) (s : Pen) (l : Line) → HasRead n s → step s ≡ Turn.done l → TookBits n l
-  ends n s (Line.broken front fault) p e = tt
-  ends n s (Line.whole row rest) p e = grind (arith, common_steps, full_by)
+  ends n s l p e = grind (arith, full_by)
 
   keeps : (n : ℕ) (s t : Pen) → HasRead n s → step s ≡ Turn.next t → HasRead n t
   keeps n s t p e = elim p [ inl lt ↦ inl (omega (arith, shrinks s t e, lt)) | inr q ↦ inl (omega (arith, shrinks s t e, q.0)) ]

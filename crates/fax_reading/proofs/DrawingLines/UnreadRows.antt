@@ -1,6 +1,6 @@
 -- A line that isn't read is no row.
 use Rattle.fax_reading.proofs.Names.{arith, common_steps, ◌≡◌, Bool, true, false, not, ◌||◌, Result, Err, refl, sym, ap, subst}
-use Rattle.fax_reading.proofs.Names.{◌∙◌, cond-true, or_from, or_parts, not-false, not_from_true, DecodeError, kind_of}
+use Rattle.fax_reading.proofs.Names.{cond-true, or_from, or_parts, not-false, not_from_true, DecodeError, kind_of}
 use Rattle.fax_reading.proofs.Names.{OutOfMemory, DrawsLine, IsFault, IsRepairable, RepairStoresChange, HasBlack, front_of, Bits}
 use Rattle.fax_reading.proofs.Names.{Held, redrawn, TakesOneRow, Line, Row, row_of_line}
 use Rattle.fax_bits.proofs.ErrorKinds.{at_fault_kind, by_kind}
@@ -9,10 +9,6 @@ use Rattle.fax_reading.proofs.DrawingLines.DrawnLines.{memory_has_black, last_bl
 module _ (line strict : Line) (row : Result (Row × Bits) DecodeError) (old new : Held) (held : new
     ≡ redrawn old new.front new.color)
     (rest : Bits) where
-  -- a fault of the data is the row's
-  pub at_fault : (e : DecodeError) → IsFault e → row ≡ Err e → TakesOneRow line strict row old new (Err e) rest
-  at_fault e fault is = grind (arith, common_steps)
-
   -- an allocation fails only if the line, or what is repaired of it, paints a black pixel
   wants_rest : HasBlack (front_of line) → TakesOneRow line strict row old new (Err OutOfMemory) rest
   wants_rest black = record { taken = tt; fault = λ f. absurd f; held = held; memory = λ k. black; not_refused = λ k. cc }
@@ -24,7 +20,7 @@ module _ (line strict : Line) (row : Result (Row × Bits) DecodeError) (old new 
   -- a line that isn't read, and whose fault is the row's
   pub is_unread : (e : DecodeError) → ((fault : DecodeError) → line ≡ Line.broken new.front fault → row ≡ Err fault)
       → DrawsLine line (Err e) new.front rest → TakesOneRow line strict row old new (Err e) rest
-  is_unread e fails = grind (arith, common_steps, by_kind, at_fault, unread_row_wants_memory)
+  is_unread e fails = grind (arith, common_steps, by_kind, unread_row_wants_memory)
 
 -- ---- A line of Group 3 that isn't repaired
 
@@ -39,9 +35,6 @@ module _ (line strict : Line) (start : Bits) (old new : Held) (held : new ≡ re
       → TakesOneRow line strict row old new (Err answer) rest
   isnt_repaired e answer draws only_memory memory otherwise = by_strict (old.settings.strict || not old.has_eols) refl
     where
-      same_strict : new.settings.strict ≡ old.settings.strict
-      same_strict = ap (λ (h : Held). h.settings.strict) held
-
       same_eols : new.has_eols ≡ old.has_eols
       same_eols = ap (λ (h : Held). h.has_eols) held
 
@@ -54,7 +47,7 @@ module _ (line strict : Line) (start : Bits) (old new : Held) (held : new ≡ re
       stores is repairable = grind (arith, common_steps, last_black, wants_rest)
 
       repairs : (e : DecodeError) → IsFault e → (old.settings.strict || not old.has_eols) ≡ false → IsRepairable new e
-      repairs e fault is = grind (arith, common_steps, or_parts, same_strict, same_eols, not-false)
+      repairs e fault is = grind (arith, common_steps, or_parts, same_eols, not-false)
 
       broken : (e : DecodeError) → DrawsLine line (Err e) new.front rest → IsFault e → line ≡ Line.broken new.front e
       broken e draws fault = at_fault_kind (kind_of e) _ _ _ fault draws
@@ -75,10 +68,7 @@ module _ (line strict : Line) (start : Bits) (old new : Held) (held : new ≡ re
 
       by_strict : (b : Bool) → (old.settings.strict || not old.has_eols) ≡ b
           → TakesOneRow line strict row old new (Err answer) rest
-      by_strict true is =
-          itself e draws (λ fault broken. ap (row_of_line old.settings old.has_eols start) broken ∙ cond-true (old.settings.strict
-          || not old.has_eols) _ _ is) (otherwise (λ r. let both : true ≡ false = sym is ∙ or_from old.settings.strict
-          (not old.has_eols) (sym same_strict ∙ r.lenient) (not_from_true old.has_eols (sym same_eols ∙ r.has_eols)) in cc))
+      by_strict true is = grind (arith, itself, cond-true, or_from, not_from_true, same_eols)
       by_strict false is = lenient e draws is (λ r. stores (broken e draws r.fault) r) otherwise
 
 -- a line that isn't read says nothing of the bits that are left

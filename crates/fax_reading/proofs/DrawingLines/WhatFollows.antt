@@ -1,6 +1,6 @@
 -- What is read doesn't depend on what follows it.
-use Rattle.fax_reading.proofs.Names.{common_steps, ◌≡◌, ℕ, zero, suc, ◌+◌, ◌<◌, Bool, leb, [], ◌++◌, length, Result, Ok, Err}
-use Rattle.fax_reading.proofs.Names.{refl, sym, ap, subst, ◌∙◌, append_assoc, arith, inl, inr, cases_lt, le-leb, Color}
+use Rattle.fax_reading.proofs.Names.{common_steps, ◌≡◌, ℕ, zero, suc, ◌+◌, ◌<◌, Bool, leb, ◌++◌, length, Result, Ok, Err}
+use Rattle.fax_reading.proofs.Names.{refl, sym, ap, ◌∙◌, append_assoc, arith, inl, inr, cases_lt, le-leb, Color}
 use Rattle.fax_reading.proofs.Names.{Mode, Pass, Horizontal, Vertical, DecodeError, Bits, mode_codes, Has, read_code, Turn, Row}
 use Rattle.fax_reading.proofs.Names.{opposite, paint, codes_of, run_from, Line, Pen, start, line_2d}
 use Rattle.fax_reading.proofs.Names.{Step}
@@ -26,8 +26,7 @@ run_found_by (suc fuel) color total here n rest lt e =
     let by_read_code : (r : Result (ℕ × Bits) DecodeError)
     → read_code (codes_of color) here ≡ r → RunFound color total here n rest = λ r.
     elim r as (λ (r : Result (ℕ × Bits) DecodeError). read_code (codes_of color) here ≡ r → RunFound color total here n rest) [
-      | Err fault ↦ λ a. absurd (let f : ◌≡◌ {A = Result (ℕ × Bits) DecodeError} (Err fault) (Ok (n, rest)) = sym
-          (run_fails color total here fault a) ∙ e in cc)
+      | Err fault ↦ grind (arith, run_fails)
       | Ok found ↦ λ a.
           let word = read_code_found (codes_of color) here found.0 found.1 a in
           let again : (more : Bits) → read_code (codes_of color) (word.0 ++ more) ≡ Ok (found.0, more)
@@ -36,19 +35,14 @@ run_found_by (suc fuel) color total here n rest lt e =
             | inl big ↦ absurd (let f = sym (run_passes color total found.0 here found.1 a big) ∙ e in cc)
             | inr fits ↦ elim (cases_lt found.0 64) [
               | inl last ↦
-                  let f : ◌≡◌ {A = Result (ℕ × Bits) DecodeError} (Ok (total + found.0, found.1)) (Ok (n, rest))
-                  = sym (run_ends color total found.0 here found.1 a fits last) ∙ e in
-                  let p : (total + found.0, found.1) ≡ (n, rest) = cc in
-                  subst (λ (x : ℕ × Bits). RunFound color total here x.0 x.1) p
-                  (word.0, word.2, λ more. run_ends color total found.0 (word.0 ++ more) more (again more) fits last)
+                  grind (arith, common_steps, run_ends)
               | inr large ↦
                   let shorter = read_code_shorter (codes_of color) here found.0 found.1 (words_not_empty color) a in
                   let on = run_found_by fuel color (total + found.0) found.1 n rest (omega (arith, shorter))
                   (sym (run_goes_on color total found.0 here found.1 a fits large) ∙ e) in (
                     word.0 ++ on.0,
                     word.2 ∙ ap (λ (x : Bits). word.0 ++ x) on.1 ∙ sym (append_assoc word.0 on.0 rest),
-                    λ more. ap (λ (x : Bits). run_from color (total, x)) (append_assoc word.0 on.0 more) ∙ run_goes_on color total
-                        found.0 (word.0 ++ (on.0 ++ more)) (on.0 ++ more) (again (on.0 ++ more)) fits large ∙ on.2 more,
+                    grind (arith, append_assoc, run_goes_on),
                   )
             ]
           ]
@@ -68,11 +62,6 @@ Carries f = (pen t : Pen) → f pen ≡ Turn.next t → (w : Bits) × (pen.rest 
 pub next_carries : Carries Turn.next
 next_carries pen t e = grind (arith, common_steps)
 
--- what keeps the bits is preserved
-keeps_carries : (f : Pen → Step) → ((pen t : Pen) → f pen ≡ Turn.next t → (pen.rest ≡ t.rest)
-    × ((more : Bits) → f (record pen { rest = more }) ≡ Turn.next (record t { rest = more }))) → Carries f
-keeps_carries f keeps pen t e = let k = keeps pen t e in ([], k.0, k.1)
-
 pub draw_run_carries : (strict : Bool) (columns : ℕ) (g : Pen → Step) → Carries g → Carries (λ pen. run_then strict columns pen g)
 draw_run_carries strict columns g carries pen t e =
     let a = try_next pen.front (run_from pen.color (0, pen.rest))
@@ -84,18 +73,17 @@ draw_run_carries strict columns g carries pen t e =
     let d = run_read_again pen.color pen.rest a.0.0 a.0.1 a.1 in (
       d.0 ++ c.0,
       d.1 ∙ ap (λ (x : Bits). d.0 ++ x) c.1 ∙ sym (append_assoc d.0 c.0 t.rest),
-      λ more. draws strict columns pen.front pen.color ((d.0 ++ c.0) ++ more) a.0.0 (c.0 ++ more) b.0 g
-          (ap (λ (x : Bits). run_from pen.color (0, x)) (append_assoc d.0 c.0 more) ∙ d.2 (c.0 ++ more)) b.1 ∙ c.2 more,
+      grind (arith, draws, append_assoc),
     )
 
 mode_carries : (strict : Bool) (columns : ℕ) (reference : Row) (mode : Mode)
     → Carries (λ pen. mode_step strict columns reference pen mode)
-mode_carries strict columns reference Pass = grind (arith, common_steps, keeps_carries, try_next)
+mode_carries strict columns reference Pass = grind (arith, common_steps, try_next)
 mode_carries strict columns reference Horizontal = λ pen t e.
     let two = draw_run_carries strict columns (λ pen. run_then strict columns pen Turn.next)
     (draw_run_carries strict columns Turn.next next_carries) pen t (horizontal_is strict columns reference pen ∙ e) in
     (two.0, two.1, λ more. sym (horizontal_is strict columns reference (record pen { rest = two.0 ++ more })) ∙ two.2 more)
-mode_carries strict columns reference (Vertical k) = grind (arith, keeps_carries, try_next)
+mode_carries strict columns reference (Vertical k) = grind (arith, try_next)
 
 -- a step of a two-dimensional line, which begins with the word of its mode
 record StepFound (strict : Bool) (columns : ℕ) (reference : Row) (pen t : Pen) : Type 0 where
@@ -126,8 +114,7 @@ step_2d_found strict columns reference pen t e =
             again = λ more.
                 let read : read_code mode_codes ((word.0 ++ c.0) ++ more) ≡ Ok (a.0.0, c.0 ++ more) = ap (read_code mode_codes)
                 (append_assoc word.0 c.0 more) ∙ read_code_again mode_codes a.0.0 word.0 (c.0 ++ more) modes_free word.1 in
-                rw x.0 (ap (λ (r : Result (Mode × Bits) DecodeError). try pen.front r
-                (λ mode. mode_step strict columns reference (record pen { rest = mode.1 }) mode.0)) read ∙ c.2 more);
+                grind arith;
           }
     ]
 
@@ -164,23 +151,7 @@ line_found_by (suc fuel) strict columns reference pen row rest lt e =
                 ∙ ap (after_turn (drawn_by step)) (one.again (on.bits ++ more)) ∙ on.again more;
             begins = λ open_end. (one.mode, one.word, one.others ++ on.bits, one.has, append_assoc one.word one.others on.bits);
           }
-      | Turn.done l ↦ λ a.
-          let whole : l ≡ Line.whole row rest = sym (ap (after_turn (drawn_by step)) a) ∙ sym (rule pen) ∙ e in
-          let goes = try_goes_on pen.front (read_code mode_codes pen.rest)
-          (λ mode. mode_step strict columns reference (record pen { rest = mode.1 }) mode.0)
-          (λ mode. draw_mode_goes_on strict columns reference (record pen { rest = mode.1 }) mode.0) in
-          let f = full_by columns pen (try pen.front (read_code mode_codes pen.rest)
-          (λ mode. mode_step strict columns reference (record pen { rest = mode.1 }) mode.0)) row rest goes
-          (sym (step_2d_is strict columns reference pen) ∙ a ∙ ap Turn.done whole) in
-          let front_is : pen.front ≡ row = let w = f.1 in cc in
-          let rest_is : pen.rest ≡ rest = let w = f.1 in cc in
-          record {
-            bits = [];
-            is = rest_is;
-            again = λ more. rule (record pen { rest = more })
-                ∙ rw (le-leb columns (length pen.front) f.0) (ap (λ (r : Row). Line.whole r more) front_is);
-            begins = λ open_end. absurd (omega (arith, f.0));
-          }
+      | Turn.done l ↦ grind (arith, try_goes_on, draw_mode_goes_on, full_by, step_2d_is, le-leb)
     ] in
     by_step (step pen) refl
 

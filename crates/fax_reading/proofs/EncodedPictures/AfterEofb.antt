@@ -1,6 +1,6 @@
 -- What follows EOFB changes nothing.
 use Rattle.fax_reading.proofs.Names.{◌≡◌, ℕ, zero, suc, ◌+◌, ◌*◌, ◌/◌, ◌%◌, ◌<◌, Bool, true, false, cond, not, ◌&&◌, leb, [], ◌∷◌}
-use Rattle.fax_reading.proofs.Names.{◌++◌, length, take, drop, Option, Some, None, Ok, refl, sym, ap, subst, ◌∙◌, append_assoc}
+use Rattle.fax_reading.proofs.Names.{◌++◌, length, take, Option, Some, None, Ok, refl, sym, ap, subst, ◌∙◌, append_assoc}
 use Rattle.fax_reading.proofs.Names.{arith, ◌⊎◌, inl, inr, or_parts, or_from, cond-false, cases_lt, length-append, length-take-le}
 use Rattle.fax_reading.proofs.Names.{take-append-drop, drop_at, EncodingMode, Group4, DecodeSettings, Bits, AreWholeBytes, Turn}
 use Rattle.fax_reading.proofs.Names.{Reaches, Line, line_2d, after_eol, one_more, eols, eols_here, is_over, Progress, Ending}
@@ -9,7 +9,7 @@ use Rattle.fax_reading.proofs.Names.{end_of, plain, AfterEofb, add_row_alone, ro
 use Rattle.fax_bits.proofs.BitReading.ZerosInWords.{prefix_of_prefix}
 use Rattle.fax_bits.proofs.CodeWords.ReadRuns.{chosen}
 use Rattle.fax_reading.proofs.{DrawingLines.WhatFollows.line_2d_found, EncodedPictures.Bodies.gap_at_eofb}
-use Rattle.fax_reading.proofs.EncodedPictures.PictureLines.{IsLineStart, mode_starts, between, plain_ends}
+use Rattle.fax_reading.proofs.EncodedPictures.PictureLines.{IsLineStart, between, plain_ends}
 use Rattle.fax_reading.proofs.Readings.GapsAndRows.{gap_unsought, t6_end}
 use Rattle.fax_reading.proofs.Readings.RowsAndGaps.{unless_over}
 use Rattle.fax_bits.proofs.BitReading.ConsecutiveEols.{eols-none}
@@ -40,14 +40,7 @@ eols_are_found zero here = ([], refl, λ more or. refl)
 eols_are_found (suc most) here =
     let by_after_eol : (o : Option Bits) → after_eol 0 here ≡ o → EolsFound (suc most) here (eols (suc most) here)
     = λ o. elim o as (λ (o : Option Bits). after_eol 0 here ≡ o → EolsFound (suc most) here (eols (suc most) here)) [
-      | None ↦ λ e. subst (EolsFound (suc most) here) (sym (eols-none (suc most) here e)) (
-        [],
-        refl,
-        λ more or. elim or [
-          | inl same ↦ absurd (omega arith)
-          | inr none ↦ eols-none (suc most) more none
-        ],
-      )
+      | None ↦ grind (arith, eols-none)
       | Some rest ↦ λ e.
           let one = after_eol_found 0 here rest e in
           let on = eols_are_found most rest in
@@ -71,10 +64,7 @@ pub aligned_split : (b : Bool) (j : Bits) → (pad : Bits) × (j ≡ pad ++ cond
 aligned_split false j = ([], refl, λ more e. refl)
 aligned_split true j =
     let n : ℕ = length j % 8 in
-    let pad : Bits = take n j in
-    let whole : j ≡ pad ++ drop n j = sym (take-append-drop n j) in
-    let len : length pad ≡ n = length-take-le n j (omega arith) in
-    grind (arith, common_steps, drop_at, length-append)
+    grind (arith, common_steps, take-append-drop n j, length-take-le n j (omega arith), drop_at, length-append)
 
 -- ---- A row of a run, and the gap before it.
 record MoveFound (settings : DecodeSettings) (run after : Progress) : Type 0 where
@@ -113,9 +103,7 @@ module _ (settings : DecodeSettings) (four : settings.encoding ≡ Group4) (bloc
       let pad : Bits = split.0 in
       let then : Progress = record { rows = run.rows ++ row ∷ []; has_eols = run.has_eols; rest = cond b (aligned j) j } in
       let at_start : (more : Bits) → IsLineStart (line.bits ++ more) = λ more.
-      let w = line.begins wide in
-      subst IsLineStart (sym (ap (λ (x : Bits). x ++ more) w.4 ∙ append_assoc w.1 w.2 more))
-      (mode_starts w.0 w.1 (w.2 ++ more) w.3) in
+      grind (arith, append_assoc) in
       let moved : MoveFound settings run then = record {
         bits = eol.0 ++ (line.bits ++ pad);
         is = eol.1 ∙ ap (λ (x : Bits). eol.0 ++ x) (line.is ∙ ap (λ (x : Bits). line.bits ++ x) split.1
@@ -147,8 +135,7 @@ module _ (settings : DecodeSettings) (four : settings.encoding ≡ Group4) (bloc
           → row_behind settings (cond over (ends_with run (Ok t)) (Turn.next (record run { rest = t }))) ≡ Turn.next after
           → MoveFound settings run after
       by_over true is e = absurd (not_next _ after e)
-      by_over false is e = by_line run after count t (reader settings run t) unsought counted is refl (ap (λ (l : Line).
-          add_row_alone (record run { rest = t }) (row_of_line settings run.has_eols t l)) (sym (line_is run t)) ∙ e)
+      by_over false is e = grind (arith, by_line, line_is) steps 200000
 
   move_found : (run after : Progress) → run.has_eols ≡ false → gap_and_row settings run ≡ Turn.next after
       → MoveFound settings run after
@@ -208,9 +195,8 @@ begins_alike : (one two : Bits) (count : ℕ) (w rest : Bits) → AreWholeBytes 
 begins_alike one two count w rest whole_one whole_two is count_is same =
     let step = take-append-drop (8 * count) one in
     let step2 = take-append-drop (8 * count) two in
-    let step3 = length-take-le (8 * count) one in
     let step4 = prefix_of_prefix w rest in
-    grind (arith, common_steps, append_assoc w, length-append w rest, length-append w, step3, step4, step, step2)
+    grind (arith, common_steps, append_assoc w, length-append w rest, length-append w, step4, step, step2)
 
 -- without columns nothing is read
 plain_no_columns : (settings : DecodeSettings) (stream : Bits) → settings.columns ≡ 0 → plain settings stream ≡ nothing_read

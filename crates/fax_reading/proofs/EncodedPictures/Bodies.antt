@@ -9,7 +9,7 @@ use Rattle.fax_reading.proofs.Names.{Allows, gap_and_row, row_behind, ReadsLimit
 use Rattle.fax_reading.proofs.EncodedPictures.EncodedLines.{line_2d_again}
 use Rattle.fax_bits.proofs.BitReading.ConsecutiveEols.{eols-none}
 use Rattle.fax_reading.proofs.EncodedPictures.PictureLines.{IsLineStart, line_2d_starts, allows_sum, not_met, row_before_push}
-use Rattle.fax_reading.proofs.EncodedPictures.PictureLines.{plain_ends, fill, aligned_again, aligned_on, between, ended_with}
+use Rattle.fax_reading.proofs.EncodedPictures.PictureLines.{plain_ends, fill, aligned_on, between, ended_with}
 use Rattle.fax_reading.proofs.EncodedPictures.PicturesT4.{line_t4_again, line_t4_starts}
 use Rattle.fax_reading.proofs.{Readings.TurnsMoveOn.eols_end}
 use Rattle.fax_reading.proofs.Readings.GapsAndRows.{gap_unsought, first_gap_t4, reaches_end}
@@ -67,7 +67,7 @@ module _ (settings : DecodeSettings) (wide : 0 < settings.columns) (small : sett
       → line_here settings (row_before settings.columns rows) here ≡ Line.whole row (fill b line ++ tail)
       → gap_and_row settings (between rows here) ≡ Turn.next (between (rows ++ row ∷ []) tail)
   row_read rows here row line tail start open_limit whole read = ap (row_behind settings)
-      (gap_at_line settings rows here start open_limit) ∙ grind (arith, common_steps, aligned_again, between, fill, with_true)
+      (gap_at_line settings rows here start open_limit) ∙ grind (arith, common_steps, between, fill, with_true)
 
   module _ (encoding : EncodingMode) (same : settings.encoding ≡ encoding) where
     -- from a line's start, at a whole byte if lines are aligned, the lines are read and what follows is left
@@ -125,8 +125,7 @@ module _ (settings : DecodeSettings) (wide : 0 < settings.columns) (small : sett
               → EncodesRows encoding b (replicate settings.columns false) rows body → IsLineStart (body ++ more)
           by_rows [] some widths lines = absurd (omega arith)
           by_rows (row ∷ rows) some widths (line, next, is, lines, split) =
-              let here : body ++ more ≡ line ++ (fill b line ++ (next ++ more)) = ap (λ (x : Bits). x ++ more) split
-              ∙ append_assoc (line ++ fill b line) next more ∙ append_assoc line (fill b line) (next ++ more) in
+              let here : body ++ more ≡ line ++ (fill b line ++ (next ++ more)) = grind (arith, append_assoc) in
               subst IsLineStart (sym here) (line_starts encoding (replicate settings.columns false) row line
               (fill b line ++ (next ++ more)) same is (All-head (λ row. length row ≡ settings.columns) row rows widths))
 

@@ -69,13 +69,9 @@ second_painted : (row front : Row) (p r : ℕ) (color : Color) → IsAt row fron
     → length front ≡ p → p ≤ length row → p ≤ r → r ≤ length row → ((q : ℕ) → suc p ≤ q → q < r → is_change row q ≡ false)
     → front ++ replicate (r - p) (is_black color) ≡ take r row
 second_painted row front p r color at len p_within above within none = elim (cases_lt p r) [
-  | inl lt ↦ ap (λ (n : ℕ). front ++ replicate (r - n) (is_black color)) (sym len)
-      ∙ painted_to_place row front (suc p) r color at (omega arith) lt within none
+  | inl lt ↦ grind (arith, painted_to_place)
   | inr ge ↦
-      let same : r ≡ p = omega arith in
-      let nothing : r - p ≡ 0 = omega arith in
-      let here : front ≡ take p row = at.painted ∙ ap (λ (n : ℕ). take n row) (let e : suc p - 1 ≡ p = omega arith in e) in
-      rw (nothing, same) (append-nil front ∙ here)
+      grind (arith, append-nil)
 ]
 
 module _ (strict : Bool) (columns : ℕ) (reference row : Row) (wide : 0 < columns) (small : columns ≤ 4294967295)
@@ -96,7 +92,6 @@ module _ (strict : Bool) (columns : ℕ) (reference row : Row) (wide : 0 < colum
       let len = length_at row front from color (omega arith) at in
       let one = a1_next row from in
       let p : ℕ = b2 reference from color in
-      let within : a1 row from ≤ length row = one.within in
       let above = b2_above reference from color (omega arith) in
       let painted = painted_to_place row front from p color at inside (omega (arith, above.0, above.1)) (omega arith)
       (λ q ge lt. one.before q ge (omega arith)) in
@@ -152,11 +147,7 @@ module _ (strict : Bool) (columns : ℕ) (reference row : Row) (wide : 0 < colum
       let read2 = run_read (opposite color) (r - p) run2 (next ++ more) spells2 (omega arith) in
       let turned : p < length row → pixel row p ≡ is_black (opposite color) = λ lt. at_change row p color (one.change lt)
       (before_same row from p (is_black color) (at.inside inside) one.before p p_above (omega arith)) in
-      let at1 : IsAt row front1 (suc p) (opposite color) = record {
-        painted = painted_at row front1 p painted1;
-        inside = λ le. turned (omega arith);
-        first = λ e. white_first color (let z : from ≡ 0 = omega arith in rw z at at.inside (omega arith));
-      } in
+      let at1 : IsAt row front1 (suc p) (opposite color) = grind (arith, painted_at, white_first) in
       let painted2 : front2 ≡ take r row =
       second_painted row front1 p r (opposite color) at1 len1 p_within r_above r_within two.before in
       reads_on _ (record { front = front2; color = color; rest = next ++ more }) more

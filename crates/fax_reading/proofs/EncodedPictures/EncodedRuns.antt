@@ -1,5 +1,5 @@
 -- What was encoded is read again.
-use Rattle.fax_reading.proofs.Names.{◌≡◌, ℕ, ◌+◌, ◌<◌, ◌≤◌, Bool, ◌++◌, length, replicate, Result, Ok, ap, ◌∙◌, append_assoc}
+use Rattle.fax_reading.proofs.Names.{◌≡◌, ℕ, ◌+◌, ◌≤◌, Bool, ◌++◌, length, replicate, Result, Ok, ap, ◌∙◌, append_assoc}
 use Rattle.fax_reading.proofs.Names.{add_assoc, arith, lt-leb, length-append, length-replicate, Color, DecodeError, Bits, Turn}
 use Rattle.fax_reading.proofs.Names.{Row, is_black, opposite, paint, codes_of, run_from, Line, Pen, Step, Spells, EncodesLine1D}
 use Rattle.fax_reading.proofs.Names.{common_steps}
@@ -44,7 +44,6 @@ line_1d_again strict columns front row color bits more
     (EncodesLine1D.run n word {row = others} {bits = next} spells some maximal rest) le full =
     let len : length (replicate n (is_black color) ++ others) ≡ n + length others = length-append
     (replicate n (is_black color)) others ∙ ap (λ (k : ℕ). k + length others) (length-replicate n (is_black color)) in
-    let open_end : length front < columns = omega (arith, len) in
     let here : (word ++ next) ++ more ≡ word ++ (next ++ more) = append_assoc word next more in
     let sum : 0 + n ≡ n = omega arith in
     let read : run_from color (0, (word ++ next) ++ more) ≡ Ok (n, next ++ more) = grind (arith, common_steps, run_spelled) in

@@ -4,12 +4,11 @@ use Rattle.fax_reading.proofs.Names.{eqb, List, [], ◌∷◌, ◌++◌, length,
 use Rattle.fax_reading.proofs.Names.{subst, ◌∙◌, arith, ◌⊎◌, inl, inr, All, agree_below_at, eqb-true, false≢true, cases_lt}
 use Rattle.fax_reading.proofs.Names.{All-head, All-tail, All-cons, length-reverse, reverse-reverse, length-append}
 use Rattle.fax_reading.proofs.Names.{length-replicate, bit_at_cat_high, Color, White, Black, BitOrder, HighestFirst, LowestFirst}
-use Rattle.fax_reading.proofs.Names.{Bits, bit_of, bits_of_byte, bits_in, low_bits, Code, Has, Row, is_black, opposite, a1, a2}
+use Rattle.fax_reading.proofs.Names.{Bits, bits_of_byte, bits_in, low_bits, Code, Has, Row, is_black, opposite, a1, a2}
 use Rattle.fax_reading.proofs.Names.{codes_of, Spells, EncodesLine1D, EncodesLine2D, EncodesLine, padding, EncodesRows, eol}
 use Rattle.fax_reading.proofs.Names.{EncodesRowsWithEols, tag_of, ClosesWithEols, EveryPictureHasAnEncoding}
 use Rattle.fax_reading.proofs.Names.{BytesBeginWithAnyBits, Group4, Group3_1D, Group3_2D, EncodingMode, common_steps}
 use Rattle.fax_bits.proofs.BitReading.WordRanges.{low_bits_below, same_bit}
-use Rattle.fax_bits.proofs.CodeWords.ReadRuns.{chosen}
 use Rattle.fax_reading.proofs.PixelRows.ChangePlaces.{a1_next, a2_next, a2_least}
 
 -- ---- Runs.
@@ -20,10 +19,7 @@ word_for (c ∷ list) n = cond (eqb c.value n) (Some c.word) (word_for list n)
 
 word_for_has : (list : List (Code ℕ)) (n : ℕ) (word : Bits) → word_for list n ≡ Some word → Has list n word
 word_for_has [] n word e = absurd cc
-word_for_has (c ∷ list) n word e = elim (chosen (eqb c.value n) _ _ _ e) [
-  | inl a ↦ let f : ◌≡◌ {A = Option Bits} (Some c.word) (Some word) = a.1 in inl (eqb-true c.value n a.0, cc)
-  | inr a ↦ inr (word_for_has list n word a.1)
-]
+word_for_has (c ∷ list) n word e = grind (arith, word_for_has list n word, eqb-true)
 
 some_word : (list : List (Code ℕ)) (n : ℕ) → is_some (word_for list n) ≡ true → (word : Bits) × Has list n word
 some_word list n e = by_word_for (word_for list n) refl
@@ -78,10 +74,7 @@ line_1d_exists color n [] some =
     (run.0 ++ [], EncodesLine1D.run n run.0 run.1 some (λ rest e. absurd cc) EncodesLine1D.over)
 line_1d_exists color n (pixel ∷ row) some = elim (pixel_or color pixel) [
   | inl same ↦
-      let longer = line_1d_exists color (suc n) row (omega arith) in
-      let is : replicate (suc n) (is_black color) ++ row ≡ replicate n (is_black color) ++ (pixel ∷ row) =
-      sym (replicate-push n (is_black color) row) ∙ ap (λ (p : Bool). replicate n (is_black color) ++ (p ∷ row)) (sym same) in
-      (longer.0, subst (λ (r : Row). EncodesLine1D color r longer.0) is longer.1)
+      grind (arith, line_1d_exists color (suc n) row (omega arith), replicate-push)
   | inr other ↦
       let run = every_run_spelled color n in
       let next = line_1d_exists (opposite color) 1 row (omega arith) in
@@ -173,25 +166,19 @@ value : Bits → ℕ
 value [] = 0
 value (bit ∷ bits) = digit bit * 2 ^ length bits + value bits
 
-power_doubles : (n : ℕ) → 2 ^ suc n ≡ 2 * 2 ^ n
-power_doubles n = omega arith
-
 -- it has no more bits
 value_below : (bits : Bits) → value bits < 2 ^ length bits
 unfolding value
 value_below [] = omega arith
-value_below (true ∷ bits) = grind (arith, common_steps, power_doubles, value_below bits)
-value_below (false ∷ bits) = grind (arith, common_steps, power_doubles, value_below bits)
-
-digit_bit : (bit : Bool) → bit_of (digit bit) 0 ≡ bit
-digit_bit bit = grind (arith, common_steps)
+value_below (true ∷ bits) = grind (arith, common_steps, value_below bits)
+value_below (false ∷ bits) = grind (arith, common_steps, value_below bits)
 
 -- the bits of the number that bits write
 low_bits_value : (bits : Bits) → low_bits (length bits) (value bits) ≡ bits
 unfolding value
 low_bits_value [] = refl
 low_bits_value (bit ∷ bits) =
-    grind (arith, common_steps, bit_at_cat_high, digit_bit, low_bits_below, same_bit, value, value_below, low_bits_value bits)
+    grind (arith, common_steps, bit_at_cat_high, low_bits_below, same_bit, value, value_below, low_bits_value bits)
 
 -- the first n of them
 cut_front : (n : ℕ) (bits : Bits) → n ≤ length bits → (front rest : Bits) × (bits ≡ front ++ rest) × (length front ≡ n)
@@ -213,10 +200,7 @@ byte_of : (order : BitOrder) (front : Bits) → length front ≡ 8 → bits_of_b
 byte_of HighestFirst front eight = subst (λ (n : ℕ). low_bits n (value front) ≡ front) eight (low_bits_value front)
 byte_of LowestFirst front eight =
     let back : Bits = reverse front in
-    let it : bits_of_byte HighestFirst (value back) ≡ back
-    = subst (λ (n : ℕ). low_bits n (value back) ≡ back) (length-reverse front ∙ eight) (low_bits_value back) in
-    let other : bits_of_byte LowestFirst (value back) ≡ reverse (bits_of_byte HighestFirst (value back)) = refl in
-    other ∙ ap reverse it ∙ reverse-reverse front
+    grind (arith, common_steps, length-reverse front, low_bits_value back, reverse-reverse front)
 
 -- one byte more
 bits_more : (order : BitOrder) (front rest bits : Bits) (byte : ℕ) (bytes : List ℕ) → bits_of_byte order byte ≡ front

@@ -1,7 +1,7 @@
 -- Where lines of pictures begin, their padding, and how readings that reach their end are described.
 use Rattle.fax_reading.proofs.Names.{◌≡◌, ℕ, suc, ◌+◌, ◌-◌, ◌/◌, ◌%◌, ◌<◌, ◌≤◌, Bool, true, false, cond, not, leb, List, [], ◌∷◌}
-use Rattle.fax_reading.proofs.Names.{◌++◌, length, None, Ok, refl, arith, not-true, false≢true, Color, Mode, EncodingMode}
-use Rattle.fax_reading.proofs.Names.{DecodeSettings, Bits, mode_codes, Has, Row, after_eol, eols, Progress, Ending, row_before}
+use Rattle.fax_reading.proofs.Names.{◌++◌, length, None, Ok, refl, arith, not-true, false≢true, Color, EncodingMode}
+use Rattle.fax_reading.proofs.Names.{DecodeSettings, Bits, Row, after_eol, eols, Progress, Ending, row_before}
 use Rattle.fax_reading.proofs.Names.{aligned, at_end, limit_met, end_of, plain, Allows, EncodesLine2D, padding, eol, common_steps}
 
 -- settings for a closed picture: the end of the block is looked for, and there is no limit
@@ -39,9 +39,6 @@ pub record IsLineStart (here : Bits) : Type 0 where
   pub no_eol : after_eol 0 here ≡ None
   pub open_end : at_end here ≡ false
 
-pub mode_starts : (mode : Mode) (word more : Bits) → Has mode_codes mode word → IsLineStart (word ++ more)
-mode_starts mode word more has = grind (arith, common_steps)
-
 pub line_2d_starts : (reference row : Row) (from : ℕ) (color : Color) (bits more : Bits)
     → EncodesLine2D reference row from color bits → from ≤ length row → IsLineStart (bits ++ more)
 line_2d_starts reference row from color bits more given le = grind (arith, common_steps)
@@ -57,11 +54,6 @@ not_met settings n k given lt = grind (arith, common_steps)
 -- ---- Padding.
 abbrev pub fill : Bool → Bits → Bits
 fill b line = cond b (padding (length line)) []
-
--- from a whole byte on, a line with its padding ends at a whole byte
-pub aligned_again : (b : Bool) (line next : Bits) → (b ≡ true → length ((line ++ fill b line) ++ next) % 8 ≡ 0)
-    → cond b (aligned (fill b line ++ next)) (fill b line ++ next) ≡ next
-aligned_again b line next whole = grind (arith, common_steps)
 
 -- the next line begins at a whole byte too
 pub aligned_on : (b : Bool) (line next : Bits) → (b ≡ true → length ((line ++ fill b line) ++ next) % 8 ≡ 0) → b ≡ true

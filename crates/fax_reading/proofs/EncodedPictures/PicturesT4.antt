@@ -1,6 +1,6 @@
 -- A T.4 picture is read again.
 use Rattle.fax_bits.proofs.BitReading.PlainEols.{few_keep_the_tag}
-use Rattle.fax_reading.proofs.Names.{◌≡◌, ◌≢◌, ℕ, zero, suc, ◌+◌, ◌<◌, ◌≤◌, Bool, true, false, cond, ◌&&◌, ◌||◌, ltb, List, []}
+use Rattle.fax_reading.proofs.Names.{◌≡◌, ◌≢◌, ℕ, zero, suc, ◌+◌, ◌<◌, ◌≤◌, Bool, true, false, cond, ◌&&◌, List, []}
 use Rattle.fax_reading.proofs.Names.{◌∷◌, ◌++◌, length, replicate, Some, None, Ok, Err, refl, sym, ap, subst, ◌∙◌, append_assoc}
 use Rattle.fax_reading.proofs.Names.{arith, inl, inr, All, and_right, and_from, not_from_false, or_from, cond-false, eq-eqb}
 use Rattle.fax_reading.proofs.Names.{ne_eqb, length-append, length-replicate, append-nil, All-head, All-tail, Color, White}
@@ -8,7 +8,7 @@ use Rattle.fax_reading.proofs.Names.{UnexpectedEof, EncodingMode, Group3_1D, Gro
 use Rattle.fax_reading.proofs.Names.{repeated, Row, codes_of, Line, line_1d, line_2d, after_eol, one_more, eols, all_eols}
 use Rattle.fax_reading.proofs.Names.{past_tag, eols_with_tags, tagged_eols, is_over, cond-true}
 use Rattle.fax_reading.proofs.Names.{Progress, Ending, row_before, aligned, at_end, limit_met, line_here, eols_here, after_line}
-use Rattle.fax_reading.proofs.Names.{move_on, ending_from, end_of, Spells, EncodesLine1D, EncodesLine2D, EncodesLine, eol, tag_of}
+use Rattle.fax_reading.proofs.Names.{move_on, end_of, Spells, EncodesLine1D, EncodesLine2D, EncodesLine, eol, tag_of}
 use Rattle.fax_reading.proofs.Names.{IsPicture, EncodesRowsWithEols, ClosesWithEols, PictureT4, each_word, ReadsPictureT4}
 use Rattle.fax_reading.proofs.Names.{ReadsLimitedPictureT4, OnePictureT4, Allows, common_steps}
 use Rattle.fax_reading.proofs.EncodedPictures.EncodedLines.{line_2d_again}
@@ -18,7 +18,7 @@ use Rattle.fax_bits.proofs.Repetition.Repeated.{after_turn}
 use Rattle.fax_reading.proofs.EncodedPictures.PictureLines.{closed_settings, begins_no_eol, no_eol_at_word, bits_at_word}
 use Rattle.fax_reading.proofs.EncodedPictures.PictureLines.{IsLineStart, not_met, row_before_push, plain_ends}
 use Rattle.fax_reading.proofs.Readings.GapsAndRows.{first_gap_t4, ending_t4}
-use Rattle.fax_reading.proofs.Readings.RowsAndGaps.{unless_over, after_row, after_whole-is}
+use Rattle.fax_reading.proofs.Readings.RowsAndGaps.{after_row, after_whole-is}
 use Rattle.fax_reading.proofs.Readings.TurnsMoveOn.{eols_end}
 use Rattle.fax_bits.proofs.BitReading.ConsecutiveEols.{eols-none, one_more-count, eol_of, eols_with_tags-some}
 use Rattle.fax_bits.proofs.BitReading.ConsecutiveEols.{eols_with_tags-none, last_tag_count}
@@ -69,9 +69,6 @@ one_eol fill here none = all_eols_more fill here ∙ ap one_more (eols-none (11 
 tagged_eols_more : (most fill : ℕ) (more : Bits)
     → eols_with_tags (suc most) (eol fill ++ more) ≡ one_more (eols_with_tags most (past_tag more))
 tagged_eols_more most fill more = eols_with_tags-some most (eol fill ++ more) more (eol_stands fill more)
-
-one_tagged : (fill : ℕ) (here : Bits) → IsTagStart here → tagged_eols (eol fill ++ here) ≡ (1, here)
-one_tagged fill here at = grind (arith, common_steps, eols_with_tags-none, length-eol, few_keep_the_tag, tagged_eols_more)
 
 -- ---- Kinds.
 pub eols_here_one : (settings : DecodeSettings) (here : Bits) → settings.encoding ≡ Group3_1D
@@ -134,10 +131,6 @@ Matches Group3_2D settings = settings.encoding ≡ Group3_2D
 pub matches_itself : (settings : DecodeSettings) → settings.encoding ≢ Group4 → Matches settings.encoding settings
 matches_itself settings three = grind (arith, common_steps)
 
--- and so are not for Group 4
-matches_t4 : (settings : DecodeSettings) (encoding : EncodingMode) → Matches encoding settings → settings.encoding ≢ Group4
-matches_t4 settings encoding matches = grind (arith, common_steps)
-
 -- the end of lines that were read with EOLs
 abbrev ended_with_eols : List Row → Bits → Ending
 ended_with_eols rows rest = record { rows = rows; has_eols = true; outcome = Ok rest }
@@ -156,8 +149,7 @@ module _ (settings : DecodeSettings) (wide : 0 < settings.columns) (small : sett
       → line_here settings reference (line ++ more) ≡ Line.whole row more
   line_t4_again Group4 reference row line more matches is ref_len row_len = absurd matches
   line_t4_again Group3_1D reference row line more matches is ref_len row_len =
-      let len : length {A = Bool} [] + length row ≡ settings.columns = omega arith in
-      rw (matches, line_here) (line_1d_again settings.strict settings.columns [] row White line more is small len)
+      grind (arith, common_steps, line_1d_again settings.strict settings.columns [] row White line more is small)
   line_t4_again Group3_2D reference row line more matches (rest, inl is) ref_len row_len =
       let len : length {A = Bool} [] + length row ≡ settings.columns = omega arith in
       ap (λ (x : Bits). line_here settings reference (x ++ more)) is.0 ∙ tagged_line settings reference true
@@ -182,16 +174,23 @@ module _ (settings : DecodeSettings) (wide : 0 < settings.columns) (small : sett
       → EncodesLine encoding reference row line
       → length row ≡ settings.columns → eols_here settings (eol fill ++ (line ++ more)) ≡ (1, line ++ more)
   eol_before encoding reference row fill line more matches is row_len =
-      grind (arith, common_steps, eols_here_one, eols_here_two, line_t4_starts, one_eol, one_tagged, tag_starts)
+      grind (
+        arith,
+        common_steps,
+        eols_here_one,
+        eols_here_two,
+        line_t4_starts,
+        one_eol,
+        eols_with_tags-none,
+        length-eol,
+        few_keep_the_tag,
+        tagged_eols_more,
+        tag_starts,
+      )
 
   -- ---- The lines of a picture.
   abbrev with_eols : List Row → Bits → Progress
   with_eols rows rest = record { rows = rows; has_eols = true; rest = rest }
-
-  -- EOLs that came after a row are consumed
-  counted_row : (rows : List Row) (here : Bits) (found : ℕ × Bits) → eols_here settings here ≡ found → 0 < found.0
-      → after_row settings (with_eols rows here) ≡ unless_over settings (with_eols rows here) found
-  counted_row rows here found is some = grind (arith, common_steps)
 
   -- one row is added
   row_added : (before : List Row) (row : Row) (here tail : Bits) → line_here settings (row_before settings.columns before) here
@@ -229,14 +228,8 @@ module _ (settings : DecodeSettings) (wide : 0 < settings.columns) (small : sett
         let count : length rows1 < length whole = omega (arith, ap length all2, length-append rows1 (row2 ∷ rows)) in
         let open_end : at_end rest ≡ false =
         (line_t4_starts encoding row row2 line_2d (next2 ++ tail) matches is2 row2_len).open_end in
-        let over : is_over settings (length rows1) (1, rest) ≡ false = or_from _ _ (or_from _ _
-        ((eols_end settings 1).0 (omega arith)) (not_met settings (length whole) (length rows1) allows count)) open_end in
-        let moved : move_on settings (with_eols before (line ++ (next ++ tail))) ≡ Turn.next (with_eols rows1 rest)
-        = grind (arith, common_steps, cond-false, counted_row, row_added) in
-        let pushed : row_before settings.columns rows1 ≡ row = row_before_push settings.columns before row in
-        ap (after_turn (repeated (move_on settings) late fuel)) moved
-        ∙ lines_t4_again rows1 row2 rows line_2d next2 fuel all2 (ap length pushed ∙ row_len) widths2
-        (subst (λ (r : Row). EncodesLine encoding r row2 line_2d) (sym pushed) is2) lines2 (omega arith)
+        let over : is_over settings (length rows1) (1, rest) ≡ false = grind (arith, or_from, eols_end, not_met) in
+        grind (arith, lines_t4_again rows1 row2 rows line_2d next2 fuel all2, row_before_push)
 
   -- ---- How a run ends.
   -- six EOLs end it
@@ -252,7 +245,7 @@ module _ (settings : DecodeSettings) (wide : 0 < settings.columns) (small : sett
   -- data of Group 3 are read as such
   pub end_of_three : (encoding : EncodingMode) (bits : Bits) → Matches encoding settings
       → end_of settings bits ≡ ending_t4 settings bits
-  end_of_three encoding bits matches = grind (arith, common_steps, first_gap_t4, matches_t4)
+  end_of_three encoding bits matches = grind (arith, common_steps, first_gap_t4)
 
   length-lines : (encoding : EncodingMode) (reference : Row) (rows : List Row) (bits : Bits)
       → EncodesRowsWithEols encoding reference rows bits → length rows ≤ length bits
@@ -273,8 +266,7 @@ module _ (settings : DecodeSettings) (wide : 0 < settings.columns) (small : sett
       let one : all_eols (eol fill ++ rest) ≡ (1, rest) = grind (arith, common_steps, line_t4_starts, one_eol) in
       let late : Ending = record { rows = []; has_eols = true; outcome = Err UnexpectedEof } in
       let started : ending_t4 settings (eol fill ++ rest)
-      ≡ repeated (move_on settings) late (suc (suc (length rest))) (with_eols [] rest) = ap (λ (f : ℕ × Bits).
-      ending_from (move_on settings) (record { rows = []; has_eols = ltb 0 f.0 || settings.end_of_line; rest = f.1 })) one in
+      ≡ repeated (move_on settings) late (suc (suc (length rest))) (with_eols [] rest) = grind arith in
       let short : length rows < suc (suc (length rest)) = grind (arith, common_steps, length-append, length-lines) in
       end_of_three encoding (lines ++ tail) matches ∙ ap (ending_t4 settings) here
       ∙ started ∙ lines_t4_again encoding matches late tail last (row ∷ rows) allows stops [] row rows line next

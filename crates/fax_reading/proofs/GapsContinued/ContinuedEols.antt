@@ -1,6 +1,6 @@
 -- EOLs with more bits behind.
 use Rattle.fax_reading.proofs.Names.{common_steps, ◌≡◌, ℕ, zero, suc, ◌<◌, ◌≤◌, Bool, true, false, [], ◌∷◌, ◌++◌, Option, Some}
-use Rattle.fax_reading.proofs.Names.{None, refl, sym, ap, ◌∙◌, ◌⊎◌, inl, inr, arith, length-append, Bits, after_eol, one_more}
+use Rattle.fax_reading.proofs.Names.{None, refl, sym, ap, ◌∙◌, ◌⊎◌, arith, length-append, Bits, after_eol, one_more}
 use Rattle.fax_reading.proofs.Names.{eols, all_eols, next_eol}
 use Rattle.fax_reading.specs.GapsContinued.{holds_one}
 use Rattle.fax_bits.proofs.BitReading.ConsecutiveEols.{eol_of, eols-some, eols-none}
@@ -101,12 +101,7 @@ eols-more more (suc most) here settled = by_after_eol (λ rest. eols-more more m
     by_after_eol on None e = grind (arith, common_steps, eols-none, after_eol-more)
     by_after_eol on (Some rest) e =
         let stepped : eols (suc most) here ≡ one_more (eols most rest) = eols-some most here rest e in
-        let inside : (most ≤ (eols most rest).0) ⊎ (holds_one (eols most rest).1 ≡ true) = elim settled [
-          | inl all ↦ let fewer :
-              (eols (suc most) here).0 ≡ suc (eols most rest).0 = ap (λ (found : ℕ × Bits). found.0) stepped in inl
-              (omega (arith, all, fewer))
-          | inr one ↦ inr (sym (ap (λ (found : ℕ × Bits). holds_one found.1) stepped) ∙ one)
-        ] in
+        let inside : (most ≤ (eols most rest).0) ⊎ (holds_one (eols most rest).1 ≡ true) = grind arith in
         eols-some most (here ++ more) (rest ++ more) (eol-more more here rest e)
         ∙ ap one_more (on rest inside) ∙ one_then_more more (eols most rest) ∙ sym (ap (count_then_more more) stepped)
 
@@ -118,13 +113,8 @@ all_eols-more more here one = grind (arith, common_steps, eols_enough, length-ap
 pub eols_may_come : (most : ℕ) (here : Bits) → (eols most here).0 < most → holds_one (eols most here).1 ≡ false
     → eols most (here ++ bytes_of_eol) ≡ (suc (eols most here).0, [])
 eols_may_come zero here few none = absurd (omega arith)
-eols_may_come (suc most) here few none = by_after_eol (λ rest. eols_may_come most rest) (after_eol 0 here) refl
-  where
-    by_after_eol : ((rest : Bits) → (eols most rest).0 < most → holds_one (eols most rest).1 ≡ false
-        → eols most (rest ++ bytes_of_eol) ≡ (suc (eols most rest).0, [])) → (o : Option Bits) → after_eol 0 here ≡ o
-        → eols (suc most) (here ++ bytes_of_eol) ≡ (suc (eols (suc most) here).0, [])
-    by_after_eol on None e = grind (arith, common_steps, eols-none, eols-some, eol_may_come)
-    by_after_eol on (Some rest) e = grind (arith, common_steps, eols-some, eol-more)
+eols_may_come (suc most) here few none =
+    grind (arith, eols_may_come most, eols-none, eols-some, eol_may_come, eol-more)
 
 pub all_eols_may_come : (here : Bits) → holds_one (all_eols here).1 ≡ false
     → all_eols (here ++ bytes_of_eol) ≡ (suc (all_eols here).0, [])

@@ -1,6 +1,6 @@
 -- EOLs with tags between them, with more bits behind.
 use Rattle.fax_reading.proofs.Names.{common_steps, ◌≡◌, ℕ, zero, suc, ◌<◌, ◌≤◌, true, false, [], ◌∷◌, ◌++◌, length, Option, Some}
-use Rattle.fax_reading.proofs.Names.{None, refl, sym, ap, ◌∙◌, cases_lt, arith, length-append, le-leb, lt-leb, lt-ltb, le-ltb}
+use Rattle.fax_reading.proofs.Names.{None, refl, sym, ap, ◌∙◌, cases_lt, arith, length-append, le-leb, lt-leb, lt-ltb}
 use Rattle.fax_reading.proofs.Names.{Bits, after_eol, one_more, past_tag, eols_with_tags, pass_last_tag, tagged_eols}
 use Rattle.fax_reading.specs.GapsContinued.{holds_one, behind_line_tag}
 use Rattle.fax_bits.proofs.BitReading.ConsecutiveEols.{eols_with_tags-some, eols_with_tags-none, all_tagged, count_same}
@@ -16,41 +16,24 @@ behind_one (true ∷ here) = here
 
 -- a one behind a tag is a one
 one_behind_one : (here : Bits) → holds_one (behind_one here) ≡ true → holds_one here ≡ true
-one_behind_one [] one = one
-one_behind_one (false ∷ here) one = one
-one_behind_one (true ∷ here) one = refl
+one_behind_one here one = grind arith
 
 -- ---- The tag before an EOL
 -- where a one is left behind the tag, more bits make no difference to whether it is passed
 past_tag-more : (more here : Bits) → holds_one (behind_one here) ≡ true → past_tag (here ++ more) ≡ past_tag here ++ more
-past_tag-more more [] one = absurd cc
-past_tag-more more (false ∷ here) one = refl
-past_tag-more more (true ∷ here) one = grind (arith, common_steps, after_eol-more, eol-more)
+past_tag-more more here one = grind (arith, after_eol-more, eol-more)
 
 -- a one is left behind the tag if one is left behind the next tag
 one_behind_past : (here : Bits) → holds_one (behind_one (past_tag here)) ≡ true → holds_one (behind_one here) ≡ true
-one_behind_past [] one = one
-one_behind_past (false ∷ here) one = one
-one_behind_past (true ∷ here) one = grind (arith, common_steps, eol_holds_one)
+one_behind_past here one = grind (arith, eol_holds_one)
 
 -- or if an EOL is behind the tag
 one_in_eol : (here rest : Bits) → after_eol 0 (past_tag here) ≡ Some rest → holds_one (behind_one here) ≡ true
-one_in_eol [] rest f = absurd cc
-one_in_eol (false ∷ here) rest f = eol_holds_one 0 (false ∷ here) rest f
-one_in_eol (true ∷ here) rest f = grind (arith, common_steps, eol_holds_one)
+one_in_eol here rest f = grind (arith, eol_holds_one)
 
 -- where no one is left behind the tag, an EOL may come
 tag_may_come : (here : Bits) → holds_one (behind_one here) ≡ false → after_eol 0 (past_tag (here ++ bytes_of_eol)) ≡ Some []
-tag_may_come [] none = refl
-tag_may_come (false ∷ here) none = eol_may_come 1 here none
-tag_may_come (true ∷ here) none = let comes = eol_may_come 0 here none in rw (comes, past_tag) comes
-
--- where an EOL isn't here, no one is left behind the tag if none is left behind the next one
-none_behind_past : (here : Bits) → after_eol 0 (past_tag here) ≡ None → holds_one (behind_one (past_tag here)) ≡ false
-    → holds_one (behind_one here) ≡ false
-none_behind_past [] f none = none
-none_behind_past (false ∷ here) f none = none
-none_behind_past (true ∷ here) f none = grind (arith, common_steps)
+tag_may_come here none = grind (arith, eol_may_come)
 
 -- ---- The EOLs after an EOL
 -- the EOLs behind a tag
@@ -89,7 +72,7 @@ tagged_past_may_come (suc most) here few none = by_after_eol (λ rest. tagged_pa
         → tagged_past most (rest ++ bytes_of_eol) ≡ (suc (tagged_past most rest).0, [])) → (o : Option Bits)
         → after_eol 0 (past_tag here) ≡ o
         → tagged_past (suc most) (here ++ bytes_of_eol) ≡ (suc (tagged_past (suc most) here).0, [])
-    by_after_eol on None e = grind (arith, common_steps, eols_with_tags-none, eols_with_tags-some, tag_may_come, none_behind_past)
+    by_after_eol on None e = grind (arith, common_steps, eols_with_tags-none, eols_with_tags-some, tag_may_come)
     by_after_eol on (Some rest) e = grind (arith, common_steps, eols_with_tags-some, past_tag-more, one_in_eol, eol-more)
 
 -- ---- The EOLs here
@@ -98,66 +81,21 @@ abbrev pub behind_first_tag : ℕ × Bits → Bits
 behind_first_tag (zero, rest) = rest
 behind_first_tag (suc count, rest) = behind_one rest
 
-eols_with_tags-more : (more : Bits) (most : ℕ) (here : Bits) → 0 < most
-    → holds_one (behind_first_tag (eols_with_tags most here)) ≡ true
-    → eols_with_tags most (here ++ more) ≡ count_then_more more (eols_with_tags most here)
-eols_with_tags-more more zero here some one = absurd (omega arith)
-eols_with_tags-more more (suc most) here some one = grind
-    (arith, common_steps, eols_with_tags-none, after_eol-more, eols_with_tags-some, eol-more, tagged_past-more, one_then_more)
-
-eols_with_tags_may_come : (most : ℕ) (here : Bits) → (eols_with_tags most here).0 < most
-    → holds_one (behind_first_tag (eols_with_tags most here)) ≡ false
-    → eols_with_tags most (here ++ bytes_of_eol) ≡ (suc (eols_with_tags most here).0, [])
-eols_with_tags_may_come zero here few none = absurd (omega arith)
-eols_with_tags_may_come (suc most) here few none = by_after_eol (after_eol 0 here) refl
-  where
-    outside : (found : ℕ × Bits) → holds_one (behind_first_tag (one_more found)) ≡ holds_one (behind_one found.1)
-    outside (count, rest) = refl
-
-    by_after_eol : (o : Option Bits) → after_eol 0 here ≡ o
-        → eols_with_tags (suc most) (here ++ bytes_of_eol) ≡ (suc (eols_with_tags (suc most) here).0, [])
-    by_after_eol None e = grind (arith, common_steps, eols_with_tags-none, eols_with_tags-some, eol_may_come)
-    by_after_eol (Some rest) e =
-        let is = eols_with_tags-some most here rest e in
-        let count : (eols_with_tags (suc most) here).0 ≡ suc (tagged_past most rest).0 = ap (λ (found : ℕ × Bits). found.0) is in
-        let left : holds_one (behind_one (tagged_past most rest).1) ≡ false =
-        sym (outside (tagged_past most rest)) ∙ sym (ap (λ (found : ℕ × Bits). holds_one (behind_first_tag found)) is) ∙ none in
-        eols_with_tags-some most (here ++ bytes_of_eol) (rest ++ bytes_of_eol) (eol-more bytes_of_eol here rest e)
-        ∙ ap one_more (tagged_past_may_come most rest (omega (arith, few, count)) left) ∙ ap (λ (n : ℕ). (suc n, [])) (sym count)
-
 -- there are at most as many EOLs as were sought
 tagged_at_most : (most : ℕ) (here : Bits) → (eols_with_tags most here).0 ≤ most
 tagged_at_most zero here = omega arith
-tagged_at_most (suc most) here = by_after_eol (λ rest. tagged_at_most most rest) (after_eol 0 here) refl
-  where
-    by_after_eol : ((rest : Bits) → (eols_with_tags most rest).0 ≤ most) → (o : Option Bits) → after_eol 0 here ≡ o
-        → (eols_with_tags (suc most) here).0 ≤ suc most
-    by_after_eol on None e = grind (arith, common_steps, eols_with_tags-none)
-    by_after_eol on (Some rest) e = grind (arith, common_steps, eols_with_tags-some)
+tagged_at_most (suc most) here = grind (arith, tagged_at_most most, eols_with_tags-none, eols_with_tags-some)
 
 -- ---- The tag of RTC
--- from six EOLs on no tag is a line's
-no_line_tag : (count : ℕ) (rest : Bits) → 6 ≤ count → behind_line_tag (count, rest) ≡ rest
-no_line_tag count [] many = refl
-no_line_tag count (false ∷ rest) many = refl
-no_line_tag count (true ∷ rest) many = grind (arith, common_steps, le-ltb)
 
 -- the bits behind the last tag, whether it is a line's or that of RTC
 pub last_tag_tested : (found : ℕ × Bits) → behind_line_tag (pass_last_tag found) ≡ behind_first_tag found
-last_tag_tested (zero, []) = refl
-last_tag_tested (suc count, []) = refl
-last_tag_tested (zero, false ∷ rest) = refl
-last_tag_tested (suc count, false ∷ rest) = refl
-last_tag_tested (zero, true ∷ rest) = refl
-last_tag_tested (suc count, true ∷ rest) = grind (arith, common_steps, cases_lt, lt-leb, lt-ltb, le-leb, no_line_tag)
+last_tag_tested found = grind (arith, cases_lt, lt-leb, lt-ltb, le-leb)
 
 -- where a bit is left, more bits make no difference to whether the tag is that of RTC
 last_tag-more : (more : Bits) (found : ℕ × Bits) → holds_one (behind_first_tag found) ≡ true
     → pass_last_tag (count_then_more more found) ≡ count_then_more more (pass_last_tag found)
-last_tag-more more (zero, []) one = absurd cc
-last_tag-more more (suc count, []) one = absurd cc
-last_tag-more more (count, false ∷ rest) one = refl
-last_tag-more more (count, true ∷ rest) one = grind (arith, common_steps)
+last_tag-more more found one = grind arith
 
 -- where a one is left behind the tag, more bits make no difference
 pub tagged_eols-more : (more here : Bits) → holds_one (behind_line_tag (tagged_eols here)) ≡ true
@@ -172,25 +110,34 @@ tagged_eols-more more here one =
     let left : holds_one (behind_first_tag (all_tagged here)) ≡ true =
     sym (ap holds_one (last_tag_tested (all_tagged here))) ∙ one in
     let counted : all_tagged (here ++ more) ≡ count_then_more more (all_tagged here) =
-    sym all ∙ eols_with_tags-more more most here (omega arith)
-    (ap (λ (found : ℕ × Bits). holds_one (behind_first_tag found)) fewer ∙ left) ∙ ap (count_then_more more) fewer in
+    grind (
+      arith,
+      common_steps,
+      eols_with_tags-none,
+      after_eol-more,
+      eols_with_tags-some,
+      eol-more,
+      tagged_past-more,
+      one_then_more,
+    ) in
     ap pass_last_tag counted ∙ last_tag-more more (all_tagged here) left
 
 -- where none is, an EOL more may come
 pub tagged_eols_may_come : (here : Bits) → holds_one (behind_line_tag (tagged_eols here)) ≡ false
     → tagged_eols (here ++ bytes_of_eol) ≡ (suc (tagged_eols here).0, [])
 tagged_eols_may_come here none =
-    let most = suc (length (here ++ bytes_of_eol)) in
-    let long = length-append here bytes_of_eol in
-    let fewer : eols_with_tags most here ≡ all_tagged here = count_same counts_tagged most
-    (length here) here (omega (arith, long)) (omega arith) in
-    let all : eols_with_tags most (here ++ bytes_of_eol) ≡ all_tagged (here ++ bytes_of_eol) = count_same counts_tagged most
-    (length (here ++ bytes_of_eol)) (here ++ bytes_of_eol) (omega arith) (omega arith) in
-    let left : holds_one
-    (behind_first_tag (all_tagged here)) ≡ false = sym (ap holds_one (last_tag_tested (all_tagged here))) ∙ none in
-    let few : (eols_with_tags most here).0
-    < most = omega (arith, long, ap (λ (found : ℕ × Bits). found.0) fewer, tagged_at_most (length here) here) in
-    let counted : all_tagged (here ++ bytes_of_eol) ≡ (suc (all_tagged here).0, []) = sym all
-    ∙ eols_with_tags_may_come most here few (ap (λ (found : ℕ × Bits). holds_one (behind_first_tag found)) fewer ∙ left)
-    ∙ ap (λ (found : ℕ × Bits). (suc found.0, [])) fewer in
-    ap pass_last_tag counted ∙ ap (λ (n : ℕ). (suc n, [])) (sym (last_tag_count (all_tagged here)))
+    grind (
+      arith,
+      common_steps,
+      length-append here bytes_of_eol,
+      count_same counts_tagged,
+      counts_tagged,
+      last_tag_tested (all_tagged here),
+      tagged_at_most (length here) here,
+      eols_with_tags-none,
+      eols_with_tags-some,
+      eol_may_come,
+      eol-more,
+      tagged_past_may_come,
+      last_tag_count (all_tagged here),
+    )

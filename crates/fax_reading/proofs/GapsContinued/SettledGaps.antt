@@ -1,10 +1,10 @@
 -- Gaps with more bits behind.
-use Rattle.fax_reading.proofs.Names.{common_steps, ◌≡◌, ◌≢◌, ℕ, suc, Bool, true, false, not, ◌&&◌, ◌||◌, cond, leb, eqb, [], ◌∷◌}
+use Rattle.fax_reading.proofs.Names.{common_steps, ◌≡◌, ◌≢◌, ℕ, suc, Bool, true, false, not, ◌&&◌, ◌||◌, cond, leb, []}
 use Rattle.fax_reading.proofs.Names.{◌++◌, length, Option, Some, None, Ok, Err, refl, sym, ap, ◌∙◌, inl, inr, arith}
 use Rattle.fax_reading.proofs.Names.{length-append, and_parts, or_parts, cases_Bool, not-false, leb-true, ne_eqb, AreWholeBytes}
 use Rattle.fax_reading.proofs.Names.{Bits, after_eol, eols, all_eols, tagged_eols, next_eol, DecodeSettings}
-use Rattle.fax_reading.proofs.Names.{InvalidCode, EncodingMode, Group4, Group3_1D, Group3_2D, Gap, Move, Turn, Held}
-use Rattle.fax_reading.proofs.Names.{eols_by, eols_here, is_end_of_block, limit_met, behind_eols, from_next_eol, misses_eol}
+use Rattle.fax_reading.proofs.Names.{InvalidCode, EncodingMode, Group4, Group3_1D, Group3_2D, Gap, Held}
+use Rattle.fax_reading.proofs.Names.{eols_by, eols_here, behind_eols, from_next_eol, misses_eol}
 use Rattle.fax_reading.proofs.Names.{gap_behind_row, at_gap, at_front, first_gap, repairs_behind}
 use Rattle.std.proofs.lemmas.Bool.{or_cases, leb-false}
 use Rattle.fax_reading.specs.GapsContinued.{holds_one, behind_line_tag, eols_are_settled, eols_here_are_settled}
@@ -61,22 +61,13 @@ eols_here_may_come settings here unsettled = by_encoding settings.encoding setti
 last_eol_counted : (settings : DecodeSettings) (here : Bits) → after_eol 0 here ≡ Some [] → eols_here settings here ≡ (1, [])
 last_eol_counted settings here e = grind (arith, common_steps, all_eols-some here [] e, all_tagged-some here [] e, eols-some)
 
--- without bits nothing is settled
-none_is_settled : (settings : DecodeSettings) → eols_here_are_settled settings [] ≡ false
-none_is_settled settings = grind (arith, common_steps)
-
 -- ---- What follows them
--- where no bit is left and the EOLs are settled, they are the end
-settled_end : (settings : DecodeSettings) (count : ℕ)
-    → eols_are_settled settings.encoding settings.end_of_block (count, []) ≡ true → is_end_of_block settings count ≡ true
-settled_end settings count settled = grind (arith, common_steps)
 
 -- what follows settled EOLs is the same with more bits behind
 behind_eols-more : (more : Bits) (settings : DecodeSettings) (taken : ℕ) (has_eols : Bool) (found : ℕ × Bits)
     → eols_are_settled settings.encoding settings.end_of_block found ≡ true → behind_eols settings taken has_eols
     (count_then_more more found) ≡ gap_before more (behind_eols settings taken has_eols found)
-behind_eols-more more settings taken has_eols (count, []) settled = rw (settled_end settings count settled) refl
-behind_eols-more more settings taken has_eols (count, bit ∷ rest) settled = grind (arith, common_steps)
+behind_eols-more more settings taken has_eols found settled = grind (arith)
 
 -- where no bit is left the reading ends
 behind_eols-end : (settings : DecodeSettings) (taken : ℕ) (has_eols : Bool) (count : ℕ)
@@ -88,10 +79,7 @@ behind_eols-end settings taken has_eols count = grind (arith, common_steps)
 misses_eol-more : (more : Bits) (settings : DecodeSettings) (taken : ℕ) (has_eols : Bool) (here : Bits)
     → eols_here_are_settled settings here ≡ true
     → misses_eol settings taken has_eols (here ++ more) ≡ misses_eol settings taken has_eols here
-misses_eol-more more settings taken has_eols [] settled = absurd (let none = none_is_settled settings in cc)
-misses_eol-more more settings taken has_eols (bit ∷ here) settled =
-    ap (λ (found : ℕ × Bits). (eqb found.0 0) && has_eols && not (limit_met settings taken) && not false)
-    (eols_here-more more settings (bit ∷ here) settled)
+misses_eol-more more settings taken has_eols here settled = grind (arith, eols_here-more)
 
 -- a gap that passes the test is the same with more bits behind
 pub gap_settled : (settings : DecodeSettings) (taken : ℕ) (has_eols : Bool) (here : Bits)
@@ -112,8 +100,7 @@ gap_settled settings taken has_eols here passes more = by_missed (misses_eol set
     by_strict : (b : Bool) → (b || next_eols_are_settled settings (next_eol here)) ≡ true
         → cond b (Gap.over (Err InvalidCode)) (from_next_eol settings taken (here ++ more) (next_eol (here ++ more)))
         ≡ gap_before more (cond b (Gap.over (Err InvalidCode)) (from_next_eol settings taken here (next_eol here)))
-    by_strict true is = refl
-    by_strict false is = by_next (next_eol here) refl is
+    by_strict b is = grind (arith, by_next)
 
     by_missed : (b : Bool) → misses_eol settings taken has_eols here ≡ b
         → (not (misses_eol settings taken has_eols here) || settings.strict || next_eols_are_settled settings (next_eol here))
@@ -146,8 +133,7 @@ gap_may_end settings taken has_eols here fails = by_eols (eols_here_are_settled 
 over_differs : (gap : Gap) → Gap.over (Ok []) ≢ gap_before bytes_of_eol gap
 over_differs (Gap.line_at has_eols rest) e = absurd cc
 over_differs (Gap.over (Err fault)) e = absurd cc
-over_differs (Gap.over (Ok rest)) e = let same : [] ≡ rest ++ bytes_of_eol = cc in
-    absurd (omega (arith, ap length same, length-append rest bytes_of_eol))
+over_differs (Gap.over (Ok rest)) e = grind (arith, common_steps, length-append rest bytes_of_eol)
 
 -- whole bytes change a gap that doesn't pass the test
 gap_unsettled : (settings : DecodeSettings) (taken : ℕ)
@@ -176,8 +162,7 @@ repairs_behind-more held here more passes = grind (arith, common_steps, missed_s
 -- a gap after no row, with more bits behind
 at_gap-more : (more bits : Bits) (gap : Gap)
     → at_gap (at_front (bits ++ more)) (gap_before more gap) ≡ move_before more (at_gap (at_front bits) gap)
-at_gap-more more bits (Gap.line_at has_eols rest) = refl
-at_gap-more more bits (Gap.over outcome) = refl
+at_gap-more more bits gap = grind arith
 
 first_settled : (settings : DecodeSettings) (bits : Bits) → first_gap_is_settled settings.encoding settings bits ≡ true
     → FirstGapIsSettled settings bits
@@ -212,8 +197,7 @@ first_passes settings bits settled = grind (arith, common_steps, cases_Bool, fir
 -- exactly the settled gaps pass the test
 pub gaps_settle : GapsSettle
 gaps_settle = record {
-  gaps = λ settings taken has_eols here.
-      (gap_settled settings taken has_eols here, gap_passes settings taken has_eols here);
+  gaps = grind (arith, gap_settled, gap_passes);
   missed = missed_settled;
   counted = repairs_behind-more;
   bytes = gap_unsettled;

@@ -19,9 +19,7 @@ one_behind_tag (tag ∷ bits) = holds_a_one bits
 
 -- so it does from the tag on
 pub one_from_tag : (bits : Bits) → one_behind_tag bits ≡ true → holds_a_one bits ≡ true
-one_from_tag [] one = one
-one_from_tag (true ∷ bits) one = refl
-one_from_tag (false ∷ bits) one = one
+one_from_tag bits one = grind arith
 
 -- a one follows among the bits of a line, behind its tag if it has one
 abbrev pub one_in_line : EncodingMode → Bits → Bool
@@ -31,14 +29,7 @@ one_in_line Group4 bits = holds_a_one bits
 
 -- a one follows here
 pub one_in_bits : (encoding : EncodingMode) (bits : Bits) → one_in_line encoding bits ≡ true → holds_a_one bits ≡ true
-one_in_bits Group3_1D bits one = one
-one_in_bits Group3_2D bits one = one_from_tag bits one
-one_in_bits Group4 bits one = one
-
--- bits that are left
-some_left : (bits : Bits) → one_behind_tag bits ≡ true → 0 < length bits
-some_left [] e = absurd (false≢true e)
-some_left (b ∷ bits) e = omega arith
+one_in_bits encoding bits one = grind (arith, one_from_tag)
 
 -- a count, and what follows
 abbrev IsPair : ℕ × Bits → ℕ → Bits → Type 0
@@ -154,8 +145,7 @@ module _ (x y : Bits) where
       ))
     where
       one_is_a_bit : (bits : Bits) → one_behind_tag bits ≡ true → 0 < length bits
-      one_is_a_bit [] e = absurd (false≢true e)
-      one_is_a_bit (b ∷ bits) e = omega arith
+      one_is_a_bit bits e = grind (arith, false≢true)
   tag_front (false ∷ here) more count e one = (false ∷ here, omega arith, refl, refl)
   tag_front (true ∷ here) more count e one = by_after_eol (after_eol 0 (here ++ x)) refl
     where
@@ -164,9 +154,7 @@ module _ (x y : Bits) where
           let tagged : past_tag (true ∷ here ++ x) ≡ true ∷ here ++ x = rw (f, past_tag) refl in
           let none : all_tagged (true ∷ here ++ x) ≡ (0, true ∷ here ++ x) = all_tagged-none (true ∷ here ++ x) refl in
           let same = same_bits count (true ∷ here) more (sym none ∙ ap all_tagged (sym tagged) ∙ e) in
-          let behind : holds_a_one here ≡ true = ap one_behind_tag same.1 ∙ one in
-          let other : after_eol 0 (here ++ y) ≡ None = no_eol_front 0 here behind f in
-          (true ∷ here, omega arith, tagged, rw (other, past_tag) refl)
+          grind (arith, no_eol_front)
       by_after_eol (Some rest) f =
           let tagged : past_tag (true ∷ here ++ x) ≡ here ++ x = rw (f, past_tag) refl in
           let counted : all_tagged (here ++ x) ≡ one_more (all_tagged (past_tag rest)) = all_tagged-some (here ++ x) rest f in
@@ -177,8 +165,7 @@ module _ (x y : Bits) where
             count_shorter counts_tagged (length (past_tag rest)) (past_tag rest),
             past_tag_shorter rest,
           ) in
-          let left = after_eol_front 0 here rest f (omega (arith, long, length-append more x)) in
-          (here, omega arith, tagged, rw (left.3, past_tag) refl)
+          grind (arith, after_eol_front, length-append)
 
   tagged_front_for : (n : ℕ) (bits more : Bits) (count : ℕ) → length bits < n → all_tagged (bits ++ x) ≡ (count, more ++ x)
       → one_behind_tag more ≡ true → all_tagged (bits ++ y) ≡ (count, more ++ y)
@@ -191,8 +178,7 @@ module _ (x y : Bits) where
           → (o : Option Bits) → after_eol 0 (bits ++ x) ≡ o → all_tagged (bits ++ y) ≡ (count, more ++ y)
       by_after_eol on None f =
           let same = same_bits count bits more (sym (all_tagged-none (bits ++ x) f) ∙ e) in
-          all_tagged-none (bits ++ y) (no_eol_front 0 bits (ap holds_a_one same.1 ∙ one_from_tag more one) f)
-          ∙ rw (same.0, same.1) refl
+          grind (arith, all_tagged-none, no_eol_front, one_from_tag)
       by_after_eol on (Some rest) f =
           let fewer =
           one_fewer count (more ++ x) (all_tagged (past_tag rest)) (sym (all_tagged-some (bits ++ x) rest f) ∙ e) in
@@ -214,22 +200,18 @@ module _ (x y : Bits) where
   -- a tag of zero is passed in neither
   zero_stays : (n count : ℕ) (here bits : Bits) → one_behind_tag bits ≡ true → IsPair (n, false ∷ here) count (bits ++ x)
       → IsPair (pass_last_tag (count, bits ++ y)) count (bits ++ y)
-  zero_stays n count here [] one e = absurd (false≢true one)
-  zero_stays n count here (true ∷ bits) one e = grind (arith, common_steps)
-  zero_stays n count here (false ∷ bits) one e = refl
+  zero_stays n count here bits one e = grind (arith, false≢true)
 
   -- nor is one after fewer than six EOLs
   few_stay : (count : ℕ) (bits : Bits) → one_behind_tag bits ≡ true → leb 6 count ≡ false
       → IsPair (pass_last_tag (count, bits ++ y)) count (bits ++ y)
-  few_stay count [] one few = absurd (false≢true one)
-  few_stay count (true ∷ bits) one few = rw few refl
-  few_stay count (false ∷ bits) one few = refl
+  few_stay count bits one few = grind (arith, false≢true)
 
   -- the tag of RTC is passed in both
   last_tag_front : (found other : ℕ × Bits) (more : Bits) (count : ℕ)
       → ((raw : Bits) (n : ℕ) → one_behind_tag raw ≡ true → IsPair found n (raw ++ x) → IsPair other n (raw ++ y)) → IsPair
       (pass_last_tag found) count (more ++ x) → one_behind_tag more ≡ true → IsPair (pass_last_tag other) count (more ++ y)
-  last_tag_front (n, []) other more count alike e one = grind (arith, common_steps, length-append, some_left)
+  last_tag_front (n, []) other more count alike e one = grind (arith, common_steps, length-append)
   last_tag_front (n, false ∷ here) other more count alike e one = ap pass_last_tag (alike more count one e)
       ∙ zero_stays n count here more one e
   last_tag_front (n, true ∷ here) other more count alike e one = either_way (leb 6 n) refl e

@@ -46,26 +46,22 @@ drawn_again (suc fuel) strict columns pen row rest lt e =
                 λ others.
                     let step : step_1d strict columns (record pen { rest = run.0 ++ (more.0 ++ others) })
                     ≡ Turn.next (record t { rest = more.0 ++ others }) =
-                    step_1d_is strict columns (record pen { rest = run.0 ++ (more.0 ++ others) })
-                    ∙ cond-false (leb columns (length pen.front)) _ _ open_end.0 ∙ run.2 (more.0 ++ others) in
+                    grind (arith, step_1d_is, cond-false) in
                     ap (λ (b : Bits). drawn_by (step_1d strict columns) (record pen { rest = b }))
                     (append_assoc run.0 more.0 others) ∙ rule (record pen { rest = run.0 ++ (more.0 ++ others) })
                     ∙ ap (after_turn (drawn_by (step_1d strict columns))) step ∙ more.2 others,
               )
         ]
     by_step on (Turn.done line) a =
-        let whole : line ≡ Line.whole row rest =
-        sym (ap (after_turn (drawn_by (step_1d strict columns))) a) ∙ sym (rule pen) ∙ e in
-        let full = full_by columns pen (run_then strict columns pen Turn.next) row rest
-        (draw_run_goes_on strict columns pen Turn.next (λ q. tt)) (sym (step_1d_is strict columns pen) ∙ a
-        ∙ ap Turn.done whole) in
-        let front_is : pen.front ≡ row = let w = full.1 in cc in
-        let rest_is : pen.rest ≡ rest = let w = full.1 in cc in (
-          [],
-          rest_is,
-          λ others. rule (record pen { rest = others })
-              ∙ ap (after_turn (drawn_by (step_1d strict columns))) (step_1d_is strict columns (record pen { rest = others }))
-              ∙ rw (le-leb columns (length pen.front) full.0) (ap (λ (r : Row). Line.whole r others) front_is),
+        grind (
+          arith,
+          common_steps,
+          rule,
+          full_by columns pen (run_then strict columns pen Turn.next) row rest,
+          draw_run_goes_on strict columns pen Turn.next,
+          step_1d_is strict columns pen,
+          step_1d_is strict columns,
+          le-leb columns (length pen.front),
         )
 
 -- what was read of a line, and that it is read again
@@ -112,8 +108,7 @@ one_in_words (word ∷ words) are some = one_stays word (joined words) (word_one
 
 -- a whole line consumed bits
 took_bits : (line : Line) (n : ℕ) (row : Row) (rest : Bits) → TookBits n line → line ≡ Line.whole row rest → length rest < n
-took_bits (Line.whole row rest) n row2 rest2 took e = grind (arith, common_steps)
-took_bits (Line.broken front fault) n row rest took e = absurd cc
+took_bits line n row rest took e = grind arith
 
 -- the bits of words that were consumed
 words_consumed : (words : List Bits) (bits rest : Bits) → AreWords words → bits ++ rest ≡ joined words ++ rest

@@ -1,10 +1,10 @@
 -- Data that begin with the same bits have the same rows before the first line that may differ.
-use Rattle.fax_reading.proofs.Names.{◌≡◌, ℕ, suc, ◌%◌, ◌<◌, ◌≤◌, Bool, true, false, not, ◌&&◌, ◌||◌, eqb, ltb, List, [], ◌∷◌}
+use Rattle.fax_reading.proofs.Names.{◌≡◌, ℕ, suc, ◌%◌, ◌<◌, ◌≤◌, Bool, true, false, not, ◌&&◌, ◌||◌, List, [], ◌∷◌}
 use Rattle.fax_reading.proofs.Names.{◌++◌, length, take, drop, replicate, Option, Some, None, refl, sym, ap, subst, ◌∙◌}
 use Rattle.fax_reading.proofs.Names.{append_assoc, append_cancel_left, append_cancel_right, arith, ◌⊎◌, inl, inr, cases_Bool}
 use Rattle.fax_reading.proofs.Names.{cond-true, cond-false, false≢true, length-append, take-append-drop, or_parts, not-false}
 use Rattle.fax_reading.proofs.Names.{EncodingMode, Group4, Group3_1D, Group3_2D, DecodeSettings, Bits, IsPrefix, Turn, repeated}
-use Rattle.fax_reading.proofs.Names.{Reaches, Row, repaired, Line, after_eol, next_eol, all_eols, eols_here, misses_eol}
+use Rattle.fax_reading.proofs.Names.{Reaches, Row, repaired, Line, after_eol, all_eols, eols_here, misses_eol}
 use Rattle.fax_reading.proofs.Names.{limit_met, at_end, Progress, Ending, Move, row_before, behind_row, line_by, line_here}
 use Rattle.fax_reading.proofs.Names.{DecodeError, UnexpectedEof, Err, after_line, move_on, at_front, first_line, first_gap}
 use Rattle.fax_reading.proofs.Names.{ending_behind, end_of, plain, RowsBefore, common_steps}
@@ -22,7 +22,7 @@ use Rattle.fax_reading.proofs.KeptRows.EqualFronts.{one_in_line, one_in_bits, pa
 use Rattle.fax_reading.proofs.KeptRows.LinesAgain.{line_again, one_in_whole, one_stays, one_there}
 use Rattle.fax_reading.proofs.KeptRows.TurnsLeave.{after_row_leaves, reached_leaves}
 use Rattle.fax_bits.proofs.Repetition.Repeated.{after_turn, repeated_turn, repeated_same, next_is, not_next}
-use Rattle.fax_reading.proofs.Readings.RowsAndGaps.{unless_over, seek_from, after_row, pass_gap-is, after_whole-is}
+use Rattle.fax_reading.proofs.Readings.RowsAndGaps.{unless_over, after_row, pass_gap-is, after_whole-is}
 use Rattle.fax_reading.proofs.Readings.RowsAndGaps.{after_damage-is, unmissed}
 use Rattle.fax_reading.proofs.Readings.GapsAndRows.{plain_is}
 use Rattle.fax_reading.proofs.Readings.TurnsAddRows.{Keeps, after_row_keeps, first_gap_keeps, turn_extends, repeated_adds}
@@ -35,13 +35,11 @@ use Rattle.fax_bits.proofs.BitReading.ConsecutiveEols.{next_eol_found}
 
 -- bits that are left aren't the end
 open_bits : (here : Bits) → 0 < length here → at_end here ≡ false
-open_bits [] some = absurd (omega (arith, some))
-open_bits (b ∷ here) some = refl
+open_bits here some = grind arith
 
 -- a one is a bit
 some_bits : (bits : Bits) → holds_a_one bits ≡ true → 0 < length bits
-some_bits [] one = absurd (false≢true one)
-some_bits (b ∷ bits) one = omega arith
+some_bits bits one = grind (arith, common_steps, false≢true)
 
 -- where the next EOL is, if a lenient reading that seeks EOLs reaches a line and seeks them still
 past_there : (settings : DecodeSettings) → settings.strict ≡ false → (rows : List Row) (here : Bits) (t : Progress)
@@ -58,29 +56,8 @@ past_there settings lenient rows here t e seeks = by_limit (cases_Bool (limit_me
         let next = row_past settings lenient rows here after short f in
         let same = unless_over_next settings run t (eols_here settings next.0) (sym next.3 ∙ e) in
         (after, f, omega (arith, ap (λ (p : Progress). length p.rest) same, eols_past settings next.0 after next.2))
-    by_past short None f = absurd (by_eol (after_eol 0 here) refl)
-      where
-        no_next : (o : Option Bits) → next_eol here ≡ o → o ≡ None
-        no_next None g = refl
-        no_next (Some found) g = grind (arith, common_steps, next_eol_found, past_is)
-
-        by_eol : (o : Option Bits) → after_eol 0 here ≡ o → ⊥
-        by_eol (Some rest) g = let both : ◌≡◌ {A = Option Bits} None (Some rest) = sym f ∙ past-eol 0 here rest g in cc
-        by_eol None g = elim (chosen (misses_eol settings (length rows) true here) _ _ _ e) [
-          | inl missed ↦ elim (chosen settings.strict _ _ _ missed.1) [
-            | inl over ↦ not_next _ t over.1
-            | inr sought_on ↦
-                let given_up : ◌≡◌ {A = Progress} (record run { has_eols = false }) t =
-                next_is _ t (ap (seek_from settings run) (sym (no_next (next_eol here) refl)) ∙ sought_on.1) in
-                false≢true (ap (λ (p : Progress). p.has_eols) given_up ∙ seeks)
-          ]
-          | inr counted ↦
-              let none = eols_here-none settings here g in
-              let open_end = unless_over_open settings run t (eols_here settings here) counted.1 in
-              let bits_left : at_end here ≡ false = ap (λ (f : ℕ × Bits). at_end f.1) (sym none) ∙ open_end.1 in
-              let zero : eqb (eols_here settings here).0 0 ≡ true = ap (λ (f : ℕ × Bits). eqb f.0 0) none in
-              false≢true (sym counted.0 ∙ rw (zero, short, bits_left) refl)
-        ]
+    by_past short None f =
+        grind (arith, next_eol_found, past_is, past-eol, not_next, next_is, false≢true, eols_here-none, unless_over_open)
 
     by_limit : (limit_met settings (length rows) ≡ true) ⊎ (limit_met settings (length rows) ≡ false)
         → (limit_met settings (length rows) ≡ false)
@@ -122,13 +99,8 @@ module _ (settings : DecodeSettings) (x y : Bits) where
       let same = unless_over_next settings (run_at rows has_eols (bits ++ x)) t (eols_here settings (bits ++ x)) e in
       let left_is : (eols_here settings (bits ++ x)).1 ≡ more ++ x = ap (λ (p : Progress). p.rest) same ∙ rest_is in
       let counted : eols_here settings (bits ++ x) ≡ (count, more ++ x) = ap (λ (b : Bits). (count, b)) left_is in
-      let other = eols_by_front x y settings.encoding settings.end_of_block bits more count counted one in (
-        other,
-        ap (unless_over settings (run_at rows has_eols (bits ++ y))) other
-            ∙ unless_front rows has_eols (bits ++ x) (bits ++ y) more count t
-            (some_bits more (one_in_bits settings.encoding more one))
-            (ap (unless_over settings (run_at rows has_eols (bits ++ x))) (sym counted) ∙ e),
-      )
+      let other = eols_by_front x y settings.encoding settings.end_of_block bits more count counted one in
+      grind (arith, unless_front, some_bits, one_in_bits)
 
   -- the gap leads to the same line in both, if its bits have a one among the equal ones
   pub gap_front : (rows : List Row) (has_eols : Bool) (bits more : Bits) (t : Progress) → t.has_eols ≡ has_eols
@@ -148,24 +120,18 @@ module _ (settings : DecodeSettings) (x y : Bits) where
         | inl missed ↦ absurd (not_next _ t (sym (cond-true settings.strict _ _ strict) ∙ missed.1))
         | inr counted ↦
             let other = counted_front rows true bits more t rest_is one counted.1 in
-            let open_end =
-            unless_over_open settings (run_at rows true (bits ++ x)) t (eols_here settings (bits ++ x)) counted.1 in
-            let some : 0 < length (bits ++ x) = omega (
+            grind (
               arith,
-              (eols_here_counted settings (bits ++ x)).0,
-              ap (λ (p : Progress). length p.rest) (unless_over_next settings (run_at rows true (bits ++ x)) t
-                  (eols_here settings (bits ++ x)) counted.1),
-              ap length rest_is,
-              length-append more x,
-              some_bits more (one_in_bits settings.encoding more one),
-            ) in
-            let there : eqb (eols_here settings (bits ++ x)).0 0 ≡ false =
-            not_missed (eqb (eols_here settings (bits ++ x)).0 0) (limit_met settings (length rows)) (at_end (bits ++ x))
-            open_end.0 (open_bits (bits ++ x) some) counted.0 in
-            let none : misses_eol settings (length rows) true (bits ++ y) ≡ false =
-            ap (λ (b : Bool). ((b && true) && not (limit_met settings (length rows))) && not (at_end (bits ++ y)))
-            (ap (λ (f : ℕ × Bits). eqb f.0 0) other.0 ∙ there) in
-            cond-false (misses_eol settings (length rows) true (bits ++ y)) _ _ none ∙ other.1
+              unless_over_open,
+              eols_here_counted,
+              unless_over_next,
+              length-append,
+              some_bits,
+              one_in_bits,
+              not_missed,
+              open_bits,
+              cond-false,
+            )
       ]
       by_strict (inr lenient) =
           let there = past_there settings lenient rows (bits ++ x) t e seeks in
@@ -197,12 +163,9 @@ module _ (settings : DecodeSettings) (x y : Bits) where
         let long :
         length split.0 ≤ length bits = omega (arith, le, ap length split.1, length-append split.0 behind, length-append bits x) in
         let left = prefix_of_prefix split.0 behind bits x split.1 long in
-        let is : behind ≡ left.0 ++ x = append_cancel_left split.0 behind
-        (left.0 ++ x) (sym split.1 ∙ ap (λ (b : Bits). b ++ x) left.1 ∙ append_assoc split.0 left.0 x) in
+        let is : behind ≡ left.0 ++ x = grind (arith, append_cancel_left, append_assoc) in
         let other : bits ++ y ≡ split.0 ++ (left.0 ++ y) = ap (λ (b : Bits). b ++ y) left.1 ∙ append_assoc split.0 left.0 y in
-        let same : length (left.0 ++ y) % 8
-        ≡ length behind % 8 = omega (arith, bytes, ap length is, length-append left.0 x, length-append left.0 y) in
-        (left.0, is, ap (behind_row settings has_eols) other ∙ split.2 (left.0 ++ y) same)
+        grind (arith, length-append)
 
     -- a turn over the equal bits, the row that it adds, and what is left of them after it
     pub record TurnFound (rows : List Row) (has_eols : Bool) (bits : Bits) : Type 0 where
@@ -229,10 +192,7 @@ module _ (settings : DecodeSettings) (x y : Bits) where
 
     more_in_line : (encoding : EncodingMode) (front rest : Bits) → one_in_line encoding front ≡ true
         → one_in_line encoding (front ++ rest) ≡ true
-    more_in_line Group3_1D front rest one = one_stays front rest one
-    more_in_line Group3_2D [] rest one = absurd (false≢true one)
-    more_in_line Group3_2D (tag ∷ front) rest one = one_stays front rest one
-    more_in_line Group4 front rest one = one_stays front rest one
+    more_in_line encoding front rest one = grind (arith, one_stays, false≢true)
 
     -- behind the zeros of an EOL is a one
     one_behind : (encoding : EncodingMode) (bits more : Bits) → Closes bits → one_in_line encoding (bits ++ true ∷ more) ≡ true
@@ -253,8 +213,7 @@ module _ (settings : DecodeSettings) (x y : Bits) where
 
     other_broken : (u v : Bits) (front : Row) (fault : DecodeError) (line : Line) → LineAlike u v (Line.broken front fault) line
         → (other : DecodeError) × (line ≡ Line.broken front other)
-    other_broken u v front fault (Line.whole row rest) alike = absurd alike
-    other_broken u v front fault (Line.broken more other) alike = (other, ap (λ (r : Row). Line.broken r other) (sym alike))
+    other_broken u v front fault line alike = grind arith
 
     -- a broken line that is repaired
     sought_broken : settings.strict ≡ false → (rows : List Row) (bits : Bits) (t : Progress) → t.has_eols ≡ true
@@ -272,8 +231,7 @@ module _ (settings : DecodeSettings) (x y : Bits) where
         let shape : (z : Bits) → bits ++ z ≡ closes.0 ++ (true ∷ left.0 ++ z) =
         λ z. ap (λ (b : Bits). b ++ z) closes.2 ∙ append_assoc closes.0 (true ∷ left.0) z in
         let read : (z : Bits) → line false (closes.0 ++ (true ∷ left.0 ++ z)) ≡ line_here settings above (bits ++ z) =
-        λ z. ap (λ (strict : Bool). line strict (closes.0 ++ (true ∷ left.0 ++ z))) (sym lenient)
-        ∙ ap (line settings.strict) (sym (shape z)) in
+        grind arith in
         let alike = subst (λ (l : Line). LineAlike (true ∷ left.0 ++ x) (true ∷ left.0 ++ y) l
         (line false (closes.0 ++ (true ∷ left.0 ++ y)))) (read x ∙ is)
         (line_alike settings.encoding settings.columns above (true ∷ left.0 ++ x) (true ∷ left.0 ++ y) closes.0 closes.1) in
@@ -297,9 +255,7 @@ module _ (settings : DecodeSettings) (x y : Bits) where
           | inl over ↦ absurd (not_next _ t over.1)
           | inr added ↦
               let parts = or_parts settings.strict (not has_eols) added.0 in
-              let on : has_eols ≡ true = not-false has_eols parts.1 in
-              subst (λ (h : Bool). TurnFound rows h bits) (sym on) (sought_broken parts.0 rows bits t (seeks ∙ on) le
-              (ap (λ (h : Bool). move_on settings (run_at rows h (bits ++ x))) (sym on) ∙ e) front fault is)
+              grind (arith, common_steps, not-false has_eols parts.1, sought_broken parts.0 rows bits t)
         ]
 
     -- the turn in both
@@ -317,33 +273,25 @@ module _ (settings : DecodeSettings) (x y : Bits) where
             let again = line_again settings.encoding settings.strict settings.columns above (bits ++ x) row rest is in
             let behind : Bits = behind_row settings has_eols rest in
             let more = after_row_leaves settings (run_at (rows ++ row ∷ []) has_eols behind) t (sym moved ∙ e) in
-            let shorter : length behind ≤ length rest = omega (
-              arith,
-              ap length (aligned_split (settings.rows_are_byte_aligned && not has_eols) rest).1,
-              length-append (aligned_split (settings.rows_are_byte_aligned && not has_eols) rest).0 behind,
-            ) in
+            let shorter : length behind ≤ length rest = grind (arith, common_steps, aligned_split, length-append) in
             let long : length x ≤ length behind =
             omega (arith, le, ap length more.0.1, length-append more.0.0 t.rest) in
             let read : length again.0 ≤ length bits =
             omega (arith, long, shorter, ap length again.1, length-append again.0 rest, length-append bits x) in
             let kept = prefix_of_prefix again.0 rest bits x again.1 read in
-            let rest_is : rest ≡ kept.0 ++ x = append_cancel_left again.0 rest (kept.0 ++ x)
-            (sym again.1 ∙ ap (λ (b : Bits). b ++ x) kept.1 ∙ append_assoc again.0 kept.0 x) in
+            let rest_is : rest ≡ kept.0 ++ x = grind (arith, append_cancel_left, append_assoc) in
             let long_so : length x ≤ length (behind_row settings has_eols (kept.0 ++ x)) =
             subst (λ (b : Bits). length x ≤ length (behind_row settings has_eols b)) rest_is long in
             let left = behind_front has_eols kept.0 long_so in
             let other : line_here settings above (bits ++ y) ≡ Line.whole row (kept.0 ++ y) =
-            ap (line_here settings above) (ap (λ (b : Bits). b ++ y) kept.1 ∙ append_assoc again.0 kept.0 y)
-            ∙ again.2 (kept.0 ++ y) in
+            grind (arith, append_assoc) in
             record {
               row = row;
               left = left.0;
               one = ap (one_in_line settings.encoding) kept.1 ∙ more_in_line settings.encoding again.0 kept.0
                   (one_in_whole settings.encoding settings.strict settings.columns above again.0 rest row wide (again.2 rest));
-              here = moved ∙ ap (λ (b : Bits). after_row settings (run_at (rows ++ row ∷ []) has_eols b))
-                  (ap (behind_row settings has_eols) rest_is ∙ left.1);
-              there = whole_turn rows has_eols (bits ++ y) (kept.0 ++ y) row other
-                  ∙ ap (λ (b : Bits). after_row settings (run_at (rows ++ row ∷ []) has_eols b)) left.2;
+              here = grind arith;
+              there = grind (arith, whole_turn);
             }
         by_line (Line.broken front fault) is = broken_found rows has_eols bits t seeks le e front fault is
 
@@ -368,9 +316,7 @@ module _ (settings : DecodeSettings) (x y : Bits) where
 
       still_sought : (first mid last : Bool) → last ≡ first → (mid ≡ first) ⊎ (mid ≡ false) → (last ≡ mid) ⊎ (last ≡ false)
           → mid ≡ first
-      still_sought first mid last e (inl f) g = f
-      still_sought first mid last e (inr f) (inl g) = sym g ∙ e
-      still_sought first mid last e (inr f) (inr g) = f ∙ sym g ∙ e
+      still_sought first mid last e e5 g = grind arith
 
       rows_added : (run t : Progress) → after_row settings run ≡ Turn.next t → t.rows ≡ run.rows
       rows_added run t e = subst (Keeps run.rows) e (after_row_keeps settings run)
@@ -428,11 +374,7 @@ first_front settings x y front bits first rest_is one begins = by_encoding setti
         → first_line settings (front ++ y) ≡ run_at first.rows first.has_eols (bits ++ y)
     group3 is =
         let count : ℕ = (all_eols (front ++ x)).0 in
-        let counted : all_eols (front ++ x) ≡ (count, bits ++ x) =
-        ap (λ (b : Bits). (count, b)) (ap (λ (p : Progress). p.rest) is ∙ rest_is) in
-        let other = all_front x y front bits count counted in_bits in
-        ap (λ (f : ℕ × Bits). run_at [] (ltb 0 f.0 || settings.end_of_line) f.1) other
-        ∙ ap (λ (p : Progress). run_at p.rows p.has_eols (bits ++ y)) is
+        grind (arith, common_steps, all_front x y front bits count, in_bits)
 
     by_encoding : (encoding : EncodingMode) → settings.encoding ≡ encoding
         → first_gap encoding settings (front ++ x) ≡ Turn.next first
@@ -503,8 +445,7 @@ rows_before settings one whole_one two place index whole_two same reads =
         let s : Progress = run_at first.rows first.has_eols (leaves.0.0 ++ z) in
         elim on.0 [
           | inl none ↦
-              let empty : last.rows ≡ [] = ap (λ (p : Progress). p.rows) (sym none)
-              ∙ subst (Keeps []) begins (first_gap_keeps settings settings.encoding (front ++ x)) in
+              let empty : last.rows ≡ [] = grind (arith, first_gap_keeps) in
               ((end_of settings bits).rows, ap (λ (r : List Row). r ++ (end_of settings bits).rows) (sym empty))
           | inr one ↦
               let ends : end_of settings bits ≡ rest_end settings x z as_many reads.wide late s =

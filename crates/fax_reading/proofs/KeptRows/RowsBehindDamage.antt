@@ -2,12 +2,12 @@
 use Rattle.fax_reading.proofs.Names.{common_steps, ◌≡◌, ℕ, zero, suc, ◌<◌, ◌≤◌, Bool, true, false, List, [], ◌∷◌}
 use Rattle.fax_reading.proofs.Names.{◌++◌, length, take, drop, Option, Some, None, Ok, Err, refl, sym, ap, subst, ◌∙◌}
 use Rattle.fax_reading.proofs.Names.{append_assoc, append_cancel_right, append-nil, arith, ◌⊎◌, inl, inr, cond-true, cond-false}
-use Rattle.fax_reading.proofs.Names.{lt-leb, length-append, length-drop, take-append-drop, DecodeError, EncodingMode, Group4}
+use Rattle.fax_reading.proofs.Names.{length-append, length-drop, take-append-drop, DecodeError, EncodingMode, Group4}
 use Rattle.fax_reading.proofs.Names.{Group3_1D, Group3_2D, DecodeSettings, Bits, AreWholeBytes, Turn, Reaches, Row, Line}
-use Rattle.fax_reading.proofs.Names.{after_eol, all_eols, one_more, past_tag, pass_last_tag, eols_by, eols_here, is_end_of_block}
+use Rattle.fax_reading.proofs.Names.{after_eol, all_eols, one_more, past_tag, pass_last_tag, eols_by, eols_here}
 use Rattle.fax_reading.proofs.Names.{is_over, limit_met, at_end, Progress, Ending, Move, row_before, row_of, line_by, line_here}
-use Rattle.fax_reading.proofs.Names.{move_on, first_line, end_of, plain, Reading, MakesNoRtc, PutsInStep, ComesTo}
-use Rattle.fax_reading.proofs.Names.{AreInStep, RowsBehind, IsEolAt, and-false, or_parts, false≢true}
+use Rattle.fax_reading.proofs.Names.{move_on, first_line, end_of, plain, MakesNoRtc, PutsInStep, ComesTo}
+use Rattle.fax_reading.proofs.Names.{AreInStep, RowsBehind, IsEolAt, or_parts, false≢true}
 use Rattle.fax_reading.proofs.Readings.GapsAndRows.{late, goes, ending_goes, end_t4, plain_is}
 use Rattle.fax_reading.proofs.DamagedLines.LineTails.{drop_front, eol_closes, line_past_by}
 use Rattle.fax_reading.proofs.DamagedLines.EolsAlike.{Closes, RestAlike, PastAlike, closes_inside, inside_after, leaves_after}
@@ -26,11 +26,6 @@ use Rattle.fax_reading.proofs.DrawingLines.LinesLeaveBits.{LeavesBits, leaves_tr
 use Rattle.fax_bits.proofs.Repetition.Repeated.{Follows, after_turn, repeated_turn, repeated_follows, reaches_on}
 use Rattle.fax_reading.proofs.Readings.RowsAndGaps.{unless_over, after_row}
 use Rattle.fax_reading.proofs.Readings.TurnsMoveOn.{left_to_read, move_shrinks, eols_here_counted}
-
--- fewer than six EOLs end no data of Group 3
-few_end_none : (settings : DecodeSettings) (count : ℕ) → IsGroup3 settings.encoding → count < 6
-    → is_end_of_block settings count ≡ false
-few_end_none settings count group3 few = grind (arith, common_steps, lt-leb, and-false)
 
 -- the same bits follow
 with_tail : (bits rest z : Bits) → LeavesBits bits rest → LeavesBits (bits ++ true ∷ z) (rest ++ true ∷ z)
@@ -59,8 +54,7 @@ module _ (settings : DecodeSettings) (group3 : IsGroup3 settings.encoding) (leni
         rows,
         u,
         Reaches.stays s,
-        e ∙ found.3
-            ∙ ap (unless_over settings (sought rows u)) (eols_here_same settings found.0 next after found.2 next_is),
+        grind (arith, common_steps, eols_here_same settings found.0 next after found.2 next_is),
       )
 
   -- at the line
@@ -75,7 +69,7 @@ module _ (settings : DecodeSettings) (group3 : IsGroup3 settings.encoding) (leni
   -- the reading isn't over where few EOLs were counted and bits are left
   not_over : (rows : List Row) (u : Bits) (found : ℕ × Bits) → found.0 < 6 → at_end found.1 ≡ false
       → unless_over settings (sought rows u) found ≡ Turn.next (sought rows found.1)
-  not_over rows u (count, rest) few open_end = grind (arith, common_steps, cond-false, few_end_none, open_limit)
+  not_over rows u (count, rest) few open_end = grind (arith, common_steps, cond-false, open_limit)
 
   module _ (whole : Bits) (no_rtc : (found : Bits) → LeavesBits whole found → length x < length found
       → (eols_here settings found).0 < 6) where
@@ -91,15 +85,14 @@ module _ (settings : DecodeSettings) (group3 : IsGroup3 settings.encoding) (leni
             → RestAlike x x more (eols_by encoding block found).1 (eols_by encoding block found).1
         by_encoding Group3_1D block same is = (eols_found x x tail.none tail.none more found found e e).1
         by_encoding Group3_2D block same is =
-            let fewer : (all_tagged found).0 < 6 = omega (
+            grind (
               arith,
+              common_steps,
               last_tag_count (all_tagged found),
-              subst (λ (m : EncodingMode). (eols_by m settings.end_of_block found).0 < 6) same few,
-            ) in
-            (last_tag_alike x x tail.none tail.none (tail.tag same) (tail.tag same) more _ _
-            (tagged_found x x tail.none tail.none (tail.tag same) (tail.tag same) more found found e e)
-            (λ count f. omega (arith, fewer, ap (λ (g : ℕ × Bits). g.0) f))
-            (λ count f. omega (arith, fewer, ap (λ (g : ℕ × Bits). g.0) f))).1
+              few,
+              last_tag_alike x x tail.none tail.none (tail.tag same) (tail.tag same) more,
+              tagged_found x x tail.none tail.none (tail.tag same) (tail.tag same) more found found e e,
+            )
         by_encoding Group4 block same (inl is) = absurd cc
         by_encoding Group4 block same (inr is) = absurd cc
 
@@ -200,11 +193,8 @@ module _ (settings : DecodeSettings) (unlimited : settings.rows ≡ 0) (a b : Li
   stay : StayAlike settings most BothThen InStep EndInStep
   stay = record {
     limits = λ xs ys both. rw unlimited refl;
-    longer = λ xs ys row (more, e, f). (
-      more ++ row ∷ [],
-      ap (λ (r : List Row). r ++ row ∷ []) e ∙ append_assoc a more (row ∷ []),
-      ap (λ (r : List Row). r ++ row ∷ []) f ∙ append_assoc b more (row ∷ []),
-    );
+    longer = λ xs ys row (more, e, f).
+        grind (arith, common_steps, append_assoc a more (row ∷ []), append_assoc b more (row ∷ []));
     goes_on = λ xs ys h here both short same. (xs, ys, h, here, both, short, same, refl, refl);
     ends = λ xs ys h here both short. (both, inr (here, refl, refl, short));
     fails = λ xs ys h fault both. (both, inl (fault, refl, refl));
@@ -226,8 +216,7 @@ module _ (settings : DecodeSettings) (here line behind : Bits) (step : PutsInSte
     where
       none_counted : (o : Option Bits) (bits : Bits) (count : ℕ) → after_eol 0 bits ≡ o
           → ((rest : Bits) → after_eol 0 bits ≡ Some rest → 0 < count) → count ≡ 0 → after_eol 0 bits ≡ None
-      none_counted None bits count e some zeros = e
-      none_counted (Some rest) bits count e some zeros = absurd (omega (arith, some rest e, zeros))
+      none_counted o bits count e some zeros = grind arith
 
       by_encoding : (encoding : EncodingMode) (block : Bool) → IsGroup3 encoding → eols_by encoding block here ≡ (1, line)
           → (after_eol 0 line ≡ None) × (encoding ≡ Group3_2D → past_tag line ≡ line)
@@ -241,19 +230,8 @@ module _ (settings : DecodeSettings) (here line behind : Bits) (step : PutsInSte
           let tagged : ℕ × Bits = all_tagged (past_tag line) in
           let more : pass_last_tag (one_more tagged) ≡ (1, line) =
           ap pass_last_tag (sym (all_tagged-some here line step.eol)) ∙ e in
-          let zero : tagged.0 ≡ 0 = omega (
-            arith,
-            last_tag_count (one_more tagged),
-            one_more-count tagged,
-            ap (λ (f : ℕ × Bits). f.0) more,
-          ) in
-          let none = none_counted (after_eol 0 (past_tag line)) (past_tag line) tagged.0 refl
-          (λ rest f. count_some counts_tagged (past_tag line) rest f) zero in
-          let counted : tagged ≡ (0, past_tag line) = all_tagged-none (past_tag line) none in
-          let same : past_tag line ≡ line = ap (λ (f : ℕ × Bits). f.1)
-          (sym (ap (λ (f : ℕ × Bits). pass_last_tag (one_more f)) counted ∙ last_tag_few 1 (past_tag line) (omega arith)) ∙ more)
-          in
-          (ap (after_eol 0) (sym same) ∙ none, λ other. same)
+          let zero : tagged.0 ≡ 0 = grind (arith, last_tag_count, one_more-count) in
+          grind (arith, all_tagged-none, last_tag_few, none_counted, count_some, counts_tagged)
       by_encoding Group4 block (inl is) e = absurd cc
       by_encoding Group4 block (inr is) e = absurd cc
 
@@ -367,47 +345,25 @@ rows_behind settings one whole_one two line behind to to2 whole_two alike = by_o
         (sought rows u) (eols_here settings step.next) → move_on settings s ≡ unless_over settings (sought rows u) found
     turn_is s rows u e = e ∙ ap (unless_over settings (sought rows u)) step.behind_is
 
-    over_as : (b : Bool) → is_over settings 0 found ≡ b → (n : ℕ) → is_over settings n found ≡ b
-    over_as b e n = grind (arith, common_steps)
-
     -- both are over there
     over_end : (bits : Bits) (rows : List Row) (u : Bits) → is_over settings 0 found ≡ true
         → end_of settings bits ≡ after_turn (goes settings alike.wide) (unless_over settings (sought rows u) found)
         → end_of settings bits ≡ record { rows = rows; has_eols = true; outcome = Ok behind }
-    over_end bits rows u over e = grind (arith, common_steps, cond-true, over_as)
+    over_end bits rows u over e = grind (arith, common_steps, cond-true)
 
     -- or a line follows in both
     line_next : (rows : List Row) (u : Bits) → is_over settings 0 found ≡ false
         → unless_over settings (sought rows u) found ≡ Turn.next (sought rows behind)
-    line_next rows u open_end = grind (arith, common_steps, cond-false, over_as)
+    line_next rows u open_end = grind (arith, common_steps, cond-false)
 
     pair : (a b : List Row) → is_over settings 0 found ≡ false
         → InStep settings alike.unlimited a b (length behind) (goes settings alike.wide) (sought a behind) (sought b behind)
-    pair a b open_end = (
-      a,
-      b,
-      true,
-      behind,
-      ([], sym (append-nil a), sym (append-nil b)),
-      omega arith,
-      elim step.unreferred [
-        | inl ends ↦ absurd
-            (let parts = or_parts _ (at_end behind) open_end in
-            let none = or_parts (is_end_of_block settings step.count) (limit_met settings 0) parts.0 in
-            false≢true (sym none.0 ∙ ends))
-        | inr line ↦ line _ _
-      ],
-      refl,
-      refl,
-    )
+    pair a b open_end = grind (arith, append-nil, or_parts, false≢true)
 
     comes_over : (bits : Bits) (rows : List Row)
         → end_of settings bits ≡ record { rows = rows; has_eols = true; outcome = Ok behind }
         → ComesTo settings bits behind (length rows)
-    comes_over bits rows e = inr (
-      ap (λ (q : Ending). q.outcome) e,
-      ap (λ (r : Reading). length r.rows) (plain_is settings alike.wide bits) ∙ ap (λ (q : Ending). length q.rows) e,
-    )
+    comes_over bits rows e = grind (arith, plain_is)
 
     by_over : (over : Bool) → is_over settings 0 found ≡ over → AreInStep settings one two behind
         (plain settings one).rows (plain settings two).rows (plain settings one).outcome (plain settings two).outcome

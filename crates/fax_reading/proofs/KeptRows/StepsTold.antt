@@ -1,7 +1,7 @@
 -- An EOL and the line behind it, as they are tested.
 use Rattle.fax_reading.proofs.Names.{common_steps, ◌≡◌, ℕ, ◌+◌, ◌-◌, ◌*◌, ◌<◌, ◌≤◌, ◌⊎◌, ◌↔◌, Bool, true, false, leb, [], ◌∷◌}
 use Rattle.fax_reading.proofs.Names.{length, Option, Some, None, Result, Ok, Err, refl, sym, ap, subst, ◌∙◌}
-use Rattle.fax_reading.proofs.Names.{arith, inl, inr, IsTrue, min, cond-true, cond-false, lt-leb, le-leb, leb-true, none-some}
+use Rattle.fax_reading.proofs.Names.{arith, inl, inr, IsTrue, min, cond-true, cond-false, lt-leb, le-leb, leb-true}
 use Rattle.fax_reading.proofs.Names.{length-append, length-replicate, Color, DecodeError, EncodingMode, Group4, Group3_1D}
 use Rattle.fax_reading.proofs.Names.{Group3_2D, DecodeSettings, Bits, after_eol, next_eol, all_eols, one_more, past_tag}
 use Rattle.fax_reading.proofs.Names.{pass_last_tag, eols_by, eols_here, is_end_of_block, read_run, opposite, run_found}
@@ -57,15 +57,12 @@ pub runs_whole : (columns : ℕ) (begun : Bits) (passed : ℕ) (color : Color) (
 runs_whole columns begun passed color here full (front, long, is) =
     grind (arith, common_steps, drawn1, step_1d_is, cond-true, le-leb)
 
-not_whole : (front row : Row) (fault : DecodeError) (rest : Bits) → Line.broken front fault ≡ Line.whole row rest → ⊥
-not_whole front row fault rest e = cc
-
 -- no run, before that
 pub runs_broken : (columns : ℕ) (begun : Bits) (passed : ℕ) (color : Color) (here : Bits) (fault : DecodeError)
     → passed < columns → RunsPassed columns begun passed color here → read_run color here ≡ Err fault
     → (row : Row) (rest : Bits) → line_1d false columns begun ≡ Line.whole row rest → ⊥
 runs_broken columns begun passed color here fault few (front, long, is) read row rest e =
-    grind (arith, common_steps, not_whole, run_is_next)
+    grind (arith, common_steps, run_is_next)
 
 -- the words of a run are no more than the bits that it takes
 run_counted : (color : Color) (here : Bits) (r : Result (ℕ × Bits) DecodeError) → read_run color here ≡ r → (n : ℕ) (rest : Bits)
@@ -154,12 +151,6 @@ none_behind rest line e = grind (arith, common_steps, all_eols-none, none_counte
 none_tagged : (rest line : Bits) → all_tagged rest ≡ (0, line) → (rest ≡ line) × (after_eol 0 rest ≡ None)
 none_tagged rest line e = grind (arith, common_steps, all_tagged-none, none_counted, all_tagged-some)
 
--- a tag of one that is passed is before an EOL
-no_tag_passed : (rest : Bits) → after_eol 0 (past_tag rest) ≡ None → past_tag rest ≡ rest
-no_tag_passed [] none = refl
-no_tag_passed (false ∷ rest) none = refl
-no_tag_passed (true ∷ rest) none = grind (arith, common_steps, none-some)
-
 one_plain : (here line : Bits) → all_eols here ≡ (1, line) → IsAlone here line
 one_plain here line e = by_after_eol (after_eol 0 here) refl
   where
@@ -177,8 +168,7 @@ one_raw here line e = by_after_eol (after_eol 0 here) refl
     by_after_eol (Some rest) f =
         let behind = none_tagged (past_tag rest) line
         (one_is_none line (all_tagged (past_tag rest)) (sym (all_tagged-some here rest f) ∙ e)) in
-        let same : rest ≡ line = sym (no_tag_passed rest behind.1) ∙ behind.0 in
-        (f ∙ ap (λ (b : Bits). Some b) same, subst (λ (b : Bits). after_eol 0 b ≡ None) behind.0 behind.1)
+        grind (arith)
 
 raw_is : (line : Bits) (found : ℕ × Bits) → pass_last_tag found ≡ (1, line) → found ≡ (1, line)
 raw_is line (count, rest) e = grind (arith, common_steps, last_tag_count, last_tag_few)
@@ -227,20 +217,14 @@ pub told_by : (settings : DecodeSettings) (here line next after behind : Bits) (
     → (settings.encoding ≡ Group3_2D → ComesBefore1D settings next) → TellsStep settings here line behind
 told_by settings here line next after behind count group3 lenient alone next_is after_is ends counted tag =
     record {
-      step = record {
-        eol = (one_alone settings here line group3 alone).0;
-        alone = alone;
-        next = next;
-        next_is = next_is;
-        after = after;
-        after_is = after_is;
-        ends = subst (λ (s : Bool). (reference row : Row) (rest : Bits)
-            → line_by settings.encoding s settings.columns reference line ≡ Line.whole row rest
-            → length after + 12 ≤ length rest) (sym lenient) (ends_any settings.encoding settings.columns after line ends);
-        count = count;
-        behind_is = counted;
-        unreferred = unreferred_by settings next behind count group3 counted tag;
-      };
+      step =
+          grind (
+            arith,
+            common_steps,
+            one_alone settings here line group3 alone,
+            ends_any settings.encoding settings.columns after line ends,
+            unreferred_by settings next behind count group3 counted tag,
+          );
       modes = modes_end settings.encoding settings.columns after line ends;
       tag = tag;
     }
@@ -295,11 +279,6 @@ line_test_work
 
 -- ---- What a call that tests the settings first returns
 
--- what follows is the same
-step_once : (settings : DecodeSettings) (here line behind other rest : Bits) → TellsStep settings here line behind
-    → TellsStep settings here other rest → behind ≡ rest
-step_once settings here line behind other rest one two = grind (arith, common_steps)
-
 -- two positions with the same bits
 same_place : (bits : Bits) (place other : ℕ) → place ≤ length bits → other ≤ length bits → drop place bits ≡ drop other bits
     → place ≡ other
@@ -311,7 +290,7 @@ pub step_found : (settings : DecodeSettings) (bits line : Bits) (to found : ℕ)
     → TellsStep settings (drop to bits) line (drop found bits) → (place : ℕ)
     → (Some found ≡ Some place) ↔ IsInStepFrom settings bits to place
 step_found settings bits line to found group3 lenient unlimited wide within there told place =
-    grind (arith, common_steps, same_place, step_once)
+    grind (arith, common_steps, same_place)
 
 pub no_step_found : (settings : DecodeSettings) (bits : Bits) (to : ℕ) → ((place : ℕ) → IsInStepFrom settings bits to place → ⊥)
     → (place : ℕ) → (None ≡ Some place) ↔ IsInStepFrom settings bits to place

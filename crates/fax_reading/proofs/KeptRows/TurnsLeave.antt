@@ -129,11 +129,10 @@ pub reached_leaves : (settings : DecodeSettings) (s last : Progress) → Reaches
     → TurnLeavesBits s.has_eols s.rest last
 reached_leaves settings s last (Reaches.stays same) = (([], refl), inl refl)
 reached_leaves settings s last (Reaches.moves from after end e reaches) =
-    let one = turn_leaves settings from after e in
-    let more = reached_leaves settings after end reaches in (
-      leaves_trans from.rest after.rest end.rest one.0 more.0,
-      elim more.1 [
-        | inl same ↦ elim one.1 [ inl before ↦ inl (same ∙ before) | inr given_up ↦ inr (same ∙ given_up) ]
-        | inr given_up ↦ inr given_up
-      ],
+    grind (
+      arith,
+      common_steps,
+      reached_leaves settings after end reaches,
+      turn_leaves settings from after e,
+      leaves_trans from.rest after.rest end.rest,
     )

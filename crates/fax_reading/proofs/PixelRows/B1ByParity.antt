@@ -1,15 +1,14 @@
 -- The index of b1, by its parity, and how it moves from mode to mode.
-use Rattle.fax_reading.proofs.Names.{common_steps, ◌≡◌, ℕ, zero, suc, ◌+◌, ◌%◌, ◌<◌, ◌≤◌, ◌⊎◌, false, not, List, [], ◌∷◌, length}
+use Rattle.fax_reading.proofs.Names.{common_steps, ◌≡◌, ℕ, zero, suc, ◌+◌, ◌%◌, ◌<◌, ◌≤◌, ◌⊎◌, false, not, List, length}
 use Rattle.fax_reading.proofs.Names.{get_or, refl, sym, ap, ◌∙◌, arith, inl, inr, cases_lt, cases_eq, get_or_past}
-use Rattle.fax_reading.proofs.Names.{get_or_default_zero, Color, White, Black, Row, AreChanges, pixels, is_black, opposite}
+use Rattle.fax_reading.proofs.Names.{get_or_default_zero, Color, White, Row, AreChanges, pixels, is_black, opposite}
 use Rattle.fax_reading.proofs.Names.{right_of, b1, b2, right_of_painted, TurnsFrom, IsNear, IsB1}
 use Rattle.fax_reading.proofs.PixelRows.ReferencePlaces.{turned, turned-not, turned_by_parity, not_not, IsSplit, IsSplit-painted}
 use Rattle.fax_reading.proofs.PixelRows.ReferencePlaces.{IsSplit-none, order, end_within, in_list_if_below, b1_is, b2_after_b1}
 
 -- ---- The colour that a change turns from.
 pub turns_by : (index : ℕ) (color : Color) → TurnsFrom index color → turned index false ≡ is_black color
-turns_by index White e = (turned_by_parity index).0 e
-turns_by index Black e = (turned_by_parity index).1 e
+turns_by index color e = grind (arith, turned_by_parity)
 
 -- one change less gives the other colour
 pub turned_before : (k : ℕ) (color : Color) → turned (suc k) false ≡ is_black color → turned k false ≡ not (is_black color)
@@ -17,29 +16,22 @@ turned_before k color colored = sym (not_not (turned k false)) ∙ ap not (sym (
 
 -- an index with the parity of the number of changes that are drawn
 pub turns_alike : (index drawn : ℕ) (color : Color) → index % 2 ≡ drawn % 2 → TurnsFrom drawn color → TurnsFrom index color
-turns_alike index drawn White same e = omega arith
-turns_alike index drawn Black same e = omega arith
+turns_alike index drawn color same e = grind arith
 
 -- the next change turns from the other colour, and the second next one from the same
 pub turns_next : (index : ℕ) (color : Color) → TurnsFrom index color → TurnsFrom (index + 1) (opposite color)
-turns_next index White e = omega arith
-turns_next index Black e = omega arith
+turns_next index color e = grind arith
 
 pub turns_second : (index : ℕ) (color : Color) → TurnsFrom index color → TurnsFrom (index + 2) color
-turns_second index White e = omega arith
-turns_second index Black e = omega arith
+turns_second index color e = grind arith
 
 -- and so does the change before it
 pub turns_before : (index : ℕ) (color : Color) → TurnsFrom (index + 1) color → TurnsFrom index (opposite color)
-turns_before index White e = omega arith
-turns_before index Black e = omega arith
+turns_before index color e = grind arith
 
 -- where a0 is, by the length of the front
 right_of_length : (front : Row) (painted : ℕ) → length front ≡ painted → right_of front ≡ right_of_painted painted
-right_of_length [] zero e = refl
-right_of_length [] (suc n) e = absurd (omega arith)
-right_of_length (p ∷ front) zero e = absurd (omega arith)
-right_of_length (p ∷ front) (suc n) e = let u : length front ≡ n = omega arith in rw u refl
+right_of_length front painted e = grind arith
 
 module _ (columns : ℕ) (places : List ℕ) (ascend : AreChanges columns places) where
   -- ---- The changes, and the row's end after them, ascend.
@@ -98,19 +90,14 @@ module _ (columns : ℕ) (places : List ℕ) (ascend : AreChanges columns places
       → IsNear columns places painted index → (0 < painted → painted < get_or places index columns)
       → (0 < painted) ⊎ (painted ≤ 0) → (first : ℕ) × IsSplit places (right_of_painted painted) first
       × ((index ≡ first) ⊎ ((index ≡ suc first) × (turned first false ≡ not (is_black color))))
-  split_near painted zero color inside colored near right (inl some) =
-      (0, split_some painted 0 some inside (λ k l. absurd (omega arith)) (right some), inl refl)
+  split_near painted zero color inside colored near right (inl some) = grind (arith, split_some)
   split_near painted zero color inside colored near right (inr none) = (0, IsSplit-none places painted none, inl refl)
   split_near painted (suc zero) color inside colored near right (inr none) =
       (0, IsSplit-none places painted none, inr (refl, turned_before 0 color colored))
   split_near painted (suc (suc k)) color inside colored near right (inr none) =
       absurd (omega (arith, none, (near.left 0 (omega arith)).0))
   split_near painted (suc k) color inside colored near right (inl some) = elim (cases_lt painted (get_or places k columns)) [
-    | inl before ↦ (
-      k,
-      split_some painted k some inside (λ j l. (near.left j (omega arith)).1) before,
-      inr (refl, turned_before k color colored),
-    )
+    | inl before ↦ grind (arith, common_steps, split_some painted k some inside, turned_before k color colored)
     | inr not_right ↦ (
       suc k,
       split_some painted (suc k) some inside (λ j l. omega (arith, not_right, rising j k (omega arith))) (right some),
@@ -126,15 +113,11 @@ module _ (columns : ℕ) (places : List ℕ) (ascend : AreChanges columns places
       let split = split_near painted index color inside colored at.near at.right (cases_lt 0 painted) in
       b1_is columns places ascend (right_of_painted painted) split.0 index color split.1 colored split.2
 
-  pub b2_by_parity : (painted index : ℕ) (color : Color) → painted < columns → IsB1 columns places painted index color
-      → b2 (pixels columns places) (right_of_painted painted) color ≡ get_or places (index + 1) columns
-  b2_by_parity painted index color inside at = grind (arith, common_steps, b2_after_b1, b1_by_parity)
-
   -- the same of a front, which says where a0 is
   pub b1_of_front : (front : Row) (painted index : ℕ) (color : Color) → length front ≡ painted → painted < columns → IsB1
       columns places painted index color → (b1 (pixels columns places) (right_of front) color ≡ get_or places index columns)
       × (b2 (pixels columns places) (right_of front) color ≡ get_or places (index + 1) columns)
-  b1_of_front front painted index color len inside at = grind (arith, common_steps, right_of_length, b1_by_parity, b2_by_parity)
+  b1_of_front front painted index color len inside at = grind (arith, common_steps, right_of_length, b1_by_parity, b2_after_b1)
 
   -- ---- Where b1 is after a mode.
   -- at a line's start

@@ -1,6 +1,6 @@
 -- The positions b1, b2, a1 and a2, and the pixels between changes.
-use Rattle.fax_reading.proofs.Names.{◌≡◌, ℕ, zero, suc, ◌+◌, ◌-◌, ◌<◌, ◌≤◌, Bool, true, false, cond, not, ◌&&◌, ltb, leb, [], ◌∷◌}
-use Rattle.fax_reading.proofs.Names.{◌++◌, length, take, replicate, Option, Some, refl, ◌∙◌, arith, inl, inr, beq, range_with_len}
+use Rattle.fax_reading.proofs.Names.{◌≡◌, ℕ, zero, suc, ◌+◌, ◌-◌, ◌<◌, ◌≤◌, Bool, true, false, not, ◌&&◌, ltb, leb, [], ◌∷◌}
+use Rattle.fax_reading.proofs.Names.{◌++◌, length, take, replicate, refl, ◌∙◌, arith, inl, inr, beq, range_with_len}
 use Rattle.fax_reading.proofs.Names.{find, unwrap_or, ltb-true, leb-true, lt-ltb, le-leb, and_parts, and_cases, false≢true}
 use Rattle.fax_reading.proofs.Names.{cases_lt, cases_eq, Color, Black, Row, is_black, opposite, pixel, pixel_before, is_change}
 use Rattle.fax_reading.proofs.Names.{least_below, right_of, b1, b2, a1, a2, common_steps}
@@ -12,22 +12,14 @@ pub record IsLeast (from bound : ℕ) (test : ℕ → Bool) (p : ℕ) : Type 0 w
   pub before : (q : ℕ) → from ≤ q → q < p → test q ≡ false
   pub there : p < bound → test p ≡ true
 
-first_step : (test : ℕ → Bool) (from bound : ℕ) (t : Bool) (rest : Option ℕ) → test from ≡ t → from < bound
-    → IsLeast (from + 1) bound test (unwrap_or rest bound) → IsLeast from bound test (unwrap_or (cond t (Some from) rest) bound)
-first_step test from bound t rest e lt least = grind (arith, common_steps)
-
 first : (test : ℕ → Bool) (from n bound : ℕ) → from + n ≡ bound
     → IsLeast from bound test (unwrap_or (find test (range_with_len from n)) bound)
 first test from zero bound e = grind (arith, common_steps)
-first test from (suc n) bound e = grind (arith, common_steps, first_step, first test (from + 1) n bound (omega arith))
+first test from (suc n) bound e = grind (arith, common_steps, first test (from + 1) n bound (omega arith))
 
 -- the search finds the least position
 pub is_least : (bound : ℕ) (test : ℕ → Bool) → IsLeast 0 bound test (least_below bound test)
 is_least bound test = first test 0 bound bound (omega arith)
-
--- two tests that agree have one least position
-pub least_same : (bound : ℕ) (f g : ℕ → Bool) → ((p : ℕ) → f p ≡ g p) → least_below bound f ≡ least_below bound g
-least_same bound f g same = grind (arith, common_steps)
 
 -- ---- a1 and a2
 pub record IsNext (row : Row) (from p : ℕ) : Type 0 where
@@ -67,7 +59,7 @@ b1_black reference p = grind (arith, common_steps)
 -- the position right of a0 that the pen has serves as well as a0's own
 pub b1_right : (reference front : Row) (from : ℕ) (color : Color) → length front ≡ from - 1 → (from ≡ 1 → color ≡ Black)
     → b1 reference (right_of front) color ≡ b1 reference from color
-b1_right reference front from color len first = grind (arith, common_steps, b1_black, common_steps, first, least_same)
+b1_right reference front from color len first = grind (arith, common_steps, b1_black, first)
 
 -- b2 of a front, by its position
 pub b2_right : (reference front : Row) (from : ℕ) (color : Color) → length front ≡ from - 1 → (from ≡ 1 → color ≡ Black)
@@ -84,8 +76,7 @@ pub before_same : (row : Row) (from p : ℕ) (c : Bool) → pixel_before row fro
 before_same row from p c e none zero le lt = let z : from ≡ 0 = omega arith in rw z at e
 before_same row from p c e none (suc q) le lt = elim (cases_eq from (suc q)) [
   | inl same ↦ rw same at e
-  | inr other ↦ same_by (pixel_before row q) (pixel row q) (none q (omega arith) (omega arith))
-      ∙ before_same row from p c e none q (omega arith) (omega arith)
+  | inr other ↦ grind (arith, before_same row from p c e none q (omega arith) (omega arith), same_by)
 ]
 
 -- and so do the pixels, from the one left of the start on

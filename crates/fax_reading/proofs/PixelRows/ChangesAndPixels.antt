@@ -42,7 +42,6 @@ pub pixels_from-first : (place : ℕ) (color : Bool) (width : ℕ) (places : Lis
     (suc place) width places → pixels_from place color width places ≡ color ∷ pixels_from (suc place) color width places
 pixels_from-first place color width [] lt ascend = let e : width - place ≡ suc (width - suc place) = omega arith in rw e refl
 pixels_from-first place color width (change ∷ places) lt ascend =
-    let from : suc place ≤ change = ascend.0 in
     let e : change - place ≡ suc (change - suc place) = omega arith in
     rw e refl
 
@@ -76,10 +75,6 @@ abbrev pub turned_at : Bool → List ℕ → Bool
 turned_at color [] = color
 turned_at color (place ∷ places) = turned_at (not color) places
 
--- one more number is even where the number is odd
-eqb-suc_even : (n : ℕ) → eqb (suc n % 2) 0 ≡ not (eqb (n % 2) 0)
-eqb-suc_even n = grind (arith, common_steps)
-
 -- comparing the other colour is the other comparison
 beq-not : (a b color : Bool) → b ≡ not a → beq a (not color) ≡ beq b color
 beq-not a b color e = grind (arith, common_steps)
@@ -88,7 +83,7 @@ beq-not a b color e = grind (arith, common_steps)
 pub turned_at-even : (color : Bool) (places : List ℕ) → turned_at color places ≡ beq (eqb (length places % 2) 0) color
 turned_at-even true [] = refl
 turned_at-even false [] = refl
-turned_at-even color (place ∷ places) = grind (arith, common_steps, beq-not, eqb-suc_even, turned_at-even (not color) places)
+turned_at-even color (place ∷ places) = grind (arith, common_steps, beq-not, turned_at-even (not color) places)
 
 -- each lawful change is followed by a pixel, so the last pixel has the colour after all of them
 pub last_pixel-pixels_from : (place : ℕ) (color : Bool) (width : ℕ) (places : List ℕ) → AscendFrom place width places
@@ -158,11 +153,6 @@ AreChanges-push width more places some ascend = AscendFrom-push 0 width more pla
 
 -- ---- The changes of a row by recursion are its changes.
 
--- the pixel after a front
-pixel-next : (front : Row) (pixel_here : Bool) (row : Row) → pixel (front ++ pixel_here ∷ row) (length front) ≡ pixel_here
-pixel-next [] here row = refl
-pixel-next (x ∷ front) here row = pixel-next front here row
-
 -- what is left of the pixel after a front
 pixel_before-next : (before : Bool) (front row : Row) (place : ℕ) → place ≡ length front
     → get_or (before ∷ front ++ row) place false ≡ last_pixel before front
@@ -176,7 +166,7 @@ pixel_before-shift row place = grind (arith, common_steps)
 -- the pixel after a front is a change where it differs from the front's last
 is_change-next : (front : Row) (here : Bool) (row : Row)
     → is_change (front ++ here ∷ row) (length front) ≡ not (beq (last_pixel false front) here)
-is_change-next front here row = grind (arith, common_steps, pixel-next, pixel_before-next, pixel_before-shift)
+is_change-next front here row = grind (arith, common_steps, pixel_before-next, pixel_before-shift)
 
 -- a position is listed where the pixel differs
 listed : (differs : Bool) (x y : Bool) (place : ℕ) (places others : List ℕ) → differs ≡ not (beq x y) → places ≡ others

@@ -1,9 +1,10 @@
 -- Pixels painted at the end of a front, and what the tests of the code that paints them mean.
 use Rattle.fax_reading.proofs.Names.{◌≡◌, ◌≢◌, ℕ, ◌-◌, ◌%◌, ◌<◌, ◌≤◌, ◌⊎◌, eqb, min, Bool, true, false, not, List, ◌++◌, length}
-use Rattle.fax_reading.proofs.Names.{replicate, Ok, Err, arith, beq, lt-ltb, le-ltb, false≢true, Color, White, InvalidCode}
+use Rattle.fax_reading.proofs.Names.{replicate, Ok, Err, arith, beq, lt-ltb, le-ltb, false≢true, Color, White}
 use Rattle.fax_reading.proofs.Names.{AreChanges, pixels, is_black, paint, last_pixel, Held, StoresChange, common_steps}
 use Rattle.fax_reading.proofs.PixelRows.ChangesAndPixels.{length-pixels, last_pixel-odd}
 use Rattle.std.specs.Bool.{IsTrue}
+use Rattle.fax_reading.proofs.Names.{too_many_pixels}
 
 -- ---- The last pixel's colour, as the code tests it.
 
@@ -44,7 +45,7 @@ paint-fits strict columns width places color n ascend fits = grind (arith, commo
 
 -- a strict row without room is a wrong code
 pub paint-strict : (strict : Bool) (columns width : ℕ) (places : List ℕ) (color : Color) (n : ℕ) → AreChanges width places
-    → strict ≡ true → columns - width < n → paint strict columns (pixels width places) color n ≡ Err InvalidCode
+    → strict ≡ true → columns - width < n → paint strict columns (pixels width places) color n ≡ Err too_many_pixels
 paint-strict strict columns width places color n ascend is_strict many = grind (arith, common_steps, length-pixels, lt-ltb)
 
 -- pixels of the other colour that a row has room for store a change

@@ -1,6 +1,6 @@
 -- b1 and b2 among the changes that a reference row is made of.
 use Rattle.fax_reading.proofs.Names.{opposite, ◌≡◌, ℕ, zero, suc, ◌+◌, ◌-◌, ◌%◌, ◌<◌, ◌≤◌, ◌⊎◌, ◌↔◌, Bool, true, false, not, ◌&&◌}
-use Rattle.fax_reading.proofs.Names.{ltb, leb, List, [], ◌∷◌, length, get_or, replicate, refl, sym, ap, subst, ◌∙◌, arith, inl}
+use Rattle.fax_reading.proofs.Names.{ltb, leb, List, [], ◌∷◌, length, get_or, replicate, refl, sym, ap, ◌∙◌, arith, inl}
 use Rattle.fax_reading.proofs.Names.{inr, beq, and-false, filter, lt-ltb, le-leb, le-ltb, lt-leb, false≢true, cases_lt, cases_eq}
 use Rattle.fax_reading.proofs.Names.{cond-true, cond-false, length-replicate, get_or-replicate, get_or_append_left}
 use Rattle.fax_reading.proofs.Names.{get_or-append_right, get_or_past, get_or_default_zero, Color, White, Row, AscendFrom}
@@ -29,9 +29,7 @@ turned-not (suc n) color = turned-not n (not color)
 -- an even number of changes keeps the colour, and an odd one turns it
 pub turned_by_parity : (n : ℕ) → (n % 2 ≡ 0 → turned n false ≡ false) × (n % 2 ≡ 1 → turned n false ≡ true)
 turned_by_parity zero = (λ e. refl, λ e. absurd (omega arith))
-turned_by_parity (suc n) =
-    let before = turned_by_parity n in
-    (λ e. turned-not n false ∙ ap not (before.1 (omega arith)), λ e. turned-not n false ∙ ap not (before.0 (omega arith)))
+turned_by_parity (suc n) = grind (arith, common_steps, turned_by_parity n, turned-not n false)
 
 -- ---- Where a position is among changes.
 -- the first j of the changes, and no others, are left of a position
@@ -80,7 +78,6 @@ pixels_from-pixel place first color width (change ∷ places) p zero ascend le l
     grind (arith, common_steps, get_or-replicate, get_or_append_left, length-replicate)
 pixels_from-pixel place first color width (change ∷ places) p (suc j) ascend le lep lt split =
     let here : change < suc p = split.before 0 (omega arith) in
-    let left : place ≤ change = omega (arith, ascend.0) in
     let run : length (replicate (change - place) color) ≡ change - place = length-replicate (change - place) color in
     let within : suc j ≤ suc (length places) = split.within in
     let rest : IsSplit places (suc p) j =
@@ -96,9 +93,6 @@ opposite_twice color = grind (arith, common_steps)
 
 other_beq : (b : Bool) → beq b (not b) ≡ false
 other_beq b = grind (arith, common_steps)
-
-beq_other : (b : Bool) → beq (not b) b ≡ false
-beq_other b = grind (arith, common_steps)
 
 module _ (columns : ℕ) (places : List ℕ) (ascend : AreChanges columns places) where
   abbrev row : Row
@@ -123,14 +117,11 @@ module _ (columns : ℕ) (places : List ℕ) (ascend : AreChanges columns places
   pixel_is : (p j : ℕ) → p < columns → IsSplit places (suc p) j → pixel row p ≡ turned j false
   pixel_is p j lt split =
       let e : p - 0 ≡ p = omega arith in
-      ap (λ (n : ℕ). pixel row n) (sym e)
-      ∙ pixels_from-pixel 0 0 false columns places p j ascend (omega arith) (omega arith) lt split
+      grind (arith, pixels_from-pixel)
 
   -- and the pixel before a position by those left of it
   before_is : (p j : ℕ) → p ≤ columns → IsSplit places p j → pixel_before row p ≡ turned j false
-  before_is zero zero le split = refl
-  before_is zero (suc j) le split = absurd (omega (arith, split.before 0 (omega arith)))
-  before_is (suc p) j le split = pixel_is p j (omega arith) split
+  before_is p j le split = grind (arith, pixel_is)
 
   pub order : (j k : ℕ) → j < k → k < length places → get_or places j 0 < get_or places k 0
   order = ascend_order 0 columns places ascend
@@ -144,11 +135,7 @@ module _ (columns : ℕ) (places : List ℕ) (ascend : AreChanges columns places
 
   -- and one more left of the position right of it
   split_after : (j : ℕ) → j < length places → IsSplit places (suc (get_or places j 0)) (suc j)
-  split_after j lt = record { within = omega arith; before = earlier; here = λ l. order j (suc j) (omega arith) l }
-    where
-      earlier : (k : ℕ) → k < suc j → get_or places k 0 < suc (get_or places j 0)
-      earlier k l =
-          elim (cases_eq k j) [ inl same ↦ rw same (omega arith) | inr other ↦ omega (arith, order k j (omega arith) lt) ]
+  split_after j lt = grind (arith, order, cases_eq)
 
   -- each of the positions is a changing element
   change_there : (j : ℕ) → j < length places → is_change row (get_or places j 0) ≡ true
@@ -163,12 +150,7 @@ module _ (columns : ℕ) (places : List ℕ) (ascend : AreChanges columns places
   change_none : (p j : ℕ) → p < columns → IsSplit places p j → (j < length places → p < get_or places j 0)
       → is_change row p ≡ false
   change_none p j lt split left =
-      let within : j ≤ length places = split.within in
-      let next : IsSplit places (suc p) j =
-      record { within = omega arith; before = λ k l. omega (arith, split.before k l); here = left } in
-      let u = before_is p j (omega arith) split in
-      let v = pixel_is p j lt next in
-      rw (u, v) (ap not (same_beq (turned j false)))
+      grind (arith, common_steps, before_is p j (omega arith) split, pixel_is p j lt, same_beq (turned j false))
 
   -- a position of the row is no change, or it is one of the positions
   change_or_none : (p j : ℕ) → p < columns → IsSplit places p j → (is_change row p ≡ false)
@@ -181,17 +163,6 @@ module _ (columns : ℕ) (places : List ℕ) (ascend : AreChanges columns places
 
   pub in_list_if_below : (j : ℕ) → change j < columns → j < length places
   in_list_if_below j lt = grind (arith, common_steps, cases_lt, get_or_past)
-
-  -- a change left of the one at an index has a lesser index
-  less_if_left : (j k : ℕ) → j < length places → get_or places j 0 < change k → j < k
-  less_if_left j k lt left = elim (cases_lt j k) [
-    | inl l ↦ l
-    | inr ge ↦ elim (cases_eq j k) [
-      | inl same ↦ absurd (let e : change k ≡ get_or places j 0 = get_or_default_zero places k columns (omega arith)
-          ∙ ap (λ (n : ℕ). get_or places n 0) (sym same) in omega arith)
-      | inr other ↦ absurd (omega (arith, get_or_default_zero places k columns (omega arith), order k j (omega arith) lt))
-    ]
-  ]
 
   -- the least place of a test that only changes pass is the change of an index, if that one passes and no lesser one does
   least_is : (test : ℕ → Bool) (index : ℕ) → ((p : ℕ) → is_change row p ≡ false → test p ≡ false) → (index < length places
@@ -210,8 +181,7 @@ module _ (columns : ℕ) (places : List ℕ) (ascend : AreChanges columns places
           let split = split_of places p in
           elim (change_or_none p split.0 (omega (arith, end_within index)) split.1) [
             | inl e ↦ none p e
-            | inr at ↦ subst (λ (n : ℕ). test n ≡ false) at.1
-                (earlier split.0 (less_if_left split.0 index at.0 (omega (arith, at.1))) at.0)
+            | inr at ↦ grind (arith, cases_lt, cases_eq, get_or_default_zero, order)
           ]
 
   -- the next change after the one at an index is the one at the next index
@@ -231,8 +201,7 @@ module _ (columns : ℕ) (places : List ℕ) (ascend : AreChanges columns places
   -- a1 is the change of the first index right of a0
   pub a1_is : (from first : ℕ) → IsSplit places from first
       → least_below (length row) (λ p. leb from p && is_change row p) ≡ change first
-  a1_is from first split = least_is (λ p. leb from p && is_change row p) first (λ p e. rw e (and-false _))
-      (λ lt. rw (le-leb _ _ (split.here lt)) (change_there first lt)) (λ j lt l. rw (lt-leb _ _ (split.before j lt)) refl)
+  a1_is from first split = grind (arith, least_is, and-false, le-leb, change_there, lt-leb)
 
   -- b1 is the change of the first index right of a0, or of the one after it where the first turns the other way
   pub b1_is : (from first index : ℕ) (color : Color) → IsSplit places from first → turned index false ≡ is_black color
@@ -250,7 +219,7 @@ module _ (columns : ℕ) (places : List ℕ) (ascend : AreChanges columns places
 
       -- a change that is left of it, and not left of a0, turns the other way
       earlier : (j : ℕ) → j < index → j < length places → is_b1 from color (get_or places j 0) ≡ false
-      earlier j lt l = grind (arith, common_steps, reach, split.before j, color_at j l, lt-leb, beq_other)
+      earlier j lt l = grind (arith, common_steps, reach, split.before j, color_at j l, lt-leb)
 
 -- ---- The index of b1 as code finds it.
 -- a0 is where the front ends
@@ -322,11 +291,7 @@ split_count : (first width : ℕ) (places : List ℕ) (p j : ℕ) → AscendFrom
 split_count first width [] p j ascend split = omega (arith, split.within)
 split_count first width (place ∷ places) p zero ascend split =
     let right : p < place = split.here (omega arith) in
-    let rest : IsSplit places (suc p) 0 = record {
-      within = omega arith;
-      before = λ k l. absurd (omega arith);
-      here = λ l. omega (arith, right, (ascend_bounds (suc place) width places ascend.2 0 l).0);
-    } in
+    let rest : IsSplit places (suc p) 0 = grind (arith, ascend_bounds) in
     split_count (suc place) width places p 0 ascend.2 rest ∙ ap length (sym (cond-false (leb place p)
     (place ∷ filter (λ place. leb place p) places) (filter (λ place. leb place p) places) (lt-leb place p right)))
 split_count first width (place ∷ places) p (suc j) ascend split =

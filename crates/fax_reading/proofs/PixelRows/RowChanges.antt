@@ -9,14 +9,11 @@ changes_from place before [] = []
 changes_from place before (pixel ∷ row) =
     cond (beq before pixel) (changes_from (suc place) pixel row) (place ∷ changes_from (suc place) pixel row)
 
-cond-append : (b : Bool) (x y zs : List ℕ) → cond b x y ++ zs ≡ cond b (x ++ zs) (y ++ zs)
-cond-append b x y zs = grind (arith, common_steps)
-
 pub changes_from-append : (place : ℕ) (before : Bool) (front row : Row) → changes_from place before (front ++ row)
     ≡ changes_from place before front ++ changes_from (place + length front) (last_pixel before front) row
 changes_from-append place before [] row = let e : place + 0 ≡ place = omega arith in rw e refl
 changes_from-append place before (pixel ∷ front) row =
-    grind (arith, common_steps, cond-append, changes_from-append (suc place) pixel front row)
+    grind (arith, common_steps, changes_from-append (suc place) pixel front row)
 
 pub same_beq : (b : Bool) → beq b b ≡ true
 same_beq b = grind (arith, common_steps)

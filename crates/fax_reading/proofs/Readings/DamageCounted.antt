@@ -1,26 +1,22 @@
 -- The damage that a run passes is counted: the rows that it repairs, those in which it cuts a run, and the EOLs that it misses.
-use Rattle.fax_reading.proofs.Names.{common_steps, ◌≡◌, ◌+◌, ◌-◌, ◌<◌, ◌≤◌, ℕ, Bool, true, false, cond, not, ◌&&◌, ◌||◌}
-use Rattle.fax_reading.proofs.Names.{List, [], ◌∷◌, ◌++◌, length, Ok, Err, refl, sym, ap, ◌∙◌, arith, cond-true, cond-false}
-use Rattle.fax_reading.proofs.Names.{eq-eqb, ne_eqb, lt-leb, le-leb, length-append, DecodeError, InvalidCode, DecodeSettings}
-use Rattle.fax_reading.proofs.Names.{Bits, Held, Repairs, fresh, with_missed, Damaged, repaired_in, missed_behind, is_broken}
+use Rattle.fax_reading.proofs.Names.{common_steps, ◌≡◌, ◌+◌, ◌-◌, ◌≤◌, ℕ, Bool, true, false, cond, not, ◌&&◌, ◌||◌}
+use Rattle.fax_reading.proofs.Names.{List, [], ◌∷◌, ◌++◌, length, Ok, Err, refl, sym, arith, cond-true, cond-false}
+use Rattle.fax_reading.proofs.Names.{eq-eqb, ne_eqb, le-leb, length-append, DecodeError, DecodeSettings}
+use Rattle.fax_reading.proofs.Names.{Bits, Held, Repairs, fresh, with_missed, Damaged, repaired_in, missed_behind}
 use Rattle.fax_reading.proofs.Names.{cuts_run, cut_in, cut_since, cuts_with, repairs_with, repairs_behind, Line, Progress}
 use Rattle.fax_reading.proofs.Names.{row_of_line, behind_row, with_row, misses_eol, context_at, Row, missed_since, start_in}
-use Rattle.fax_reading.proofs.Readings.RowsAndGaps.{unmissed}
 
 -- ---- Rows in which a run is cut
 
 -- counting one changes nothing else
 pub cuts_keep : (cut : Bool) (taken : ℕ) (before : Repairs)
     → cuts_with cut taken before ≡ record before { cut = (cuts_with cut taken before).cut }
-cuts_keep true taken before = grind (arith, common_steps)
-cuts_keep false taken before = refl
+cuts_keep cut taken before = grind arith
 
 -- an accepted row is counted, if a run of it was cut
 pub cut_counts : (line strict : Line) (taken : ℕ) (before : Repairs) (x : Damaged) → before.cut ≤ taken →
     (repairs_with line strict taken before).cut ≡ before.cut + length (cond {A = List Damaged} (cuts_run line strict) (x ∷ []) [])
-cut_counts (Line.broken front fault) strict taken before x few = omega arith
-cut_counts (Line.whole row rest) (Line.whole other behind) taken before x few = omega arith
-cut_counts (Line.whole row rest) (Line.broken front fault) taken before x few = grind (arith, common_steps, cond-true, le-leb)
+cut_counts line strict taken before x few = grind (arith, cond-true, le-leb)
 
 -- it is one row at most
 pub cut_once : (line strict : Line) (x : Damaged) → length (cond {A = List Damaged} (cuts_run line strict) (x ∷ []) []) ≤ 1
@@ -29,14 +25,12 @@ cut_once line strict x = grind (arith, common_steps)
 -- and it is told
 pub cut_is_told : (cut : Bool) (x : Damaged) (now : Repairs) (before : ℕ) → now.cut ≡ before + length
     (cond {A = List Damaged} cut (x ∷ []) []) → cut_since now before ≡ cut_in (cond {A = List Damaged} cut (x ∷ []) [])
-cut_is_told true x now before more = ap not (ne_eqb now.cut before (λ same. absurd (omega (arith, same, more))))
-cut_is_told false x now before more = ap not (eq-eqb now.cut before (omega (arith, more)))
+cut_is_told cut x now before more = grind (arith, ne_eqb, eq-eqb)
 
 -- where there is no row, none is cut
 pub cut_none : (settings : DecodeSettings) (has_eols : Bool) (start : Bits) (line strict : Line) (e : DecodeError)
     → row_of_line settings has_eols start line ≡ Err e → cuts_run line strict ≡ false
-cut_none settings has_eols start (Line.whole row rest) strict e is = cc
-cut_none settings has_eols start (Line.broken front fault) strict e is = refl
+cut_none settings has_eols start line strict e is = grind arith
 
 -- ---- Rows that are repaired
 
@@ -44,17 +38,13 @@ cut_none settings has_eols start (Line.broken front fault) strict e is = refl
 pub repaired_counts : (settings : DecodeSettings) (has_eols : Bool) (index offset : ℕ) (start : Bits) (line strict : Line)
     (row : Row) (rest : Bits) (taken : ℕ) (before : Repairs) → row_of_line settings has_eols start line ≡ Ok (row, rest)
     → (repairs_with line strict taken before).rows ≡ before.rows + length (repaired_in settings has_eols index offset line)
-repaired_counts settings has_eols index offset start (Line.whole pixels behind) strict row rest taken before is =
-    omega (arith, ap (λ (r : Repairs). r.rows) (cuts_keep (is_broken strict) taken before))
-repaired_counts settings has_eols index offset start (Line.broken front fault) strict row rest taken before is =
-    grind (arith, common_steps, cond-true, cond-false)
+repaired_counts settings has_eols index offset start line strict row rest taken before is =
+    grind (arith, cuts_keep, cond-true, cond-false)
 
 -- and where there is no row, nothing is repaired
 pub repaired_none : (settings : DecodeSettings) (has_eols : Bool) (index offset : ℕ) (start : Bits) (line : Line)
     (e : DecodeError) → row_of_line settings has_eols start line ≡ Err e → repaired_in settings has_eols index offset line ≡ []
-repaired_none settings has_eols index offset start (Line.whole pixels behind) e is = refl
-repaired_none settings has_eols index offset start (Line.broken front fault) e is =
-    grind (arith, common_steps, cond-true, cond-false)
+repaired_none settings has_eols index offset start line e is = grind (arith, cond-true, cond-false)
 
 -- ---- EOLs that are missed
 
@@ -63,28 +53,14 @@ pub repaired_behind : (held : Held) (here : Bits) → ((repairs_behind held here
     × ((repairs_behind held here).last ≡ held.repairs.last) × ((repairs_behind held here).cut ≡ held.repairs.cut)
 repaired_behind held here = grind arith
 
--- where no EOLs are sought, none is missed
-unsought_behind : (held : Held) (here : Bits) → held.has_eols ≡ false → repairs_behind held here ≡ held.repairs
-unsought_behind held here unsought = grind (arith, common_steps, unmissed)
-
 -- so the first gap of Group 4 changes nothing but whether EOLs are sought
 pub first_gap_left : (held last : Held) (here : Bits) → held ≡ fresh held.settings
     → last ≡ record held { has_eols = last.has_eols; repairs = last.repairs } → last.repairs ≡ repairs_behind held here
     → last ≡ record (fresh held.settings) { has_eols = last.has_eols }
-first_gap_left held last here begins frame missed = grind (arith, common_steps, unsought_behind)
-
-neither : (x y : Bool) → x ≡ false → y ≡ false → (x || y) ≡ false
-neither true y e f = absurd cc
-neither false y e f = f
+first_gap_left held last here begins frame missed = grind (arith, common_steps)
 
 either : (x y : Bool) → x ≡ true → (x || y) ≡ true
-either true y e = refl
-either false y e = absurd cc
-
--- an EOL is counted after a row that wasn't repaired, and after one that was it isn't
-missed_by_one_more : (before : Repairs) (taken : ℕ) → before.last < taken → before.missed < taken
-    → (with_missed taken before).missed ≡ before.missed + 1
-missed_by_one_more before taken last few = grind (arith, common_steps, cond-false, neither, ne_eqb, lt-leb)
+either x y e = grind arith
 
 missed_same : (before : Repairs) (taken : ℕ) → before.last ≡ taken → with_missed taken before ≡ before
 missed_same before taken last = grind (arith, common_steps, cond-true, either, eq-eqb)
@@ -95,28 +71,12 @@ pub missed_counts : (settings : DecodeSettings) (bits : Bits) (so_far : Progress
     → before.missed ≤ length so_far.rows → (repairs_behind (context_at settings (with_row so_far row rest) (repairs_with line
     strict (length so_far.rows) before)) rest).missed ≡ before.missed + length (missed_behind settings bits so_far line)
 missed_counts settings bits so_far (Line.whole pixels behind) strict row rest before is last few =
-    let more : length (so_far.rows ++ row ∷ []) ≡ length so_far.rows + 1 = length-append so_far.rows (row ∷ []) in
-    let same : ◌≡◌ {A = Row × Bits} (pixels, behind_row settings so_far.has_eols behind) (row, rest) = cc in
-    let here : rest ≡ behind_row settings so_far.has_eols behind = sym (ap (λ (x : Row × Bits). x.1) same) in
-    let kept = cuts_keep (is_broken strict) (length so_far.rows) before in
-    by_b (cuts_with (is_broken strict) (length so_far.rows) before) (ap (λ (r : Repairs). r.last) kept)
-    (ap (λ (r : Repairs). r.missed) kept) (misses_eol settings (length
-    (so_far.rows ++ row ∷ [])) so_far.has_eols rest && not settings.strict) (misses_eol settings
-    (length so_far.rows + 1) so_far.has_eols (behind_row settings so_far.has_eols behind) && not settings.strict) (ap
-    (λ (k : ℕ). misses_eol settings k so_far.has_eols rest && not settings.strict) more ∙ ap (λ (b : Bits). misses_eol settings
-    (length so_far.rows + 1) so_far.has_eols b && not settings.strict) here) (length (so_far.rows ++ row ∷ [])) more (record {
-      row = length so_far.rows;
-      start = length bits - length (behind_row settings so_far.has_eols behind);
-      fault = InvalidCode;
-    })
+    grind (arith, cuts_keep, by_b, length-append)
   where
     by_b : (now : Repairs) → now.last ≡ before.last → now.missed ≡ before.missed → (b c : Bool) → b ≡ c → (taken : ℕ)
         → taken ≡ length so_far.rows + 1 → (x : Damaged)
         → (cond b (with_missed taken now) now).missed ≡ before.missed + length (cond {A = List Damaged} c (x ∷ []) [])
-    by_b now at kept true true same taken more x = grind (arith, common_steps, missed_by_one_more)
-    by_b now at kept true false same taken more x = absurd cc
-    by_b now at kept false true same taken more x = absurd cc
-    by_b now at kept false false same taken more x = omega (arith, kept)
+    by_b now at kept b c same taken more x = grind (arith)
 missed_counts settings bits so_far (Line.broken front fault) strict row rest before is last few =
     by_length (repairs_with (Line.broken front fault) strict (length so_far.rows) before) refl refl
     (misses_eol settings (length (so_far.rows ++ row ∷ [])) so_far.has_eols rest && not settings.strict)
@@ -124,8 +84,7 @@ missed_counts settings bits so_far (Line.broken front fault) strict row rest bef
   where
     by_length : (now : Repairs) → now.last ≡ length so_far.rows + 1 → now.missed ≡ before.missed → (b : Bool) (taken : ℕ)
         → length so_far.rows + 1 ≡ taken → (cond b (with_missed taken now) now).missed ≡ before.missed + 0
-    by_length now last kept true taken more = grind (arith, common_steps, missed_same)
-    by_length now last kept false taken more = omega (arith, kept)
+    by_length now last kept b taken more = grind (arith, missed_same)
 
 -- it is one EOL at most
 missed_once : (settings : DecodeSettings) (bits : Bits) (so_far : Progress) (line : Line)
@@ -135,8 +94,7 @@ missed_once settings bits so_far (Line.whole row rest) = either_way (misses_eol 
     (length so_far.rows + 1) so_far.has_eols (behind_row settings so_far.has_eols rest) && not settings.strict) _
   where
     either_way : (b : Bool) (x : Damaged) → length (cond {A = List Damaged} b (x ∷ []) []) ≤ 1
-    either_way true x = omega arith
-    either_way false x = omega arith
+    either_way b x = grind arith
 
 -- it is missed where its row ends
 pub missed_starts : (settings : DecodeSettings) (bits : Bits) (so_far : Progress) (line : Line) (row : Row) (rest : Bits)
@@ -151,14 +109,12 @@ missed_starts settings bits so_far (Line.whole pixels behind) row rest is after 
 -- where there is no row, no EOL is missed
 pub missed_none : (settings : DecodeSettings) (bits : Bits) (so_far : Progress) (line : Line) (e : DecodeError)
     → row_of_line settings so_far.has_eols so_far.rest line ≡ Err e → missed_behind settings bits so_far line ≡ []
-missed_none settings bits so_far (Line.whole row rest) e is = cc
-missed_none settings bits so_far (Line.broken front fault) e is = refl
+missed_none settings bits so_far line e is = grind arith
 
 -- the last repaired row is one of them
 last_with : (line strict : Line) (taken : ℕ) (before : Repairs) → before.last ≤ taken
     → (repairs_with line strict taken before).last ≤ taken + 1
-last_with (Line.whole row rest) strict taken before within = grind (arith, common_steps, cuts_keep)
-last_with (Line.broken front fault) strict taken before within = omega arith
+last_with line strict taken before within = grind (arith, cuts_keep)
 
 module _ (settings : DecodeSettings) (bits : Bits) (so_far : Progress) (line strict : Line) (row : Row) (rest : Bits)
     (before : Repairs)

@@ -51,11 +51,8 @@ module _ (settings : DecodeSettings) (wide : 0 < settings.columns) where
       left_to_read (move_shrinks settings wide) (move_on settings) late left_to_read (move_shrinks settings wide) (λ s t. s ≡ t)
       (λ r q. r ≡ q) same (suc (suc (length run.rest))) (suc (left_to_read run)) run run (left_below run) (omega arith) refl
     where
-      turn_same : (rest : Progress → Ending) (turn : Move) → Follows (λ s t. s ≡ t) (λ r q. r ≡ q) rest turn turn
-      turn_same rest turn = grind (arith, common_steps)
-
       same : (s t : Progress) → s ≡ t → Follows (λ s t. s ≡ t) (λ r q. r ≡ q) goes (move_on settings s) (move_on settings t)
-      same s t e = grind (arith, common_steps, turn_same)
+      same s t e = grind (arith, common_steps)
 
   ending_behind_goes : (gap : Move) → ending_behind settings gap ≡ after_turn goes gap
   ending_behind_goes gap = grind (arith, common_steps, ending_goes)

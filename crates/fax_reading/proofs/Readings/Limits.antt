@@ -1,10 +1,10 @@
 -- A row limit cuts what comes without one.
 use Rattle.fax_reading.proofs.Readings.TurnsAddRows.{turn_extends, Keeps, after_row_keeps}
 use Rattle.fax_reading.proofs.Names.{◌≡◌, ℕ, ◌-◌, ◌<◌, ◌≤◌, Bool, true, false, cond, not, ◌&&◌, ◌||◌, eqb, List, [], ◌∷◌, ◌++◌}
-use Rattle.fax_reading.proofs.Names.{length, take, replicate, Option, Result, Err, refl, sym, arith, inl, inr, IsOk}
+use Rattle.fax_reading.proofs.Names.{length, take, replicate, Option, Err, refl, sym, arith, inl, inr, IsOk}
 use Rattle.fax_reading.proofs.Names.{length-append, take_all, cases_eq, and_right, or_left, or_right, eq-eqb, ne_eqb, cond-true}
-use Rattle.fax_reading.proofs.Names.{cases_lt, DecodeError, DecodeSettings, EncodingMode, Bits, IsPrefix, Row, Line, next_eol}
-use Rattle.fax_reading.proofs.Names.{Progress, Ending, Move, aligned, ends_with, limit_met, bytes_before, eols_here, after_line}
+use Rattle.fax_reading.proofs.Names.{cases_lt, DecodeSettings, EncodingMode, Bits, IsPrefix, Row, Line, next_eol}
+use Rattle.fax_reading.proofs.Names.{Progress, Ending, Move, aligned, ends_with, limit_met, eols_here, after_line}
 use Rattle.fax_reading.proofs.Names.{move_on, first_gap, ending_from, end_of, RowLimit, common_steps}
 use Rattle.fax_reading.proofs.Readings.GapsAndRows.{readings_follow}
 use Rattle.fax_bits.proofs.Repetition.Repeated.{Follows}
@@ -113,10 +113,7 @@ module _ (settings : DecodeSettings) (limit : ℕ) (some : 0 < limit) (wide : 0 
   cut_end bits = readings_follow limited unlimited wide wide Same Cut move_follows (first_gap settings.encoding limited bits) _
       (first_gap_follows settings.encoding bits)
 
-ok_bytes : (bits : Bits) (r : Result Bits DecodeError) → IsOk r → IsOk (bytes_before bits r)
-ok_bytes bits r ok = grind (arith, common_steps)
-
 -- the law
 pub row_limit : RowLimit
 row_limit settings limit bits are some small =
-    grind (arith, common_steps, cases_eq, cases_lt, cut_end, eq-eqb, ne_eqb, ok_bytes, take_all)
+    grind (arith, common_steps, cases_eq, cases_lt, cut_end, eq-eqb, ne_eqb, take_all)

@@ -23,8 +23,7 @@ bytes_before-place bits place within = grind (arith, common_steps, length-drop)
 -- a byte count within a number of bits is within the number of bytes
 pub whole_bytes_within : (answer : Result ℕ DecodeError) (bits bytes : ℕ) → bits ≡ 8 * bytes → IfOk answer (λ n. 8 * n ≤ bits)
     → IfOk answer (λ n. n ≤ bytes)
-whole_bytes_within (Ok n) bits bytes e within = omega (arith, e, within)
-whole_bytes_within (Err fault) bits bytes e within = tt
+whole_bytes_within answer bits bytes e within = grind arith
 
 module _ {M : Type 0} (settings : DecodeSettings) (bits : Bits) (step : M → List ℕ → M) (before after : SinkState M)
     (held : Held) (some : settings.columns ≢ 0) where

@@ -1,7 +1,7 @@
 -- Each row of the plain reading has the width of its columns.
-use Rattle.fax_reading.proofs.Names.{common_steps, ◌≡◌, ◌≤◌, ℕ, suc, Bool, true, false, cond, List, [], ◌∷◌, ◌++◌, length, Err}
+use Rattle.fax_reading.proofs.Names.{common_steps, ◌≡◌, ◌≤◌, ℕ, suc, Bool, cond, List, [], ◌∷◌, ◌++◌, length, Err}
 use Rattle.fax_reading.proofs.Names.{sym, subst, arith, length-append, length-replicate, All-append, All-cons, All-nil}
-use Rattle.fax_reading.proofs.Names.{UnexpectedEof, DecodeSettings, front_of, Bits, Turn, Row, HaveWidth, repaired, Line}
+use Rattle.fax_reading.proofs.Names.{UnexpectedEof, DecodeSettings, front_of, Bits, Turn, Row, HaveWidth, Line}
 use Rattle.fax_reading.proofs.Names.{Progress, Move, plain, ending_from, ending_behind, with_row, behind_row, after_line, move_on}
 use Rattle.fax_reading.proofs.DrawingLines.LineWidths.{line_by_within}
 use Rattle.fax_bits.proofs.Repetition.Repeated.{repeated_keeps}
@@ -15,21 +15,16 @@ LeavesWidth columns (Turn.next so_far) = HaveWidth columns so_far.rows
 LeavesWidth columns (Turn.done end) = HaveWidth columns end.rows
 
 keeps_width : (columns : ℕ) (rows : List Row) (move : Move) → Keeps rows move → HaveWidth columns rows → LeavesWidth columns move
-keeps_width columns rows (Turn.next so_far) same have = subst (HaveWidth columns) (sym same) have
-keeps_width columns rows (Turn.done end) same have = subst (HaveWidth columns) (sym same) have
+keeps_width columns rows move same have = grind arith
 
 one_of : (columns : ℕ) (b : Bool) (x y : Move) → LeavesWidth columns x → LeavesWidth columns y → LeavesWidth columns (cond b x y)
-one_of columns true x y p q = p
-one_of columns false x y p q = q
+one_of columns b x y p q = grind arith
 
 -- one row more
 have_width_with_row : (columns : ℕ) (rows : List Row) (row : Row) → HaveWidth columns rows → length row ≡ columns
     → HaveWidth columns (rows ++ row ∷ [])
 have_width_with_row columns rows row have width = All-append (λ r. length r ≡ columns) rows (row ∷ []) have
     (All-cons (λ r. length r ≡ columns) row [] width (All-nil (λ r. length r ≡ columns)))
-
-repaired_width : (columns : ℕ) (front : Row) → length front ≤ columns → length (repaired columns front) ≡ columns
-repaired_width columns front within = grind (arith, common_steps, length-append, length-replicate)
 
 module _ (settings : DecodeSettings) where
   -- a row is added
@@ -41,9 +36,8 @@ module _ (settings : DecodeSettings) where
 
   after_line_width : (so_far : Progress) (line : Line) → HaveWidth settings.columns so_far.rows → length (front_of line)
       ≤ settings.columns → IsFull settings.columns line → LeavesWidth settings.columns (after_line settings so_far line)
-  after_line_width so_far (Line.whole row rest) have within full = grind (arith, common_steps, after_whole-is, row_added_width)
-  after_line_width so_far (Line.broken front fault) have within full =
-      grind (arith, common_steps, after_damage-is, one_of, row_added, row_added_width, repaired_width)
+  after_line_width so_far line have within full =
+      grind (arith, after_whole-is, row_added_width, after_damage-is, one_of, length-append, length-replicate)
 
   move_width : (so_far : Progress) → HaveWidth settings.columns so_far.rows
       → LeavesWidth settings.columns (move_on settings so_far)

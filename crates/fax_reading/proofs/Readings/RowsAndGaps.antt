@@ -33,13 +33,11 @@ row_added settings so_far row rest = after_row settings (with_row so_far row (be
 
 -- a choice of gaps is a choice of moves
 at_gap-cond : (so_far : Progress) (b : Bool) (x y : Gap) → at_gap so_far (cond b x y) ≡ cond b (at_gap so_far x) (at_gap so_far y)
-at_gap-cond so_far true x y = refl
-at_gap-cond so_far false x y = refl
+at_gap-cond so_far b x y = grind arith
 
 -- two choices are equal if both cases are, each where it applies
 cond-same : {A : Type 0} (b : Bool) (x y z w : A) → (b ≡ true → x ≡ z) → (b ≡ false → y ≡ w) → cond b x y ≡ cond b z w
-cond-same true x y z w one two = one refl
-cond-same false x y z w one two = two refl
+cond-same b x y z w one two = grind arith
 
 -- after EOLs
 behind_eols-is : (settings : DecodeSettings) (so_far : Progress) (has_eols : Bool) (found : ℕ × Bits) → so_far.has_eols ≡ has_eols
@@ -49,8 +47,7 @@ behind_eols-is settings so_far has_eols (count, rest) is = grind (arith, common_
 -- from the next EOL on
 from_eol : (settings : DecodeSettings) (so_far : Progress) (next : Option Bits) → so_far.has_eols ≡ true
     → at_gap so_far (from_next_eol settings (length so_far.rows) so_far.rest next) ≡ seek_from settings so_far next
-from_eol settings so_far (Some found) is = behind_eols-is settings so_far true (eols_here settings found) is
-from_eol settings so_far None is = refl
+from_eol settings so_far next is = grind (arith, behind_eols-is)
 
 -- an EOL is missed only where EOLs are sought
 pub missed_sought : (settings : DecodeSettings) (taken : ℕ) (h : Bool) (here : Bits) → misses_eol settings taken h here ≡ true
@@ -73,8 +70,7 @@ pass_gap-is settings so_far =
 
 -- data with EOLs are not aligned
 pub behind_with_eols : (aligns : Bool) (rest : Bits) → cond (aligns && not true) (aligned rest) rest ≡ rest
-behind_with_eols true rest = refl
-behind_with_eols false rest = refl
+behind_with_eols aligns rest = grind arith
 
 -- a whole line adds its row
 pub after_whole-is : (settings : DecodeSettings) (so_far : Progress) (row : Row) (rest : Bits)

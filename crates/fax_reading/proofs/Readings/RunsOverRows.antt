@@ -73,8 +73,7 @@ module _ (settings : DecodeSettings) (so_far : Progress) where
         where
           at : (gap : Gap) → at_gap (with_row so_far row rest) gap ≡ Turn.next after
               → length after.rows ≡ suc (length so_far.rows)
-          at (Gap.over outcome) e = absurd (not_next _ after e)
-          at (Gap.line_at has_eols here) e = grind (arith, common_steps, length-append)
+          at gap e = grind (arith, not_next, length-append)
 
 -- ---- The turns from a state on
 

@@ -2,7 +2,7 @@
 -- that of its index in every list over them.
 use Rattle.fax_reading.proofs.Names.{common_steps, ◌≡◌, ◌+◌, ◌<◌, ℕ, List, [], ◌∷◌, length, drop, map, take, get_or, Some, ap}
 use Rattle.fax_reading.proofs.Names.{◌∙◌, sym, subst, arith, slice_get, cond-false, ne_eqb, sum_by, DecodeSettings, Bits}
-use Rattle.fax_reading.proofs.Names.{Progress, Ending, first_gap, move_on, turns_of, turns_from, Turn, Reaches, get_or-drop}
+use Rattle.fax_reading.proofs.Names.{Progress, Ending, first_gap, move_on, turns_of, Turn, Reaches, get_or-drop}
 use Rattle.fax_reading.proofs.Names.{drop-map, slice_get_within, get_or_from_slice_get, sum_by_more, sum_by-take-drop}
 use Rattle.fax_bits.proofs.Repetition.Gathered.{gathered_after}
 use Rattle.fax_reading.proofs.Readings.RunsOverRows.{slice_get-drop_cons, Comes, comes_there, turns_left, turns_on}
@@ -13,9 +13,6 @@ module _ (settings : DecodeSettings) (wide : 0 < settings.columns) (bits : Bits)
   -- no row comes before the first line
   pub none_first : first.rows ≡ []
   none_first = subst (Keeps []) begins (first_gap_keeps settings settings.encoding bits)
-
-  turns_are : turns_of settings bits ≡ turns_from (move_on settings) first
-  turns_are = grind (arith, common_steps, cond-false, ne_eqb)
 
   module _ {so_far : Progress} (reaches : Reaches (move_on settings) first so_far) where
     pub comes : Comes settings first so_far
@@ -28,9 +25,7 @@ module _ (settings : DecodeSettings) (wide : 0 < settings.columns) (bits : Bits)
 
       given_on : drop (length so_far.rows) given
           ≡ gives so_far ∷ map gives (gathered_after (turns_left settings) (move_on settings so_far))
-      given_on = drop-map gives (length so_far.rows) (turns_of settings bits)
-          ∙ ap (λ (turns : List Progress). map gives (drop (length so_far.rows) turns)) turns_are
-          ∙ ap (map gives) (turns_on settings wide none_first comes)
+      given_on = grind (arith, drop-map, map, cond-false, ne_eqb, turns_on, none_first, comes)
 
       -- it is the one of its index
       pub given_there : slice_get given (length so_far.rows) ≡ Some (gives so_far)
@@ -45,8 +40,7 @@ module _ (settings : DecodeSettings) (wide : 0 < settings.columns) (bits : Bits)
         given_last = grind (arith, common_steps, given_on)
 
         pub none_given : (other : A) → get_or given (length so_far.rows + 1) other ≡ other
-        none_given other = sym (get_or-drop (length so_far.rows) given 1 other)
-            ∙ ap (λ (xs : List A). get_or xs 1 other) given_last
+        none_given other = grind (arith, common_steps, get_or-drop (length so_far.rows) given 1 other, given_last)
 
     -- what is told of each turn, and counted of them, with that of its turn
     module _ {A : Type 0} (gives : Progress → List A) {rows : ℕ} (taken : rows ≡ length so_far.rows) where

@@ -1,11 +1,11 @@
 -- What a strict run reads, a lenient run reads too.
 use Rattle.fax_reading.proofs.Readings.TurnsAddRows.{turn_extends, Adds, seek_from_keeps, move_adds, prefix_trans}
-use Rattle.fax_reading.proofs.Names.{◌≡◌, ℕ, suc, ◌<◌, true, false, cond, not, ◌&&◌, eqb, List, [], ◌∷◌, ◌++◌, length, Result, Ok}
-use Rattle.fax_reading.proofs.Names.{refl, sym, ap, subst, arith, inl, inr, IsOk, cases_lt, cases_eq, eq-eqb, ne_eqb, false≢true}
-use Rattle.fax_reading.proofs.Names.{Color, Mode, Pass, Horizontal, Vertical, DecodeError, UnexpectedEof, DecodeSettings}
-use Rattle.fax_reading.proofs.Names.{EncodingMode, Bits, IsPrefix, Turn, Row, paint, Line, Pen, start, line_1d, line_2d, Step}
+use Rattle.fax_reading.proofs.Names.{◌≡◌, ℕ, suc, ◌<◌, true, false, cond, not, ◌&&◌, List, [], ◌∷◌, ◌++◌, length, Result, Ok}
+use Rattle.fax_reading.proofs.Names.{refl, sym, subst, arith, inl, inr, IsOk, cases_lt, cases_eq, eq-eqb, ne_eqb, false≢true}
+use Rattle.fax_reading.proofs.Names.{Mode, Pass, Horizontal, Vertical, DecodeError, UnexpectedEof, DecodeSettings}
+use Rattle.fax_reading.proofs.Names.{EncodingMode, Bits, IsPrefix, Turn, Row, Line, Pen, start, line_1d, line_2d, Step}
 use Rattle.fax_reading.proofs.Names.{Progress, Ending, Move, row_before, aligned, misses_eol, eols_here, Bool}
-use Rattle.fax_reading.proofs.Names.{whole_reading, bytes_before, line_by, after_line, move_on, first_gap, ending_from, end_of}
+use Rattle.fax_reading.proofs.Names.{bytes_before, line_by, after_line, move_on, first_gap, ending_from, end_of}
 use Rattle.fax_reading.proofs.Names.{StrictThenLenient, common_steps, plain}
 use Rattle.fax_reading.proofs.DrawingLines.Drawings.{try, run_then, mode_step, step_unless_full, step_1d, step_2d, step_1d_is}
 use Rattle.fax_reading.proofs.DrawingLines.Drawings.{step_2d_is, horizontal_is}
@@ -34,13 +34,9 @@ module _ (rest : Pen → Line) where
       → ((x : A) → StepFollows (f x) (g x)) → StepFollows (try front r f) (try front q g)
   try_follows front r q f g same on = grind (arith, common_steps)
 
-  paint_lenient : (columns : ℕ) (front : Row) (color : Color) (n : ℕ) (x : Row) → paint true columns front color n ≡ Ok x
-      → paint false columns front color n ≡ Ok x
-  paint_lenient columns front color n x e = grind (arith, common_steps)
-
   draw_run_follows : (columns : ℕ) (pen : Pen) (f g : Pen → Step) → ((p : Pen) → StepFollows (f p) (g p))
       → StepFollows (run_then true columns pen f) (run_then false columns pen g)
-  draw_run_follows columns pen f g on = grind (arith, common_steps, paint_lenient, try, try_follows)
+  draw_run_follows columns pen f g on = grind (arith, common_steps, try, try_follows)
 
   unless_full_follows : (columns : ℕ) (pen : Pen) (a b : Step) → StepFollows a b
       → StepFollows (step_unless_full columns pen a) (step_unless_full columns pen b)
@@ -118,8 +114,7 @@ module _ (settings : DecodeSettings) (wide : 0 < settings.columns) where
         by_missed : (b : Bool) (found : ℕ × Bits) → Follows SameRun Precedes rest
             (cond b (seek_eol strictly run) (unless_over strictly run found))
             (cond b (seek_eol leniently run) (unless_over leniently run found))
-        by_missed true found = grind (arith, common_steps, turn_extends, seek_from_keeps, false≢true)
-        by_missed false (count, here) = same_turn (unless_over settings run (count, here))
+        by_missed b found = grind (arith, turn_extends, seek_from_keeps, false≢true, same_turn)
 
     after_line_follows : (run : Progress) (line other : Line) → Agrees line other → Adds run.rows (after_line leniently run other)
         → Follows SameRun Precedes rest (after_line strictly run line) (after_line leniently run other)
@@ -151,17 +146,12 @@ pub strict_first : (settings : DecodeSettings) (bits : Bits)
     → plain (record settings { strict = true }) bits ≡ plain (record settings { strict = false }) bits)
 strict_first settings bits = elim (cases_eq settings.columns 0) [
   | inl none ↦
-      let no_columns : eqb settings.columns 0 ≡ true = eq-eqb settings.columns 0 none in
-      rw no_columns (([], refl), λ ok. refl)
+      grind (arith, eq-eqb)
   | inr not_none ↦
       let wide : 0 < settings.columns =
       elim (cases_lt 0 settings.columns) [ inl lt ↦ lt | inr ge ↦ absurd (not_none (omega arith)) ] in
-      let columns : eqb settings.columns 0 ≡ false = ne_eqb settings.columns 0 not_none in
       let both = precedes settings wide bits in
-      rw columns (
-        both.0,
-        λ ok. ap (whole_reading bits) (both.1 (ok_outcome bits (end_of (record settings { strict = true }) bits).outcome ok)),
-      )
+      grind (arith, ok_outcome, ne_eqb)
 ]
 
 -- the law

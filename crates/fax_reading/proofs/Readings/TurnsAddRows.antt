@@ -1,10 +1,9 @@
 -- A run only adds rows.
-use Rattle.fax_reading.proofs.Names.{arith, common_steps, ◌≡◌, ℕ, ◌-◌, ◌<◌, Bool, true, false, cond, not, ◌&&◌, ◌||◌, List, []}
-use Rattle.fax_reading.proofs.Names.{◌∷◌, ◌++◌, length, replicate, Option, Some, None, Err, refl, sym, ap, subst, ◌∙◌}
+use Rattle.fax_reading.proofs.Names.{arith, common_steps, ◌≡◌, ℕ, ◌-◌, ◌<◌, Bool, false, cond, not, ◌&&◌, ◌||◌, List, []}
+use Rattle.fax_reading.proofs.Names.{◌∷◌, ◌++◌, length, replicate, Option, Err, refl, sym, ap, subst, ◌∙◌}
 use Rattle.fax_reading.proofs.Names.{append_assoc, append-nil, InvalidCode, DecodeSettings, Bits, IsPrefix, Turn, repeated, Row}
 use Rattle.fax_reading.proofs.Names.{Line, next_eol, misses_eol, Progress, Ending, Move, row_before, aligned, ends_with}
-use Rattle.fax_reading.proofs.Names.{eols_here, line_here, after_line, move_on, first_gap, EncodingMode, Group4, Group3_1D}
-use Rattle.fax_reading.proofs.Names.{Group3_2D}
+use Rattle.fax_reading.proofs.Names.{eols_here, line_here, after_line, move_on, first_gap, EncodingMode}
 use Rattle.fax_bits.proofs.Repetition.Repeated.{after_turn, Shrinks, repeated_induct}
 use Rattle.fax_reading.proofs.Readings.RowsAndGaps.{unless_over, seek_from, seek_eol, after_row, row_added, pass_gap-is}
 use Rattle.fax_reading.proofs.Readings.RowsAndGaps.{after_whole-is, after_damage-is}
@@ -16,8 +15,7 @@ Keeps rows (Turn.done e) = e.rows ≡ rows
 
 -- either of two turns has what both have
 either_has : (P : Move → Type 0) (b : Bool) (x y : Move) → P x → P y → P (cond b x y)
-either_has P true x y p q = p
-either_has P false x y p q = q
+either_has P b x y p q = grind arith
 
 -- the rows so far don't change
 pub unless_over_keeps : (settings : DecodeSettings) (run : Progress) (found : ℕ × Bits)
@@ -26,8 +24,7 @@ unless_over_keeps settings run (count, rest) = grind (arith, common_steps, eithe
 
 -- and where an EOL is looked for
 pub seek_from_keeps : (settings : DecodeSettings) (run : Progress) (o : Option Bits) → Keeps run.rows (seek_from settings run o)
-seek_from_keeps settings run None = refl
-seek_from_keeps settings run (Some found) = unless_over_keeps settings run (eols_here settings found)
+seek_from_keeps settings run o = grind (arith, unless_over_keeps)
 
 -- and after a row
 pub after_row_keeps : (settings : DecodeSettings) (run : Progress) → Keeps run.rows (after_row settings run)
@@ -39,9 +36,7 @@ after_row_keeps settings run = either_has (Keeps run.rows) (misses_eol settings 
 -- the first gap leaves no rows
 pub first_gap_keeps : (settings : DecodeSettings) (encoding : EncodingMode) (bits : Bits)
     → Keeps [] (first_gap encoding settings bits)
-first_gap_keeps settings Group4 bits = grind (arith, common_steps, pass_gap-is, after_row_keeps)
-first_gap_keeps settings Group3_1D bits = refl
-first_gap_keeps settings Group3_2D bits = refl
+first_gap_keeps settings encoding bits = grind (arith, pass_gap-is, after_row_keeps)
 
 -- a turn that adds rows, or none
 abbrev pub Adds : List Row → Move → Type 0
@@ -49,8 +44,7 @@ Adds rows (Turn.next t) = IsPrefix rows t.rows
 Adds rows (Turn.done e) = IsPrefix rows e.rows
 
 pub keeps_adds : (rows more : List Row) (m : Move) → Keeps (rows ++ more) m → Adds rows m
-keeps_adds rows more (Turn.next t) k = (more, k)
-keeps_adds rows more (Turn.done e) k = (more, k)
+keeps_adds rows more m k = grind arith
 
 after_line_adds : (settings : DecodeSettings) (run : Progress) (line : Line) → Adds run.rows (after_line settings run line)
 after_line_adds settings run (Line.whole row rest) =

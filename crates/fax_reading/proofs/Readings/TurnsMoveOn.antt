@@ -1,14 +1,14 @@
 -- Each line of a run moves the offset on.
 use Rattle.fax_reading.proofs.Names.{common_steps, ◌≡◌, ℕ, suc, ◌-◌, ◌%◌, ◌<◌, ◌≤◌, Bool, true, false, cond, not, ◌&&◌, ◌||◌, eqb}
 use Rattle.fax_reading.proofs.Names.{[], ◌∷◌, ◌++◌, length, replicate, Option, Some, None, Result, refl, sym, subst, ◌∙◌, arith}
-use Rattle.fax_reading.proofs.Names.{◌⊎◌, inl, inr, length-drop, not-false, or_parts, false≢true, le-leb, lt-leb, eqb-false}
+use Rattle.fax_reading.proofs.Names.{◌⊎◌, inl, inr, length-drop, not-false, or_parts, le-leb, lt-leb, eqb-false}
 use Rattle.fax_reading.proofs.Names.{DecodeError, DecodeSettings, Bits, Turn, Row, EncodingMode, Group4, Group3_1D, Group3_2D}
 use Rattle.fax_reading.proofs.Names.{Line, after_eol, next_eol, is_end_of_block, is_over, misses_eol, Progress, Move, aligned}
 use Rattle.fax_reading.proofs.Names.{ends_with, limit_met, at_end, line_by, eols_by, eols_here, after_line, move_on}
 use Rattle.fax_bits.proofs.CodeWords.ReadRuns.{chosen}
 use Rattle.fax_bits.proofs.Repetition.Repeated.{Shrinks, not_next}
 use Rattle.fax_reading.proofs.DrawingLines.ReadLines.{TookBits, line_1d_took_bits, line_2d_took_bits}
-use Rattle.fax_reading.proofs.Readings.RowsAndGaps.{missed_sought, unless_over, seek_from, seek_eol, after_row, after_whole-is}
+use Rattle.fax_reading.proofs.Readings.RowsAndGaps.{missed_sought, unless_over, seek_from, after_row, after_whole-is}
 use Rattle.fax_reading.proofs.Readings.RowsAndGaps.{after_damage-is}
 use Rattle.fax_bits.proofs.BitReading.ConsecutiveEols.{Counted, all_counted, cond_le, count_moves, count_shorter, count_some}
 use Rattle.fax_bits.proofs.BitReading.ConsecutiveEols.{counts_plain, counts_tagged, eols-some, last_tag_count, next_eol_found}
@@ -16,8 +16,7 @@ use Rattle.fax_bits.proofs.BitReading.ConsecutiveEols.{one_more-count, tagged_eo
 
 unless_next : (b : Bool) (run : Progress) (outcome : Result Bits DecodeError) (on : Move) (t : Progress)
     → cond b (ends_with run outcome) on ≡ Turn.next t → on ≡ Turn.next t
-unless_next true run outcome on t e = absurd (not_next _ t e)
-unless_next false run outcome on t e = e
+unless_next b run outcome on t e = grind (arith, not_next)
 
 -- that many EOLs consumed bits
 pub eols_here_counted : (settings : DecodeSettings) (here : Bits) → Counted here (eols_here settings here)
@@ -54,18 +53,10 @@ pub unless_over_open : (settings : DecodeSettings) (run t : Progress) (found : �
     → unless_over settings run found ≡ Turn.next t → (limit_met settings (length run.rows) ≡ false) × (at_end found.1 ≡ false)
 unless_over_open settings run t (count, rest) e = grind (arith, common_steps, chosen, not_next, none_met)
 
-not_at_end : (rest : Bits) → at_end rest ≡ true → length rest ≡ 0
-not_at_end [] e = refl
-not_at_end (b ∷ rest) e = absurd (false≢true e)
-
 seek_left : (settings : DecodeSettings) (run t : Progress) (o : Option Bits) → run.has_eols ≡ true → next_eol run.rest ≡ o
     → seek_from settings run o ≡ Turn.next t → left_to_read t ≤ length run.rest
 seek_left settings run t None h e k = grind (arith, common_steps)
 seek_left settings run t (Some found) h e k = grind (arith, next_eol_found, eols_here_counted, unless_over_next, eols_here_some)
-
-seek_eol_next : (settings : DecodeSettings) (run t : Progress) → seek_eol settings run ≡ Turn.next t
-    → seek_from settings run (next_eol run.rest) ≡ Turn.next t
-seek_eol_next settings run t e = grind (arith, common_steps, unless_next)
 
 pub at_end_length : (rest : Bits) → at_end rest ≡ false → 0 < length rest
 at_end_length rest e = grind (arith, common_steps)
@@ -74,14 +65,13 @@ left_least : (run : Progress) → length run.rest ≤ left_to_read run
 left_least run = grind (arith, common_steps)
 
 took_more : (line : Line) (n : ℕ) → TookBits n line → TookBits (suc n) line
-took_more (Line.whole row rest) n took = omega arith
-took_more (Line.broken front fault) n took = tt
+took_more line n took = grind arith
 
 -- if a run continues without seeking an EOL, one came or none are sought
 went_on : (settings : DecodeSettings) (run : Progress) (found : ℕ × Bits) → Counted run.rest found
     → limit_met settings (length run.rows) ≡ false → at_end found.1 ≡ false → (((eqb found.0 0 && run.has_eols)
     && not (limit_met settings (length run.rows))) && not (at_end run.rest)) ≡ false → (0 < found.0) ⊎ (run.has_eols ≡ false)
-went_on settings run found counted open_limit open_end e = grind (arith, common_steps, at_end_length, eqb-false, not_at_end)
+went_on settings run found counted open_limit open_end e = grind (arith, common_steps, at_end_length, eqb-false)
 
 -- the EOLs after a row leave less than there was before its line: it consumed bits, or EOLs are sought
 pub after_row_next : (settings : DecodeSettings) (run t : Progress) (n : ℕ) → after_row settings run ≡ Turn.next t
@@ -89,8 +79,7 @@ pub after_row_next : (settings : DecodeSettings) (run t : Progress) (n : ℕ) �
 after_row_next settings run t n e small =
     elim (chosen (misses_eol settings (length run.rows) run.has_eols run.rest) _ _ _ e) [
       | inl a ↦
-          let sought = missed_sought settings (length run.rows) run.has_eols run.rest a.0 in
-          omega (arith, seek_left settings run t (next_eol run.rest) sought refl (seek_eol_next settings run t a.1), small)
+          grind (arith, missed_sought, seek_left)
       | inr a ↦
           let open_run = unless_over_open settings run t (eols_here settings run.rest) a.1 in
           let counted = eols_here_counted settings run.rest in
@@ -102,8 +91,7 @@ after_row_next settings run t n e small =
     ]
   where
     either : (b : Bool) (k : ℕ) → suc k < n → cond b (suc k) k < n
-    either true k lt = lt
-    either false k lt = omega arith
+    either b k lt = grind arith
 
 -- a whole line consumed bits
 pub line_by_took : (encoding : EncodingMode) (strict : Bool) (columns : ℕ) (reference : Row) (here : Bits) → 0 < columns

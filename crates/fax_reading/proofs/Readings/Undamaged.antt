@@ -1,15 +1,15 @@
 -- A strict reading ends without a fault exactly if a lenient one does, and passes no damage.
-use Rattle.fax_reading.proofs.Names.{common_steps, ◌≡◌, ◌+◌, ◌-◌, ◌⊎◌, inl, inr, ℕ, zero, suc, Bool, true, false, cond, ◌&&◌, eqb}
+use Rattle.fax_reading.proofs.Names.{common_steps, ◌≡◌, ◌+◌, ◌-◌, ◌⊎◌, inl, inr, ℕ, zero, suc, Bool, true, false, cond, ◌&&◌}
 use Rattle.fax_reading.proofs.Names.{List, [], ◌∷◌, ◌++◌, length, take, Err, refl, sym, ap, subst, arith, IsOk, sum_by, flat_map}
 use Rattle.fax_reading.proofs.Names.{cond-true, cond-false, false≢true, length-append, sum_by-take-le, flat_map-cons, DecodeError}
-use Rattle.fax_reading.proofs.Names.{UnexpectedEof, InvalidCode, DecodeSettings, EncodingMode, Group4, Group3_1D, Group3_2D, Bits}
+use Rattle.fax_reading.proofs.Names.{UnexpectedEof, InvalidCode, DecodeSettings, EncodingMode, Bits}
 use Rattle.fax_reading.proofs.Names.{AreWholeBytes, AreSettings, Damaged, repaired_in, repaired_by_turn, missed_behind}
-use Rattle.fax_reading.proofs.Names.{missed_by_turn, damaged_by_turn, cut_by_turn, cuts_by_line, cuts_run, is_broken, not, ◌∙◌}
-use Rattle.fax_reading.proofs.Names.{add_row, bytes_before, Ok, Result, whole_reading, sum_by-append, damage_of, repairs_by_line}
+use Rattle.fax_reading.proofs.Names.{missed_by_turn, damaged_by_turn, cut_by_turn, cuts_by_line, cuts_run, not, ◌∙◌}
+use Rattle.fax_reading.proofs.Names.{add_row, sum_by-append, damage_of, repairs_by_line}
 use Rattle.fax_reading.proofs.Names.{misses_by_line, StrictIsUndamaged, PicturesAreUndamaged, Line, IsClosedPicture}
 use Rattle.fax_reading.proofs.Names.{IsLimitedPicture, Progress, Ending, Gap, Move, Reading, row_before, after_line, line_of_turn}
-use Rattle.fax_reading.proofs.Names.{misses_eol, behind_row, gap_behind_row, with_row, at_gap, pass_gap, at_front, move_on}
-use Rattle.fax_reading.proofs.Names.{first_gap, ending_behind, end_of, turns_behind, turns_of, map, nothing_read, plain, Turn}
+use Rattle.fax_reading.proofs.Names.{misses_eol, behind_row, gap_behind_row, with_row, at_gap, pass_gap, move_on}
+use Rattle.fax_reading.proofs.Names.{first_gap, ending_behind, turns_behind, turns_of, map, plain, Turn}
 use Rattle.fax_reading.proofs.Names.{repeated, gathered, Row}
 use Rattle.fax_bits.proofs.Repetition.Gathered.{gathered_after}
 use Rattle.fax_bits.proofs.Repetition.Repeated.{after_turn}
@@ -48,9 +48,7 @@ module _ (p : Progress → List Damaged) where
 
   empty_joined : (turns : List Progress) → flat_map p turns ≡ [] → AreEmpty (map p turns)
   empty_joined [] is = tt
-  empty_joined (s ∷ turns) is =
-      let joined = sym (flat_map-cons p s turns) ∙ is in
-      (front_empty (p s) _ joined, empty_joined turns (back_empty (p s) _ joined))
+  empty_joined (s ∷ turns) is = grind (arith, empty_joined turns, flat_map-cons, front_empty, back_empty)
 
   none_empty : ((s : Progress) → p s ≡ []) → (turns : List Progress) → AreEmpty (map p turns)
   none_empty none [] = tt
@@ -67,10 +65,6 @@ module _ (p : Progress → List Damaged) where
       → AreEmpty (map r turns) → AreEmpty (map (λ s. p s ++ (q s ++ r s)) turns)
   all_empty q r [] one two three = tt
   all_empty q r (s ∷ turns) one two three = grind (arith, common_steps, all_empty q r turns one.1 two.1 three.1)
-
-outcome_ok : (bits : Bits) (r : Result Bits DecodeError) → IsOk r → IsOk (bytes_before bits r)
-outcome_ok bits (Ok rest) ok = refl
-outcome_ok bits (Err e) ok = absurd (false≢true ok)
 
 module _ (settings : DecodeSettings) (bits : Bits) where
   abbrev strictly : DecodeSettings
@@ -107,22 +101,11 @@ module _ (settings : DecodeSettings) (bits : Bits) where
       by_line_of_turn (Line.whole row rest) e agrees =
           let next : Progress = with_row s row (behind_row settings s.has_eols rest) in
           let one : move_on strictly s ≡ pass_gap strictly next = ap (after_line strictly s) e in
-          let other : move_on leniently s ≡ pass_gap leniently next = ap (after_line leniently s) agrees in
           let more : length next.rows ≡ length s.rows + 1 = length-append s.rows (row ∷ []) in
           elim (gap_sound (length next.rows) s.has_eols next.rest) [
             | inl fails ↦ inl (InvalidCode, _, one ∙ ap (at_gap next) fails, refl)
             | inr (none, same) ↦
-                let found : misses_eol leniently (length s.rows + 1) s.has_eols next.rest ≡ false =
-                ap (λ (n : ℕ). misses_eol leniently n s.has_eols next.rest) (sym more) ∙ none in
-                inr (
-                  ap (λ (line : Line). repaired_in leniently s.has_eols (length s.rows) (length bits - length s.rest) line
-                      ++ (cut_of s (cuts_run line (line_of_turn strictly s)) ++ missed_behind leniently bits s line)) agrees
-                      ∙ ap (λ (line : Line). cut_of s (is_broken line) ++ missed_behind leniently bits s (Line.whole row rest)) e
-                      ∙ ap (λ (b : Bool). cond {A = List Damaged} (b && true)
-                      (record { row = length s.rows; start = length bits - length next.rest; fault = InvalidCode } ∷ []) [])
-                      found,
-                  one ∙ ap (at_gap next) same ∙ sym other,
-                )
+                grind arith
           ]
 
   -- ---- All turns
@@ -137,9 +120,7 @@ module _ (settings : DecodeSettings) (bits : Bits) where
   turns_sound late never (suc n) zero s ok = tt
   turns_sound late never (suc n) (suc m) s ok = elim (turn_sound s) [
     | inl (fault, end, ends, fails) ↦
-        let at : IsOk end.outcome = subst
-        (λ (turn : Move). IsOk (after_turn (repeated (move_on strictly) late n) turn).outcome) ends ok in
-        absurd (false≢true (subst IsOk fails at))
+        grind (arith, false≢true)
     | inr (none, same) ↦ by_turn (λ t ok. turns_sound late never n m t ok) (move_on leniently s)
         (subst (λ (turn : Move). IsOk (after_turn (repeated (move_on strictly) late n) turn).outcome) same ok) none
   ]
@@ -148,8 +129,7 @@ module _ (settings : DecodeSettings) (bits : Bits) where
           leniently) (λ turn. turn ∷ []) m t))) → (turn : Move)
           → IsOk (after_turn (repeated (move_on strictly) late n) turn).outcome → damaged_by_turn leniently bits s ≡ []
           → AreEmpty (passed (s ∷ gathered_after (gathered (move_on leniently) (λ turn. turn ∷ []) m) turn))
-      by_turn on (Turn.next t) ok none = (none, on t ok)
-      by_turn on (Turn.done end) ok none = (none, tt)
+      by_turn on turn ok none = grind arith
 
   behind : (gap : Move) → IsOk (ending_behind strictly gap).outcome → AreEmpty (passed (turns_behind leniently gap))
   behind (Turn.next s) ok = turns_sound (record { rows = s.rows; has_eols = s.has_eols; outcome = Err UnexpectedEof })
@@ -159,22 +139,7 @@ module _ (settings : DecodeSettings) (bits : Bits) where
   -- the first gap is the same, or has a fault
   first : (encoding : EncodingMode) → IsOk (ending_behind strictly (first_gap encoding strictly bits)).outcome
       → AreEmpty (passed (turns_behind leniently (first_gap encoding leniently bits)))
-  first Group3_1D ok = behind (first_gap Group3_1D leniently bits) ok
-  first Group3_2D ok = behind (first_gap Group3_2D leniently bits) ok
-  first Group4 ok = elim (gap_sound 0 false bits) [
-    | inl fails ↦
-        absurd (false≢true (subst (λ (gap : Gap). IsOk (ending_behind strictly (at_gap (at_front bits) gap)).outcome) fails ok))
-    | inr (none, same) ↦ behind (at_gap (at_front bits) (gap_behind_row leniently 0 false bits))
-        (subst (λ (gap : Gap). IsOk (ending_behind strictly (at_gap (at_front bits) gap)).outcome) same ok)
-  ]
-
-  lenient_empty : IsOk (plain strictly bits).outcome → AreEmpty (passed (turns_of leniently bits))
-  lenient_empty = by_width (eqb settings.columns 0)
-    where
-      by_width : (none : Bool) → IsOk (cond none nothing_read (whole_reading bits (end_of strictly bits))).outcome
-          → AreEmpty (passed (cond none [] (turns_behind leniently (first_gap settings.encoding leniently bits))))
-      by_width true ok = tt
-      by_width false ok = first settings.encoding (ok_outcome bits (end_of strictly bits).outcome ok)
+  first encoding ok = grind (arith, behind, gap_sound, false≢true)
 
   -- ---- A lenient reading that passes no damage
 
@@ -208,21 +173,10 @@ module _ (settings : DecodeSettings) (bits : Bits) where
       by_lines (Line.whole row rest) (Line.broken front fault) e f agrees repaired cut missed =
           grind (arith, common_steps, cond-true)
       by_lines (Line.whole row rest) (Line.whole other behind) e f agrees repaired cut missed =
-          let same : line_of_turn leniently s ≡ Line.whole other behind =
-          subst (λ (l : Line). Agrees l (line_of_turn leniently s)) f agrees in
-          let next : Progress = with_row s other (behind_row settings s.has_eols behind) in
-          let one : move_on strictly s ≡ pass_gap strictly next = ap (after_line strictly s) f in
-          let second : move_on leniently s ≡ pass_gap leniently next = ap (after_line leniently s) same in
-          let more : length next.rows ≡ length s.rows + 1 = length-append s.rows (other ∷ []) in
-          let none : misses_eol leniently (length s.rows + 1) s.has_eols next.rest ≡ false =
-          unmissed_by (misses_eol leniently (length s.rows + 1) s.has_eols next.rest) _
-          (ap (missed_behind leniently bits s) (sym same) ∙ missed) in
-          inr (one ∙ ap (at_gap next) (gap_same (length next.rows) s.has_eols next.rest
-          (ap (λ (n : ℕ). misses_eol leniently n s.has_eols next.rest) more ∙ none)) ∙ sym second)
+          grind (arith, length-append, unmissed_by, gap_same)
         where
           unmissed_by : (b : Bool) (x : Damaged) → cond {A = List Damaged} (b && true) (x ∷ []) [] ≡ [] → b ≡ false
-          unmissed_by true x is = absurd cc
-          unmissed_by false x is = refl
+          unmissed_by b x is = grind arith
 
   turns_same : (late : Ending)
       → (IsOk late.outcome → ⊥) → (n : ℕ) (s : Progress) → IsOk (repeated (move_on leniently) late n s).outcome → AreEmpty
@@ -230,9 +184,7 @@ module _ (settings : DecodeSettings) (bits : Bits) where
   turns_same late never zero s ok none = absurd (never ok)
   turns_same late never (suc n) s ok none = elim (turn_same s none.0) [
     | inl (fault, end, ends, fails) ↦
-        let at : IsOk end.outcome =
-        subst (λ (turn : Move). IsOk (after_turn (repeated (move_on leniently) late n) turn).outcome) ends ok in
-        absurd (false≢true (subst IsOk fails at))
+        grind (arith, false≢true)
     | inr same ↦ subst (λ (turn : Move). IsOk (after_turn (repeated (move_on strictly) late n) turn).outcome) (sym same)
         (by_turn (λ t ok none. turns_same late never n t ok none) (move_on leniently s) ok none.1)
   ]
@@ -242,8 +194,7 @@ module _ (settings : DecodeSettings) (bits : Bits) where
           → IsOk (after_turn (repeated (move_on leniently) late n) turn).outcome
           → AreEmpty (passed (gathered_after (gathered (move_on leniently) (λ turn. turn ∷ []) n) turn))
           → IsOk (after_turn (repeated (move_on strictly) late n) turn).outcome
-      by_turn on (Turn.next t) ok none = on t ok none
-      by_turn on (Turn.done end) ok none = ok
+      by_turn on turn ok none = grind arith
 
   same_behind : (gap : Move) → IsOk (ending_behind leniently gap).outcome → AreEmpty (passed (turns_behind leniently gap))
       → IsOk (ending_behind strictly gap).outcome
@@ -254,13 +205,11 @@ module _ (settings : DecodeSettings) (bits : Bits) where
   same_first : (encoding : EncodingMode) → IsOk (ending_behind leniently (first_gap encoding leniently bits)).outcome
       → AreEmpty (passed (turns_behind leniently (first_gap encoding leniently bits)))
       → IsOk (ending_behind strictly (first_gap encoding strictly bits)).outcome
-  same_first Group3_1D ok none = same_behind (first_gap Group3_1D leniently bits) ok none
-  same_first Group3_2D ok none = same_behind (first_gap Group3_2D leniently bits) ok none
-  same_first Group4 ok none = grind (arith, common_steps, gap_same, unmissed, same_behind)
+  same_first encoding ok none = grind (arith, same_behind, gap_same, unmissed)
 
   strict_ok : IsOk (plain leniently bits).outcome → AreEmpty (passed (turns_of leniently bits))
       → IsOk (plain strictly bits).outcome
-  strict_ok = grind (arith, common_steps, outcome_ok, same_first, ok_outcome)
+  strict_ok = grind (arith, common_steps, same_first, ok_outcome)
 
   -- ---- Strict readings pass no damage
 
@@ -268,8 +217,7 @@ module _ (settings : DecodeSettings) (bits : Bits) where
   strict_turn s = by_line (line_of_turn strictly s)
     where
       missed : (b : Bool) (x : Damaged) → cond {A = List Damaged} (b && false) (x ∷ []) [] ≡ []
-      missed true x = refl
-      missed false x = refl
+      missed b x = grind arith
 
       by_line : (line : Line) → repaired_in strictly s.has_eols (length s.rows) (length bits - length s.rest) line
           ++ (cut_of s (cuts_run line line) ++ missed_behind strictly bits s line) ≡ []
@@ -291,8 +239,7 @@ undamaged_turns settings bits ok = by_strict settings.strict refl
     by_strict true is = subst
         (λ (given : DecodeSettings). AreEmpty (map (damaged_by_turn given bits) (turns_of given bits))) (same true is) (none_empty
         (damaged_by_turn (strictly settings bits) bits) (strict_turn settings bits) (turns_of (strictly settings bits) bits))
-    by_strict false is = subst (λ (given : DecodeSettings). AreEmpty (map (damaged_by_turn given bits) (turns_of given bits)))
-        (same false is) (lenient_empty settings bits ok)
+    by_strict false is = grind (arith, common_steps, map, same false is, first, ok_outcome)
 
 -- where the strict reading ends without a fault, a reading does
 pub ok_of_strict : (settings : DecodeSettings) (bits : Bits) → IsOk (plain (record settings { strict = true }) bits).outcome
@@ -322,9 +269,7 @@ strict_if_undamaged settings bits ok repaired cut missed = by_strict settings.st
 
     by_strict : (strict : Bool) → settings.strict ≡ strict → IsOk (plain (record settings { strict = true }) bits).outcome
     by_strict true is = subst (λ (given : DecodeSettings). IsOk (plain given bits).outcome) (same true is) ok
-    by_strict false is =
-        strict_ok settings bits (subst (λ (given : DecodeSettings). IsOk (plain given bits).outcome) (same false is) ok) (subst
-        (λ (given : DecodeSettings). AreEmpty (map (damaged_by_turn given bits) (turns_of given bits))) (same false is) damaged)
+    by_strict false is = grind (arith, common_steps, strict_ok settings bits, same false is, map, damaged)
 
 -- no damage
 pub no_damage : (settings : DecodeSettings) (bits : Bits) → IsOk (plain (record settings { strict = true }) bits).outcome

@@ -1,17 +1,15 @@
 -- A row has no more changes than its line found words, and a repaired one no more than one besides.
-use Rattle.fax_reading.proofs.Names.{common_steps, ◌≡◌, ℕ, zero, suc, ◌+◌, ◌-◌, ◌<◌, ◌≤◌, Bool, true, false, cond, leb, List, []}
+use Rattle.fax_reading.proofs.Names.{common_steps, ◌≡◌, ℕ, zero, suc, ◌+◌, ◌-◌, ◌<◌, ◌≤◌, Bool, false, cond, leb, List, []}
 use Rattle.fax_reading.proofs.Names.{◌∷◌, ◌++◌, length, replicate, Result, Ok, Err, refl, ap, ◌∙◌, arith, append-nil, pos}
 use Rattle.fax_reading.proofs.Names.{◌+ℤ◌, length-append, Color, Mode, Pass, Horizontal, Vertical, DecodeError, UnexpectedEof}
-use Rattle.fax_reading.proofs.Names.{EncodingMode, Group4, Group3_1D, Group3_2D, Step, front_of, Bits, mode_codes, read_code}
+use Rattle.fax_reading.proofs.Names.{EncodingMode, Step, front_of, Bits, mode_codes, read_code}
 use Rattle.fax_reading.proofs.Names.{Line, Pen, Drawing, start, turn_behind, words_behind, unless_fault, mode_here, place_from}
 use Rattle.fax_reading.proofs.Names.{draw_run, draw_mode, draw_1d, draw_2d, line_1d, line_2d, found_1d, found_2d, line_found}
-use Rattle.fax_reading.proofs.Names.{◌>>=◌, line_by, Turn, repeated, gathered, Row, changes, opposite, b1, b2, right_of, paint}
+use Rattle.fax_reading.proofs.Names.{◌>>=◌, line_by, Turn, repeated, gathered, Row, changes, opposite, b1, right_of, paint}
 use Rattle.fax_reading.proofs.Names.{repaired, white_row, run_from, word_found, run_found}
-use Rattle.fax_bits.proofs.Repetition.Gathered.{gathered_after}
 use Rattle.fax_reading.proofs.{DrawingLines.CountedLines.words_run, DrawingLines.Drawings.try}
 use Rattle.fax_bits.proofs.CodeWords.RunWords.{one_word}
 use Rattle.fax_reading.proofs.PixelRows.ChangesAndPixels.{changes-recursive}
-use Rattle.fax_bits.proofs.Repetition.Repeated.{after_turn}
 use Rattle.fax_bits.proofs.CodeWords.ReadRuns.{chosen, run_shorter}
 use Rattle.fax_reading.proofs.CodeWords.WordsFound.{run_stands}
 use Rattle.fax_reading.proofs.PixelRows.RowChanges.{changes_from, changes_from-append, changes_from-same}
@@ -21,14 +19,12 @@ abbrev count : Row → ℕ
 count row = length (changes_from 0 false row)
 
 one_at_most : (same : Bool) (place : ℕ) (none : List ℕ) → none ≡ [] → length (cond same none (place ∷ none)) ≤ 1
-one_at_most true place none is = omega (arith, ap length is)
-one_at_most false place none is = omega (arith, ap length is)
+one_at_most same place none is = grind arith
 
 -- painting adds one change at most
 count_painted : (front : Row) (n : ℕ) (color : Bool) → count (front ++ replicate n color) ≤ suc (count front)
-count_painted front zero color = rw (append-nil front) (omega arith)
-count_painted front (suc n) color =
-    grind (arith, common_steps, changes_from-append, length-append, one_at_most, changes_from-same)
+count_painted front n color =
+    grind (arith, append-nil, changes_from-append, length-append, one_at_most, changes_from-same)
 
 count_paint : (strict : Bool) (columns : ℕ) (front : Row) (color : Color) (n : ℕ) (new : Row)
     → paint strict columns front color n ≡ Ok new → count new ≤ suc (count front)
@@ -44,8 +40,7 @@ StepCount n (Turn.next pen) = count pen.front ≤ n
 StepCount n (Turn.done line) = LineCount n line
 
 step_more : (n m : ℕ) (step : Step) → n ≤ m → StepCount n step → StepCount m step
-step_more n m (Turn.next pen) le few = omega (arith, le, few)
-step_more n m (Turn.done line) le few = omega (arith, le, few)
+step_more n m step le few = grind arith
 
 -- a run that is found has a word
 run_has_word : (color : Color) (here : Bits) (n : ℕ) (rest : Bits) → run_from color (0, here) ≡ Ok (n, rest)
@@ -69,8 +64,7 @@ run_count strict columns pen = step_more (count pen.front + length found)
     painted : (run : ℕ × Bits) → 0 < length found → (r : Result Row DecodeError)
         → paint strict columns pen.front pen.color run.0 ≡ r → StepCount (count pen.front + length found)
         (try pen.front r (λ front. Turn.next (record { front = front; color = opposite pen.color; rest = run.1 })))
-    painted run some (Ok front) e = omega (arith, some, count_paint strict columns pen.front pen.color run.0 front e)
-    painted run some (Err fault) e = omega arith
+    painted run some r e = grind (arith, count_paint)
 
     by_run_from : (r : Result (ℕ × Bits) DecodeError) → run_from pen.color (0, pen.rest) ≡ r
         → StepCount (count pen.front + length found) (try pen.front r after)
@@ -81,8 +75,7 @@ run_count strict columns pen = step_more (count pen.front + length found)
 -- what is tried adds at most what it yields
 try_count : {A : Type 0} (n : ℕ) (front : Row) (r : Result A DecodeError) (behind : A → Step) → count front ≤ n
     → ((x : A) → r ≡ Ok x → StepCount n (behind x)) → StepCount n (try front r behind)
-try_count n front (Ok x) behind le each = each x refl
-try_count n front (Err fault) behind le each = le
+try_count n front r behind le each = grind arith
 
 -- two runs
 behind_run_count : (strict : Bool) (columns n : ℕ) (words : List Bits) (turn : Step) → StepCount (n + length words) turn
@@ -96,11 +89,7 @@ behind_run_count strict columns n words (Turn.done line) few = omega (arith, few
 -- a mode, after its word
 mode_count : (strict : Bool) (columns : ℕ) (reference : Row) (pen : Pen) (mode : Mode) → StepCount (count pen.front
     + suc (length (draw_mode strict columns reference pen mode).words)) (draw_mode strict columns reference pen mode).turn
-mode_count strict columns reference pen Pass =
-    let n : ℕ = b2 reference (right_of pen.front) pen.color - length pen.front in
-    step_more (count pen.front + 1) _ (draw_mode strict columns reference pen Pass).turn (omega arith) (try_count (count pen.front
-    + 1) pen.front (paint strict columns pen.front pen.color n) (λ front. Turn.next (record pen { front = front })) (omega arith)
-    (λ front e. omega (arith, count_paint strict columns pen.front pen.color n front e)))
+mode_count strict columns reference pen Pass = grind (arith, step_more, try_count, count_paint)
 mode_count strict columns reference pen Horizontal =
     step_more (count pen.front + length (draw_mode strict columns reference pen Horizontal).words) _
     (draw_mode strict columns reference pen Horizontal).turn (omega arith) (behind_run_count strict columns (count pen.front)
@@ -126,16 +115,14 @@ read_mode_count strict columns reference pen = by_read_code (read_code mode_code
     by_read_code : (r : Result (Mode × Bits) DecodeError) → read_code mode_codes pen.rest ≡ r → StepCount (count pen.front
         + length (word_found mode_codes pen.rest ++ words_behind (unless_fault pen.front r) (λ mode. (on mode).words)))
         (turn_behind (unless_fault pen.front r) (λ mode. (on mode).turn))
-    by_read_code (Ok mode) e = grind (arith, common_steps, step_more, one_word, length-append, mode_count)
-    by_read_code (Err fault) e = omega arith
+    by_read_code r e = grind (arith, step_more, one_word, length-append, mode_count)
 
 -- a step, unless the row is full
 unless_full_count : (full : Bool) (pen : Pen) (draw : Pen → Drawing Pen)
     → StepCount (count pen.front + length (draw pen).words) (draw pen).turn → StepCount (count pen.front
     + length ([] ++ words_behind (cond full (Turn.done (Line.whole pen.front pen.rest)) (Turn.next pen)) (λ p. (draw p).words)))
     (turn_behind (cond full (Turn.done (Line.whole pen.front pen.rest)) (Turn.next pen)) (λ p. (draw p).turn))
-unless_full_count true pen draw few = omega arith
-unless_full_count false pen draw few = few
+unless_full_count full pen draw few = grind arith
 
 step_1d_count : (strict : Bool) (columns : ℕ) (pen : Pen)
     → StepCount (count pen.front + length (draw_1d strict columns pen).words) (draw_1d strict columns pen).turn
@@ -154,14 +141,7 @@ pen_count : (step : Pen → Step) (gives : Pen → List Bits)
     → ((pen : Pen) → StepCount (count pen.front + length (gives pen)) (step pen)) → (n : ℕ) (pen : Pen)
     → LineCount (count pen.front + length (gathered step gives n pen)) (repeated step (Line.broken [] UnexpectedEof) n pen)
 pen_count step gives each zero pen = omega arith
-pen_count step gives each (suc n) pen = by_turn (λ t. pen_count step gives each n t) (step pen) (each pen)
-  where
-    by_turn : ((t : Pen) → LineCount (count t.front + length (gathered step gives n t))
-        (repeated step (Line.broken [] UnexpectedEof) n t)) → (turn : Step) → StepCount (count pen.front + length (gives pen))
-        turn → LineCount (count pen.front + length (gives pen ++ gathered_after (gathered step gives n) turn))
-        (after_turn (repeated step (Line.broken [] UnexpectedEof) n) turn)
-    by_turn on (Turn.next t) few = omega (arith, on t, few, length-append (gives pen) (gathered step gives n t))
-    by_turn on (Turn.done line) few = omega (arith, few, length-append (gives pen) [])
+pen_count step gives each (suc n) pen = grind (arith, pen_count step gives each n, length-append)
 
 line_1d_count : (strict : Bool) (columns : ℕ) (here : Bits)
     → LineCount (length (found_1d strict columns here)) (line_1d strict columns here)
@@ -181,18 +161,11 @@ line_2d_count strict columns reference here =
           (step_2d_count strict columns reference) (suc (length here)) (start here),
     )
 
-line_count : (encoding : EncodingMode) (strict : Bool) (columns : ℕ) (reference : Row) (here : Bits)
-    → LineCount (length (line_found encoding strict columns reference here)) (line_by encoding strict columns reference here)
-line_count Group3_2D strict columns reference [] = omega arith
-line_count Group3_2D strict columns reference (true ∷ here) = line_1d_count strict columns here
-line_count Group3_2D strict columns reference (false ∷ here) = line_2d_count strict columns reference here
-line_count Group3_1D strict columns reference here = line_1d_count strict columns here
-line_count Group4 strict columns reference here = line_2d_count strict columns reference here
-
 -- the row of a line, or the front of a broken one, has no more changes than the line finds words
 pub changes_found : (encoding : EncodingMode) (strict : Bool) (columns : ℕ) (reference : Row) (here : Bits) → length (changes
     (front_of (line_by encoding strict columns reference here))) ≤ length (line_found encoding strict columns reference here)
-changes_found encoding strict columns reference here = grind (arith, common_steps, line_count, changes-recursive)
+changes_found encoding strict columns reference here =
+    grind (arith, common_steps, line_1d_count, line_2d_count, changes-recursive)
 
 -- and a repaired row at most one more than its front
 pub changes_repaired : (columns : ℕ) (front : Row) → length (changes (repaired columns front)) ≤ suc (length (changes front))

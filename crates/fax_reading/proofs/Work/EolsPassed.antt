@@ -1,6 +1,6 @@
 -- The EOLs that are consumed before a line, and the bits that are examined ahead of it.
 use Rattle.fax_reading.proofs.Names.{common_steps, ◌<◌, ◌≡◌, ℕ, ◌+◌, ◌*◌, ◌≤◌, Bool, true, false, [], ◌∷◌, ◌++◌, length}
-use Rattle.fax_reading.proofs.Names.{replicate, drop, Option, Some, None, Result, Ok, Err, refl, sym, ap, ◌∙◌, subst, arith, ◌⊎◌}
+use Rattle.fax_reading.proofs.Names.{replicate, drop, Option, Some, None, Result, Ok, Err, refl, sym, ap, ◌∙◌, arith, ◌⊎◌}
 use Rattle.fax_reading.proofs.Names.{inl, inr, false≢true, length-append, length-replicate, DecodeError, InvalidCode}
 use Rattle.fax_reading.proofs.Names.{EncodingMode, Group4, Group3_1D, Group3_2D, DecodeSettings, Bits, after_eol, next_eol}
 use Rattle.fax_reading.proofs.Names.{eols_with_tags, eols, is_over, misses_eol, Gap, at_end, limit_met, eols_by, eols_here}
@@ -90,9 +90,7 @@ behind_line settings taken h k (count, here) rest e =
     elim (chosen (is_over settings taken (count, here)) _ _ _ e) [
       | inl a ↦ absurd (over_no_line (Ok here) k rest a.1)
       | inr a ↦
-          let same = lines_same h k here rest a.1 in
-          let left = none_met settings taken (count, here) a.0 in
-          (same.0, same.1, left.0, left.1)
+          grind (arith, lines_same, none_met)
     ]
 
 -- The line follows the EOLs here.
@@ -128,15 +126,13 @@ line_behind settings taken h k here rest e = elim (chosen (misses_eol settings t
         | inr b ↦ inr (by_next_eol sought (next_eol here) refl b.1)
       ]
   | inr a ↦
-      let is = behind_line settings taken h k (eols_here settings here) rest a.1 in
-      inl (record { unsought = a.0; flag = is.0; place = is.1; open_limit = is.2; open_end = is.3 })
+      grind (arith, common_steps, behind_line settings taken h k (eols_here settings here) rest a.1)
 ]
   where
     by_next_eol : h ≡ true → (o : Option Bits) → next_eol here ≡ o → from_next_eol settings taken here o ≡ Gap.line_at k rest
         → AfterNextEol settings h k here rest ⊎ GivenUp h k here rest
     by_next_eol sought (Some found) next f =
-        let is = behind_line settings taken true k (eols_here settings found) rest f in
-        inl (record { sought = sought; kept = sym is.0; found = found; next = next; place = is.1 })
+        grind (arith, common_steps, behind_line settings taken true k (eols_here settings found) rest f)
     by_next_eol sought None next f = grind (arith, common_steps, lines_same)
 
 -- if EOLs are still sought, one was here or further on, and the line begins after it
@@ -145,18 +141,14 @@ pub line_past_eol : (settings : DecodeSettings) (taken : ℕ) (here rest : Bits)
 line_past_eol settings taken here rest e = elim (line_behind settings taken true true here rest e) [
   | inl is ↦ by_after_eol is (after_eol 0 here) refl
   | inr (inl is) ↦
-      let eol = next_eol_within here is.found is.next in
-      (eol.0, eol.2, subst (λ (x : Bits). length x ≤ length eol.0) is.place (eols_here_past settings is.found eol.0 eol.1))
+      grind (arith, common_steps, next_eol_within here is.found is.next, eols_here_past settings is.found)
   | inr (inr is) ↦ absurd (false≢true (sym is.given_up))
 ]
   where
     by_after_eol : AfterEols settings taken true true here rest → (o : Option Bits) → after_eol 0 here ≡ o
         → (after : Bits) × EolWithin here after × (length rest ≤ length after)
-    by_after_eol is (Some after) f = (
-      after,
-      eol_within here after f,
-      subst (λ (x : Bits). length x ≤ length after) is.place (eols_here_past settings here after f),
-    )
+    by_after_eol is (Some after) f =
+        grind (arith, common_steps, eol_within here after f, eols_here_past settings here after f)
     by_after_eol is None f = grind (arith, common_steps, eols_here-none, false≢true)
 
 -- if EOLs are no longer sought, the line is here
@@ -179,11 +171,7 @@ line_behind_shorter settings taken h k here rest e = elim (line_behind settings 
 pub line_without_eols : (settings : DecodeSettings) (taken : ℕ) (k : Bool) (here rest : Bits)
     → gap_behind_row settings taken false here ≡ Gap.line_at k rest → (k ≡ false) × (length rest ≤ length here)
 line_without_eols settings taken k here rest e = (
-  elim (line_behind settings taken false k here rest e) [
-    | inl is ↦ sym is.flag
-    | inr (inl is) ↦ absurd (false≢true is.sought)
-    | inr (inr is) ↦ is.given_up
-  ],
+  grind (arith, common_steps, line_behind settings taken false k here rest e, false≢true),
   line_behind_shorter settings taken false k here rest e,
 )
 
@@ -207,9 +195,7 @@ line_has_bits settings taken k here rest e =
 
 -- there are few tests of tags
 pub few_tag_tests : (encoding : EncodingMode) → tag_tests encoding ≤ 3
-few_tag_tests Group3_1D = omega arith
-few_tag_tests Group3_2D = omega arith
-few_tag_tests Group4 = omega arith
+few_tag_tests encoding = grind arith
 
 -- no more than the bits here are examined
 pub looked_most : (here : Bits) → looked here ≤ length here
@@ -223,15 +209,9 @@ looked_to_one [] after = omega arith
 looked_to_one (false ∷ before) after = omega (arith, looked_to_one before after)
 looked_to_one (true ∷ before) after = omega (arith, length-append before (true ∷ after))
 
-length-later : (here : Bits) → length (drop 1 here) ≤ length here
-length-later [] = omega arith
-length-later (bit ∷ here) = omega arith
-
 -- no more than the bits here are examined ahead
 pub looked_ahead_most : (encoding : EncodingMode) (here : Bits) → looked_ahead encoding here ≤ length here
-looked_ahead_most Group3_2D here = omega (arith, looked_most (drop 1 here), length-later here)
-looked_ahead_most Group3_1D here = looked_most here
-looked_ahead_most Group4 here = looked_most here
+looked_ahead_most encoding here = grind (arith, looked_most)
 
 -- if an EOL is here or further on, no bit after it is examined
 looked_to_eol : (here after : Bits) → EolWithin here after → (looked here + length after ≤ length here)

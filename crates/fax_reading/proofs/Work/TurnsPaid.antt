@@ -1,6 +1,6 @@
 -- What a turn counts is paid by the bits that it consumes, or by ceasing to seek EOLs, which happens once.
 use Rattle.fax_reading.proofs.Names.{common_steps, ◌≡◌, ◌≢◌, ℕ, ◌+◌, ◌*◌, ◌<◌, ◌≤◌, Bool, true, false, not, ◌&&◌, cond, [], ◌∷◌}
-use Rattle.fax_reading.proofs.Names.{length, Result, Ok, Err, refl, sym, ap, ◌∙◌, subst, arith, false≢true, DecodeError}
+use Rattle.fax_reading.proofs.Names.{length, Result, Ok, Err, refl, ap, arith, false≢true, DecodeError}
 use Rattle.fax_reading.proofs.Names.{DecodeSettings, EncodingMode, Group4, Group3_1D, Group3_2D, Bits, Line, line_found, Gap}
 use Rattle.fax_reading.proofs.Names.{behind_row, gap_behind_row, line_by, line_here, row_of_line, Row, looked_ahead, IsPaidUpTo}
 use Rattle.fax_reading.proofs.Names.{found_here}
@@ -22,17 +22,13 @@ pub whole_pays : (encoding : EncodingMode) (strict : Bool) (columns : ℕ) (refe
     → PaysLine encoding here rest (length (line_found encoding strict columns reference here))
 whole_pays Group3_2D strict columns reference [] row rest wide e = absurd cc
 whole_pays Group3_2D strict columns reference (true ∷ here) row rest wide e =
-    let paid = line_1d_paid strict columns here row rest wide e in
-    record { some = omega (arith, paid.some, paid.words); words = omega (arith, paid.words); zeros = omega (arith, paid.zeros) }
+    grind (arith, common_steps, line_1d_paid strict columns here row rest wide e)
 whole_pays Group3_2D strict columns reference (false ∷ here) row rest wide e =
-    let paid = line_2d_paid strict columns reference here row rest wide e in
-    record { some = omega (arith, paid.some, paid.words); words = omega (arith, paid.words); zeros = omega (arith, paid.zeros) }
+    grind (arith, common_steps, line_2d_paid strict columns reference here row rest wide e)
 whole_pays Group3_1D strict columns reference here row rest wide e =
-    let paid = line_1d_paid strict columns here row rest wide e in
-    record { some = omega (arith, paid.some, paid.words); words = paid.words; zeros = paid.zeros }
+    grind (arith, common_steps, line_1d_paid strict columns here row rest wide e)
 whole_pays Group4 strict columns reference here row rest wide e =
-    let paid = line_2d_paid strict columns reference here row rest wide e in
-    record { some = omega (arith, paid.some, paid.words); words = paid.words; zeros = paid.zeros }
+    grind (arith, common_steps, line_2d_paid strict columns reference here row rest wide e)
 
 -- bits further on are paid as well
 further_pays : (encoding : EncodingMode) (here rest further : Bits) (found : ℕ) → PaysLine encoding here rest found
@@ -50,8 +46,7 @@ behind_shorter settings h rest = either_shorter (settings.rows_are_byte_aligned 
 -- a broken line is repaired only in lenient data with EOLs, and the reader is then at its start
 pub broken_row : (settings : DecodeSettings) (h : Bool) (here rest : Bits) (front row : Row) (fault : DecodeError)
     → row_of_line settings h here (Line.broken front fault) ≡ Ok (row, rest) → (h ≡ true) × (rest ≡ here)
-broken_row settings true here rest front row fault is = grind (arith, common_steps, behind_with_eols)
-broken_row settings false here rest front row fault is = grind (arith, common_steps)
+broken_row settings h here rest front row fault is = grind (arith, behind_with_eols)
 
 -- a row ends no sooner than its line begins
 pub row_shorter : (settings : DecodeSettings) (h : Bool) (reference : Row) (here rest : Bits) (row : Row) → 0 < settings.columns
@@ -62,8 +57,7 @@ row_shorter settings h reference here rest row wide is = by_line_here (line_here
         → length rest ≤ length here
     by_line_here (Line.whole whole behind) e given =
         let pays = whole_pays settings.encoding settings.strict settings.columns reference here whole behind wide e in
-        let same : behind_row settings h behind ≡ rest = ap rest_of_row given in
-        omega (arith, pays.some, ap length same, behind_shorter settings h behind)
+        grind (arith, behind_shorter)
     by_line_here (Line.broken front fault) e given = grind (arith, common_steps, broken_row)
 
 -- a row after which the reading continues, seeking EOLs as before, is paid by the bits up to there
@@ -83,17 +77,10 @@ turn_pays settings h taken reference here rest next row wide is gap = by_line_he
         (whole_pays settings.encoding settings.strict settings.columns reference here whole behind wide e)
         (omega (arith, ap length same, behind_shorter settings h behind, line_behind_shorter settings taken h h rest next gap))
     by_line_here (Line.broken front fault) e given =
-        let repaired = broken_row settings h here rest front row fault given in
         let stands : gap_behind_row settings taken true here ≡ Gap.line_at true next
-        = subst (λ (b : Bool). gap_behind_row settings taken b here ≡ Gap.line_at b next) repaired.0
-        (subst (λ (x : Bits). gap_behind_row settings taken h x ≡ Gap.line_at h next) repaired.1 gap) in
+        = grind arith in
         let (after, eol, behind) = line_past_eol settings taken here next stands in
-        let words = found_before_eol settings.encoding settings.strict settings.columns reference here eol.fill after eol.place in
-        record {
-          some = omega (arith, length-within here after eol, behind);
-          words = omega (arith, words, behind);
-          zeros = omega (arith, looked_ahead_to_eol settings.encoding here after eol, behind);
-        }
+        grind (arith, common_steps, found_before_eol, length-within, looked_ahead_to_eol)
 
 -- ---- The account
 
@@ -107,8 +94,7 @@ module _ (settings : DecodeSettings) (wide : 0 < settings.columns) (begun bits g
   found_fits = found_within settings.encoding settings.strict settings.columns reference here
 
   either_given : (b : Bool) → cond b 0 giving_up ≤ giving_up
-  either_given true = omega arith
-  either_given false = omega arith
+  either_given b = grind arith
 
   -- a line that ends the run
   pub line_ends : now ≤ begun + (16 * bits + 6 + giving_up)
@@ -136,32 +122,20 @@ module _ (settings : DecodeSettings) (wide : 0 < settings.columns) (begun bits g
       where
         same : (b : Bool) → h ≡ b → k ≡ b → IsPaidUpTo begun bits giving_up settings.encoding b last stored next
         same b h_is k_is =
-            let pays = turn_pays settings h taken reference here rest next row wide is
-            (gap ∙ ap (λ (x : Bool). Gap.line_at x next) (k_is ∙ sym h_is)) in
-            let before = subst (λ (x : Bool). IsPaidUpTo begun bits giving_up settings.encoding x ticks changes here) h_is paid in
-            omega (arith, before, line, row_fits, few, kept (k_is ∙ sym h_is), pays.some, pays.words, pays.zeros)
+            grind (arith, common_steps, turn_pays settings h taken reference here rest next row wide is, row_fits)
 
         by_k : (a b : Bool) → h ≡ a → k ≡ b → IsPaidUpTo begun bits giving_up settings.encoding b last stored next
         by_k true true h_is k_is = same true h_is k_is
         by_k false false h_is k_is = same false h_is k_is
         by_k true false h_is k_is =
-            let stands : gap_behind_row settings taken true rest ≡ Gap.line_at false next = ap
-            (λ (x : Bool). gap_behind_row settings taken x rest) (sym h_is) ∙ gap ∙ ap (λ (x : Bool). Gap.line_at x next) k_is in
-            let before = subst (λ (x : Bool). IsPaidUpTo begun bits giving_up settings.encoding x ticks changes here) h_is paid in
-            omega (
+            grind (
               arith,
-              before,
-              line,
-              within,
+              common_steps,
               row_fits,
-              few,
               found_fits,
               looked_ahead_most settings.encoding here,
-              given_up (λ e. absurd (false≢true (sym k_is ∙ e ∙ h_is))),
-              enough h_is,
-              ap length (line_given_up settings taken rest next stands),
+              false≢true,
+              line_given_up settings taken rest next,
             )
         by_k false true h_is k_is =
-            let stands : gap_behind_row settings taken false rest ≡ Gap.line_at true next = ap
-            (λ (x : Bool). gap_behind_row settings taken x rest) (sym h_is) ∙ gap ∙ ap (λ (x : Bool). Gap.line_at x next) k_is in
-            absurd (false≢true (sym (line_without_eols settings taken true rest next stands).0))
+            grind (arith, common_steps, false≢true, line_without_eols settings taken true rest next)

@@ -1,6 +1,6 @@
 -- What the words that a line finds say of the bits that it consumed: they pay for what it counts.
-use Rattle.fax_reading.proofs.Names.{common_steps, ◌≡◌, ℕ, suc, ◌+◌, ◌%◌, cond, ◌<◌, ◌≤◌, Bool, true, false, List, [], ◌∷◌, ◌++◌}
-use Rattle.fax_reading.proofs.Names.{length, replicate, sym, ap, ◌∙◌, subst, arith, append_assoc, inl, inr, false≢true, cases_lt}
+use Rattle.fax_reading.proofs.Names.{common_steps, ◌≡◌, ℕ, ◌+◌, cond, ◌<◌, ◌≤◌, Bool, true, false, List, [], ◌∷◌, ◌++◌}
+use Rattle.fax_reading.proofs.Names.{length, replicate, ap, arith, append_assoc, false≢true, cases_lt}
 use Rattle.fax_reading.proofs.Names.{length-append, length-drop, EncodingMode, Group4, Group3_1D, Group3_2D, Bits, AreWords}
 use Rattle.fax_reading.proofs.Names.{joined, Line, found_1d, found_2d, line_1d, line_2d, line_found, aligned, Row, looked}
 use Rattle.fax_bits.proofs.BitReading.ZerosInWords.{holds_a_one, word_one, no_eleven_in, prefix_of_prefix}
@@ -10,8 +10,7 @@ use Rattle.fax_reading.proofs.DrawingLines.ReadLines.{TookBits, line_1d_took_bit
 -- ---- Consecutive words have a bit each, and contain a one.
 
 some_bit : (word : Bits) → holds_a_one word ≡ true → 0 < length word
-some_bit [] e = absurd (false≢true e)
-some_bit (bit ∷ word) e = omega arith
+some_bit word e = grind (arith, common_steps, false≢true)
 
 words_bits : (words : List Bits) → AreWords words → length words ≤ length (joined words)
 words_bits [] are = omega arith
@@ -28,35 +27,19 @@ looked_word [] more e = absurd (false≢true e)
 looked_word (true ∷ word) more e = omega arith
 looked_word (false ∷ word) more e = omega (arith, looked_word word more e)
 
--- a count of zeros from the start of words ends within them
-stands_looked : (here : Bits) (word : Bits) (found : List Bits) (rest : Bits) → WordsStand here (word ∷ found) rest
-    → looked here + length rest ≤ length here
-stands_looked here word found rest stands =
-    let same : here ≡ word ++ (joined found ++ rest) = stands.place ∙ append_assoc word (joined found) rest in
-    let ends : looked here ≤ length word = subst (λ (x : Bits). looked x ≤ length word) (sym same)
-    (looked_word word (joined found ++ rest) (word_one word stands.words.0)) in
-    omega (arith, ends, ap length same, length-append word (joined found ++ rest), length-append (joined found) rest)
-
 -- an EOL at or after a line's start, its tag included, ends past each word
 pub stands_before_eol : (tag : Bool) (here : Bits) (found : List Bits) (rest fill after : Bits) → WordsStand here found rest
     → tag ∷ here ≡ fill ++ replicate 11 false ++ true ∷ after → length after < length rest
 stands_before_eol tag here found rest fill after stands e =
-    let cut : (tag ∷ joined found) ++ rest ≡ (fill ++ replicate 11 false) ++ (true ∷ after) =
-    ap (λ (x : Bits). tag ∷ x) (sym stands.place) ∙ e in
-    elim (cases_lt (length after) (length rest)) [
-      | inl lt ↦ lt
-      | inr ge ↦
-          let sizes : suc (length (joined found)) + length rest ≡ length (fill ++ replicate 11 false) + suc (length after) =
-          omega (
-            arith,
-            ap length cut,
-            length-append (joined found) rest,
-            length-append (fill ++ replicate 11 false) (true ∷ after),
-          ) in
-          let long : length (fill ++ replicate 11 false) ≤ length (tag ∷ joined found) = omega (arith, sizes) in
-          let front = prefix_of_prefix (fill ++ replicate 11 false) (true ∷ after) (tag ∷ joined found) rest cut long in
-          absurd (no_eleven_in tag found stands.words (fill, front.0, front.1))
-    ]
+    grind (
+      arith,
+      common_steps,
+      cases_lt (length after) (length rest),
+      length-append (joined found) rest,
+      length-append (fill ++ replicate 11 false) (true ∷ after),
+      prefix_of_prefix (fill ++ replicate 11 false) (true ∷ after) (tag ∷ joined found) rest,
+      no_eleven_in tag found stands.words,
+    )
 
 -- ---- What a line pays.
 
@@ -68,21 +51,17 @@ pub record LineIsPaid (here rest : Bits) (found : List Bits) : Type 0 where
 
 -- a whole byte is further on
 pub either_shorter : (aligns : Bool) (rest : Bits) → length (cond aligns (aligned rest) rest) ≤ length rest
-either_shorter true rest = omega (arith, length-drop (length rest % 8) rest)
-either_shorter false rest = omega arith
+either_shorter aligns rest = grind (arith, length-drop)
 
 paid_by : (here rest : Bits) (found : List Bits) → WordsStand here found rest → length rest < length here
     → LineIsPaid here rest found
 paid_by here rest [] stands lt = absurd (omega (arith, lt, ap length stands.place))
 paid_by here rest (word ∷ found) stands lt =
-    grind (arith, common_steps, stands_count here (word ∷ found) rest stands, stands_looked here word found rest stands)
+    grind (arith, common_steps, stands_count here (word ∷ found) rest stands, append_assoc, looked_word, word_one, length-append)
 
 whole_paid : (here : Bits) (line : Line) (found : List Bits) (end : Bits) (row : Row) (rest : Bits) → WordsStand here found end
     → LineEnds line end → TookBits (length here) line → line ≡ Line.whole row rest → LineIsPaid here rest found
-whole_paid here line found end row rest stands ends took e =
-    let same : rest ≡ end = subst (λ (l : Line). LineEnds l end) e ends in
-    let lt : length rest < length here = subst (λ (l : Line). TookBits (length here) l) e took in
-    paid_by here rest found (subst (λ (x : Bits). WordsStand here found x) (sym same) stands) lt
+whole_paid here line found end row rest stands ends took e = grind (arith, common_steps, paid_by here rest found)
 
 pub line_1d_paid : (strict : Bool) (columns : ℕ) (here : Bits) (row : Row) (rest : Bits) → 0 < columns
     → line_1d strict columns here ≡ Line.whole row rest → LineIsPaid here rest (found_1d strict columns here)

@@ -1,8 +1,8 @@
 -- What the entry of a table of pairs says of the run codes here.
 use Rattle.hayro_ccitt.proofs.Names.{common_steps}
 use Rattle.hayro_ccitt.proofs.Names.{◌≡◌, ◌≢◌, ℕ, ◌+◌, ◌-◌, ◌*◌, ◌/◌, ◌%◌, ◌≤◌, Bool, true, false, ◌&&◌, ◌++◌, length, drop}
-use Rattle.hayro_ccitt.proofs.Names.{Option, Some, None, Ok, refl, sym, ap, ◌∙◌, arith, and_parts, ltb-true, Color}
-use Rattle.hayro_ccitt.proofs.Names.{Bits, BitsAt, here, opposite, word_at, read_code, codes_of, padded, is_short, pair_entry}
+use Rattle.hayro_ccitt.proofs.Names.{Option, Some, None, refl, sym, ap, ◌∙◌, arith, and_parts, ltb-true, Color}
+use Rattle.hayro_ccitt.proofs.Names.{Bits, BitsAt, here, opposite, word_at, codes_of, padded, is_short, pair_entry}
 use Rattle.hayro_ccitt.proofs.Names.{append_assoc, length-append, drop-drop, moved, IsWordHere, IsShort}
 use Rattle.hayro_ccitt.proofs.Names.{TwoRuns, AreTwoRunsHere, subst}
 use Rattle.hayro_ccitt.proofs.{BitReading.ZerosInWords.codes_free, CodeWords.LooksAhead.length-padded}
@@ -79,18 +79,8 @@ words_there color at entry words enough =
     rw (low, high) (record {
       between = length w;
       behind = length w2;
-      first = record {
-        read = ap (read_code (codes_of color)) stands
-            ∙ read_code_again (codes_of color) words.first.0 w (w2 ++ tail) (codes_free color) has
-            ∙ ap (λ (x : Bits). Ok (words.first.0, x)) (sym on);
-        few = omega (arith, len);
-      };
-      second = record {
-        read = ap (read_code (codes_of (opposite color))) on
-            ∙ read_code_again (codes_of (opposite color)) words.second.0 w2 tail (codes_free (opposite color)) has2
-            ∙ ap (λ (x : Bits). Ok (words.second.0, x)) (sym on2);
-        few = omega (arith, len);
-      };
+      first = grind (arith, common_steps, read_code_again, codes_free);
+      second = grind (arith, common_steps, read_code_again, codes_free);
       bits = width;
       short = words.short;
       short2 = words.short2;

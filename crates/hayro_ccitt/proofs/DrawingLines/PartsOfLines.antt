@@ -1,12 +1,12 @@
 -- Parts of lines, of whose fronts only the number of pixels is known.
 use Rattle.hayro_ccitt.proofs.Names.{◌≡◌, ◌∙◌, ◌+◌, ◌-◌, ◌*◌, ◌<◌, ◌≤◌, ℕ, Bool, true, false, [], ◌++◌, length}
 use Rattle.hayro_ccitt.proofs.Names.{min, Ok, Err}
-use Rattle.hayro_ccitt.proofs.Names.{replicate, length-append, length-replicate, append-nil, ltb, leb, ◌&&◌, refl, sym}
+use Rattle.hayro_ccitt.proofs.Names.{replicate, length-append, length-replicate, append-nil, ltb, ◌&&◌, refl, sym}
 use Rattle.hayro_ccitt.proofs.Names.{ap, subst, arith}
 use Rattle.hayro_ccitt.proofs.Names.{Bits, Color, DecodeSettings, Row, is_black, paint}
 use Rattle.hayro_ccitt.proofs.Names.{Line, Turn, line_here}
 use Rattle.hayro_ccitt.proofs.Names.{lt-ltb, le-leb, common_steps, Mode, read_code, mode_codes, codes_of, ArePassed}
-use Rattle.hayro_ccitt.proofs.Names.{InvalidCode, List, changes}
+use Rattle.hayro_ccitt.proofs.Names.{List, changes}
 use Rattle.hayro_ccitt.proofs.Names.{line_1d, line_2d, line_by, start, not, EncodingMode, Group3_2D, BitsAt, Context}
 use Rattle.hayro_ccitt.proofs.Names.{here, length-drop}
 use Rattle.hayro_ccitt.proofs.Names.{Pass, Vertical, b1, b2, right_of, right_of_painted, opposite, ℤ, pos, ◌+ℤ◌, ◌∷◌}
@@ -21,6 +21,7 @@ use Rattle.hayro_ccitt.specs.LineParts.{GoesOnBy, ContinuesLine, IsLawfulPart, I
 use Rattle.hayro_ccitt.specs.LineParts.{LeadsToPart, PaintsTo, part_at, part_by}
 use Rattle.hayro_ccitt.specs.LineParts.{first_kept, left_to_read, pen_of_part, run_of_part}
 use Rattle.fax_reading.proofs.Continuations.LinesGoOn.{LeadsOn, line_from_is, part_leads_on, part_size, word_leads}
+use Rattle.hayro_ccitt.proofs.Names.{too_many_pixels}
 
 -- ---- What is painted
 
@@ -144,17 +145,14 @@ module _ (settings : DecodeSettings) (reference : Row) (front : Row) (color : Co
   pub pass_goes : (count painted : ℕ) → b2 reference (right_of_painted (length front)) color - length front ≡ count
       → PaintsTo settings front color count painted
       → LeadsToFront painted (λ row. at_mode row color rest) (by_mode Pass)
-  pass_goes count painted is paints =
-      let place : b2 reference (right_of front) color - length front ≡ count
-      = ap (λ (n : ℕ). b2 reference n color - length front) (right_is front) ∙ is in
-      (paints.0, paints.1, rw (place, paints.2) refl)
+  pass_goes count painted is paints = grind (arith, common_steps, right_is)
 
   pub pass_ends : (count : ℕ) → b2 reference (right_of_painted (length front)) color - length front ≡ count
-      → paint settings.strict settings.columns front color count ≡ Err InvalidCode → EndsLine false (by_mode Pass)
+      → paint settings.strict settings.columns front color count ≡ Err too_many_pixels → EndsLine false (by_mode Pass)
   pass_ends count is fails =
       let place : b2 reference (right_of front) color - length front ≡ count
       = ap (λ (n : ℕ). b2 reference n color - length front) (right_is front) ∙ is in
-      (Line.broken front InvalidCode, rw (place, fails) refl, refl)
+      (Line.broken front too_many_pixels, rw (place, fails) refl, refl)
 
   -- behind a vertical mode
   pub turn_goes : (k : ℤ) (place painted : ℕ)
@@ -168,12 +166,12 @@ module _ (settings : DecodeSettings) (reference : Row) (front : Row) (color : Co
 
   pub turn_unpainted : (k : ℤ) (place : ℕ)
       → place_from (length front) (pos (b1 reference (right_of_painted (length front)) color) +ℤ k) ≡ Ok place
-      → paint settings.strict settings.columns front color (place - length front) ≡ Err InvalidCode
+      → paint settings.strict settings.columns front color (place - length front) ≡ Err too_many_pixels
       → EndsLine false (by_mode (Vertical k))
   turn_unpainted k place is fails =
       let there : place_from (length front) (pos (b1 reference (right_of front) color) +ℤ k) ≡ Ok place
       = ap (λ (n : ℕ). place_from (length front) (pos (b1 reference n color) +ℤ k)) (right_is front) ∙ is in
-      (Line.broken front InvalidCode, rw (there, fails) refl, refl)
+      (Line.broken front too_many_pixels, rw (there, fails) refl, refl)
 
   pub turn_ends : (k : ℤ)
       → place_from (length front) (pos (b1 reference (right_of_painted (length front)) color) +ℤ k) ≡ Err Overflow
@@ -194,9 +192,9 @@ module _ (settings : DecodeSettings) (reference : Row) (front : Row) (color : Co
   fits_32 n le = grind (arith, common_steps)
 
   pub run_ends : (run : OpenRun) (n : ℕ) → run.total + n ≤ 4294967295 → n < 64
-      → paint settings.strict settings.columns front color (run.total + n) ≡ Err InvalidCode → EndsLine false (by_word run n)
+      → paint settings.strict settings.columns front color (run.total + n) ≡ Err too_many_pixels → EndsLine false (by_word run n)
   run_ends run n le last fails =
-      (Line.broken front InvalidCode, rw (fits_32 (run.total + n) le, lt-ltb n 64 last, fails) refl, refl)
+      (Line.broken front too_many_pixels, rw (fits_32 (run.total + n) le, lt-ltb n 64 last, fails) refl, refl)
 
   -- ---- One word more
 
@@ -204,9 +202,7 @@ module _ (settings : DecodeSettings) (reference : Row) (front : Row) (color : Co
   pub mode_read : (mode : Mode) (after : Bits) → length front < settings.columns → read_code mode_codes rest ≡ Ok (mode, after)
       → (read_on settings reference (at_mode front color rest)).turn
       ≡ (mode_added settings.strict settings.columns reference (record pen { rest = after }) mode).turn
-  mode_read mode after narrow reads =
-      let some : leb settings.columns (length front) ≡ false = grind (arith, common_steps) in
-      rw (some, reads) refl
+  mode_read mode after narrow reads = grind (arith, common_steps)
 
   pub full_ends : (is_2d : Bool) → settings.columns ≤ length front
       → EndsLine false (read_on settings reference (LinePart.at_step is_2d pen)).turn
@@ -227,20 +223,12 @@ at_mode_is part row color rest none is_2d same = rw (none, is_2d, same) refl
 -- the changes that are passed are not right of a0 where more pixels are painted
 passed_on : (places : List ℕ) (painted more passed : ℕ) → painted ≤ more → ArePassed places painted passed
     → ArePassed places more passed
-passed_on places painted more passed le are = record {
-  none = λ e. are.none (omega (arith, le, e));
-  within = are.within;
-  left = λ k lt. omega (arith, are.left k lt, le);
-}
+passed_on places painted more passed le are = grind (arith, common_steps)
 
 pub lawful_behind : (settings : DecodeSettings) (reference : Row) (part : KeptPart) (painted passed : ℕ)
     → ArePassed (changes reference) painted passed → part.passed ≡ passed → painted ≤ part.painted
     → part.painted ≤ settings.columns → IsLawfulPart settings reference part
-lawful_behind settings reference part painted passed are same more within = record {
-  within = within;
-  passed = subst (ArePassed (changes reference) part.painted) (sym same)
-      (passed_on (changes reference) painted part.painted passed more are);
-}
+lawful_behind settings reference part painted passed are same more within = grind (arith, common_steps, passed_on)
 
 -- ---- A line begins with a part
 
@@ -341,16 +329,7 @@ module _ (old part new : KeptPart) (ctx : Context) (ticks : ℕ) (now : Context)
   module _ (back : BitsAt) (put_back : back ≡ at) (begun : before.place ≤ length before.bits)
       (within : at.place ≤ length at.bits) where
     onward_back : before.place ≤ back.place
-    onward_back = omega (
-      arith,
-      ap (λ (b : BitsAt). b.place) put_back,
-      so_far.onward,
-      ap length so_far.same_bits,
-      length-drop before.place before.bits,
-      length-drop at.place at.bits,
-      begun,
-      within,
-    )
+    onward_back = grind (arith, common_steps, length-drop)
 
     -- the next word is missing
     pub lacks_word : ReadsWord part new (record ctx { ticks = ticks }) now at after Word.Missing
@@ -358,9 +337,7 @@ module _ (old part new : KeptPart) (ctx : Context) (ticks : ℕ) (now : Context)
     lacks_word reads =
         let same : new ≡ part = reads.missing refl in
         record {
-          part = λ e start is. subst (λ (p : KeptPart). IsPartOf ctx.held.settings ctx.held.reference start p (here back))
-              (sym same) (subst (λ (b : BitsAt). IsPartOf ctx.held.settings ctx.held.reference start part (here b)) (sym put_back)
-              (so_far.part start is));
+          part = λ e start is. grind (arith, common_steps, so_far.part start is);
           said = ends_so true Word.Missing reads (λ turn ends. ends);
           lawful = reads.goes.lawful;
           frame = reads.frame;

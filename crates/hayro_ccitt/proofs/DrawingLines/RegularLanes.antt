@@ -1,6 +1,7 @@
 -- Vectors of four numbers of 32 bits, lane by lane.
+use Rattle.hayro_ccitt.proofs.Names.{common_steps}
 use Rattle.hayro_ccitt.proofs.Names.{◌≡◌, ℕ, zero, suc, ◌+◌, ◌-◌, ◌/◌, ◌%◌, ◌<◌, ◌≤◌, ◌∙◌, List, [], ◌∷◌, ◌++◌, Bool, true, false}
-use Rattle.hayro_ccitt.proofs.Names.{inl, inr, cond, map, length, get_or, refl, sym, ap, arith, w32, cases_lt, pos, negsuc}
+use Rattle.hayro_ccitt.proofs.Names.{cond, map, length, get_or, refl, sym, ap, arith, w32, cases_lt, pos}
 use Rattle.hayro_ccitt.proofs.Names.{eqb-true, ltb-true, get_or_default_zero, get_or-append_right, get_or-replicate, to_z}
 use Rattle.std.proofs.Common.{◌^◌, ap₂, bit_and, SFits}
 use Rattle.std.proofs.lemmas.Bool.{ltb-false}
@@ -49,15 +50,7 @@ lane_set false b c set = let never : false ≡ true = set in cc
 
 -- a number with no sign, and what is greater than it
 above : (a b : ℕ) → a < 2 ^ 31 → b < 2 ^ 32 → less a b ≡ true → (a < b) × (b < 2 ^ 31)
-above a b small fits greater = elim (cases_lt b (2 ^ 31)) [
-  | inl lt ↦ (ltb-true a b (sym (ap₂ lt_z (to_z_pos w32 small) (to_z_pos w32 lt)) ∙ greater), lt)
-  | inr ge ↦ (
-      let k : ℕ = 2 ^ 32 - 1 - b in
-      let is : b ≡ 2 ^ 32 - suc k = omega (arith, fits) in
-      let sign : to_z w32 b ≡ negsuc k = ap (to_z w32) is ∙ to_z-neg w32 k (omega (arith, ge)) in
-      let never : false ≡ true = sym (ap₂ lt_z (to_z_pos w32 small) sign) ∙ greater in
-      cc)
-]
+above a b small fits greater = grind (arith, common_steps, cases_lt, ltb-true, ap₂, to_z_pos, to_z-neg)
 
 -- two numbers with no sign
 above_small : (a b : ℕ) → a < 2 ^ 31 → b < 2 ^ 31 → less a b ≡ true → a < b
@@ -90,9 +83,7 @@ module _ (start reached next before : List ℕ) where
         ∙ length-first
 
     length-lanes : length lanes ≡ 4
-    length-lanes =
-        length-zip2 bit_and _ (map (λ a. 2 ^ 32 - 1 - a) (compared reached before)) (length-both ∙ sym length-opposite)
-        ∙ length-both
+    length-lanes = grind (arith, common_steps, length-zip2, bit_and, compared, length-both, length-opposite)
 
     length-tops : length (map (top 31) lanes) ≡ 4
     length-tops = length-map lanes (top 31) ∙ length-lanes
@@ -187,9 +178,7 @@ module _ (painted index : ℕ) (places offsets : List ℕ) where
     length-offsets = length-map (chunk 0 4 offsets) (λ a. a) ∙ length-chunk 0 4 offsets near.0
 
     length-sums : length (zip2 plus (chunk index 4 places) (map (λ a. a) (chunk 0 4 offsets))) ≡ 4
-    length-sums =
-        length-zip2 plus (chunk index 4 places) (map (λ a. a) (chunk 0 4 offsets)) (length-here ∙ sym length-offsets)
-        ∙ length-here
+    length-sums = grind (arith, common_steps, length-zip2, plus, length-here, length-offsets)
 
     pub length-reached : length reached_from ≡ 4
     length-reached = length-zip2 minus _ (3 ∷ 3 ∷ 3 ∷ 3 ∷ []) length-sums ∙ length-sums
@@ -207,11 +196,7 @@ module _ (painted index : ℕ) (places offsets : List ℕ) where
         get_or-chunk index 4 places k 0 lt ∙ sym (get_or_default_zero places (index + k) columns (omega (arith, within.1)))
 
     offset_here : (k : ℕ) → k < 4 → get_or (map (λ a. a) (chunk 0 4 offsets)) k 0 ≡ get_or offsets k 3
-    offset_here k lt =
-        let at : 0 + k ≡ k = omega arith in
-        get_or-map (λ a. a) (chunk 0 4 offsets) k 0 0 (omega (arith, length-chunk 0 4 offsets near.0))
-        ∙ get_or-chunk 0 4 offsets k 0 lt ∙ ap (λ (i : ℕ). get_or offsets i 0) at
-        ∙ sym (get_or_default_zero offsets k 3 (omega (arith, near.0)))
+    offset_here k lt = grind (arith, common_steps, get_or-map, length-chunk, get_or-chunk, get_or_default_zero)
 
     reached_at : (columns k : ℕ) → k < 4
         → get_or reached_from k 0 ≡ minus (plus (get_or places (index + k) columns) (get_or offsets k 3)) 3

@@ -1,4 +1,5 @@
 -- Vertical modes drawn several at a time: while they are regular, b1 of each is the next change of the reference row.
+use Rattle.hayro_ccitt.proofs.Names.{common_steps}
 use Rattle.std.specs.Prelude.{⊤, take, Vec, vec_len, vec_capacity}
 use Rattle.hayro_ccitt.proofs.Names.{◌≡◌, ℕ, suc, ◌+◌, ◌-◌, ◌*◌, ◌<◌, ◌≤◌, Bool, List, [], ◌∷◌, ◌++◌, length, get_or, refl}
 use Rattle.hayro_ccitt.proofs.Names.{arith}
@@ -39,16 +40,7 @@ module _ {columns : ℕ} {places : List ℕ} (ascend : AreChanges columns places
   -- after a regular place the next index is that of b1, in the other colour
   regular_b1 : {painted index place : ℕ} {color : Color} → IsB1 columns places painted index color
       → IsRegular columns places painted index place → IsB1 columns places place (index + 1) (opposite color)
-  regular_b1 {painted} {index} {place} {color} at regular = record {
-    turns = turns_next index color at.turns;
-    near = record {
-      left = λ k l. (
-        omega (arith, regular.right),
-        omega (arith, regular.behind (omega arith), rising columns places ascend k (index - 1) (omega arith)),
-      );
-    };
-    right = λ some. regular.left;
-  }
+  regular_b1 {painted} {index} {place} {color} at regular = grind (arith, common_steps, turns_next, rising, regular)
 
   -- a row reaches a regular place, and is turned there
   regular_stroke : {painted index place : ℕ} {color : Color} {row : List ℕ} → painted < columns
@@ -110,9 +102,7 @@ module _ {columns : ℕ} {places : List ℕ} (ascend : AreChanges columns places
   pub group_stroke : (group : List ℕ) (painted index : ℕ) (color : Color) (row : List ℕ) → painted < columns
       → IsStroke columns places painted index color row → AreRegular columns places painted index group
       → IsStroke columns places (last_place painted group) (index + length group) (color_after group color) (row ++ group)
-  group_stroke [] painted index color row open_row stroke regular =
-      subst (λ (r : List ℕ). IsStroke columns places painted (index + 0) color r) (sym (append-nil row))
-      (subst (λ (n : ℕ). IsStroke columns places painted n color row) (omega arith) stroke)
+  group_stroke [] painted index color row open_row stroke regular = grind (arith, common_steps, append-nil)
   group_stroke (place ∷ group) painted index color row open_row stroke regular =
       let on = group_stroke group place (index + 1) (opposite color) (row ++ place ∷ []) (regular_inside ascend regular.0)
       (regular_stroke ascend open_row stroke regular.0) regular.1 in
@@ -139,10 +129,8 @@ module _ {columns : ℕ} {places : List ℕ} (ascend : AreChanges columns places
         at_most = omega arith;
         none = λ e. (omega arith, e);
       })
-  group_on (place ∷ group) [] painted index color row at ticks fits open_row stroke next named regular = absurd (omega (
-    arith,
-    named,
-  ))
+  group_on (place ∷ group) [] painted index color row at ticks fits open_row stroke next named regular =
+      grind (arith, common_steps, named)
   group_on {strict} (place ∷ group) (word ∷ words) painted index color row at ticks fits open_row stroke next named regular =
       let first = regular_on ascend {strict = strict} at ticks fits open_row stroke next.0 named.0 regular.0 in
       let on = group_on {strict = strict} group words place (index + 1) (opposite color) (row ++ place ∷ []) (moved word.width at)
@@ -218,14 +206,7 @@ pub first_word : (words : List VerticalWord) {hand : AtHand} {width : ℕ} → A
     hand.left
     → width ≡ width_of (take 1 words) → IsNextMode (Vertical (distance_of (offset_at words 0))) width hand
 first_word [] next some enough is = absurd (omega (arith, some))
-first_word (word ∷ words) {hand} {width} next some enough is =
-    let e : width ≡ word.width = omega (arith, is) in
-    rw e (record {
-      read = next.0.read;
-      some = next.0.some;
-      few = omega (arith, next.0.few);
-      within = omega (arith, next.0.few, enough);
-    })
+first_word (word ∷ words) {hand} {width} next some enough is = grind (arith, common_steps)
 
 module _ {A : Type 0} {line : CodingLine} {stroke : Stroke} {hand : AtHand} {row : Vec ℕ A} {modes : ModesHere}
     (can : CanDraw line stroke hand row) (here : AreModesHere line stroke hand modes) (n : ℕ)
@@ -238,10 +219,7 @@ module _ {A : Type 0} {line : CodingLine} {stroke : Stroke} {hand : AtHand} {row
   before_is (suc k) le = get_or-take n modes.places k 0 (omega (arith, le))
 
   regular : AreRegular line.columns (changes_in line.places.now) stroke.painted stroke.index (take n modes.places)
-  regular = are_regular_each line.columns (changes_in line.places.now) stroke.painted stroke.index (take n modes.places) (λ k lt.
-      let below : k < n = omega (arith, lt, count) in
-      rw (before_is k (omega (arith, below)), get_or-take n modes.places k 0 below)
-      (here.lead.regular k (omega (arith, below, within, here.few)) (λ j le. set j (omega (arith, le, below)))))
+  regular = grind (arith, common_steps, get_or-take, are_regular_each, count, before_is)
 
   named : AreNamed line.columns (changes_in line.places.now) stroke.index (words_of modes.group) (take n modes.places)
   named = are_named_each line.columns (changes_in line.places.now) stroke.index (words_of modes.group) (take n modes.places)

@@ -1,4 +1,5 @@
 -- A line of V0 alone draws the changes of the reference row once more.
+use Rattle.hayro_ccitt.proofs.Names.{common_steps}
 use Rattle.hayro_ccitt.proofs.Names.{◌≡◌, ℕ, zero, suc, ◌+◌, ◌-◌, ◌*◌, ◌<◌, ◌≤◌, ◌++◌, ◌∷◌, [], Bool, true, List, length}
 use Rattle.hayro_ccitt.proofs.Names.{get_or, drop, Ok, pos, refl, sym, ap, subst, ◌∙◌, arith, append-nil, append_assoc, drop-drop}
 use Rattle.hayro_ccitt.proofs.Names.{length-append, Bits, BitsAt, here, moved, Color, White, mode_codes, read_code, Vertical}
@@ -104,9 +105,7 @@ same_line strict columns places last at count ones ticks ascend fits is some few
     let behind : Bits = here (moved (count + 1) at) in
     let long : count + 1 ≡ suc (length places) = omega (arith, is) in
     let spelled : here at ≡ replicate (suc (length places)) true ++ behind =
-    there ∙ ap (λ (n : ℕ). low_bits (count + 1) n ++ behind) whole
-    ∙ ap (λ (b : Bits). b ++ behind) (ones_below (count + 1) (count + 1) (omega arith))
-    ∙ ap (λ (n : ℕ). replicate n true ++ behind) long in
+    grind (arith, common_steps, ones_below) in
     let open_row : 0 < columns = some_columns columns places ascend (omega (arith, is, some)) in
     let all = same_from {strict = strict} places last ascend fits (rw is at turns) behind places [] 0 White at
     ticks refl open_row (start_stroke columns places ascend) spelled in

@@ -1,4 +1,5 @@
 -- Modes that are drawn by their changes alone.
+use Rattle.hayro_ccitt.proofs.Names.{common_steps}
 use Rattle.hayro_ccitt.proofs.PixelRows.ReferencePlaces.{opposite_twice}
 use Rattle.hayro_ccitt.proofs.Names.{◌≡◌, ℕ, suc, ◌+◌, ◌-◌, ◌*◌, ◌%◌, ◌<◌, ◌≤◌, ◌⊎◌, inl, inr, Bool, true, false, min, List, []}
 use Rattle.hayro_ccitt.proofs.Names.{◌∷◌}
@@ -142,10 +143,7 @@ module _ {columns : ℕ} {places : List ℕ} {painted index : ℕ} {color : Colo
 
   -- b1 is not left of a0
   pub b1_onward : painted ≤ get_or places index columns
-  b1_onward = elim (cases_lt 0 painted) [
-    | inl some ↦ omega (arith, (stroke.at open_row).right some)
-    | inr none ↦ omega (arith, none)
-  ]
+  b1_onward = grind (arith, common_steps, cases_lt)
 
   pub b1_within : get_or places index columns ≤ columns
   b1_within = end_within columns places ascend index
@@ -266,26 +264,11 @@ module _ {columns : ℕ} {places : List ℕ} {painted index : ℕ} {color : Colo
 
   -- that of VL at the row's left edge
   no_index : painted ≡ 0 → color ≡ White → index ≡ 0
-  no_index none white =
-      let at = stroke.at open_row in
-      let even : index % 2 ≡ 0 = subst (TurnsFrom index) white at.turns in
-      elim (cases_lt index 2) [
-        | inl lt ↦ omega (arith, even)
-        | inr ge ↦ absurd (omega (arith, (at.near.left 0 (omega arith)).0, none))
-      ]
+  no_index none white = grind (arith, common_steps, cases_lt)
 
   pub edge_stroke : {new : List ℕ} {new_color : Color} → painted ≡ 0 → color ≡ White → new ≡ row ++ painted ∷ []
       → new_color ≡ opposite color → IsStroke columns places painted (index + 1) new_color new
-  edge_stroke none white is turns =
-      let first : index ≡ 0 = no_index none white in
-      let empty : row ≡ [] =
-      none_yet row (rw none at stroke.lawful) (subst (TurnsFrom (length row)) white (stroke.colored open_row)) in
-      let there : AreChanges painted row = rw empty tt in
-      rw turns (turned_stroke open_row there is (record {
-        turns = turns_next index color (stroke.at open_row).turns;
-        near = record { left = λ k l. absurd (omega (arith, l, first)) };
-        right = λ some. absurd (omega (arith, some, none));
-      }))
+  edge_stroke none white is turns = grind (arith, common_steps, turns_next, no_index, none_yet, turned_stroke)
 
   -- that of pass mode
   pub pass_stroke : get_or places (index + 1) columns < columns
@@ -335,9 +318,7 @@ module _ {columns : ℕ} {places : List ℕ} {painted index : ℕ} {color : Colo
       (pixels-pending between row) (subst (λ (c : Color). behind s (pen_at between one (opposite color) (moved width
       (moved 3 at)))
       ≡ Turn.next (pen_at place one c (moved width2 (moved width (moved 3 at))))) (opposite_twice color) (second s).0) in
-      let words_second : length (draw_run strict columns middle).words ≡ words2 = subst (λ (front : Row). length
-      (draw_run strict columns (record { front = front; color = opposite color; rest = here (moved width (moved 3 at)) })).words
-      ≡ words2) (pixels-pending between row) (second strict).1 in
+      let words_second : length (draw_run strict columns middle).words ≡ words2 = grind (arith, common_steps, pixels-pending) in
       let pen : Pen = pen_at painted row color (moved 3 at) in
       let first_words : List Bits = (draw_run strict columns pen).words in
       let turns : (s : Bool) → (draw_mode s columns reference pen Horizontal).turn ≡ Turn.next last =
@@ -413,14 +394,7 @@ named_left b1 place less e some = omega (arith, ints, e, some)
 
 -- ---- A line's start, and what is left when drawing by usual modes ends.
 pub start_stroke : (columns : ℕ) (places : List ℕ) → AreChanges columns places → IsStroke columns places 0 0 White []
-start_stroke columns places ascend = record {
-  within = omega arith;
-  near = omega arith;
-  lawful = tt;
-  colored = λ lt. refl;
-  at = λ lt. starts_b1 columns places ascend;
-  whole = λ le. tt;
-}
+start_stroke columns places ascend = grind (arith, common_steps, starts_b1, lawful)
 
 pub empty_row : (painted : ℕ) (row : List ℕ) → AreChanges painted row → pixels painted row ≡ [] → row ≡ []
 empty_row painted [] lawful none = refl
@@ -457,10 +431,7 @@ pub begun_2d : (before new : Context) (at next : BitsAt) → GoesOn2d before.hel
     × IsCountedSoFar (length (changes before.held.reference)) before.ticks new.ticks new.passed
     (length (words_from_2d before.held (here at))) (length
     (found_2d_from before.held.settings.strict before.held.settings.columns before.held.reference (pen_of new.held (here next))))
-begun_2d before new at next goes held same within = (
-  record { line = goes.line; held = held; same_bits = same; counts = goes.counts },
-  record { at_least = goes.at_least; at_most = omega (arith, goes.at_most); within = within; no_words = goes.none },
-)
+begun_2d before new at next goes held same within = grind (arith, common_steps)
 
 -- a white line under a white row: V0 alone
 pub white_line : (strict : Bool) (columns : ℕ) (at : BitsAt) (ticks now : ℕ) → 0 < columns

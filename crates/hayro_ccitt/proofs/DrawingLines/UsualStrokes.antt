@@ -1,5 +1,6 @@
 -- Runs that are drawn by their changes alone.
-use Rattle.hayro_ccitt.proofs.Names.{◌≡◌, ◌≢◌, ℕ, suc, ◌+◌, ◌-◌, ◌%◌, ◌<◌, ◌≤◌, ◌⊎◌, inl, inr, Bool, true, false, not, min, List}
+use Rattle.hayro_ccitt.proofs.Names.{common_steps}
+use Rattle.hayro_ccitt.proofs.Names.{◌≡◌, ◌≢◌, ℕ, suc, ◌+◌, ◌-◌, ◌%◌, ◌<◌, ◌≤◌, ◌⊎◌, inl, inr, Bool, true, false, min, List}
 use Rattle.hayro_ccitt.proofs.Names.{[], ◌∷◌, ◌++◌, length, replicate, Ok, refl, sym, ap, subst, ◌∙◌, arith, cases_lt, le-ltb}
 use Rattle.hayro_ccitt.proofs.Names.{length-append, length-drop, length-replicate, append-nil, Color, White, Black, Step, pen_of}
 use Rattle.hayro_ccitt.proofs.Names.{words_from_1d, Bits, BitsAt, here, Context, Held, redrawn, DecodeSettings, Pen, draw_run}
@@ -16,12 +17,7 @@ use Rattle.hayro_ccitt.proofs.PixelRows.ChangesAndPixels.{length-pixels, pixels_
 -- ---- Drawing continues.
 pub goes_on_twice : (strict : Bool) (columns : ℕ) (a b c : Pen) (m n o : ℕ) → GoesOn strict columns a b m n
     → GoesOn strict columns b c n o → GoesOn strict columns a c m o
-goes_on_twice strict columns a b c m n o first second = record {
-  line = second.line ∙ first.line;
-  strictly = second.strictly ∙ first.strictly;
-  counts = omega (arith, first.counts, second.counts);
-  counted = omega (arith, first.counted, second.counted);
-}
+goes_on_twice strict columns a b c m n o first second = grind (arith, common_steps)
 
 -- ---- Painting where there is room, or where more is cut off.
 pub paint_fits : (strict : Bool) (columns : ℕ) (front : Row) (color : Color) (n : ℕ) → (n ≤ columns - length front) ⊎ (strict
@@ -77,9 +73,7 @@ length-pixels-on place row lawful =
 -- a change where the row ends, and pixels after it
 pixels-turned : (place more : ℕ) (row : List ℕ) → length row % 2 ≡ 0
     → pixels (place + more) (row ++ place ∷ []) ≡ pixels place row ++ replicate more true
-pixels-turned place more row even =
-    pixels_from-push 0 false place more row
-    ∙ ap (λ (color : Bool). pixels place row ++ replicate more (not color)) (even_is_white row even)
+pixels-turned place more row even = grind (arith, common_steps, pixels_from-push, even_is_white)
 
 -- a change at the end of the row isn't visible yet
 pub pixels-pending : (place : ℕ) (row : List ℕ) → pixels place (row ++ place ∷ []) ≡ pixels place row
@@ -175,18 +169,10 @@ next_lawful painted run row lawful (inr none) = rw none tt
 -- a row that reaches less than its end isn't full
 pub reached_open : (columns place : ℕ) (color : Color) (row : List ℕ) → IsReached columns place color row → place ≢ columns
     → IsOpen columns place row × (color ≡ White)
-reached_open columns place color row reached other =
-    let inside : place < columns = omega (arith, reached.within, other) in
-    let even = reached.even inside in
-    (record { inside = inside; lawful = reached.lawful; even = even.0 }, even.1)
+reached_open columns place color row reached other = grind (arith, common_steps)
 
 pub open_reached : (columns place : ℕ) (row : List ℕ) → IsOpen columns place row → IsReached columns place White row
-open_reached columns place row unfilled = record {
-  within = omega (arith, unfilled.inside);
-  lawful = unfilled.lawful;
-  even = λ lt. (unfilled.even, refl);
-  whole = λ le. absurd (omega (arith, le, unfilled.inside));
-}
+open_reached columns place row unfilled = grind (arith, common_steps)
 
 pub reached_white : (columns painted : ℕ) (row : List ℕ) → painted < columns → AreChanges (painted + 1) row
     → IsReached columns columns Black row
@@ -251,21 +237,14 @@ with_last first width (place ∷ row) last ascend lt =
 -- a change at the row's end is dropped
 pub laid_down : (painted : ℕ) (row new : List ℕ) (last : ℕ) → AreChanges (painted + 1) row → row ≡ new ++ last ∷ []
     → last ≡ painted → AreChanges painted new × (pixels painted new ≡ pixels painted row)
-laid_down painted row new last lawful is same =
-    let all : AreChanges (suc painted) (new ++ last ∷ []) = rw (← is) (wider_by_one painted row lawful) in
-    (without_last 0 painted new last all (omega (arith, same)), rw (is, same) (sym (pixels-pending painted new)))
+laid_down painted row new last lawful is same = grind (arith, common_steps, wider_by_one, without_last, pixels-pending)
 
 -- and another one stays
 pub other_change_stays : (painted : ℕ) (row between new : List ℕ) (last : ℕ) → AreChanges (painted + 1) row → row
     ≡ between ++ last ∷ [] → last ≢ painted → new ≡ between ++ last ∷ [] → AreChanges painted new
     × (pixels painted new ≡ pixels painted row)
 other_change_stays painted row between new last lawful is other again =
-    let all : AreChanges (suc painted) (between ++ last ∷ []) = rw (← is) (wider_by_one painted row lawful) in
-    let below : last < suc painted = (last_from 0 (suc painted) between last all).1 in (
-      rw again (with_last 0 painted between last all
-          (elim (cases_lt last painted) [ inl lt ↦ lt | inr ge ↦ absurd (other (omega (arith, below, ge))) ])),
-      rw (again, is) refl,
-    )
+    grind (arith, common_steps, cases_lt, wider_by_one, last_from, with_last)
 
 -- ---- A line that is drawn by twos, and by one run where that isn't usual.
 

@@ -1,4 +1,5 @@
 -- White lines below a white row are read from their bits, whatever follows.
+use Rattle.hayro_ccitt.proofs.Names.{common_steps}
 use Rattle.hayro_ccitt.proofs.Names.{◌≡◌, ℕ, zero, suc, ◌+◌, ◌-◌, ◌*◌, ◌/◌, ◌%◌, ◌<◌, ◌≤◌, ◌++◌, ◌∷◌, [], Bool, true, false}
 use Rattle.hayro_ccitt.proofs.Names.{cond, leb, List}
 use Rattle.hayro_ccitt.proofs.Names.{length, drop, None, Ok, pos, refl, sym, ap, subst, ◌∙◌, arith, le-leb, false≢true}
@@ -65,9 +66,7 @@ module _ (first second : CodeWord) (bits : ℕ) (a : FitsIn first 12) (b : FitsI
   )
 
   pub joined_bits : low_bits (first.count + second.count) bits ≡ bits_of_word first ++ bits_of_word second
-  joined_bits =
-      ap (low_bits (first.count + second.count)) sum
-      ∙ low_bits_joined first.count second.count first.bits second.bits b.fits
+  joined_bits = grind (arith, common_steps, sum, low_bits_joined)
 
 -- ---- A white run of one word or two
 
@@ -149,14 +148,7 @@ module _ (columns : ℕ) (first second word : CodeWord) (some : 64 ≤ columns) 
       (second_there rest) long short (omega (arith, few))))
 
   pub two_word_run : IsWhiteRun columns word
-  two_word_run =
-      let eight = last.short short in
-      record {
-        is_whole = record { few = omega (arith, count, makeup.few, eight); fits = is_whole.fits };
-        some = omega (arith, count, makeup.some);
-        spells = spells_both;
-        run = λ rest. (2, omega arith, runs rest);
-      }
+  two_word_run = grind (arith, common_steps, short, spells_both, runs)
 
 -- ---- The line of a white run
 
@@ -183,11 +175,19 @@ module _ (strict : Bool) (columns : ℕ) (pen : Pen) (full : columns ≤ length 
 
   no_words1 : words_drawn (draw_1d strict columns) pen ≡ []
   no_words1 =
-      gathered_turn (step_1d strict columns) (λ pen. (draw_1d strict columns pen).words) pen_left
-      (step_1d_shrinks strict columns) pen
-      ∙ ap (λ (words : List Bits). words ++ found_after (found_1d_from strict columns) (step_1d strict columns pen))
-      (full_words (leb columns (length pen.front)) (Line.whole pen.front pen.rest) pen _ is_full1)
-      ∙ ap (found_after (found_1d_from strict columns)) last_step1
+      grind (
+        arith,
+        common_steps,
+        gathered_turn,
+        step_1d,
+        pen_left,
+        step_1d_shrinks,
+        found_after,
+        found_1d_from,
+        full_words,
+        is_full1,
+        last_step1,
+      )
 
 module _ (columns : ℕ) (word : CodeWord) (wide : 0 < columns) (run : IsWhiteRun columns word) (rest : Bits) where
   abbrev at_run : BitsAt
@@ -228,23 +228,11 @@ length_some word some = omega (arith, length-low_bits word.count word.bits, some
 
 pub run_line : (columns : ℕ) (word : CodeWord) → 0 < columns → IsWhiteRun columns word
     → AreWhiteLine Group3_1D columns (bits_of_word word)
-run_line columns word wide run = record {
-  some = length_some word run.some;
-  row = λ strict rest. run_is_row columns word wide run rest strict;
-  words = λ strict rest. run_words columns word wide run rest strict;
-  no_eol = λ rest. no_eol_at_run columns word wide run rest;
-  no_tag = λ e. absurd cc;
-}
+run_line columns word wide run = grind (arith, common_steps, length_some, run_is_row, run_words, no_eol_at_run)
 
 pub tagged_run_line : (columns : ℕ) (word : CodeWord) (line : Bits) → 0 < columns → IsWhiteRun columns word
     → line ≡ true ∷ bits_of_word word → AreWhiteLine Group3_2D columns line
-tagged_run_line columns word line wide run is = subst (AreWhiteLine Group3_2D columns) (sym is) (record {
-  some = omega arith;
-  row = λ strict rest. run_is_row columns word wide run rest strict;
-  words = λ strict rest. run_words columns word wide run rest strict;
-  no_eol = λ rest. refl;
-  no_tag = λ e rest. no_eol_at_run columns word wide run rest;
-})
+tagged_run_line columns word line wide run is = grind (arith, common_steps, run_is_row, run_words, no_eol_at_run)
 
 -- ---- V0
 
@@ -260,11 +248,19 @@ module _ (strict : Bool) (columns : ℕ) (reference : Row) (pen : Pen) (full : c
 
   no_words2 : words_drawn (draw_2d strict columns reference) pen ≡ []
   no_words2 =
-      gathered_turn (step_2d strict columns reference) (λ pen. (draw_2d strict columns reference pen).words) pen_left
-      (step_2d_shrinks strict columns reference) pen
-      ∙ ap (λ (words : List Bits). words ++ found_after (found_2d_from strict columns reference) (step_2d strict columns reference
-      pen)) (full_words (leb columns (length pen.front)) (Line.whole pen.front pen.rest) pen _ is_full2)
-      ∙ ap (found_after (found_2d_from strict columns reference)) last_step2
+      grind (
+        arith,
+        common_steps,
+        gathered_turn,
+        step_2d,
+        pen_left,
+        step_2d_shrinks,
+        found_after,
+        found_2d_from,
+        full_words,
+        is_full2,
+        last_step2,
+      )
 
 -- the code of V0
 v0_read : (rest : Bits) → read_code mode_codes (true ∷ rest) ≡ Ok (Vertical (pos 0), rest)
@@ -291,19 +287,7 @@ module _ (columns : ℕ) (wide : 0 < columns) (fits : columns ≤ 4294967295) (r
       omega (arith, (goes_v0 strict).at_least, ap length (no_words2 strict columns (pixels columns []) end_v0 width_v0))
 
 pub v0_line : (columns : ℕ) → 0 < columns → columns ≤ 4294967295 → AreWhiteLine Group4 columns (true ∷ [])
-v0_line columns wide fits = record {
-  some = omega arith;
-  row = λ strict rest. v0_is_row columns wide fits rest strict;
-  words = λ strict rest. v0_words columns wide fits rest strict;
-  no_eol = λ rest. refl;
-  no_tag = λ e. absurd cc;
-}
+v0_line columns wide fits = grind (arith, common_steps, v0_is_row, v0_words)
 
 pub tagged_v0_line : (columns : ℕ) → 0 < columns → columns ≤ 4294967295 → AreWhiteLine Group3_2D columns (false ∷ true ∷ [])
-tagged_v0_line columns wide fits = record {
-  some = omega arith;
-  row = λ strict rest. v0_is_row columns wide fits rest strict;
-  words = λ strict rest. v0_words columns wide fits rest strict;
-  no_eol = λ rest. refl;
-  no_tag = λ e rest. refl;
-}
+tagged_v0_line columns wide fits = grind (arith, common_steps, v0_is_row, v0_words)

@@ -112,8 +112,6 @@ black_goes_on settings reference here more black = by_short (is_short (line_here
     by_short true e =
         let (part, goes) = short_line_goes_on settings reference here e in
         let front : front_of (line_here settings reference here) ≡ painted_in part =
-        ap (λ (b : Bits). front_of (line_here settings reference b)) (sym (append-nil here))
-        ∙ ap front_of (goes.line [] ∙ ap (line_from_part settings reference) (before_none part))
-        ∙ lacking_front settings reference part goes.lacks in
+        grind (arith, common_steps, append-nil, before_none, lacking_front, goes.line []) in
         subst (λ (l : Line). HasBlack (front_of l)) (sym (goes.line more))
         (part_black settings reference more part (subst HasBlack front black))

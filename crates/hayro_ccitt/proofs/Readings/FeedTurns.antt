@@ -49,22 +49,7 @@ pub read_on_by : {f : Inside} {before after : BitsAt} {ctx : Context} {rows : Ro
 read_on_by {f} {before} {after} {ctx} by there same within seen line =
     let is = same_bits_at after by.is same there in
     record {
-      kept = record {
-        within = omega (
-          arith,
-          within,
-          ap (λ (b : BitsAt). length b.bits) is,
-          length-bits_in f.order f.«data».items,
-        );
-        fit = by.kept.fit;
-        fresh = λ e. absurd (false≢true (sym e ∙ by.begun));
-        start = λ e. absurd (false≢true (sym e ∙ by.begun));
-        unended = λ e. absurd (false≢true (sym e ∙ by.begun));
-        rows = λ e. absurd (false≢true (sym e ∙ by.begun));
-        seen = seen_begun ctx.held (sym by.begun) (seen_there (ap here is) seen);
-        line = line;
-        part = none_kept f.part _ _ _ _ _ _ _ _ _ by.none by.kept.part;
-      };
+      kept = grind (arith, common_steps, length-bits_in, false≢true, seen_begun, seen_there, none_kept);
       begun = by.begun;
       none = by.none;
       is = is;
@@ -104,12 +89,7 @@ module _ {f : Inside} {before after : BitsAt} {rows : RowState} {ctx : Context} 
     reads = λ whole tried _ feed. gap_feeds line turn_comes other by.begun unended by.none by.none feed;
     keeps = keeps_gap;
     over = λ end e. let never = sym unended ∙ e in absurd cc;
-    counts = record {
-      settings = ap (λ (h : Held). h.settings) on.frame;
-      taken = λ e. absurd (none_row line e);
-      stands = λ e. absurd (none_row line e);
-      width = λ e. absurd (none_row line e);
-    };
+    counts = grind (arith, common_steps, none_row);
   }
 
   -- one is, and no more rows can be counted: these are rows of no data
@@ -134,13 +114,7 @@ module _ {f : Inside} {before after : BitsAt} {rows : RowState} {ctx : Context} 
   line_row {new} {answer} unended is room reads unread = record {
     reads = λ whole tried _ feed. reached_here line turn_comes is by.none by.none
         (λ tried mid. line_feeds answer reads (λ e none. unread e) by.begun (turn_comes.line is) mid) by.begun feed;
-    keeps = record {
-      order = reads.keeps.order;
-      finished = reads.keeps.finished;
-      kept = reads.keeps.kept;
-      dropped = reads.keeps.dropped;
-      room = reads.keeps.room;
-    };
+    keeps = grind (arith, common_steps);
     over = λ end e. let never = sym unended ∙ e in absurd cc;
     counts = counts_row answer (ap (λ (h : Held). h.settings) on.frame) (ap (λ (h : Held). h.taken) on.frame) room reads;
   }

@@ -177,26 +177,20 @@ module _ {f : Inside} {before after : BitsAt} {rows : RowState} {ctx : Context} 
       looks = none_looked f.is_last (f.begun && is_at_line f.rows.stand) f.look.bits (drop f.place kept_bits);
       looked = λ e. cc;
       line_work = no_line_paid by.none;
-      goes_on = record {
-        counts = omega (arith, ap (λ (x : Context). x.ticks) takes.new_is);
-        stored = λ e. omega (arith, no_changes, ap (λ (x : Context). x.ticks) takes.new_is);
-        draws = λ e. white_draws;
-        onward = λ e. omega (arith, place_after);
-        near = λ begun unfinished still. omega (arith, place_after);
-        stays = λ left. cc;
-        row_is = λ e line. absurd (not_at_line f.begun line);
-        past_eol = λ unfinished begun no_line sought still waits.
-            eol_there sought _ (omega (arith, gap_is_eol sought, gap_in_word, place_after));
-        behind = λ e. ap (λ (r : RowState). is_at_line r.stand) takes.kept_is;
-        tried = λ left. cc;
-        sought = λ e line. absurd (not_at_line f.begun line);
-        waits = λ e. cc;
-        within = within_kept;
-        paid = omega (arith, none_paid f.part f.line_read by.none);
-        unkept = λ away. by.none;
-        unbegun = λ e. absurd (false≢true (sym e ∙ by.begun));
-        space = omega (arith, ap (λ (x : Context). x.space) takes.new_is);
-      };
+      goes_on = grind (
+        arith,
+        common_steps,
+        no_changes,
+        white_draws,
+        place_after,
+        not_at_line,
+        eol_there,
+        gap_is_eol,
+        gap_in_word,
+        within_kept,
+        none_paid,
+        false≢true,
+      );
     }
 
   -- a white row is read
@@ -205,15 +199,7 @@ module _ {f : Inside} {before after : BitsAt} {rows : RowState} {ctx : Context} 
     reads = λ whole tried unended feed. white_feeds feed;
     keeps = record { order = refl; finished = refl; kept = refl; dropped = refl; room = refl };
     over = λ end e. let never = sym (ap ended behind) ∙ e in absurd cc;
-    counts = record {
-      settings = ap (λ (x : Context). x.held.settings) takes.new_is;
-      taken = λ e. (
-        ap (λ (x : Context). x.held.taken) takes.new_is,
-        omega (arith, ap (λ (x : Context). x.held.taken) takes.new_is, takes.room),
-      );
-      width = λ e. ap length white_row_is ∙ length-pixels f.ctx.held.settings.columns [] tt;
-      stands = λ e. (by.begun, ap (λ (r : RowState). r.stand) takes.kept_is, by.none);
-    };
+    counts = grind (arith, common_steps, white_row_is, length-pixels);
   }
 
   pub white_read_by : IsReadBy (past_line f ctx rows place) after

@@ -1,4 +1,5 @@
 -- What a feed keeps of the data is needed, and no more than a line or a gap needs, a piece, and seven bits.
+use Rattle.hayro_ccitt.proofs.Names.{common_steps}
 use Rattle.hayro_ccitt.proofs.Names.{◌≡◌, ◌∙◌, ◌+◌, ◌*◌, ◌≤◌, ◌++◌, ◌∷◌, [], ℕ, Bool, true, false, Option, None, Some}
 use Rattle.hayro_ccitt.proofs.Names.{Result, Ok, Err, refl, sym, ap, subst, arith, drop, length, length-append, length-drop}
 use Rattle.hayro_ccitt.proofs.Names.{false≢true, Bits, Context, DecodeError, DecodeSettings, Held, Row}
@@ -23,12 +24,8 @@ still_settled more (Line.broken front fault) is = is
 
 open_line_before : (settings : DecodeSettings) (reference : Row) (first rest : Bits)
     → is_short (line_here settings reference (first ++ rest)) ≡ true → is_short (line_here settings reference first) ≡ true
-open_line_before settings reference first rest waits = by_short (is_short (line_here settings reference first)) refl
-  where
-    by_short : (b : Bool) → is_short (line_here settings reference first) ≡ b → b ≡ true
-    by_short true is = refl
-    by_short false is = absurd (false≢true (sym (ap is_short (line_settled settings reference first is rest)
-        ∙ still_settled rest (line_here settings reference first) is) ∙ waits))
+open_line_before settings reference first rest waits =
+    grind (arith, common_steps, false≢true, line_settled, settings, still_settled)
 
 open_before_it : (begun : Bool) (stand : Stand) (ctx : Context) (first rest : Bits)
     → IsOpenAt begun stand ctx (first ++ rest) → IsOpenAt begun stand ctx first
@@ -78,10 +75,7 @@ module _ {whole : Bits} {tried most : ℕ} {feed : Feeding} (stands : IsFeedOf w
       ∙ ap (λ (h : Held). gap_is_settled settings feed.ctx.held.taken h.has_eols bits_next) (sym at.held_is) ∙ waits)
 
   first_most : feed.begun ≡ false → first_gap_is_settled settings.encoding settings bits_next ≡ false → length bits_next ≤ most
-  first_most unbegun waits =
-      let front = subst (λ (b : Bool). StandsIn b tried feed.rows feed.ctx (record
-      { bits = whole; place = feed.dropped + feed.place })) unbegun stands.stands in
-      known.first_gap bits_next stands.lie.more (ap (λ (n : ℕ). drop n whole) (sym front.start) ∙ there) waits
+  first_most unbegun waits = grind (arith, common_steps, bits_next, there)
 
   by_stand : (stand : Stand) → feed.rows.stand ≡ stand → IsOpenAt true stand feed.ctx bits_next
       → ReaderStands stand settings whole feed.ctx.held (feed.dropped + feed.place) → length bits_next ≤ most
@@ -144,13 +138,7 @@ unended {old} {new} call = by_end (ended old.rows.stand) refl
 -- what is kept behind a piece
 fed_most : {next : Bits} {old new : Feeding} → HoldsMore next old new
     → length new.kept ≤ length (drop old.place old.kept) + length next + 7
-fed_most {next} {old} {new} holds = omega (
-  arith,
-  holds.few_read,
-  ap length holds.unread,
-  length-append (drop old.place old.kept) next,
-  length-drop new.place new.kept,
-)
+fed_most {next} {old} {new} holds = grind (arith, common_steps, length-append, length-drop)
 
 module _ (whole : Bits) (most piece : ℕ) where
   abbrev KnownFor : ℕ → DecodeSettings → Type 0
@@ -195,9 +183,7 @@ module _ (whole : Bits) (most piece : ℕ) where
       record {
         tried = before.tried;
         stands = stays before.tried before.stands;
-        few = λ known. holds_within holds
-            (before.few (subst (λ (c : Context). KnownFor c.held.taken c.held.settings) holds.reading.0 known))
-            (omega (arith, short, fed_most holds, length-drop old.place old.kept, ap length none));
+        few = λ known. grind (arith, common_steps, holds_within, KnownFor, fed_most, length-drop);
       }
   keeps_few feed (IsFedInTurn.reads {old = old} answer was call) =
       let before = keeps_few old was in

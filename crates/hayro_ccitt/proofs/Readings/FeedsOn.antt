@@ -7,8 +7,7 @@ use Rattle.hayro_ccitt.proofs.Names.{front_of, here, lines_of, ◌&&◌}
 use Rattle.hayro_ccitt.proofs.Names.{IsStanding, IsStandingAtLine, ReachesNextLine, ReadsNext, is_at_line, seen, line_here}
 use Rattle.hayro_ccitt.proofs.Names.{DecodeSettings, Stand, AtLine, BehindRow, AtEnd, AtFault, MissIsTold, missed_before, ended}
 use Rattle.hayro_ccitt.proofs.Names.{is_some, ◌++◌, ◌⊎◌, inl, inr}
-use Rattle.hayro_ccitt.proofs.Names.{HasEnded, HasFailed}
-use Rattle.hayro_ccitt.proofs.Names.{IfErr, IfOk, OnErr, failed_at, IfErr-weaker, RowsRead, false≢true, ◌<◌}
+use Rattle.hayro_ccitt.proofs.Names.{IfErr-weaker, RowsRead, false≢true, ◌<◌}
 use Rattle.hayro_ccitt.proofs.Names.{List, zero, suc, ◌∷◌, append_assoc, bits_in, length-append, length-drop, HighestFirst}
 use Rattle.hayro_ccitt.proofs.Names.{LowestFirst}
 use Rattle.std.proofs.Math.Seq.{drop-append-add}
@@ -33,12 +32,13 @@ use Rattle.hayro_ccitt.specs.RowFeeds.{LineWork, fed_bits, fed_row, is_left, lin
 use Rattle.hayro_ccitt.proofs.Names.{changes}
 use Rattle.fax_reading.proofs.Work.WordsPay.{found_within}
 use Rattle.hayro_ccitt.proofs.Work.TurnsPaid.{row_shorter}
-use Rattle.hayro_ccitt.proofs.Names.{append-nil, row_of_line, Row}
+use Rattle.hayro_ccitt.proofs.Names.{append-nil, row_of_line}
 use Rattle.hayro_ccitt.specs.RowFeeds.{Begins, CallGoesOn, DrawsRow, ReachesLine, line_of_feed, most_to_find}
 use Rattle.hayro_ccitt.proofs.Names.{and_parts}
 use Rattle.hayro_ccitt.specs.declared.line_parts.KeptPart.{KeptPart}
-use Rattle.fax_bits.specs.declared.error.DecodeError.TheVariants.{InvalidCode, OutOfMemory, Overflow, Refused, UnexpectedEof}
+use Rattle.fax_bits.specs.declared.error.DecodeError.TheVariants.{InvalidCode, OutOfMemory}
 use Rattle.hayro_ccitt.specs.declared.row_feed.Fed.{Fed}
+use Rattle.fax_bits.proofs.ErrorKinds.{by_kind}
 
 -- where no part is kept, nothing is paid
 pub none_paid : (part : Option KeptPart) (read : ℕ) → part ≡ None → paid_by part read ≡ 0
@@ -88,9 +88,7 @@ module _ (old new : Feeding) (before after : BitsAt) (before_is : before ≡ rec
       → ComesInFeed old new answer
   feed_comes same_tried look kept_look was is answer on = record {
     extra = on.extra;
-    looks = subst (λ (n : ℕ). LooksAhead old.finished (is_at_line old.rows.stand) n (drop old.place old.kept) on.extra) (sym was)
-        (subst (λ (b : BitsAt). LooksAhead old.finished (is_at_line old.rows.stand) look.bits (here b) on.extra) before_is
-        on.looks);
+    looks = grind (arith, common_steps);
     looked = λ e. omega (arith, was, is, (on.looked e).0);
     keeps = keeps;
     begun = still;
@@ -106,20 +104,19 @@ module _ (old new : Feeding) (before after : BitsAt) (before_is : before ≡ rec
           ap (λ (b : BitsAt). gap_is_settled old.ctx.held.settings old.ctx.held.taken old.ctx.held.has_eols (here b))
               (sym before_is) ∙ w.6,
         );
-    comes = λ whole tried passed feed. subst (λ (n : ℕ). ReachesNextLine (fed_over whole old)
-        (seen new.rows new.ctx (record { bits = whole; place = n })) (came answer)) place_is
-        (on.comes tried whole old.dropped passed (lies feed) starts (stood feed));
+    comes = λ whole tried passed feed. grind (
+      arith,
+      common_steps,
+      place_is,
+      lies,
+      starts,
+      stood,
+      on.comes tried whole old.dropped passed (lies feed) starts (stood feed),
+    );
     stands = λ whole tried passed feed. stays_fed feed on.extra (on.stands tried whole old.dropped passed (lies feed) starts
         (stood feed));
     line = on.line;
-    within = omega (
-      arith,
-      on.within,
-      ends,
-      ap length on.same_bits,
-      ap (λ (b : BitsAt). length b.bits) before_is,
-      ap length keeps.kept,
-    );
+    within = grind (arith, common_steps);
     counts = on.counts;
     reaches = λ whole tried e feed. record {
       counts = on.counts;
@@ -207,12 +204,7 @@ module _ (old new : Feeding) (before after : BitsAt) (before_is : before ≡ rec
           let left : IsLeft answer = subst IsLeft (sym e) refl in
           let stays = (tries.tried.left left) ∙ ap (λ (h : Held). redrawn h [] White) same in
           let lie = lies feed in
-          let within : before.place ≤ length before.bits = omega (
-            arith,
-            tries.within,
-            ap (λ (b : BitsAt). b.place) (tries.left left).1,
-            ap (λ (b : BitsAt). length b.bits) (tries.left left).1,
-          ) in
+          let within : before.place ≤ length before.bits = grind (arith, common_steps, tries.left left) in
           let there = ap (λ (n : ℕ). drop n whole) starts ∙ from_place lie before.place within in
           let black = subst (λ (h : Held). HasBlack (front_of (line_here h.settings h.reference (here before)))) same
           (tries.tried.memory e) in
@@ -252,10 +244,7 @@ module _ (old new : Feeding) (before after : BitsAt) (before_is : before ≡ rec
           ∙ ap (λ (n : ℕ). drop n new.kept) (sym ends) in
           let is : row_of_line mid.held.settings mid.held.has_eols (here before)
           (line_here mid.held.settings mid.held.reference (here before)) ≡ Ok (new.ctx.held.reference, here after) =
-          subst (λ (b : Bits). row_of_line mid.held.settings mid.held.has_eols b
-          (line_here mid.held.settings mid.held.reference b) ≡ Ok (new.ctx.held.reference, here after))
-          (append-nil (here before)) (row.is ∙ ap (λ (x : Row × Bits). Ok x)
-          (taken_is row.taken (ap (λ (h : Held). h.reference) row.held))) in
+          grind (arith, common_steps, append-nil) in
           let yields = subst (λ (h : Held). row_of_line h.settings h.has_eols (drop old.place old.kept)
           (line_here h.settings h.reference (drop old.place old.kept)) ≡ Ok (new.ctx.held.reference, drop new.place new.kept))
           same (subst (λ (b : Bits). row_of_line mid.held.settings mid.held.has_eols (drop old.place old.kept)
@@ -279,10 +268,6 @@ module _ (old new : Feeding) (before after : BitsAt) (before_is : before ≡ rec
             ),
             ap (λ (h : Held). h.has_eols) row.held ∙ ap (λ (h : Held). h.has_eols) same,
           )
-        where
-          taken_is : (taken : Row) → new.ctx.held.reference ≡ taken
-              → ◌≡◌ {A = Row × Bits} (taken, here after ++ []) (new.ctx.held.reference, here after)
-          taken_is taken held = grind (arith, common_steps, append-nil)
 
     line_stored : answer ≡ Ok true → length (changes new.ctx.held.reference)
         + (old.ctx.ticks + cond (is_left answer) (new.ctx.ticks - old.ctx.ticks) 0) ≤ new.ctx.ticks + 1
@@ -297,16 +282,7 @@ module _ (old new : Feeding) (before after : BitsAt) (before_is : before ≡ rec
         )
 
     line_found : cond (is_left answer) (new.ctx.ticks - old.ctx.ticks) 0 ≤ most_to_find old + 2
-    line_found = omega (
-      arith,
-      at_most (is_left answer) (new.ctx.ticks - old.ctx.ticks),
-      tries.tried.at_most,
-      found_within mid.held.settings.encoding mid.held.settings.strict mid.held.settings.columns mid.held.reference
-          (here before),
-      ap (λ (x : Context). x.ticks) frame,
-      ap (λ (x : Context). length (changes x.held.reference)) frame,
-      ap (λ (b : BitsAt). length (here b)) before_is,
-    )
+    line_found = grind (arith, common_steps, found_within, at_most)
 
     -- no line changes the settings
     line_settings : (said : Result Bool DecodeError) → TriesRow old.finished mid new.ctx said before after
@@ -314,44 +290,26 @@ module _ (old new : Feeding) (before after : BitsAt) (before_is : before ≡ rec
     line_settings (Ok true) tried =
         ap (λ (h : Held). h.settings) (tried.read refl [] no_more).row.taken.held ∙ ap (λ (x : Context). x.held.settings) frame
     line_settings (Ok false) tried = ap (λ (h : Held). h.settings) (tried.left refl) ∙ ap (λ (x : Context). x.held.settings) frame
-    line_settings (Err OutOfMemory) tried =
-        ap (λ (h : Held). h.settings) (tried.left refl) ∙ ap (λ (x : Context). x.held.settings) frame
-    line_settings (Err UnexpectedEof) tried =
-        ap (λ (h : Held). h.settings) (tried.failed tt [] no_more).row.held ∙ ap (λ (x : Context). x.held.settings) frame
-    line_settings (Err InvalidCode) tried =
-        ap (λ (h : Held). h.settings) (tried.failed tt [] no_more).row.held ∙ ap (λ (x : Context). x.held.settings) frame
-    line_settings (Err Overflow) tried =
-        ap (λ (h : Held). h.settings) (tried.failed tt [] no_more).row.held ∙ ap (λ (x : Context). x.held.settings) frame
-    line_settings (Err Refused) tried = absurd (tried.not_refused refl)
+    line_settings (Err error) tried = by_kind (λ (e : DecodeError). TriesRow old.finished mid new.ctx (Err e) before after
+        → new.ctx.held.settings ≡ old.ctx.held.settings)
+        (λ e fault tried. ap (λ (h : Held). h.settings) (tried.failed fault [] no_more).row.held
+        ∙ ap (λ (x : Context). x.held.settings) frame)
+        (λ tried. ap (λ (h : Held). h.settings) (tried.left refl) ∙ ap (λ (x : Context). x.held.settings) frame)
+        (λ tried. absurd (tried.not_refused refl)) error tried
 
     pub feed_reads : ReadsInFeed old new answer
     feed_reads = record {
       extra = cond (is_left answer) (new.ctx.ticks - old.ctx.ticks) 0;
       keeps = keeps;
       begun = still;
-      left = λ left. (
-        (tries.left left).0,
-        ends ∙ ap (λ (b : BitsAt). b.place) ((tries.left left).1 ∙ before_is),
-        left_held left,
-      );
-      unsettled = λ e. (
-        (tries.tried.short e).0,
-        same_line (λ s r b. is_short (line_here s r b) ≡ true) (subst IsLeft (sym e) refl) (tries.tried.short e).1,
-      );
+      left = λ left. grind (arith, common_steps, left_held, tries.left left);
+      unsettled = λ e. grind (arith, common_steps, same_line, tries.tried.short e);
       memory = λ e. same_line (λ s r b. HasBlack (front_of (line_here s r b))) (subst IsLeft (sym e) refl)
           (tries.tried.memory e);
       paints = λ whole tried e feed. line_paints feed e;
       reads = λ whole tried read feed. line_fed feed read;
       stands = λ whole tried feed. line_stays_fed feed (is_left answer) refl;
-      most = omega (
-        arith,
-        tries.tried.space,
-        ap (λ (x : Context). x.space) frame,
-        row_enough mid.held.settings mid.held.reference (here before)
-            (ap (λ (x : Context). length x.held.reference) frame ∙ width
-            ∙ sym (ap (λ (x : Context). x.held.settings.columns) frame)),
-        ap (λ (x : Context). x.held.settings.columns) frame,
-      );
+      most = grind (arith, common_steps, row_enough);
       counts = counted;
       counted = omega (arith, counted, at_most (is_left answer) (new.ctx.ticks - old.ctx.ticks));
       stored = λ e. line_stored e;
@@ -359,38 +317,10 @@ module _ (old new : Feeding) (before after : BitsAt) (before_is : before ≡ rec
       done = λ e. none_new;
       tried = inl same_tried;
       behind = tries.behind;
-      within = omega (
-        arith,
-        tries.within,
-        ends,
-        ap length tries.same_bits,
-        ap (λ (b : BitsAt). length b.bits) before_is,
-        ap length keeps.kept,
-      );
+      within = grind (arith, common_steps);
       paid = omega (arith, none_paid new.part new.line_read none_new);
       row_is = λ whole tried e feed. line_row feed e;
-      work = record {
-        goes_on = λ e some. absurd (some unkept);
-        begins = λ e none. omega (
-          arith,
-          at_most (is_left answer) (new.ctx.ticks - old.ctx.ticks),
-          tries.tried.at_most,
-          found_within mid.held.settings.encoding mid.held.settings.strict mid.held.settings.columns mid.held.reference
-              (here before),
-          ap (λ (x : Context). x.ticks) frame,
-          ap (λ (x : Context). length (changes x.held.reference)) frame,
-          ap (λ (b : BitsAt). length (here b)) before_is,
-        );
-        read = λ other. omega (
-          arith,
-          at_none (is_left answer) (new.ctx.ticks - old.ctx.ticks) (unleft answer other),
-          none_paid old.part old.line_read unkept,
-        );
-        at_once = λ other none. at_none (is_left answer) (new.ctx.ticks - old.ctx.ticks) (unleft answer other);
-        some = λ e some. absurd (some unkept);
-        failed = λ e. omega (arith, line_found, none_paid old.part old.line_read unkept);
-        failed_at_once = λ e none. line_found;
-      };
+      work = grind (arith, common_steps, at_most, found_within, at_none, unleft, none_paid, line_found);
       width = λ e. (tries.tried.read e [] no_more).width ∙ ap (λ (x : Context). x.held.settings.columns) frame;
       settings = line_settings answer tries.tried;
       taken = λ e.
@@ -465,70 +395,7 @@ module _ (old new : Feeding) (mid : Context) (before after : BitsAt) (stand : St
   same_settings = settings_are ∙ ap (λ (h : Held). h.settings) same
 
   pub front_reaches : ReachesNextLine (fed_over whole old) (fed_over whole new) (line_first new.rows.stand)
-  front_reaches = subst (λ (r : RowState). ReachesNextLine (fed_over whole old)
-      (seen r new.ctx (record { bits = whole; place = new.dropped + new.place })) (line_first r.stand)) (sym rows_now)
-      (by_stand stand refl)
-    where
-      ended_there : (s : Stand) → stand ≡ s → line_first s ≡ Ok false → (ended s ≡ Some (Ok tt))
-          × HasEnded old.ctx.held.settings whole new.ctx.held.taken (new.dropped + new.place)
-      ended_there AtLine is e = absurd cc
-      ended_there BehindRow is e = absurd cc
-      ended_there AtEnd is e = grind (arith, common_steps, same_settings, rows_now, front_stood)
-      ended_there (AtFault error) is e = absurd cc
-
-      line_there : (s : Stand) → stand ≡ s → line_first s ≡ Ok true → is_at_line s ≡ true
-      line_there AtLine is e = refl
-      line_there BehindRow is e = grind (arith, common_steps)
-      line_there AtEnd is e = absurd cc
-      line_there (AtFault error) is e = absurd cc
-
-      unended_there : (s : Stand) → line_first s ≡ Ok true → ended s ≡ None
-      unended_there AtLine e = refl
-      unended_there BehindRow e = refl
-      unended_there AtEnd e = absurd cc
-      unended_there (AtFault error) e = absurd cc
-
-      no_error : (s : Stand) → stand ≡ s → IfErr (line_first s)
-          (λ e. (ended stand ≡ Some (Err e)) × HasFailed old.ctx.held.settings whole new.ctx.held.taken e)
-      no_error AtLine is = tt
-      no_error BehindRow is = tt
-      no_error AtEnd is = tt
-      no_error (AtFault error) is = absurd (unfailed error (ap ended is))
-
-      no_fault_start : (s : Stand) → stand ≡ s
-          → OnErr (line_first s) (0 ≡ failed_at old.ctx.held.settings whole old.ctx.held.taken)
-      no_fault_start AtLine is = tt
-      no_fault_start BehindRow is = tt
-      no_fault_start AtEnd is = tt
-      no_fault_start (AtFault error) is = absurd (unfailed error (ap ended is))
-
-      in_either : (s : Stand) → IfOk (line_first s) (λ line. 0 ≡ old.rows.started_at)
-      in_either AtLine = sym (ap (λ (r : RowState). r.started_at) front.state)
-      in_either BehindRow = sym (ap (λ (r : RowState). r.started_at) front.state)
-      in_either AtEnd = sym (ap (λ (r : RowState). r.started_at) front.state)
-      in_either (AtFault error) = tt
-
-      by_stand : (s : Stand) → stand ≡ s → ReachesNextLine (fed_over whole old)
-          (seen (record { started_at = 0; damage = None; cut = false; missed = None; stand = stand }) new.ctx
-          (record { bits = whole; place = new.dropped + new.place })) (line_first stand)
-      by_stand s is = record {
-        settings = same_settings;
-        bits = refl;
-        counts = omega (arith, counts, ticks);
-        taken = none_taken ∙ sym none_before;
-        line = λ e. line_there stand refl e;
-        unended = λ e. unended_there stand e;
-        end = λ e. ended_there stand refl e;
-        error = no_error stand refl;
-        fault_start = no_fault_start stand refl;
-        missed = sym (ap (missed_before old.ctx.held.settings whole) none_before);
-        last = (
-          first.row ∙ ap (λ (h : Held). h.reference) same,
-          sym (ap (λ (r : RowState). r.damage) front.state),
-          sym (ap (λ (r : RowState). r.cut) front.state),
-        );
-        last_start = in_either stand;
-      }
+  front_reaches = grind (arith, common_steps, rows_now, same_settings, front_stood, none_before, same)
 
 -- before the first line nothing has begun
 pub at_front : (begun : Bool) (tried : ℕ) (rows : RowState) (ctx : Context) (at : BitsAt) → begun ≡ false
@@ -578,10 +445,12 @@ feeds_on {whole} {tried} more {old} {mid} {new} {answer} looks unkept none begun
   paints = next.paints;
   extra = more + next.extra;
   line_extra = next.line_extra;
-  extra_is = omega (
+  extra_is = grind (
     arith,
-    next.extra_is,
+    common_steps,
+    both_true,
     next.looks.line (both_true mid.begun (is_at_line mid.rows.stand) begun (reached.line refl)),
+    reached.line refl,
   );
   line_work = record {
     goes_on = λ e some. absurd (some unkept);
@@ -698,20 +567,7 @@ open_gap true (AtFault error) ctx next begun line unended gap = absurd cc
 -- a line that is left changes nothing
 line_left : {whole : Bits} {old new : Feeding} (answer : Result Bool DecodeError) → ReadsInFeed old new answer → IsLeft answer
     → is_at_line old.rows.stand ≡ true → StaysThere (fed_over whole old) (fed_over whole new)
-line_left {whole} {old} {new} answer reads left line =
-    let stays = reads.left left in
-    record {
-      settings = ap (λ (h : Held). h.settings) stays.2;
-      bits = refl;
-      counts = reads.counts;
-      taken = ap (λ (h : Held). h.taken) stays.2;
-      row = ap (λ (h : Held). h.reference) stays.2;
-      damage = ap (λ (r : RowState). r.damage) stays.0;
-      cut = ap (λ (r : RowState). r.cut) stays.0;
-      line_start = ap (λ (r : RowState). r.started_at) stays.0;
-      unended = ap (λ (r : RowState). ended r.stand) stays.0 ∙ at_line_unended old.rows.stand line;
-      line = λ e. ap (λ (r : RowState). is_at_line r.stand) stays.0 ∙ line;
-    }
+line_left {whole} {old} {new} answer reads left line = grind (arith, common_steps, at_line_unended)
 
 next_is : {old new : Feeding} → KeepsBits old new → new.place ≡ old.place → drop old.place old.kept ≡ drop new.place new.kept
 next_is {old} {new} keeps place = ap (λ (n : ℕ). drop n old.kept) (sym place) ∙ ap (drop new.place) (sym keeps.kept)
@@ -733,33 +589,7 @@ line_paid : {old new : Feeding} (answer : Result Bool DecodeError) → (reads : 
     → is_at_line old.rows.stand ≡ true → LineWork old new (fed_row answer) reads.extra
 line_paid {old} {new} (Ok true) reads unread line = grind (arith, common_steps)
 line_paid {old} {new} (Ok false) reads unread line = grind (arith, common_steps)
-line_paid {old} {new} (Err error) reads unread line = record {
-  goes_on = λ e some. cc;
-  begins = λ e none. cc;
-  read = λ other. reads.work.read (λ left. other left);
-  at_once = λ other none. reads.work.at_once (λ left. other left) none;
-  some = λ e some. cc;
-  unread = λ e none still. cc;
-  failed = λ e. omega (
-    arith,
-    reads.work.failed (failure e),
-    ap length (next_is reads.keeps (reads.left (failed_so e)).1),
-    ap (λ (h : Held). length (changes h.reference)) (reads.left (failed_so e)).2,
-  );
-  failed_at_once = λ e none. omega (
-    arith,
-    reads.work.failed_at_once (failure e) none,
-    ap length (next_is reads.keeps (reads.left (failed_so e)).1),
-    ap (λ (h : Held). length (changes h.reference)) (reads.left (failed_so e)).2,
-  );
-}
-  where
-    failed_so : ◌≡◌ {A = Result Fed DecodeError} (Err error) (Err OutOfMemory) → error ≡ OutOfMemory
-    failed_so e = cc
-
-    failure : ◌≡◌ {A = Result Fed DecodeError} (Err error) (Err OutOfMemory)
-        → ◌≡◌ {A = Result Bool DecodeError} (Err error) (Err OutOfMemory)
-    failure e = ap (λ (x : DecodeError). Err x) (failed_so e)
+line_paid {old} {new} (Err error) reads unread line = grind (arith, common_steps, next_is)
 
 left_as_none : (answer : Result Bool DecodeError) → HasNone (fed_row answer) → IsLeft answer
 left_as_none (Ok true) left = cc
@@ -792,22 +622,8 @@ line_draws {whole} {tried} {old} {new} answer reads begun line feed e =
       start = old.dropped + old.place;
       onward = omega arith;
       past_eol = λ unfinished begun no_line sought. absurd (false≢true (sym no_line ∙ line));
-      most = elim from [
-        | inl le ↦ omega (arith, le, before, behind, reads.within, row.1, reads.keeps.dropped, same)
-        | inr repaired ↦ omega (arith, repaired.2, before, row.1, reads.within, reads.keeps.dropped, same)
-      ];
-      drawn = elim from [
-        | inl le ↦ inl (omega (arith, le, before, behind, reads.within, row.1, reads.keeps.dropped, same))
-        | inr repaired ↦ inr (
-          row.2 ∙ repaired.0,
-          λ more fill behind is. omega (
-            arith,
-            row.1,
-            reads.keeps.dropped,
-            repaired.3 more fill behind (ap (λ (b : Bits). b ++ more) (sym repaired.1) ∙ is),
-          ),
-        )
-      ];
+      most = grind (arith, common_steps, same);
+      drawn = grind (arith, common_steps, same);
     }
   where
     wide : 0 < old.ctx.held.settings.columns
@@ -892,13 +708,7 @@ line_feeds {whole} {tried} {old} {new} (Ok false) reads unread begun line feed =
   end = λ e. cc;
   fault = tt;
   none = λ left. line_left (Ok false) reads refl line;
-  unsettled = λ e. (
-    reads.keeps.finished ∙ (reads.unsettled refl).0,
-    open_line new.begun new.rows.stand new.ctx (drop new.place new.kept) reads.begun
-        (ap (λ (r : RowState). is_at_line r.stand) (reads.left refl).0 ∙ line)
-        (ap (λ (b : Bits). is_short (line_here new.ctx.held.settings new.ctx.held.reference b))
-        (sym (next_is reads.keeps (reads.left refl).1)) ∙ (reads.unsettled refl).1),
-  );
+  unsettled = λ e. grind (arith, common_steps, open_line, next_is, reads.unsettled refl, reads.left refl);
   memory = λ e. cc;
   paints = λ e. cc;
   extra = reads.extra;
@@ -958,52 +768,15 @@ gap_feeds {whole} {tried} {old} {new} (Ok None) comes other begun unended unkept
       row = λ e. cc;
       end = λ e. cc;
       fault = tt;
-      none = λ left. record {
-        settings = ap (λ (h : Held). h.settings) w.0;
-        bits = refl;
-        counts = omega (arith, w.1);
-        taken = ap (λ (h : Held). h.taken) w.0;
-        row = ap (λ (h : Held). h.reference) w.0;
-        damage = ap (λ (r : RowState). r.damage) w.2;
-        cut = ap (λ (r : RowState). r.cut) w.2;
-        line_start = ap (λ (r : RowState). r.started_at) w.2;
-        unended = ap (λ (r : RowState). ended r.stand) w.2 ∙ unended;
-        line = λ e. ap (λ (r : RowState). is_at_line r.stand) w.2 ∙ e;
-      };
-      unsettled = λ e. (
-        comes.keeps.finished ∙ w.4,
-        open_gap new.begun new.rows.stand new.ctx (drop new.place new.kept) comes.begun
-            (ap (λ (r : RowState). is_at_line r.stand) w.2 ∙ w.5) (ap (λ (r : RowState). ended r.stand) w.2 ∙ unended)
-            (ap (λ (h : Held). gap_is_settled h.settings h.taken h.has_eols (drop new.place new.kept)) w.0
-            ∙ ap (gap_is_settled old.ctx.held.settings old.ctx.held.taken old.ctx.held.has_eols)
-            (sym (next_is comes.keeps w.3)) ∙ w.6),
-      );
+      none = λ left. grind (arith, common_steps);
+      unsettled = λ e. grind (arith, common_steps, open_gap, next_is);
       memory = λ e. cc;
       paints = λ e. cc;
       extra = comes.extra;
       line_extra = 0;
       extra_is = omega arith;
       line_work = no_line_paid unkept;
-      goes_on = record {
-        counts = comes.counts;
-        stored = λ e. cc;
-        draws = λ e. cc;
-        onward = λ open_end. omega (arith, w.3, comes.keeps.dropped);
-        near = λ was_begun unfinished open_end. omega (arith, w.3, comes.keeps.dropped, comes.looked refl);
-        stays = λ left at. w.3;
-        row_is = λ e kept. cc;
-        past_eol = λ unfinished was_begun no_line sought open_end waits.
-            absurd (false≢true (sym no_line ∙ sym (ap (λ (r : RowState). is_at_line r.stand) w.2) ∙ waits refl));
-        behind = λ e. cc;
-        tried = λ left at. absurd (false≢true (sym w.5 ∙ (and_parts old.begun (is_at_line old.rows.stand) at).1));
-        sought = λ e kept. cc;
-        waits = λ e away. (w.3, ap (λ (h : Held). h.has_eols) w.0);
-        within = comes.within;
-        paid = omega (arith, none_paid new.part new.line_read none);
-        unkept = λ away. none;
-        unbegun = λ e. absurd (false≢true (sym e ∙ comes.begun));
-        space = omega (arith, comes.space);
-      };
+      goes_on = grind (arith, common_steps, false≢true, and_parts, at, none_paid, comes.looked refl);
       stands = comes.waiting whole tried refl feed;
       gap = comes.extra;
       looks = looks_begun old.begun begun comes.looks;
@@ -1022,9 +795,7 @@ gap_feeds {whole} {tried} {old} {new} (Ok (Some false)) comes other begun unende
   line_extra = 0;
   extra_is = omega arith;
   line_work = no_line_paid unkept;
-  goes_on = gap_ended comes.counts comes.space unkept (λ open_end.
-      let never = sym ((comes.comes whole tried (λ is. cc) feed).end refl).0 ∙ open_end in cc) (λ left. cc)
-      (λ e. cc) none comes.begun comes.within;
+  goes_on = grind (arith, common_steps, gap_ended);
   stands = comes.stands whole tried (λ is. cc) feed;
   gap = comes.extra;
   looks = looks_begun old.begun begun comes.looks;
@@ -1044,10 +815,7 @@ gap_feeds {whole} {tried} {old} {new} (Err error) comes other begun unended unke
   line_extra = 0;
   extra_is = omega arith;
   line_work = no_line_paid unkept;
-  goes_on = gap_ended comes.counts comes.space unkept (λ open_end.
-      let never = sym (comes.comes whole tried (λ is. cc) feed).error.0 ∙ open_end in cc)
-      (λ left. let never : InvalidCode ≡ OutOfMemory = sym comes.only_code ∙ left in cc) (λ e. cc) none
-      comes.begun comes.within;
+  goes_on = grind (arith, common_steps, gap_ended);
   stands = comes.stands whole tried (λ is. cc) feed;
   gap = comes.extra;
   looks = looks_begun old.begun begun comes.looks;
@@ -1057,17 +825,7 @@ gap_feeds {whole} {tried} {old} {new} (Err error) comes other begun unended unke
 -- there is room for the row of a line
 pub row_fits : {whole : Bits} {tried : ℕ} {feed : Feeding} → feed.begun ≡ true → is_at_line feed.rows.stand ≡ true
     → IsFeedOf whole tried feed → (feed.ctx.held.taken + 1 < 2 ^ 64) × (feed.ctx.held.repairs.rows ≤ feed.ctx.held.taken)
-row_fits {whole} {tried} {feed} begun line is =
-    let stands = subst (λ (b : Bool). StandsIn b tried feed.rows feed.ctx (record
-    { bits = whole; place = feed.dropped + feed.place })) begun is.stands in (
-      omega (
-        arith,
-        is.fit,
-        few (at_line_stands feed.rows.stand feed.ctx.held.settings whole feed.ctx.held
-            (feed.dropped + feed.place) line stands.0),
-      ),
-      stands.1.few,
-    )
+row_fits {whole} {tried} {feed} begun line is = grind (arith, common_steps, few, at_line_stands)
 
 pub first_line_is : (stand : Stand) {old new : RowsRead} → is_some (ended stand) ≡ false → ReachesNextLine old new
     (line_first stand)
@@ -1121,24 +879,8 @@ front_waits_feeds {whole} {tried} {old} {new} begins unbegun unkept none feed =
       row = λ e. cc;
       end = λ e. cc;
       fault = tt;
-      none = λ left. record {
-        settings = ap (λ (h : Held). h.settings) w.0;
-        bits = refl;
-        counts = omega (arith, w.1);
-        taken = ap (λ (h : Held). h.taken) w.0;
-        row = ap (λ (h : Held). h.reference) w.0;
-        damage = ap (λ (r : RowState). r.damage) w.2;
-        cut = ap (λ (r : RowState). r.cut) w.2;
-        line_start = ap (λ (r : RowState). r.started_at) w.2;
-        unended = ap (λ (r : RowState). ended r.stand) (w.2 ∙ front.state);
-        line = λ e. ap (λ (r : RowState). is_at_line r.stand) w.2 ∙ e;
-      };
-      unsettled = λ e. (
-        begins.keeps.finished ∙ w.4,
-        open_front new.begun new.rows.stand new.ctx (drop new.place new.kept) begins.begun
-            (ap (λ (h : Held). first_gap_is_settled h.settings.encoding h.settings (drop new.place new.kept)) w.0
-            ∙ ap (first_gap_is_settled old.ctx.held.settings.encoding old.ctx.held.settings) (sym there) ∙ w.5),
-      );
+      none = λ left. grind (arith, common_steps);
+      unsettled = λ e. grind (arith, common_steps, open_front);
       memory = λ e. cc;
       paints = λ e. cc;
       extra = begins.extra;
@@ -1149,25 +891,7 @@ front_waits_feeds {whole} {tried} {old} {new} begins unbegun unkept none feed =
       gap = begins.extra;
       looks = unbegun_looks old.begun (is_at_line old.rows.stand) unbegun begins.looks;
       looked = λ e away. begins.looked refl;
-      goes_on = record {
-        counts = omega (arith, w.1);
-        stored = λ e. cc;
-        draws = λ e. cc;
-        onward = λ unended. omega (arith, w.3, begins.keeps.dropped);
-        near = λ begun unfinished unended. absurd (false≢true (sym unbegun ∙ begun));
-        stays = λ left at. absurd (not_begun old.begun (is_at_line old.rows.stand) unbegun at);
-        row_is = λ e kept. cc;
-        past_eol = λ unfinished begun no_line sought unended waits. absurd (false≢true (sym unbegun ∙ begun));
-        behind = λ e. cc;
-        tried = λ left at. absurd (not_begun old.begun (is_at_line old.rows.stand) unbegun at);
-        sought = λ e kept. cc;
-        waits = λ e away. (w.3, ap (λ (h : Held). h.has_eols) w.0);
-        within = begins.within;
-        paid = omega (arith, none_paid new.part new.line_read none);
-        unkept = λ away. none;
-        unbegun = λ e. (unbegun, refl, ap (λ (r : RowState). is_at_line r.stand) (w.2 ∙ front.state));
-        space = omega (arith, begins.space);
-      };
+      goes_on = grind (arith, common_steps, false≢true, not_begun, at, none_paid);
     }
 
 first_line_ends : (stand : Stand) → is_some (ended stand) ≡ true → ((error : DecodeError) → ended stand ≢ Some (Err error))
@@ -1200,9 +924,7 @@ front_ends_feeds {whole} {tried} {old} {new} begins unbegun unkept none over fee
       gap = begins.extra;
       looks = unbegun_looks old.begun (is_at_line old.rows.stand) unbegun begins.looks;
       looked = λ e. cc;
-      goes_on = gap_ended (begins.reaches whole tried refl feed).counts begins.space unkept (λ open_end.
-          let never = sym (reached.end refl).0 ∙ open_end in cc) (λ left. cc) (λ e. cc) none
-          begins.begun begins.within;
+      goes_on = grind (arith, common_steps, gap_ended, begins.reaches whole tried refl feed, reached.end refl);
     }
 
 -- ---- More data
@@ -1245,15 +967,7 @@ drops_read {whole} {tried} {old} {new} drops feed =
             ∙ ap (λ (b : Bits). b ++ lie.more) (sym drops.kept);
         can_come = subst (λ (b : Bool). CanCome b lie.more) (sym drops.finished) lie.can_come;
       };
-      stands = subst (λ (b : Bool). StandsIn b tried new.rows new.ctx
-          (record { bits = whole; place = new.dropped + new.place }))
-          (sym drops.begun) (subst (λ (r : RowState). StandsIn old.begun tried r new.ctx
-          (record { bits = whole; place = new.dropped + new.place })) (sym drops.rows)
-          (subst (λ (x : Context). StandsIn old.begun tried old.rows x
-          (record { bits = whole; place = new.dropped + new.place }))
-          (sym drops.ctx) (subst (λ (n : ℕ). StandsIn old.begun tried old.rows old.ctx
-          (record { bits = whole; place = n })) place
-          feed.stands)));
+      stands = grind (arith, common_steps);
     }
 
 -- more bits are kept
@@ -1282,11 +996,7 @@ drops_none_fed {old} {new} drops = grind (arith, common_steps, length-drop)
 -- they come next also once bytes are dropped
 pub come_next : {whole : Bits} {old new : Feeding} {next : Bits} → DropsRead old new → ComeNext whole old next
     → ComeNext whole new next
-come_next {whole} {old} {new} drops come = record {
-  rest = come.rest;
-  bits = ap (λ (n : ℕ). drop n whole) (drops_none_fed drops) ∙ come.bits;
-  bytes = come.bytes;
-}
+come_next {whole} {old} {new} drops come = grind (arith, common_steps, drops_none_fed)
 
 -- the data is finished
 pub feed_finished : {whole : Bits} {tried : ℕ} {old new : Feeding} → new ≡ record old { finished = true }

@@ -146,10 +146,7 @@ module _ {next : Bits} {old new : Feeding} (holds : HoldsMore next old new) wher
         firsts = paid.firsts;
         drawn = paid.drawn;
         sum = paid.sum;
-        rows_paid = record {
-          most = omega (arith, paid.rows_paid.most, holds.fed);
-          behind = behind_more paid.drawn paid.rows_paid.behind;
-        };
+        rows_paid = grind (arith, common_steps, behind_more);
         firsts_paid = firsts_more paid.firsts_paid;
         gaps_paid = record {
           first = gaps.first;
@@ -209,10 +206,7 @@ finished_paid {calls} {lost} {tried} {old} {new} is paid =
       firsts = paid.firsts;
       drawn = paid.drawn;
       sum = paid.sum;
-      rows_paid = record {
-        most = paid.rows_paid.most;
-        behind = λ unended unfinished. absurd (false≢true (sym unfinished));
-      };
+      rows_paid = grind (arith, common_steps, false≢true);
       firsts_paid = record {
         known = firsts.known;
         known_most = firsts.known_most;
@@ -225,28 +219,8 @@ finished_paid {calls} {lost} {tried} {old} {new} is paid =
           })
         ];
       };
-      gaps_paid = record {
-        first = gaps.first;
-        first_most = gaps.first_most;
-        most = gaps.most;
-        here = λ unended unfinished. absurd (false≢true (sym unfinished));
-        unbegun = gaps.unbegun;
-      };
-      lines_paid = record {
-        known = lines.known;
-        read = lines.read;
-        seen = lines.seen;
-        known_most = lines.known_most;
-        read_most = lines.read_most;
-        read_before = lines.read_before;
-        within = lines.within;
-        part_most = lines.part_most;
-        seen_is = lines.seen_is;
-        most = lines.most;
-        next = λ none unended unfinished. absurd (false≢true (sym unfinished));
-        here = lines.here;
-        passed = finished_passed lines.known old old.part lines.passed;
-      };
+      gaps_paid = grind (arith, common_steps, gaps, false≢true);
+      lines_paid = grind (arith, common_steps, lines, false≢true, finished_passed);
     })
 
 -- ---- Before the first call
@@ -275,13 +249,7 @@ begun_paid whole feed is unbegun unlooked unkept =
           left = λ unended unfinished. omega (arith, white);
         });
       };
-      gaps_paid = record {
-        first = 0;
-        first_most = omega arith;
-        most = omega arith;
-        here = λ unended unfinished. omega arith;
-        unbegun = λ e. (omega arith, refl);
-      };
+      gaps_paid = grind (arith, common_steps);
       lines_paid = record {
         known = 0;
         read = 0;
@@ -360,17 +328,7 @@ module _ {whole : Bits} {calls lost tried : ℕ} {old new : Feeding} {answer : R
   gap_unbegun unbegun = grind (arith, common_steps, cases_lt, here_within)
 
   pub gaps_step : (b n : Bool) → old.begun ≡ b → new.begun ≡ n → GapsPaid (calls + 1) (paid.gaps + next.gap) new
-  gaps_step true n begun is = record {
-    first = gaps.first;
-    first_most = omega (arith, gaps.first_most, same_fed);
-    most = omega (arith, gap_begun begun, same_fed);
-    here = λ still unfinished. omega (
-      arith,
-      gaps.here unended (still_unfinished unfinished),
-      goes.near begun (still_unfinished unfinished) still,
-    );
-    unbegun = λ e. absurd (false≢true (sym (goes.unbegun e).0 ∙ begun));
-  }
+  gaps_step true n begun is = grind (arith, common_steps, false≢true, gaps, same_fed, gap_begun, still_unfinished, goes)
   gaps_step false true unbegun is = record {
     first = fed_bits old;
     first_most = omega (arith, same_fed);
@@ -378,16 +336,7 @@ module _ {whole : Bits} {calls lost tried : ℕ} {old new : Feeding} {answer : R
     here = λ still unfinished. omega (arith, gap_unbegun unbegun);
     unbegun = λ e. absurd (false≢true (sym e ∙ is));
   }
-  gaps_step false false unbegun is =
-      let waits = goes.unbegun is in
-      let looked = next.looked waits.1 waits.2 in
-      record {
-        first = 0;
-        first_most = omega arith;
-        most = omega (arith, gap_unbegun unbegun, same_fed);
-        here = λ still unfinished. omega (arith, (gaps.unbegun unbegun).0, looked);
-        unbegun = λ e. (omega (arith, (gaps.unbegun unbegun).0, looked), refl);
-      }
+  gaps_step false false unbegun is = grind (arith, common_steps, goes, gap_unbegun, same_fed, gaps)
 
   -- ---- Where the next line begins
 
@@ -455,17 +404,7 @@ module _ {whole : Bits} {calls lost tried : ℕ} {old new : Feeding} {answer : R
         ≡ Ok (new.ctx.held.reference, drop new.place new.kept)) short.are (goes.row_is e stays_at_line) in
         elim (short_row old.ctx.held.settings old.ctx.held.has_eols old.ctx.held.reference short.seen short.more
         (drop new.place new.kept) new.ctx.held.reference short.short row) [
-          | inl le ↦ inl (omega (
-            arith,
-            le,
-            short.known_is,
-            ap length short.are,
-            length-append short.seen short.more,
-            here_within,
-            length-drop new.place new.kept,
-            goes.within,
-            same_fed,
-          ))
+          | inl le ↦ grind (arith, common_steps, length-append, here_within, length-drop, goes, same_fed)
           | inr repaired ↦ inr (record {
             begun = new_begun short.begun;
             behind = goes.behind e;
@@ -483,19 +422,7 @@ module _ {whole : Bits} {calls lost tried : ℕ} {old new : Feeding} {answer : R
 
     -- it is left
     stays_short : HasNone answer → WasShort known new
-    stays_short left =
-        let place = goes.stays left stays_at_line in
-        let stays = next.none left in
-        record {
-          begun = new_begun short.begun;
-          at_line = stays.line short.at_line;
-          seen = short.seen;
-          more = short.more;
-          are = same_bits place ∙ short.are;
-          short = ap (λ (s : DecodeSettings). is_short (line_here s new.ctx.held.reference short.seen)) stays.settings
-              ∙ ap (λ (r : Row). is_short (line_here old.ctx.held.settings r short.seen)) stays.row ∙ short.short;
-          known_is = omega (arith, short.known_is, place, keeps.dropped);
-        }
+    stays_short left = grind (arith, common_steps, goes, left, stays_at_line, new_begun, same_bits)
 
   -- behind the row of a line of which a part was kept
   module _ (some : old.part ≢ None) where
@@ -524,10 +451,7 @@ module _ {whole : Bits} {calls lost tried : ℕ} {old new : Feeding} {answer : R
       by_bool true over = (
         paid.drawn,
         record {
-          paid = record {
-            most = omega (arith, paid.rows_paid.most, same_fed);
-            behind = λ still unfinished. absurd (false≢true (sym (still_unfinished unfinished) ∙ over));
-          };
+          paid = grind (arith, common_steps, same_fed, false≢true, still_unfinished);
           no_fewer = omega arith;
           adds = λ unfinished. absurd (false≢true (sym (still_unfinished unfinished) ∙ over));
         },
@@ -619,14 +543,9 @@ module _ {whole : Bits} {calls lost tried : ℕ} {old new : Feeding} {answer : R
   end_lines : (ended new.rows.stand ≡ None → ⊥) → (HasNone answer → ⊥) → LinesNow paid.drawn counted
   end_lines over other = elim (none_or_some old.part) [
     | inl none ↦
-        let at_once = next.line_work.at_once other none in
-        unkept_lines lines.known lines.read gone lines.known_most lines.read_most
-        (omega (arith, lines.most, at_once, none_paid old.part old.line_read none)) (λ still. absurd (over still))
-        (λ still. absurd (over still))
+        grind (arith, common_steps, unkept_lines, lines, none_paid, next.line_work.at_once other none)
     | inr some ↦
-        let read = read_here some (omega (arith, next.line_work.read other)) in
-        unkept_lines lines.known (fed_bits old) gone lines.known_most (omega arith) (omega (arith, read))
-        (λ still. absurd (over still)) (λ still. absurd (over still))
+        grind (arith, common_steps, read_here, unkept_lines, lines, next.line_work.read other)
   ]
     where
       gone : new.part ≡ None
@@ -745,12 +664,7 @@ module _ {whole : Bits} {calls lost tried : ℕ} {old new : Feeding} {answer : R
 
   -- the reading ends
   end_firsts : (ended new.rows.stand ≡ None → ⊥) → FirstsNow paid.drawn paid.firsts
-  end_firsts over = record {
-    known = firsts.known;
-    known_most = omega (arith, firsts.known_most, same_fed);
-    most = omega (arith, firsts.most);
-    here = inr (record { behind = λ still unfinished. absurd (over still); left = λ still. absurd (over still) });
-  }
+  end_firsts over = grind (arith, common_steps, firsts, same_fed, left)
 
   -- no row is read, and no line is tried first
   left_firsts : HasNone answer → FirstsNow paid.drawn paid.firsts
@@ -896,19 +810,7 @@ module _ {whole : Bits} {calls lost tried : ℕ} {old new : Feeding} {answer : R
     failed_some : old.part ≢ None → counted + 2 * changes_of new
         ≤ 6 * known_now + 2 * lines.read + 2 * paid.drawn + 8 * calls + lost + cost_of_failure new
     failed_some some =
-        let place = goes.stays failed_left (stays_at_line (was some)) in
-        omega (
-          arith,
-          lines.here some,
-          next.line_work.failed e,
-          lines.seen_is some,
-          failed_changes,
-          failed_within,
-          here_within,
-          place,
-          keeps.dropped,
-          lines.known_most,
-        )
+        grind (arith, common_steps, goes, failed_left, stays_at_line, was, lines, failed_changes, failed_within, here_within)
 
     -- counted for it
     failed_most : counted ≤ 6 * known_now + 2 * lines.read + 2 * paid.drawn + 8 * calls + lost + cost_of_failure new
@@ -917,17 +819,8 @@ module _ {whole : Bits} {calls lost tried : ℕ} {old new : Feeding} {answer : R
     -- counted for it, with what is left for the line
     failed_next : ended new.rows.stand ≡ None → new.finished ≡ false → counted + 2 * changes_of new
         ≤ 6 * known_now + 2 * lines.read + 2 * paid.drawn + 8 * calls + lost + cost_of_failure new
-    failed_next still unfinished = elim (none_or_some old.part) [
-      | inl none ↦ omega (
-        arith,
-        lines.next none unended (still_unfinished unfinished),
-        next.line_work.failed_at_once e none,
-        failed_changes,
-        failed_within,
-        lines.known_most,
-      )
-      | inr some ↦ failed_some some
-    ]
+    failed_next still unfinished =
+        grind (arith, common_steps, none_or_some, lines, still_unfinished, failed_changes, failed_within, failed_some)
 
     pub fails_paid : FeedIsPaid (calls + 1) (lost + cost_of_failure new) (tried + next.extra) new
     fails_paid = record {

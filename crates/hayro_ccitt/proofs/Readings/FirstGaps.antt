@@ -5,7 +5,7 @@ use Rattle.hayro_ccitt.proofs.Names.{ap, sym, subst, arith}
 use Rattle.hayro_ccitt.proofs.Names.{length-drop, IfOk-weaker, on_err_weaker, on_ok_weaker, DecodeSettings, Result, DecodeError}
 use Rattle.hayro_ccitt.proofs.Names.{append-nil}
 use Rattle.hayro_ccitt.proofs.Names.{Group4, Bits, Held, Context, fresh, gap_said, all_eols, gap_behind_row, first_line}
-use Rattle.hayro_ccitt.proofs.Names.{changes, refl, length-append}
+use Rattle.hayro_ccitt.proofs.Names.{refl, length-append}
 use Rattle.hayro_ccitt.proofs.Names.{DamageIsCounted, Stand, IsPaid, ReaderStands, stand_after, AtLine, looked, EncodingMode}
 use Rattle.hayro_ccitt.proofs.Names.{Group3_1D}
 use Rattle.hayro_ccitt.proofs.Names.{Group3_2D, BitsAt}
@@ -46,9 +46,7 @@ module _ (old new : Context) (bits : Bits) (next : ℕ) (over : Result Bool Deco
   front_stands = first_gap_stands settings wide bits is last next within frame over said passes.only_code unsought
 
   pub front_paid : IsPaid old.ticks (stand_after over) settings bits last next new.ticks
-  front_paid = first_gap_paid old.ticks settings is bits last next new.ticks frame over said
-      (IfOk-weaker over _ _ (λ over kept is. kept is ∙ sought) passes.given_up)
-      (on_ok_weaker over (λ work on. omega (arith, work (on ∙ sym sought))) passes.work) passes.work_refused
+  front_paid = grind (arith, common_steps, first_gap_paid, IfOk-weaker, on_ok_weaker, settings, last, frame, said, sought)
 
 -- so whatever follows
 pub front_goes_on : (old new : Context) (bits : Bits) (next : ℕ) (over : Result Bool DecodeError) → next ≤ length bits
@@ -65,10 +63,7 @@ front_goes_on old new bits next over within is wide begins passes after at =
     record {
       stands = λ more settled. subst (ReaderStands (stand_after over) old.held.settings (bits ++ more) new.held) (sym place)
           (front_stands old new (bits ++ more) next over (longer more) is wide begins (continues more settled));
-      damage = λ more. none_damaged (stand_after over) old.held.settings (bits ++ more) new.held
-          (misses_after over old.held.settings (bits ++ more) new.held)
-          (ap (λ (h : Held). h.taken) (first_gap_left old.held new.held bits begins passes.held passes.missed))
-          (ap (λ (h : Held). h.repairs) (first_gap_left old.held new.held bits begins passes.held passes.missed));
+      damage = λ more. grind (arith, common_steps, none_damaged, misses_after, first_gap_left);
       paid = λ more settled. subst (λ (n : ℕ). IsPaid old.ticks (stand_after over) old.held.settings (bits ++ more) new.held n
           new.ticks) (sym place)
           (front_paid old new (bits ++ more) next over (longer more) is wide begins (continues more settled));
@@ -109,18 +104,18 @@ eols_go_on old new bits next within other wide begins frame rest work counts aft
           (omega (arith, length-drop next (bits ++ more))));
       damage = λ more. none_damaged AtLine settings (bits ++ more) last (λ misses. misses) (ap (λ (h : Held). h.taken) frame)
           (ap (λ (h : Held). h.repairs) frame);
-      paid = λ more settled. subst (λ (n : ℕ). IsPaid old.ticks AtLine settings (bits ++ more) last n new.ticks) (sym place)
-          (first_line_paid old.ticks settings other (bits ++ more) last (drop next (bits ++ more)) new.ticks
-          (ap (λ (h : Held). length (changes h.reference)) frame ∙ changes_white settings.columns)
-          (omega (arith, length-drop next (bits ++ more))) (omega (
-            arith,
-            work,
-            ap length (behind more),
-            ap looked (behind more),
-            length-append bits more,
-            length-append (drop next bits) more,
-            looked-more (drop next bits) more,
-          )));
+      paid = λ more settled. grind (
+        arith,
+        common_steps,
+        settings,
+        last,
+        first_line_paid,
+        frame,
+        changes_white,
+        length-drop,
+        length-append,
+        looked-more,
+      );
       within = omega (arith, within, place, ap (λ (a : BitsAt). length a.bits) at);
       row = ap (λ (h : Held). h.reference) frame ∙ sym (ap (λ (h : Held). h.reference) begins);
       counts = counts;

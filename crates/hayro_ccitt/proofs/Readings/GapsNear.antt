@@ -1,7 +1,7 @@
 -- A gap is looked at no more than twelve bits beyond its end.
 use Rattle.hayro_ccitt.proofs.Names.{common_steps}
-use Rattle.hayro_ccitt.proofs.Names.{◌≡◌, ◌∙◌, ◌+◌, ◌≤◌, ◌++◌, ◌∷◌, ◌&&◌, ◌||◌, [], ℕ, zero, suc, Bool, true, false, not, cond}
-use Rattle.hayro_ccitt.proofs.Names.{leb, length-append}
+use Rattle.hayro_ccitt.proofs.Names.{◌≡◌, ◌∙◌, ◌+◌, ◌≤◌, ◌∷◌, ◌&&◌, ◌||◌, [], ℕ, zero, suc, Bool, true, false, not, cond}
+use Rattle.hayro_ccitt.proofs.Names.{leb}
 use Rattle.hayro_ccitt.proofs.Names.{Option, None, Some, Result, Ok, Err, refl, sym, ap, arith, length, and_parts, false≢true}
 use Rattle.hayro_ccitt.proofs.Names.{ne_eqb, eols_here}
 use Rattle.hayro_ccitt.proofs.Names.{Bits, DecodeSettings, EncodingMode, Group4, Group3_1D, Group3_2D}
@@ -10,8 +10,8 @@ use Rattle.hayro_ccitt.proofs.Names.{DecodeError, OnErr, gap_said}
 use Rattle.hayro_ccitt.specs.EndOfLine.{eols, eols_with_tags, one_more, past_tag}
 use Rattle.hayro_ccitt.specs.FeedsKeepLittle.{left_by}
 use Rattle.hayro_ccitt.specs.GapsContinued.{holds_one, eols_are_settled, next_eols_are_settled, gap_is_settled}
-use Rattle.hayro_ccitt.specs.GapsSeen.{bits_needed, is_settled, one_eol_more, rules_behind_row, stage_after, stage_behind}
-use Rattle.hayro_ccitt.specs.PlainReading.{behind_eols, from_next_eol, is_over, missing_eol, misses_eol}
+use Rattle.hayro_ccitt.specs.GapsSeen.{bits_needed, is_settled, one_eol_more, rules_behind_row, stage_after}
+use Rattle.hayro_ccitt.specs.PlainReading.{behind_eols, from_next_eol, missing_eol, misses_eol}
 use Rattle.hayro_ccitt.specs.declared.gap_look.GapRules.{GapRules}
 use Rattle.hayro_ccitt.specs.declared.gap_look.GapStage.{GapStage}
 use Rattle.hayro_ccitt.specs.declared.gap_look.GapStage.TheVariants.{Start, Damage, BehindEol, BehindTag, Settled}
@@ -19,7 +19,6 @@ use Rattle.fax_bits.proofs.BitReading.ConsecutiveEols.{all_eols-some, all_tagged
 use Rattle.fax_bits.proofs.BitReading.ConsecutiveEols.{counts_tagged, eols-none, eols-some, eols_with_tags-none}
 use Rattle.fax_bits.proofs.BitReading.ConsecutiveEols.{eols_with_tags-some, last_tag_shorter, next_eol_found, past_tag_shorter}
 use Rattle.fax_reading.proofs.GapsContinued.ContinuedTags.{behind_first_tag, behind_one, last_tag_tested}
-use Rattle.hayro_ccitt.proofs.Readings.GapsSeen.{gap_seen, settled_stays}
 use Rattle.hayro_ccitt.proofs.Readings.GapsSeen.{after_found, behind_more, behind_next, behind_one_shorter, eol_counts}
 use Rattle.hayro_ccitt.proofs.Readings.GapsSeen.{next_is_found, none_here, none_past, none_settled, one_here, one_is_left}
 use Rattle.hayro_ccitt.proofs.Readings.GapsSeen.{rules_of, some_past}
@@ -260,9 +259,7 @@ module _ (settings : DecodeSettings) (taken : ℕ) (has_eols : Bool) (here : Bit
         ap (λ (none : Bool). none && has_eols && not (limit_met settings taken) && not (at_end here))
         (one_here settings.encoding settings.end_of_block here rest e) in
         let left : left_by here gap_here ≡ (eols_here settings here).1 =
-        ap (λ (missed : Bool). left_by here (cond missed (missing_eol settings taken here)
-        (behind_eols settings taken has_eols (eols_here settings here)))) counted
-        ∙ left_by_eols settings taken has_eols here (eols_here settings here) in
+        grind (arith, common_steps, left_by_eols) in
         omega (
           arith,
           ap length left,
@@ -331,11 +328,7 @@ module _ (settings : DecodeSettings) (taken : ℕ) (has_eols : Bool) (here : Bit
 
     -- A settled gap needs no more than twelve bits beyond its end.
     pub gap_near : NearEnd
-    gap_near = by_after_eol (after_eol 0 here) refl
-      where
-        by_after_eol : (o : Option Bits) → after_eol 0 here ≡ o → NearEnd
-        by_after_eol (Some rest) e = eol_near rest e
-        by_after_eol None e = none_near e rules_here.seeks refl
+    gap_near = grind (arith, common_steps, NearEnd, eol_near, none_near, rules_here)
 
 -- so it is with a gap that was passed
 pub passed_near : (settings : DecodeSettings) (taken : ℕ) (has_eols : Bool) (start rest : Bits)
@@ -364,12 +357,7 @@ passed_shorter settings taken has_eols start rest (Err e) still said back = omeg
 -- whether EOLs are sought at a line behind some
 flag_behind : (settings : DecodeSettings) (taken : ℕ) (has_eols still : Bool) (found : ℕ × Bits) (rest : Bits)
     → behind_eols settings taken has_eols found ≡ Gap.line_at still rest → still ≡ has_eols
-flag_behind settings taken has_eols still (count, here) rest = either_way (is_over settings taken (count, here))
-  where
-    either_way : (b : Bool) → cond b (Gap.over (Ok here)) (Gap.line_at has_eols here) ≡ Gap.line_at still rest
-        → still ≡ has_eols
-    either_way true e = absurd cc
-    either_way false e = cc
+flag_behind settings taken has_eols still (count, here) rest = grind (arith, common_steps)
 
 -- Where EOLs are sought, they are after a gap that is settled.
 pub settled_sought : (settings : DecodeSettings) (taken : ℕ) (here rest : Bits) (still : Bool)

@@ -1,10 +1,11 @@
 -- Rows one at a time: the gap before the next line is passed, in data of which a reader may hold a part.
-use Rattle.hayro_ccitt.proofs.Names.{OnErr, IfOk, Ok, Err, sum_by, ℕ, ◌-◌, ◌≤◌, take, length-drop, ◌≡◌, ◌∙◌, Bool, None, false}
+use Rattle.hayro_ccitt.proofs.Names.{common_steps}
+use Rattle.hayro_ccitt.proofs.Names.{OnErr, IfOk, Ok, Err, ℕ, ◌-◌, ◌≤◌, length-drop, ◌≡◌, ◌∙◌, Bool, None, false}
 use Rattle.hayro_ccitt.proofs.Names.{Result, length, drop, ap, sym, subst, arith, refl, on_err_weaker}
 use Rattle.hayro_ccitt.proofs.Names.{DecodeError, line_after, DecodeSettings, Bits, Held, Repairs, failed_at, Context}
 use Rattle.hayro_ccitt.proofs.Names.{ReachesNextLine, ReaderStands, start_after, stand_after, IsStanding, ended, is_at_line}
 use Rattle.hayro_ccitt.proofs.Names.{StandsBehindRow, WorkIsPaid, missed_before, missed_since, seen}
-use Rattle.hayro_ccitt.proofs.Names.{words_of, looked, looked_ahead, ◌++◌, [], ◌∷◌, true, EncodingMode, Group3_1D, Group3_2D}
+use Rattle.hayro_ccitt.proofs.Names.{looked, looked_ahead, ◌++◌, [], ◌∷◌, true, EncodingMode, Group3_1D, Group3_2D}
 use Rattle.hayro_ccitt.proofs.Names.{Group4, gap_said}
 use Rattle.hayro_ccitt.proofs.Names.{◌⊎◌, inl, inr, append-nil, length-append, on_ok_weaker}
 use Rattle.hayro_ccitt.specs.GapsContinued.{gap_before, gap_is_settled}
@@ -44,24 +45,18 @@ module _ (from : ℕ) (rows : RowState) (old new : Context) (bits : Bits) (place
 
   -- where the reading is after the gap
   passed : ReaderStands (stand_after over) held.settings bits last next
-  passed =
-      gap_stands held.settings bits held here_now is_behind_row last next within passes.held over passes.gap passes.only_code
-      passes.given_up eols_kept
+  passed = grind (arith, common_steps, gap_stands, held, here_now, is_behind_row, last, eols_kept)
 
   gap_start : place ≡ length bits - length here_now
   gap_start = omega (arith, begun, length-drop place bits)
 
   -- the offset of its fault, if it has one
   started : OnErr over (start_after over place rows.started_at ≡ failed_at held.settings bits held.taken)
-  started =
-      starts_behind held.settings bits held here_now is_behind_row last next within passes.held over passes.gap place _
-      gap_start
+  started = grind (arith, common_steps, starts_behind, held, here_now, is_behind_row, last, gap_start)
 
   -- where its EOL was missed
   told : missed_since last.repairs held.repairs.missed place ≡ missed_before held.settings bits held.taken
-  told =
-      miss_told held.settings bits held here_now is_behind_row
-      (misses_behind_row rows.stand held.settings bits held unended no_line stands.1.misses) last passes.missed place gap_start
+  told = grind (arith, common_steps, miss_told, misses_behind_row, held, here_now, is_behind_row, last, gap_start)
 
   -- what was counted is paid
   paid : WorkIsPaid from (stand_after over) held.settings bits last next new.ticks
@@ -69,12 +64,7 @@ module _ (from : ℕ) (rows : RowState) (old new : Context) (bits : Bits) (place
       let work = stands.2 in
       let row = behind_row_paid from rows.stand held.settings bits held place old.ticks unended no_line work.paid in
       record {
-        words = omega (
-          arith,
-          work.words,
-          passes.counts,
-          ap (λ (h : Held). sum_by length (take h.taken (words_of held.settings bits))) passes.held,
-        );
+        words = grind (arith, common_steps, held);
         paid = gap_paid from held.settings is_behind_row.wide bits held here_now old.ticks row last next new.ticks
             passes.held over
             passes.gap passes.given_up passes.work passes.work_given_up passes.work_refused;
@@ -102,13 +92,7 @@ module _ (from : ℕ) (rows : RowState) (old new : Context) (bits : Bits) (place
 
   pub gap_reaches : ReachesNextLine (seen rows old (record { bits = bits; place = place }))
       (seen (rows_behind_gap rows over place old new) new (record { bits = bits; place = next })) (line_after over)
-  gap_reaches =
-      let same : last.settings ≡ held.settings = ap (λ (h : Held). h.settings) passes.held in
-      let taken : last.taken ≡ held.taken = ap (λ (h : Held). h.taken) passes.held in
-      comes_to_line (seen rows old (record { bits = bits; place = place })) last new.ticks new.space
-      (record { bits = bits; place = next }) (start_after over place rows.started_at) rows.damage rows.cut
-      (missed_since last.repairs held.repairs.missed place) over same refl taken passes.counts
-      (ap (λ (h : Held). h.reference) passes.held, refl, refl) (start_kept over place rows.started_at) passed started told
+  gap_reaches = grind (arith, common_steps, comes_to_line, last, held, start_kept, passed, started, told)
 
 -- ---- A gap that no data that follows changes
 

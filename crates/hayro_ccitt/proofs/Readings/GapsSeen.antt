@@ -446,9 +446,7 @@ pub looks_more : (next : Bits) {rules : GapRules} {old mid : GapLook} {here from
 looks_more next {rules} {old} {mid} {here} {from} {rest} all looks is = record {
   looked = looks.looked ++ next;
   are = looks.are ∙ ap (λ (b : Bits). looks.looked ++ b) is ∙ sym (append_assoc looks.looked next rest);
-  stage = ap (λ (s : GapStage). stage_behind rules s mid.zeros next) looks.stage
-      ∙ ap (λ (n : ℕ). stage_behind rules (stage_behind rules old.stage old.zeros looks.looked) n next) looks.zeros
-      ∙ sym (stage_behind-append rules old.stage old.zeros looks.looked next);
+  stage = grind (arith, common_steps, rules, stage_behind-append);
   zeros = ap (λ (n : ℕ). zeros_behind n next) looks.zeros ∙ sym (zeros_behind-append old.zeros looks.looked next);
   bits = omega (arith, looks.bits, length-append looks.looked next);
   needed = λ others. ap (bits_needed rules old.stage old.zeros) (append_assoc looks.looked next others)
@@ -495,10 +493,13 @@ looks_at_run n unsettled looks is = looks_at_one unsettled (by_zeros_looked n un
 pub looks_then : {rules : GapRules} {old mid new : GapLook} {here from rest : Bits} → LooksTo rules old mid here from
     → LooksTo rules mid new from rest → LooksTo rules old new here rest
 looks_then {rules} {old} {mid} {new} {here} {from} {rest} first next =
-    let all : AllNeeded rules mid.stage mid.zeros next.looked = λ others. next.needed others
-    ∙ ap (λ (s : GapStage). length next.looked + bits_needed rules s new.zeros others) next.stage
-    ∙ ap (λ (n : ℕ). length next.looked + bits_needed rules
-    (stage_behind rules mid.stage mid.zeros next.looked) n others) next.zeros in
+    let all : AllNeeded rules mid.stage mid.zeros next.looked = λ others. grind (
+      arith,
+      common_steps,
+      rules,
+      next.needed
+          others,
+    ) in
     let both = looks_more next.looked all first next.are in
     record {
       looked = both.looked;
@@ -506,10 +507,7 @@ looks_then {rules} {old} {mid} {new} {here} {from} {rest} first next =
       stage = next.stage ∙ both.stage;
       zeros = next.zeros ∙ both.zeros;
       bits = omega (arith, next.bits, both.bits);
-      needed = λ others. both.needed others
-          ∙ ap (λ (s : GapStage). length both.looked + bits_needed rules s
-          (zeros_behind mid.zeros next.looked) others) (sym next.stage)
-          ∙ ap (λ (n : ℕ). length both.looked + bits_needed rules new.stage n others) (sym next.zeros);
+      needed = λ others. grind (arith, common_steps, rules, both.needed others);
     }
 
 -- more bits come

@@ -1,9 +1,9 @@
 -- Bits that leave open what a line or a gap is: few of them aren't part of it.
 use Rattle.hayro_ccitt.proofs.Names.{common_steps}
-use Rattle.hayro_ccitt.proofs.Names.{◌≡◌, ◌∙◌, ◌+◌, ◌≤◌, ◌<◌, ◌++◌, ◌∷◌, ◌&&◌, [], ℕ, suc, Bool, true, false, not, eqb}
+use Rattle.hayro_ccitt.proofs.Names.{◌≡◌, ◌∙◌, ◌+◌, ◌≤◌, ◌<◌, ◌++◌, ◌∷◌, [], ℕ, suc, Bool, true, false}
 use Rattle.hayro_ccitt.proofs.Names.{refl, sym, ap, arith, length, length-append, replicate, inl, inr, cases_lt, false≢true}
 use Rattle.hayro_ccitt.proofs.Names.{Bits, DecodeSettings, EncodingMode, Group4, Group3_1D, Group3_2D, Row}
-use Rattle.hayro_ccitt.proofs.Names.{Gap, Progress, all_eols, at_end, at_front, at_gap, gap_behind_row, limit_met, line_here}
+use Rattle.hayro_ccitt.proofs.Names.{Gap, Progress, all_eols, at_front, at_gap, gap_behind_row, line_here}
 use Rattle.hayro_ccitt.proofs.Names.{misses_eol}
 use Rattle.hayro_ccitt.specs.Continuations.{is_short}
 use Rattle.hayro_ccitt.specs.FeedsKeepLittle.{OpenBitsAreRead, left_by, left_by_first}
@@ -55,13 +55,7 @@ open_bits_of_line settings reference row first more rest short e =
 -- what isn't settled wasn't before
 pub open_before : (rules : GapRules) (stage : GapStage) (seen : ℕ) (first : Bits)
     → is_settled (stage_behind rules stage seen first) ≡ false → is_settled stage ≡ false
-open_before rules stage seen first waits = by_stage (is_settled stage) refl
-  where
-    by_stage : (b : Bool) → is_settled stage ≡ b → b ≡ false
-    by_stage false is = refl
-    by_stage true is = absurd (false≢true (sym waits
-        ∙ ap (λ (s : GapStage). is_settled (stage_behind rules s seen first)) (only_settled stage is)
-        ∙ settled_stays rules seen first))
+open_before rules stage seen first waits = grind (arith, common_steps, false≢true, only_settled, settled_stays)
 
 -- all of them are needed
 all_needed : (rules : GapRules) (stage : GapStage) (seen : ℕ) (first more : Bits)
@@ -125,11 +119,7 @@ plainly settings = record settings { encoding = Group3_1D }
 
 module _ (settings : DecodeSettings) (here : Bits) where
   none_missed : misses_eol (plainly settings) 0 false here ≡ false
-  none_missed = by_none (eqb (all_eols here).0 0)
-    where
-      by_none : (none : Bool) → (none && false && not (limit_met settings 0) && not (at_end here)) ≡ false
-      by_none true = refl
-      by_none false = refl
+  none_missed = grind (arith, common_steps)
 
   plain_settled : gap_is_settled (plainly settings) 0 false here ≡ holds_one (all_eols here).1
   plain_settled = grind (arith, common_steps, none_missed)

@@ -7,7 +7,7 @@ use Rattle.hayro_ccitt.proofs.Names.{DecodeError, Group3_2D, White}
 use Rattle.std.proofs.lemmas.Bool.{cases_eq}
 use Rattle.hayro_ccitt.proofs.Names.{redrawn, here, Stand, false≢true, length-drop}
 use Rattle.hayro_ccitt.proofs.Names.{drop-drop, ◌++◌, append_assoc, length-append}
-use Rattle.hayro_ccitt.proofs.Names.{changes, line_here, row_of_line}
+use Rattle.hayro_ccitt.proofs.Names.{changes, line_here}
 use Rattle.hayro_ccitt.specs.declared.line_parts.KeptPart.{KeptPart}
 use Rattle.hayro_ccitt.specs.Continuations.{is_short}
 use Rattle.hayro_ccitt.specs.LineParts.{ContinuesLine, IsPartOf}
@@ -58,18 +58,7 @@ module _ (old new : Feeding) (part next : KeptPart) (read : ℕ) (before after :
   -- the part that is reached is kept
   pub part_reached : after.place ≤ length after.bits → short ≡ true → LineGoesOn old.begun old.rows.stand new.ctx.held
       (drop old.place old.kept) (after.place - old.place) next
-  part_reached inside e =
-      subst (λ (h : Held). LineGoesOn old.begun old.rows.stand h (drop old.place old.kept) (after.place - old.place) next)
-      (sym (ap (λ (x : Context). x.held) on.frame))
-      (record {
-        is_begun = kept.is_begun;
-        at_line = kept.at_line;
-        none_drawn = kept.none_drawn;
-        within = omega (arith, inside, ap length bits_are, length-drop old.place old.kept);
-        lawful = on.lawful;
-        line = subst (IsPartOf old.ctx.held.settings old.ctx.held.reference (drop old.place old.kept) next) (ends inside)
-            (on.part e (drop old.place old.kept) begins);
-      })
+  part_reached inside e = grind (arith, common_steps, length-drop, bits_are, ends, begins)
 
   pub said_short : is_short (line_of_feed old) ≡ short
   said_short = on.said (drop old.place old.kept) begins
@@ -125,27 +114,11 @@ module _ {whole : Bits} {tried : ℕ} {old new : Feeding} (scans : Scans old new
 -- a reading is the same where less was counted before
 later_next : (old new : RowsRead) (ticks : ℕ) (r : Result Bool DecodeError) → old.ticks ≤ ticks
     → ReadsNext (record old { ticks = ticks }) new r → ReadsNext old new r
-later_next old new ticks r le reads = record {
-  settings = reads.settings;
-  bits = reads.bits;
-  counts = omega (arith, le, reads.counts);
-  more = reads.more;
-  row = reads.row;
-  line_start = reads.line_start;
-  place = reads.place;
-  damage = reads.damage;
-  cut = reads.cut;
-  end = reads.end;
-  error = reads.error;
-  fault_start = reads.fault_start;
-  missed = reads.missed;
-  last = reads.last;
-  last_start = reads.last_start;
-}
+later_next old new ticks r le reads = grind (arith, common_steps)
 
 -- a line that is settled isn't left as short
-settled_not : {old mid new : Feeding} {answer : Result Bool DecodeError} → StaysShort old mid false → ReadsInFeed mid new answer
-    → answer ≡ Ok false → (old.finished ≡ true) ⊎ (is_short (line_of_feed old) ≡ false) → ⊥
+pub settled_not : {old mid new : Feeding} {answer : Result Bool DecodeError} → StaysShort old mid false
+    → ReadsInFeed mid new answer → answer ≡ Ok false → (old.finished ≡ true) ⊎ (is_short (line_of_feed old) ≡ false) → ⊥
 settled_not {old} {mid} {new} {answer} stays reads e (inl last) = grind (arith, common_steps, false≢true)
 settled_not {old} {mid} {new} {answer} stays reads e (inr whole) = grind (arith, common_steps, false≢true)
 
@@ -159,25 +132,11 @@ scanned_before {old} {mid} {new} answer stays begun reads =
     let more = mid.ctx.ticks - old.ctx.ticks in
     record {
       extra = more + reads.extra;
-      keeps = record {
-        order = reads.keeps.order ∙ ap (λ (f : Feeding). f.order) frame;
-        finished = reads.keeps.finished ∙ ap (λ (f : Feeding). f.finished) frame;
-        kept = reads.keeps.kept ∙ ap (λ (f : Feeding). f.kept) frame;
-        dropped = reads.keeps.dropped ∙ ap (λ (f : Feeding). f.dropped) frame;
-        room = reads.keeps.room ∙ ap (λ (f : Feeding). f.room) frame;
-      };
+      keeps = grind (arith, common_steps);
       begun = reads.begun;
       counts = omega (arith, reads.counts, scans.counts);
-      left = λ left. (
-        (reads.left left).0 ∙ ap (λ (f : Feeding). f.rows) frame,
-        (reads.left left).1 ∙ ap (λ (f : Feeding). f.place) frame,
-        (reads.left left).2 ∙ ap (λ (f : Feeding). redrawn f.ctx.held [] White) frame,
-      );
-      unsettled = λ e. (
-        sym (ap (λ (f : Feeding). f.finished) frame) ∙ (reads.unsettled e).0,
-        ap (λ (f : Feeding). is_short (line_here new.ctx.held.settings new.ctx.held.reference (drop f.place f.kept))) (sym frame)
-            ∙ (reads.unsettled e).1,
-      );
+      left = λ left. grind (arith, common_steps, reads.left left);
+      unsettled = λ e. grind (arith, common_steps, reads.unsettled e);
       memory = λ e. subst (λ (f : Feeding). HasBlack (front_of (line_here new.ctx.held.settings new.ctx.held.reference
           (drop f.place f.kept)))) frame (reads.memory e);
       paints = λ whole tried e feed. reads.paints whole (tried + more) e (scanned_fed scans begun feed);
@@ -187,28 +146,21 @@ scanned_before {old} {mid} {new} answer stays begun reads =
       stands = λ whole tried feed.
           let same : (tried + more) + reads.extra ≡ tried + (more + reads.extra) = omega arith in
           subst (λ (n : ℕ). IsFeedOf whole n new) same (reads.stands whole (tried + more) (scanned_fed scans begun feed));
-      most = omega (
-        arith,
-        reads.most,
-        ap (λ (f : Feeding). f.ctx.space) frame,
-        ap (λ (f : Feeding). f.ctx.held.settings.columns) frame,
-      );
+      most = grind (arith, common_steps);
       counted = omega (arith, reads.counted, scans.counts);
       stored = λ e. omega (arith, reads.stored e, scans.counts);
       looked = reads.looked ∙ ap (λ (f : Feeding). f.looked) frame;
       done = reads.done;
-      tried = elim reads.tried [
-        | inl same ↦ inl (same ∙ stays.tried)
-        | inr here ↦ inr here
-      ];
+      tried = grind (arith, common_steps);
       behind = reads.behind;
       within = reads.within;
       paid = reads.paid;
-      row_is = λ whole tried e feed. subst (λ (f : Feeding).
-          (row_of_line f.ctx.held.settings f.ctx.held.has_eols (drop f.place f.kept) (line_of_feed f)
-          ≡ Ok (new.ctx.held.reference, drop new.place new.kept)) × (f.place ≤ new.place)
-          × (new.ctx.held.has_eols ≡ f.ctx.held.has_eols)) frame
-          (reads.row_is whole (tried + more) e (scanned_fed scans begun feed));
+      row_is = λ whole tried e feed. grind (
+        arith,
+        common_steps,
+        scanned_fed,
+        reads.row_is whole (tried + more) e (scanned_fed scans begun feed),
+      );
       work = record {
         goes_on = λ e some. absurd (settled_not stays reads e (stays.settled refl some));
         begins = λ e unkept. omega (
@@ -255,25 +207,11 @@ scanned_after {old} {mid} {new} reads none unkept keeps_part =
     let left = reads.left refl in
     record {
       extra = reads.extra + more;
-      keeps = record {
-        order = ap (λ (f : Feeding). f.order) frame ∙ reads.keeps.order;
-        finished = ap (λ (f : Feeding). f.finished) frame ∙ reads.keeps.finished;
-        kept = ap (λ (f : Feeding). f.kept) frame ∙ reads.keeps.kept;
-        dropped = ap (λ (f : Feeding). f.dropped) frame ∙ reads.keeps.dropped;
-        room = ap (λ (f : Feeding). f.room) frame ∙ reads.keeps.room;
-      };
+      keeps = grind (arith, common_steps);
       begun = ap (λ (f : Feeding). f.begun) frame ∙ reads.begun;
       counts = omega (arith, reads.counts, scans.counts);
-      left = λ e. (
-        ap (λ (f : Feeding). f.rows) frame ∙ left.0,
-        ap (λ (f : Feeding). f.place) frame ∙ left.1,
-        ap (λ (f : Feeding). f.ctx.held) frame ∙ left.2,
-      );
-      unsettled = λ e. (
-        (reads.unsettled refl).0,
-        ap (λ (f : Feeding). is_short (line_here f.ctx.held.settings f.ctx.held.reference (drop old.place old.kept))) frame
-            ∙ (reads.unsettled refl).1,
-      );
+      left = λ e. grind (arith, common_steps);
+      unsettled = λ e. grind (arith, common_steps, reads.unsettled refl);
       memory = λ e. cc;
       paints = λ whole tried e feed. cc;
       reads = λ whole tried other feed. absurd (other refl);
@@ -285,37 +223,12 @@ scanned_after {old} {mid} {new} reads none unkept keeps_part =
       stored = λ e. cc;
       looked = ap (λ (f : Feeding). f.looked) frame ∙ reads.looked;
       done = λ e. absurd (e refl);
-      tried = inr (omega (
-        arith,
-        keeps_part.tried,
-        ap (λ (f : Feeding). f.dropped) frame,
-        ap (λ (f : Feeding). f.place) frame,
-      ));
+      tried = grind (arith, common_steps);
       behind = λ e. cc;
-      within = omega (
-        arith,
-        reads.within,
-        ap (λ (f : Feeding). f.place) frame,
-        ap (λ (f : Feeding). length f.kept) frame,
-      );
+      within = grind (arith, common_steps);
       paid = part_paid new.part new.line_read keeps_part.paid;
       row_is = λ whole tried e feed. cc;
-      work = record {
-        goes_on = λ e some. absurd (some none);
-        begins = λ e kept. omega (
-          arith,
-          reads.work.begins refl none,
-          none_paid mid.part mid.line_read unkept,
-          keeps_part.work (ap (λ (b : Bits). is_short (line_here mid.ctx.held.settings mid.ctx.held.reference b))
-              (ap (λ (n : ℕ). drop n mid.kept) left.1 ∙ ap (drop old.place) reads.keeps.kept) ∙ (reads.unsettled refl).1),
-          scans.counts,
-        );
-        read = λ other. absurd (other refl);
-        at_once = λ other kept. absurd (other refl);
-        some = λ e some. absurd (some none);
-        failed = λ e. cc;
-        failed_at_once = λ e kept. cc;
-      };
+      work = grind (arith, common_steps, begins, none_paid, reads.work.begins refl none, reads.unsettled refl);
       width = λ e. cc;
       settings = ap (λ (f : Feeding). f.ctx.held.settings) frame ∙ reads.settings;
       taken = λ e. cc;
@@ -335,25 +248,11 @@ stays_short {old} {new} stays begun =
     let said = stays.said refl in
     record {
       extra = new.ctx.ticks - old.ctx.ticks;
-      keeps = record {
-        order = ap (λ (f : Feeding). f.order) frame;
-        finished = ap (λ (f : Feeding). f.finished) frame;
-        kept = ap (λ (f : Feeding). f.kept) frame;
-        dropped = ap (λ (f : Feeding). f.dropped) frame;
-        room = ap (λ (f : Feeding). f.room) frame;
-      };
+      keeps = grind (arith, common_steps);
       begun = ap (λ (f : Feeding). f.begun) frame ∙ begun;
       counts = stays.scans.counts;
-      left = λ e. (
-        ap (λ (f : Feeding). f.rows) frame,
-        ap (λ (f : Feeding). f.place) frame,
-        ap (λ (f : Feeding). f.ctx.held) frame ∙ sym said.2,
-      );
-      unsettled = λ e. (
-        said.1,
-        ap (λ (f : Feeding). is_short (line_here f.ctx.held.settings f.ctx.held.reference (drop old.place old.kept))) frame
-            ∙ said.0,
-      );
+      left = λ e. grind (arith, common_steps);
+      unsettled = λ e. grind (arith, common_steps);
       memory = λ e. cc;
       paints = λ whole tried e feed. cc;
       reads = λ whole tried other feed. absurd (other refl);

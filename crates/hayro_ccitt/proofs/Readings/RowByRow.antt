@@ -3,15 +3,15 @@ use Rattle.hayro_ccitt.proofs.Names.{common_steps}
 use Rattle.hayro_ccitt.proofs.Names.{◌≡◌, ◌+◌, ◌-◌, ◌<◌, ◌≤◌, ℕ, suc, Bool, true, false, eqb, List, [], ◌∷◌, ◌++◌, length, drop}
 use Rattle.hayro_ccitt.proofs.Names.{get_or, Some, Result, Ok, Err, refl, sym, ap, ◌∙◌, subst, arith, cond-true, cond-false}
 use Rattle.hayro_ccitt.proofs.Names.{eq-eqb, ne_eqb, false≢true, length-append, length-drop, cond, take, None}
-use Rattle.hayro_ccitt.proofs.Names.{Option, OnErr, IfOk, IfErr, sum_by, slice_get, IsOkUnless, ◌≢◌, DecodeError, InvalidCode}
+use Rattle.hayro_ccitt.proofs.Names.{Option, OnErr, IfOk, sum_by, slice_get, IsOkUnless, ◌≢◌, DecodeError, InvalidCode}
 use Rattle.hayro_ccitt.proofs.Names.{DecodeSettings, Bits, BitsAt, IsPrefix, here, Held}
 use Rattle.hayro_ccitt.proofs.Names.{Repairs, fresh, no_repairs, Damaged, fault_in, repaired_in, repaired_by_turn}
 use Rattle.hayro_ccitt.proofs.Names.{repairs_by_line, missed_by_turn, TakesOneRow, repairs_with}
 use Rattle.hayro_ccitt.proofs.Names.{repairs_behind, gap_said, Line, Progress, Ending, Reading, row_before, with_row}
 use Rattle.hayro_ccitt.proofs.Names.{at_gap, gap_behind_row, row_of_line, line_here, line_of_turn, move_on, first_gap, first_line}
 use Rattle.hayro_ccitt.proofs.Names.{at_front, ending_from, ending_behind, turns_of, map}
-use Rattle.hayro_ccitt.proofs.Names.{whole_reading, plain, lines_of, line_starts, start_of_turn, Gap, misses_eol}
-use Rattle.hayro_ccitt.proofs.Names.{eols_here, is_over, row_ends, end_of_row, end_of_turn, failed_at, Turn}
+use Rattle.hayro_ccitt.proofs.Names.{whole_reading, plain, lines_of, line_starts, start_of_turn}
+use Rattle.hayro_ccitt.proofs.Names.{row_ends, end_of_row, end_of_turn, failed_at, Turn}
 use Rattle.hayro_ccitt.proofs.Names.{Reaches, Row, found_here, words_of, words_of_turn, Stand, AtLine, BehindRow, AtEnd, AtFault}
 use Rattle.hayro_ccitt.proofs.Names.{EncodingMode, Group4, RowsRead, ReadsNext, damage_since, start_after}
 use Rattle.hayro_ccitt.proofs.Names.{ReachesNextLine, read_so_far, line_after, DamageIsCounted, MissesAreCounted, MissesBehindRow}
@@ -251,27 +251,11 @@ is_read {settings} {bits} {held} {here} stands {new} {left_over} takes =
           (length so_far.rows) offset so_far.rest line strict taken.taken left_over
           (length so_far.rows) held.repairs taken.is ∙ sym (ap
           fault_in (given_at settings stands.wide bits stands.begins stands.reaches (repaired_by_turn settings bits) before));
-      few = λ so. omega (
-        arith,
-        so,
-        before,
-        after,
-        one,
-        ap (λ (r : Repairs). r.rows) repaired,
-        repaired_once settings so_far.has_eols (length so_far.rows) offset line,
-      );
+      few = λ so. grind (arith, common_steps, one, repaired_once, so_far);
       cut = λ so. cut_is_told (cuts_run line strict) its new.repairs held.repairs.cut
           (ap (λ (r : Repairs). r.cut) repaired ∙ one_cut so)
           ∙ sym (ap cut_in (given_at settings stands.wide bits stands.begins stands.reaches (cut_by_turn settings bits) before));
-      few_cut = λ so. omega (
-        arith,
-        so,
-        before,
-        after,
-        one_cut so,
-        ap (λ (r : Repairs). r.cut) repaired,
-        cut_once line strict its,
-      );
+      few_cut = λ so. grind (arith, common_steps, cut_once);
       cut_counted = λ few so. omega (
         arith,
         so,
@@ -326,12 +310,7 @@ isnt_read {settings} {bits} {held} stands {new} {e = e} takes =
       record {
         all = λ fault. taken ∙ ap (λ (r : Reading). length r.rows) (sym (reading fault));
         fault = λ fault. ap (λ (r : Reading). r.outcome) (reading fault);
-        memory = λ is. (
-          line_of_turn settings so_far,
-          ap (slice_get (lines_of settings bits)) taken
-              ∙ given_there settings stands.wide bits stands.begins stands.reaches (line_of_turn settings),
-          turn.memory (ap (λ (x : DecodeError). Err x) is),
-        );
+        memory = λ is. grind (arith, common_steps, so_far, given_there);
         not_refused = λ is. turn.not_refused (ap (λ (x : DecodeError). Err x) is);
       },
       λ wide fault. whole fault,
@@ -506,14 +485,7 @@ pub no_fault : (settings : DecodeSettings) (taken : ℕ) (here : Bits) (answer :
     → ended (stand_after answer) ≡ Some (Err error) → ⊥
 no_fault settings taken here (Ok true) has_eols rest said error is = cc
 no_fault settings taken here (Ok false) has_eols rest said error is = cc
-no_fault settings taken here (Err e) has_eols rest said error is =
-    by_over (is_over settings taken (eols_here settings here))
-    (sym (cond-false (misses_eol settings taken false here) _ _ (unmissed settings taken here)) ∙ said)
-  where
-    by_over : (over : Bool) → cond {A = Gap} over (Gap.over (Ok (eols_here settings here).1))
-        (Gap.line_at false (eols_here settings here).1) ≡ Gap.over (Err e) → ⊥
-    by_over true never = cc
-    by_over false never = cc
+no_fault settings taken here (Err e) has_eols rest said error is = grind (arith, common_steps, cond-false, unmissed)
 
 -- data of Group 3 begin at a line
 pub first_line_stands : (settings : DecodeSettings) → 0 < settings.columns → (bits : Bits) → settings.encoding ≢ Group4
@@ -578,20 +550,8 @@ module _ (settings : DecodeSettings) (bits : Bits) (held : Held) (here : Bits) (
   pub misses_passed : last.taken ≡ held.taken → MissesAreCounted settings bits last.repairs last.taken
   misses_passed taken =
       record {
-        few = omega (
-          arith,
-          taken,
-          one_more,
-          ap (λ (r : Repairs). r.missed) then,
-          few_behind settings bits there its_line misses.strict stands.row here misses.before stands.row_is known.last known.few,
-        );
-        last = omega (
-          arith,
-          taken,
-          one_more,
-          ap (λ (r : Repairs). r.last) then,
-          last_behind settings bits there its_line misses.strict stands.row here misses.before stands.row_is known.last known.few,
-        );
+        few = grind (arith, common_steps, one_more, then, few_behind, there, its_line, known);
+        last = grind (arith, common_steps, one_more, then, last_behind, there, its_line, known);
         counted = omega (
           arith,
           one,
@@ -692,27 +652,4 @@ comes_to_line old last ticks space at n damage cut missed (Err error) settings b
 -- the result of a call that passes a gap, and then reads the line there
 pub reads_on : (old mid new : RowsRead) (result : Result Bool DecodeError) → ReachesNextLine old mid (Ok true)
     → ReadsNext mid new result → ReadsNext old new result
-reads_on old mid new result comes reads =
-    let at = λ (P : DecodeSettings → Bits → ℕ → Type 0). elsewhere P mid.settings old.settings mid.bits old.bits
-    mid.taken old.taken comes.settings comes.bits comes.taken in
-    record {
-      settings = reads.settings ∙ comes.settings;
-      bits = reads.bits ∙ comes.bits;
-      counts = omega (arith, comes.counts, reads.counts);
-      more = at (λ s b n. result ≡ Ok true
-          → (new.end ≡ None) × (new.taken ≡ n + 1) × (new.taken ≤ length (plain s b).rows)) reads.more;
-      row = at (λ s b n. result ≡ Ok true → new.row ≡ get_or (plain s b).rows n []) reads.row;
-      line_start = at (λ s b n. result ≡ Ok true → new.line_start ≡ get_or (line_starts s b) n 0) reads.line_start;
-      place = at (λ s b n. result ≡ Ok true → new.place ≡ get_or (row_ends s b) n 0) reads.place;
-      damage = at (λ s b n. result ≡ Ok true → new.damage ≡ fault_in (get_or (repairs_by_line s b) n [])) reads.damage;
-      cut = at (λ s b n. result ≡ Ok true → new.cut ≡ cut_in (get_or (cuts_by_line s b) n [])) reads.cut;
-      end = at (λ s b n. result ≡ Ok false
-          → (new.end ≡ Some (Ok tt)) × (new.taken ≡ n) × HasEnded s b new.taken new.place) reads.end;
-      error = at (λ s b n. IfErr result (λ e.
-          (new.end ≡ Some (Err e)) × (new.taken ≡ n) × HasFailed s b new.taken e)) reads.error;
-      fault_start = λ unended. at (λ s b n. OnErr result (new.line_start ≡ failed_at s b n))
-          (reads.fault_start (comes.unended refl));
-      missed = at (λ s b n. new.missed ≡ missed_before s b n) reads.missed;
-      last = λ none. ((reads.last none).0 ∙ comes.last.0, (reads.last none).1 ∙ comes.last.1, (reads.last none).2 ∙ comes.last.2);
-      last_start = λ none. reads.last_start none ∙ comes.last_start;
-    }
+reads_on old mid new result comes reads = grind (arith, common_steps, comes, elsewhere, none)

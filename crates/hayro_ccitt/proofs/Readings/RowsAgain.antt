@@ -1,19 +1,19 @@
 -- A row whose line follows a gap at which nothing is missed, and white rows that are read again and again.
 use Rattle.hayro_ccitt.proofs.Names.{common_steps}
-use Rattle.hayro_ccitt.proofs.Names.{◌≡◌, ◌+◌, ◌-◌, ◌*◌, ◌≤◌, ◌&&◌, ◌++◌, ◌∷◌, ℕ, Bool, true, false, eqb, leb, not}
-use Rattle.hayro_ccitt.proofs.Names.{[], length, drop, cond, min, suc, None, Some, Result, Ok, refl, sym}
+use Rattle.hayro_ccitt.proofs.Names.{◌≡◌, ◌+◌, ◌-◌, ◌*◌, ◌≤◌, ◌&&◌, ◌++◌, ◌∷◌, ℕ, Bool, true, false, eqb, leb}
+use Rattle.hayro_ccitt.proofs.Names.{[], length, drop, cond, min, suc, None, Some, Ok, refl, sym}
 use Rattle.hayro_ccitt.proofs.Names.{ap, ◌∙◌, subst, arith, cond-true, cond-false, eq-eqb, length-drop}
-use Rattle.hayro_ccitt.proofs.Names.{DecodeError, DecodeSettings, EncodingMode, Group4, Bits, BitsAt, here, Context, Held}
-use Rattle.hayro_ccitt.proofs.Names.{Repairs, TakesOneRow, repairs_with, repairs_behind, with_row_taken, Line}
-use Rattle.hayro_ccitt.proofs.Names.{line_here, line_by, row_of_line}
-use Rattle.hayro_ccitt.proofs.Names.{Gap, gap_behind_row, behind_eols, misses_eol, eols_by, eols_here, is_over, limit_met}
+use Rattle.hayro_ccitt.proofs.Names.{DecodeSettings, EncodingMode, Group4, Bits, BitsAt, here, Context, Held}
+use Rattle.hayro_ccitt.proofs.Names.{TakesOneRow, repairs_with, repairs_behind, with_row_taken, Line}
+use Rattle.hayro_ccitt.proofs.Names.{line_here, row_of_line}
+use Rattle.hayro_ccitt.proofs.Names.{Gap, gap_behind_row, misses_eol, eols_by, eols_here, is_over, limit_met}
 use Rattle.hayro_ccitt.specs.PlainReading.{eols_of_end}
-use Rattle.hayro_ccitt.proofs.Names.{aligned, Row, changes, pixels, found_here}
-use Rattle.hayro_ccitt.proofs.Names.{Stand, AtLine, BehindRow, ReadsNext, ReachesNextLine, seen}
+use Rattle.hayro_ccitt.proofs.Names.{Row, changes, pixels, found_here}
+use Rattle.hayro_ccitt.proofs.Names.{Stand, AtLine, BehindRow, ReadsNext, seen}
 use Rattle.hayro_ccitt.proofs.Names.{StandsAtLine, StandsBehindRow, ReaderStands, DamageIsCounted, MissesAreCounted}
 use Rattle.hayro_ccitt.proofs.Names.{MissesBehindRow}
 use Rattle.hayro_ccitt.proofs.Names.{Misses, MissIsTold, WorkIsPaid, PaidAtLine, PaidBehindRow, IsPaid, IsStanding, missed_before}
-use Rattle.hayro_ccitt.proofs.Names.{cut_since, damage_since, failed_at, tag_tests, looked_ahead}
+use Rattle.hayro_ccitt.proofs.Names.{failed_at, tag_tests, looked_ahead}
 use Rattle.hayro_ccitt.specs.declared.row_reader.RowState.{RowState}
 use Rattle.hayro_ccitt.proofs.Names.{Group3_1D, Group3_2D, at_end, ne_eqb, ◌<◌, ◌≢◌}
 use Rattle.hayro_ccitt.proofs.Names.{after_eol, append_assoc, drop-drop, length-append, tagged_eols}
@@ -27,10 +27,9 @@ use Rattle.hayro_ccitt.proofs.BitReading.PlainEols.{single_tagged_eol}
 use Rattle.hayro_ccitt.proofs.EncodedPictures.PicturesT4.{eol_stands, one_eol}
 use Rattle.std.proofs.Math.Seq.{drop-append_seam}
 use Rattle.hayro_ccitt.proofs.PixelRows.ChangesAndPixels.{changes-pixels}
-use Rattle.hayro_ccitt.proofs.Readings.RowByRow.{IsRead, comes_to_line, gap_stands, is_read, miss_told, misses_passed, reads_on}
+use Rattle.hayro_ccitt.proofs.Readings.RowByRow.{IsRead, gap_stands, is_read, miss_told, misses_passed, reads_on}
 use Rattle.hayro_ccitt.proofs.Readings.RowByRow.{reader_fails_at_line}
 use Rattle.hayro_ccitt.proofs.Work.CallsPaid.{gap_paid}
-use Rattle.fax_bits.specs.declared.codes.Color.{Color}
 
 -- ---- A gap at which nothing is missed, and the line after it
 
@@ -111,29 +110,7 @@ module _ (from : ℕ) (rows : RowState) (ctx : Context) (at : BitsAt) (stands : 
     after_at = record { bits = bits; place = end }
 
     reads_line : ReadsNext (seen mid mid_ctx mid_at) (seen after after_ctx after_at) (Ok true)
-    reads_line =
-        let start : place ≡ length bits - length line = omega (arith, within, length-drop place bits) in
-        let none : None ≡ damage_since new.repairs held.repairs.rows = sym (cond-true (eqb new.repairs.rows held.repairs.rows)
-        None (Some new.repairs.fault) (eq-eqb new.repairs.rows held.repairs.rows (ap (λ (r : Repairs). r.rows) undamaged))) in
-        let uncut : false ≡ cut_since new.repairs held.repairs.cut =
-        sym (ap not (eq-eqb new.repairs.cut held.repairs.cut (ap (λ (r : Repairs). r.cut) undamaged))) in
-        record {
-          settings = read.settings_are;
-          bits = refl;
-          counts = omega (arith, least);
-          more = λ e. (refl, read.more, read.within);
-          row = λ e. read.row;
-          line_start = λ e. start ∙ read.line_start;
-          place = λ e. omega (arith, ends, length-drop end bits, read.row_end);
-          damage = λ e. none ∙ read.damage;
-          cut = λ e. uncut ∙ read.cut stands.1.few_cut;
-          end = λ e. cc;
-          error = tt;
-          fault_start = λ unended. tt;
-          missed = told;
-          last = λ none. absurd (none refl);
-          last_start = λ e. cc;
-        }
+    reads_line = grind (arith, common_steps, length-drop, cond-true, eq-eqb, place, bits, line, held, settings, read, told)
 
     -- the row is the next one of the plain reading
     pub reads_again : ReadsNext (seen rows ctx at) (seen after after_ctx after_at) (Ok true)
@@ -144,33 +121,7 @@ module _ (from : ℕ) (rows : RowState) (ctx : Context) (at : BitsAt) (stands : 
         × WorkIsPaid from BehindRow s bits new end last × MissIsTold BehindRow s bits new.taken None
 
     standing : Standing settings
-    standing =
-        let taken = takes.taken in (
-          read.stands,
-          record {
-            few = read.few stands.1.few;
-            counted = read.counted stands.1.counted;
-            few_cut = read.few_cut stands.1.few_cut;
-            cut = read.cut_counted stands.1.few_cut stands.1.cut;
-            misses = read.misses counted;
-          },
-          record {
-            words = omega (arith, stands.2.words, counts, read.words, least);
-            paid = record {
-              before = held;
-              start = line;
-              ticks_before = now;
-              at_line = line_paid;
-              kept = ap (λ (h : Held). h.has_eols) taken.held;
-              row_is = taken.is ∙ ap {B = Result (Row × Bits) DecodeError} (λ (r : Row). Ok (r, drop end bits))
-                  (sym (ap (λ (h : Held). h.reference) taken.held));
-              line = most;
-              stored = stored;
-              short = short;
-            };
-          },
-          tt,
-        )
+    standing = grind (arith, common_steps, read, counted, misses, held, line, at_line, line_paid, bits, most)
 
     -- and the reading is behind it
     pub stands_again : IsStanding from after after_ctx after_at
@@ -303,10 +254,7 @@ module _ (from : ℕ) (rows : RowState) (ctx : Context) (at : BitsAt) (stands : 
   within_place = line_within settings_now sought ctx.held.reference lines at next follow passes
 
   eols_are : eols_here settings_now (here at) ≡ (cond sought 1 0, line_bits ++ rest)
-  eols_are =
-      ap (eols_here settings_now) starts
-      ∙ eols_counted settings_now.encoding sought settings_now.end_of_block (line_bits ++ rest) (white_is.no_eol rest)
-      (λ e. white_is.no_tag e rest)
+  eols_are = grind (arith, common_steps, settings_now, starts, eols_counted, sought, line_bits, rest, white_is)
 
   none_misses : misses_eol settings_now ctx.held.taken sought (here at) ≡ false
   none_misses = sought_there sought _ _ (eols_here settings_now (here at)) (line_bits ++ rest) eols_are
@@ -316,10 +264,19 @@ module _ (from : ℕ) (rows : RowState) (ctx : Context) (at : BitsAt) (stands : 
 
   gap_said : gap_behind_row settings_now ctx.held.taken sought (here at) ≡ Gap.line_at sought (drop place at.bits)
   gap_said =
-      cond-false (misses_eol settings_now ctx.held.taken sought (here at)) _ _ none_misses
-      ∙ ap (behind_eols settings_now ctx.held.taken sought) eols_are
-      ∙ cond-false (is_over settings_now ctx.held.taken (cond sought 1 0, line_bits ++ rest)) (Gap.over (Ok (line_bits ++ rest)))
-      (Gap.line_at sought (line_bits ++ rest)) goes_on ∙ ap (Gap.line_at sought) (sym line_there)
+      grind (
+        arith,
+        common_steps,
+        cond-false,
+        settings_now,
+        sought,
+        none_misses,
+        eols_are,
+        line_bits,
+        rest,
+        goes_on,
+        line_there,
+      )
 
   kept_repairs : ctx.held.repairs ≡ repairs_behind ctx.held (here at)
   kept_repairs = grind (arith, common_steps, none_misses)
@@ -330,23 +287,14 @@ module _ (from : ℕ) (rows : RowState) (ctx : Context) (at : BitsAt) (stands : 
 
   line_read : (strict : Bool)
       → line_here (record settings_now { strict = strict }) ctx.held.reference (drop place at.bits) ≡ Line.whole white rest
-  line_read strict =
-      ap (line_here (record settings_now { strict = strict }) ctx.held.reference) line_there
-      ∙ ap (λ (r : Row). line_by settings_now.encoding strict settings_now.columns r (line_bits ++ rest))
-      (follow.white) ∙ white_is.row strict rest
+  line_read strict = grind (arith, common_steps, settings_now, line_there, line_bits, rest, white_is)
 
   few_words : length (found_here settings_now ctx.held.reference (drop place at.bits)) ≤ 2
-  few_words =
-      let here_too = ap (λ (b : Bits). length (found_here settings_now ctx.held.reference b)) line_there
-      ∙ ap (λ (r : Row). length (found_here settings_now r (line_bits ++ rest))) (follow.white) in
-      omega (arith, here_too, white_is.words settings_now.strict rest)
+  few_words = grind (arith, common_steps, settings_now, line_there, line_bits, rest, white_is)
 
   row_read : row_of_line settings_now sought (drop place at.bits) (line_here settings_now ctx.held.reference (drop place at.bits))
       ≡ Ok (white, rest)
-  row_read =
-      ap (row_of_line settings_now sought (drop place at.bits)) (line_read settings_now.strict)
-      ∙ ap {B = Result (Row × Bits) DecodeError} (λ (b : Bool). Ok (white, cond b (aligned rest) rest))
-      (follow.anywhere)
+  row_read = grind (arith, common_steps, settings_now, sought, place, line_read, white, rest)
 
   abbrev one_row_more : Held
   one_row_more = record ctx.held { taken = ctx.held.taken + 1 }
@@ -356,35 +304,13 @@ module _ (from : ℕ) (rows : RowState) (ctx : Context) (at : BitsAt) (stands : 
         (line_here (record settings_now { strict = true }) ctx.held.reference (drop place at.bits)) ctx.held.taken
         ctx.held.repairs;
   }
-  held_is =
-      let behind : StandsBehindRow settings_now at.bits ctx.held (here at) =
-      subst (λ (s : Stand). ReaderStands s settings_now at.bits ctx.held at.place) behind_row stands.0 in
-      ap (λ (r : Row). record one_row_more { reference = r }) (follow.white)
-      ∙ ap (λ (f : Row). record one_row_more { reference = white; front = f }) (ap (λ (h : Held). h.front) behind.held_is)
-      ∙ ap (λ (k : Color). record one_row_more { reference = white; front = []; color = k })
-      (ap (λ (h : Held). h.color) behind.held_is)
-      ∙ ap (λ (l : Line). record (with_row_taken ctx.held white) {
-        repairs = repairs_with l (Line.whole white rest) ctx.held.taken ctx.held.repairs;
-      }) (sym (line_read settings_now.strict))
-      ∙ ap (λ (l : Line). record (with_row_taken ctx.held white) {
-        repairs = repairs_with (line_here settings_now ctx.held.reference (drop place at.bits)) l ctx.held.taken ctx.held.repairs;
-      }) (sym (line_read true))
+  held_is = grind (arith, common_steps, settings_now, one_row_more, white, rest, line_read, place)
 
   takes_white : TakesOneRow (line_here settings_now ctx.held.reference (drop place at.bits))
       (line_here (record settings_now { strict = true }) ctx.held.reference (drop place at.bits)) (row_of_line settings_now
       sought (drop place at.bits) (line_here settings_now ctx.held.reference (drop place at.bits))) ctx.held one_row_more (Ok tt)
       rest
-  takes_white = record {
-    taken = record {
-      taken = white;
-      is = row_read;
-      held = held_is;
-    };
-    fault = tt;
-    held = tt;
-    memory = λ e. cc;
-    not_refused = λ e. cc;
-  }
+  takes_white = grind (arith, common_steps, white, row_read, held, held_is)
 
   found_least : ctx.ticks + length (found_here settings_now ctx.held.reference (drop place at.bits)) ≤ ctx.ticks + 2
   found_least = omega (arith, few_words)

@@ -29,12 +29,7 @@ eol_among seen more fill behind e within =
     let eol : Bits = fill ++ replicate 11 false ++ true ∷ [] in
     let whole : eol ++ behind ≡ seen ++ more =
     append_assoc (fill ++ replicate 11 false) (true ∷ []) behind ∙ sym e in
-    let long : length eol ≤ length seen = omega (
-      arith,
-      within,
-      length-append (fill ++ replicate 11 false) (true ∷ []),
-      length-append fill (replicate 11 false),
-    ) in
+    let long : length eol ≤ length seen = grind (arith, common_steps, length-append) in
     let (others, is) = prefix_more eol behind seen more whole long in
     (others, is ∙ append_assoc (fill ++ replicate 11 false) (true ∷ []) others)
 
@@ -42,22 +37,8 @@ eol_among seen more fill behind e within =
 words_before_eol : (settings : DecodeSettings) (reference : Row) (here more fill behind : Bits)
     → here ++ more ≡ fill ++ replicate 11 false ++ true ∷ behind
     → length (found_here settings reference here) ≤ length fill + 12
-words_before_eol settings reference here more fill behind e = elim (cases_lt (length here) (length fill + 12)) [
-  | inl lt ↦ omega (
-    arith,
-    lt,
-    found_within settings.encoding settings.strict settings.columns reference here,
-  )
-  | inr ge ↦
-      let (others, is) = eol_among here more fill behind e (omega (arith, ge)) in
-      omega (
-        arith,
-        found_before_eol settings.encoding settings.strict settings.columns reference here fill others is,
-        ap length is,
-        length-append (fill ++ replicate 11 false) (true ∷ others),
-        length-append fill (replicate 11 false),
-      )
-]
+words_before_eol settings reference here more fill behind e =
+    grind (arith, common_steps, cases_lt, found_within, found_before_eol, length-append, eol_among)
 
 abbrev row_of : Result (Row × Bits) DecodeError → Row
 row_of (Ok x) = x.0

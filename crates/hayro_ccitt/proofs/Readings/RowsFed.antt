@@ -18,7 +18,9 @@ use Rattle.hayro_ccitt.specs.GapsContinued.{gap_is_settled}
 use Rattle.hayro_ccitt.specs.RowsTried.{CanCome, IsLeft, PassesGap, PassesGapHere, ReadsRow, TriesRow, rows_behind_line}
 use Rattle.hayro_ccitt.specs.RowFeeds.{LieIn, came, is_left, line_answer, some_line}
 use Rattle.hayro_ccitt.proofs.Readings.LinesRead.{line_stays, line_is_next}
-use Rattle.fax_bits.specs.declared.error.DecodeError.TheVariants.{UnexpectedEof, InvalidCode, Overflow, OutOfMemory, Refused}
+use Rattle.fax_bits.specs.declared.error.DecodeError.TheVariants.{InvalidCode}
+use Rattle.hayro_ccitt.proofs.Names.{no_memory}
+use Rattle.fax_bits.proofs.ErrorKinds.{by_kind, no_memory_is}
 
 -- ---- Bits that lie in the whole data
 
@@ -178,20 +180,12 @@ said_code (Err error) r is code = grind (arith, common_steps)
 pub left_is : (r : Result Bool DecodeError) → is_left r ≡ true → IsLeft r
 left_is (Ok true) e = absurd cc
 left_is (Ok false) e = refl
-left_is (Err UnexpectedEof) e = absurd cc
-left_is (Err InvalidCode) e = absurd cc
-left_is (Err Overflow) e = absurd cc
-left_is (Err OutOfMemory) e = refl
-left_is (Err Refused) e = absurd cc
+left_is (Err error) e = no_memory_is error e
 
 pub left_not : (r : Result Bool DecodeError) → is_left r ≡ false → IsLeft r → ⊥
 left_not (Ok true) e left = absurd cc
 left_not (Ok false) e left = absurd cc
-left_not (Err UnexpectedEof) e left = absurd cc
-left_not (Err InvalidCode) e left = absurd cc
-left_not (Err Overflow) e left = absurd cc
-left_not (Err OutOfMemory) e left = absurd cc
-left_not (Err Refused) e left = absurd cc
+left_not (Err error) e left = false≢true (sym e ∙ ap no_memory left)
 
 came_of : (r : Result Bool DecodeError) → is_left r ≡ false → row_came (line_answer r) ≡ r
 came_of (Ok true) e = refl
@@ -224,16 +218,12 @@ module _ (is_last : Bool) (line_start : ℕ) (rows kept : RowState) (old new : C
       → ReadsRow old new (line_answer r) (here before ++ lie.more) (here after ++ lie.more)
   reads_here (Ok true) is e = tries.read is lie.more lie.can_come
   reads_here (Ok false) is e = absurd cc
-  reads_here (Err UnexpectedEof) is e = fails UnexpectedEof is tt
-  reads_here (Err InvalidCode) is e = fails InvalidCode is tt
-  reads_here (Err Overflow) is e = fails Overflow is tt
-  reads_here (Err OutOfMemory) is e = absurd cc
-  reads_here (Err Refused) is e = absurd (tries.not_refused is)
+  reads_here (Err error) is e = by_kind (λ (x : DecodeError). answer ≡ Err x → no_memory x ≡ false
+      → ReadsRow old new (Err x) (here before ++ lie.more) (here after ++ lie.more))
+      (λ x fault is e. fails x is fault) (λ is e. absurd cc) (λ is e. absurd (tries.not_refused is)) error is e
 
   line_reads : ReadsRow old new (line_answer answer) (drop line_start whole) (drop (dropped + after.place) whole)
-  line_reads = subst (λ (b : Bits). ReadsRow old new (line_answer answer) b (drop (dropped + after.place) whole))
-      (sym line_there)
-      (subst (ReadsRow old new (line_answer answer) (here before ++ lie.more)) (sym line_behind) (reads_here answer refl other))
+  line_reads = grind (arith, common_steps, line_there, line_behind, reads_here)
 
   line_begins : line_start ≤ length whole
   line_begins = omega (arith, starts, place_within lie before.place begun)

@@ -1,16 +1,16 @@
 -- The rows that calls read one after another, of data in pieces, are those that the plain reading has next.
 use Rattle.hayro_ccitt.proofs.Names.{common_steps}
-use Rattle.hayro_ccitt.proofs.Names.{◌≡◌, ◌≢◌, ◌∙◌, ◌∷◌, [], refl, sym, ap, subst, ℕ, List, Ok, Err, changes, meaning_after}
-use Rattle.hayro_ccitt.proofs.Names.{◌+◌, ◌<◌, ◌≤◌, suc, inl, inr, Result, None, DecodeError, DecodeSettings, arith, Row, plain}
+use Rattle.hayro_ccitt.proofs.Names.{◌≡◌, ◌≢◌, ◌∙◌, ◌∷◌, [], refl, sym, ap, subst, ℕ, List, Ok, Err, meaning_after}
+use Rattle.hayro_ccitt.proofs.Names.{◌+◌, ◌<◌, ◌≤◌, inl, inr, Result, None, DecodeError, DecodeSettings, arith, plain}
 use Rattle.hayro_ccitt.proofs.Names.{Bits, SinkState, IsFault, HasEnded, HasFailed, OutOfMemory, Refused, ended}
-use Rattle.hayro_ccitt.proofs.Names.{drop, get_or, length, take}
+use Rattle.hayro_ccitt.proofs.Names.{drop, length, take}
 use Rattle.std.specs.Prelude.{Bool, IfErr}
-use Rattle.fax_bits.specs.declared.error.DecodeError.TheVariants.{InvalidCode, Overflow, UnexpectedEof}
 use Rattle.std.proofs.lemmas.List.{drop_more}
 use Rattle.hayro_ccitt.specs.RowFeeds.{ComesToNoRow, Feeding, FeedsNext, FeedsRows, IsFeedOf, RefusesRow}
 use Rattle.hayro_ccitt.specs.RowFeeds.{last_left, rows_left}
 use Rattle.hayro_ccitt.specs.RowsOfFeeds.{PassesNextRows, PassesPlainRows, rows_of, sink_state}
 use Rattle.hayro_ccitt.specs.declared.row_feed.Fed.{Fed}
+use Rattle.fax_bits.proofs.ErrorKinds.{by_kind, fault_not_memory}
 
 -- calls have read these rows, each one
 record HaveRead (whole : Bits) (old last : Feeding) (rows : List Feeding) : Type 0 where
@@ -51,10 +51,7 @@ have_read whole tried old (new ∷ rows) unended stands reads =
       settings = rest.settings ∙ next.settings;
       taken = omega (arith, rest.taken, more);
       within = λ some. within_rows whole old rows rest next.settings within;
-      are = ap (λ (l : List Row). new.ctx.held.reference ∷ l)
-          (rest.are ∙ same_rows whole (length rows) next.settings (omega (arith, more)))
-          ∙ ap (λ (r : Row). r ∷ take (length rows) (drop (old.ctx.held.taken + 1) plain_rows)) (next.row refl)
-          ∙ ap (take (suc (length rows))) (sym (drop_more plain_rows old.ctx.held.taken [] index));
+      are = grind (arith, common_steps, same_rows, drop_more, next.row refl);
     }
 
 -- ---- A call that reads no row
@@ -72,11 +69,9 @@ module _ {whole : Bits} {tried : ℕ} {old new : Feeding} where
   none_taken (Ok Fed.Row) no_row next = absurd (no_row refl)
   none_taken (Ok Fed.NeedsMore) no_row next = (next.none refl).taken
   none_taken (Ok Fed.End) no_row next = let (over, taken, has) = (next.end refl).end refl in taken
-  none_taken (Err UnexpectedEof) no_row next = (failed UnexpectedEof (λ e. cc) next).0
-  none_taken (Err InvalidCode) no_row next = (failed InvalidCode (λ e. cc) next).0
-  none_taken (Err Overflow) no_row next = (failed Overflow (λ e. cc) next).0
-  none_taken (Err OutOfMemory) no_row next = (next.none refl).taken
-  none_taken (Err Refused) no_row next = (failed Refused (λ e. cc) next).0
+  none_taken (Err error) no_row next = by_kind (λ (e : DecodeError). FeedsNext whole tried old new (Err e)
+      → new.ctx.held.taken ≡ old.ctx.held.taken) (λ e fault next. (failed e (fault_not_memory e fault) next).0)
+      (λ next. (next.none refl).taken) (λ next. (failed Refused (λ e. cc) next).0) error next
 
   has_ended : (answer : Result Fed DecodeError) → FeedsNext whole tried old new answer → answer ≡ Ok Fed.End
       → HasEnded old.ctx.held.settings whole new.ctx.held.taken (new.dropped + new.place)
@@ -85,11 +80,7 @@ module _ {whole : Bits} {tried : ℕ} {old new : Feeding} where
   has_failed : (answer : Result Fed DecodeError) → FeedsNext whole tried old new answer
       → IfErr answer (λ e. IsFault e → HasFailed old.ctx.held.settings whole new.ctx.held.taken e)
   has_failed (Ok fed) next = tt
-  has_failed (Err UnexpectedEof) next = λ fault. (failed UnexpectedEof (λ e. cc) next).1
-  has_failed (Err InvalidCode) next = λ fault. (failed InvalidCode (λ e. cc) next).1
-  has_failed (Err Overflow) next = λ fault. (failed Overflow (λ e. cc) next).1
-  has_failed (Err OutOfMemory) next = λ fault. absurd fault
-  has_failed (Err Refused) next = λ fault. absurd fault
+  has_failed (Err e) next = λ fault. (failed e (fault_not_memory e fault) next).1
 
 -- a refusal is no fault
 refusal_is_no_fault : (P : DecodeError → Type 0) (answer : Result Fed DecodeError) → answer ≡ Err Refused
@@ -128,30 +119,7 @@ module _ {M : Type 0} (whole : Bits) (step : M → List ℕ → M) (before after
   -- or the sink refused the row that is next
   passed_to_refusal : (answer : Result Fed DecodeError) → RefusesRow after mid new answer
       → PassesNextRows whole step before after old new answer
-  passed_to_refusal answer ends =
-      let next = ends.call.reads whole read.tried read.unended read.stands in
-      let row = next.row refl in
-      let (more_come, more, among) = row.more refl in
-      let rows_there = subst (λ (s : DecodeSettings). new.ctx.held.taken ≤ length (plain s whole).rows) read.settings among in
-      let at_same = ap (λ (s : DecodeSettings). get_or (plain s whole).rows mid.ctx.held.taken []) read.settings
-      ∙ ap (λ (n : ℕ). get_or (rows_of old whole) n []) read.taken in
-      record {
-        passed = length rows;
-        within = λ some. omega (arith, read.taken, read.within some);
-        meaning = passed_rows;
-        taken = λ other. absurd (other ends.answer_is);
-        refused = λ is. (
-          omega (arith, more, read.taken),
-          rows_there,
-          subst (λ (r : Row). after.refuses (changes r))
-              (row.row refl ∙ at_same) ends.row,
-        );
-        waits = λ e. let never = sym ends.answer_is ∙ e in absurd cc;
-        end = λ e. let never = sym ends.answer_is ∙ e in absurd cc;
-        fault = refusal_is_no_fault _ answer ends.answer_is;
-        tried = read.tried + next.extra;
-        stands = next.stands;
-      }
+  passed_to_refusal answer ends = grind (arith, common_steps, passed_rows, refusal_is_no_fault)
 
 pub passes_plain_rows : {S M : Type 0} (meaning : S → M) (has_refused : S → Bool) (refuses : S → List ℕ → Type 0)
     → PassesPlainRows meaning has_refused refuses

@@ -1,7 +1,7 @@
 -- Rows of data in pieces that are passed to a sink.
 use Rattle.hayro_ccitt.proofs.Names.{common_steps}
 use Rattle.hayro_ccitt.proofs.Names.{◌≡◌, ◌∙◌, ◌++◌, ◌∷◌, [], refl, sym, ap, subst, ℕ, List, Ok, Err, changes, meaning_after}
-use Rattle.hayro_ccitt.proofs.Names.{◌+◌, ◌<◌, ◌≢◌, inl, inr, Bool, true, false, Result, DecodeError, arith}
+use Rattle.hayro_ccitt.proofs.Names.{◌+◌, ◌<◌, ◌≢◌, Bool, true, false, Result, DecodeError, arith}
 use Rattle.std.specs.Prelude.{◌^◌}
 use Rattle.hayro_ccitt.specs.RowFeeds.{CountsRow, Feeding, FeedsRow, FeedsRows, KeepsBits, PassesRows, ReadsInFeed, fed_row}
 use Rattle.hayro_ccitt.specs.RowFeeds.{PushesRows, last_left, rows_left}
@@ -86,10 +86,7 @@ pushed_on {step = step} call means flag pushes = record {
     last = pushes.passes.last;
     meaning = pushes.passes.meaning ∙ ap (λ m. meaning_after step m (rows_left pushes.passes.rows)) means;
   };
-  ends = elim pushes.ends [
-    | inl none ↦ inl (record { call = none.call; no_row = none.no_row; flag = none.flag ∙ flag })
-    | inr refused ↦ inr refused
-  ];
+  ends = grind (arith, common_steps);
   keeps = keeps_on call.keeps pushes.keeps;
   settings = pushes.settings ∙ call.counts.settings;
 }

@@ -3,13 +3,13 @@ use Rattle.hayro_ccitt.proofs.Names.{common_steps}
 use Rattle.hayro_ccitt.proofs.Names.{◌≡◌, ◌≢◌, ◌<◌, ◌≤◌, ◌+◌, ◌-◌, ℕ, true, List, [], length, take}
 use Rattle.hayro_ccitt.proofs.Names.{get_or, sum_by, None, Some, Result, Ok, Err, IfOk, IfErr, refl, sym, ap}
 use Rattle.hayro_ccitt.proofs.Names.{◌∙◌, subst, arith, DecodeError, OutOfMemory, Refused, DecodeSettings, IsFault}
-use Rattle.hayro_ccitt.proofs.Names.{OnAnswer, meaning_after, Bits, BitsAt, here, Context, Held, Repairs, SinkState, StopsShort}
+use Rattle.hayro_ccitt.proofs.Names.{OnAnswer, meaning_after, Bits, BitsAt, here, Context, Held, SinkState, StopsShort}
 use Rattle.hayro_ccitt.proofs.Names.{DecodesRows, leaving, plain, lines_of, end_of}
 use Rattle.hayro_ccitt.proofs.Names.{cuts_by_line}
 use Rattle.hayro_ccitt.proofs.Names.{repairs_by_line, misses_by_line, words_of}
 use Rattle.hayro_ccitt.proofs.Names.{most_counted, Row, changes, is_some, ReadsNext}
 use Rattle.hayro_ccitt.proofs.Names.{map-append, fold-append}
-use Rattle.hayro_ccitt.proofs.Names.{IsStanding, IsWhole, Misses, MissesBehindRow, MissIsTold, Stand, AtLine, BehindRow}
+use Rattle.hayro_ccitt.proofs.Names.{IsStanding, IsWhole, MissesBehindRow, MissIsTold, Stand, AtLine, BehindRow}
 use Rattle.hayro_ccitt.proofs.Names.{AtEnd, AtFault, ended, missed_before, seen}
 use Rattle.hayro_ccitt.specs.declared.row_reader.RowState.{RowState}
 use Rattle.hayro_ccitt.proofs.DrawingLines.CountedLines.{on_answer_weaker}
@@ -146,36 +146,18 @@ module _ {M : Type 0} {step : M → List ℕ → M} {before after : SinkState M}
       let bits = reader.bits in
       let (unended, more, within) = reads.more refl in
       let index : last.taken ≡ ctx.held.taken = omega (arith, ap (λ (h : Held). h.taken) back, more) in
-      let misses : MissesBehindRow settings bits new.held = subst (λ (b : Bits). MissesBehindRow settings b new.held) reads.bits
-      (subst (λ (s : DecodeSettings). MissesBehindRow s behind.bits new.held) reads.settings
-      (subst (λ (s : Stand). Misses s new.held.settings behind.bits new.held) is still.1.misses)) in
+      let misses : MissesBehindRow settings bits new.held = grind (arith, common_steps) in
       let there : new.held.taken - 1 ≡ ctx.held.taken = omega (arith, more) in
       record {
         few = omega (arith, index, more, within);
         meaning = means ∙ ap (λ (n : ℕ). meaning_after step before.meaning (take n (plain settings bits).rows)) (sym index);
-        short = record {
-          memory = λ e. cc;
-          refused = λ e. omega (arith, index, more, within);
-          refused_row = λ e. subst (λ (r : Row). after.refuses (changes r))
-              (reads.row refl ∙ ap (λ (n : ℕ). get_or (plain settings bits).rows n []) (sym index)) row;
-          flag = λ e. refused;
-          no_flag = λ e. absurd (e refl);
-        };
+        short = grind (arith, common_steps, reads.row refl);
         whole = λ fault. absurd fault;
         repaired = ap (λ (h : Held). h.repairs.rows) back ∙ stands.1.counted
             ∙ ap (λ (n : ℕ). sum_by length (take n (repairs_by_line settings bits))) (sym index);
         cut = ap (λ (h : Held). h.repairs.cut) back ∙ stands.1.cut
             ∙ ap (λ (n : ℕ). sum_by length (take n (cuts_by_line settings bits))) (sym index);
-        missed = ap (λ (h : Held). h.repairs.missed) back ∙ ap (λ (r : Repairs). r.missed) misses.repairs_are
-            ∙ repairs_with_missed misses.line misses.strict (new.held.taken - 1) misses.before ∙ misses.counted.counted
-            ∙ ap (λ (n : ℕ). sum_by length (take n (misses_by_line settings bits))) (there ∙ sym index);
-        words = omega (
-          arith,
-          stands.2.words,
-          reads.counts,
-          ap (λ (n : ℕ). sum_by length (take n (words_of settings bits))) index,
-        );
-        most = subst (λ (b : Bits). new.ticks ≤ from + most_counted settings.encoding (length b)) reads.bits
-            (subst (λ (s : DecodeSettings). new.ticks ≤ from + most_counted s.encoding (length behind.bits)) reads.settings
-            (within_most from read.stand new.held.settings behind.bits new.held behind.place new.ticks still.0 still.2.paid));
+        missed = grind (arith, common_steps, repairs_with_missed);
+        words = grind (arith, common_steps);
+        most = grind (arith, common_steps, within_most);
       }

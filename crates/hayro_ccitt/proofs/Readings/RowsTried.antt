@@ -1,16 +1,18 @@
 -- A row that no data that follows can change, and a line that is left.
 use Rattle.hayro_ccitt.proofs.Names.{common_steps}
-use Rattle.hayro_ccitt.proofs.Names.{◌≡◌, ◌+◌, ◌*◌, ◌≤◌, ℕ, Bool, true, false, [], ◌++◌, length, Result, Ok, Err, OnOk, refl}
-use Rattle.hayro_ccitt.proofs.Names.{sym, ap}
+use Rattle.hayro_ccitt.proofs.Names.{◌≡◌, ◌≤◌, ℕ, Bool, true, false, [], ◌++◌, length, Result, Ok, Err, OnOk, refl}
+use Rattle.hayro_ccitt.proofs.Names.{ap}
 use Rattle.hayro_ccitt.proofs.Names.{subst, DecodeError, IsFault, OnAnswer, DrawsLine, Row, Bits, Line, Held, Context, Repairs}
 use Rattle.hayro_ccitt.proofs.Names.{AreWholeBytes}
-use Rattle.hayro_ccitt.proofs.Names.{TakesOneRow, repairs_with, line_here, row_of_line, front_of, changes}
-use Rattle.hayro_ccitt.proofs.Names.{append-nil, List, IfErr, inl, inr, ◌⊎◌, BitsAt, here, row_came, ◌≢◌, arith, redrawn, White}
+use Rattle.hayro_ccitt.proofs.Names.{TakesOneRow, repairs_with, line_here, front_of}
+use Rattle.hayro_ccitt.proofs.Names.{append-nil, IfErr, inl, inr, ◌⊎◌, BitsAt, here, row_came, ◌≢◌, arith, redrawn, White}
 use Rattle.fax_reading.proofs.Continuations.ShortLines.{line_stays}
 use Rattle.hayro_ccitt.proofs.DrawingLines.FullRows.{IsFull}
 use Rattle.hayro_ccitt.specs.Continuations.{StaysAsRead, is_short, line_before, row_continued}
 use Rattle.hayro_ccitt.specs.RowsTried.{ReadsRow, CanCome, TriesRow, falls_short, lacks_memory, needs_more}
-use Rattle.fax_bits.specs.declared.error.DecodeError.TheVariants.{UnexpectedEof, InvalidCode, Overflow, OutOfMemory, Refused}
+use Rattle.fax_bits.specs.declared.error.DecodeError.TheVariants.{OutOfMemory}
+use Rattle.hayro_ccitt.proofs.Names.{◌∙◌, sym, false≢true, kind_of, no_memory}
+use Rattle.fax_bits.proofs.ErrorKinds.{at_fault_kind, no_memory_is}
 
 -- a line that was drawn to its end is full
 pub drawn_full : (columns : ℕ) (line : Line) (answer : Result (Unit {0}) DecodeError) (front : Row) (rest : Bits)
@@ -23,11 +25,7 @@ pub isnt_short : (line : Line) (answer : Result (Unit {0}) DecodeError) (front :
     → DrawsLine line answer front rest
     → falls_short answer ≡ false → OnAnswer answer (is_short line ≡ false)
 isnt_short line (Ok x) front rest drawn other = ap is_short drawn
-isnt_short line (Err UnexpectedEof) front rest drawn other = absurd cc
-isnt_short line (Err InvalidCode) front rest drawn other = λ fault. ap is_short drawn
-isnt_short line (Err Overflow) front rest drawn other = λ fault. ap is_short drawn
-isnt_short line (Err OutOfMemory) front rest drawn other = λ fault. absurd fault
-isnt_short line (Err Refused) front rest drawn other = λ fault. absurd fault
+isnt_short line (Err e) front rest drawn other = λ fault. ap is_short (at_fault_kind (kind_of e) _ _ _ fault drawn) ∙ other
 
 -- a line with more bits behind it has the same front, is as broken, and counts as the same damage
 pub same_front : (more : Bits) (line : Line) → front_of (line_before more line) ≡ front_of line
@@ -51,33 +49,7 @@ row_continues more line strict row old new (Err e) rest takes = grind (arith, co
 pub row_goes_on : (old new : Context) (answer : Result (Unit {0}) DecodeError) (start rest more : Bits)
     → StaysAsRead old.held.settings old.held.reference start → AreWholeBytes more → ReadsRow old new answer start rest
     → ReadsRow old new answer (start ++ more) (rest ++ more)
-row_goes_on old new answer start rest more stays bytes read =
-    let settings = old.held.settings in
-    let reference = old.held.reference in
-    let has_eols = old.held.has_eols in
-    let strictly = record settings { strict = true } in
-    let line = line_here settings reference start in
-    let strict = line_here strictly reference start in
-    let found = stays.found more in
-    record {
-      row = subst (λ (l : Line). TakesOneRow l (line_here strictly reference (start ++ more)) (row_of_line settings has_eols
-          (start ++ more) (line_here settings reference (start ++ more))) old.held new.held answer (rest ++ more))
-          (sym (stays.line more))
-          (subst (λ (l : Line). TakesOneRow (line_before more line) l (row_of_line settings has_eols (start ++ more)
-          (line_here settings reference (start ++ more))) old.held new.held answer (rest ++ more)) (sym (stays.strict more))
-          (subst (λ (r : Result (Row × Bits) DecodeError). TakesOneRow (line_before more line) (line_before more strict) r
-          old.held new.held answer (rest ++ more)) (sym (stays.row has_eols more bytes)) (row_continues more line strict
-          (row_of_line settings has_eols start line) old.held new.held answer rest read.row)));
-      counts = read.counts;
-      at_least = subst (λ (words : List Bits). OnOk answer (old.ticks + length words ≤ new.ticks)) (sym found) read.at_least;
-      at_most = subst (λ (words : List Bits). new.ticks ≤ old.ticks + 4 * length words + 2 + length (changes reference))
-          (sym found)
-          read.at_most;
-      stored = subst (λ (words : List Bits). OnOk answer (length (changes new.held.reference) ≤ length words + 1)) (sym found)
-          read.stored;
-      width = read.width;
-      space = rw (stays.line more, same_front more (line_here settings reference start)) read.space;
-    }
+row_goes_on old new answer start rest more stays bytes read = grind (arith, common_steps, row_continues, same_front)
 
 -- nothing follows the last data
 pub nothing_follows : (old new : Context) (answer : Result (Unit {0}) DecodeError) (start rest more : Bits) → more ≡ []
@@ -144,11 +116,7 @@ module _ (is_last : Bool) (old new : Context) (before after : BitsAt) (line : Re
     at_most = read.at_most;
     space = read.space;
   }
-  tries (Err UnexpectedEof) enough read repairable same = failed UnexpectedEof (λ is. cc) read same
-  tries (Err InvalidCode) enough read repairable same = failed InvalidCode (λ is. cc) read same
-  tries (Err Overflow) enough read repairable same = failed Overflow (λ is. cc) read same
-  tries (Err OutOfMemory) enough read repairable same = absurd cc
-  tries (Err Refused) enough read repairable same = failed Refused (λ is. cc) read same
+  tries (Err e) enough read repairable same = failed e (λ is. false≢true (sym enough ∙ ap no_memory is)) read same
 
 -- a line whose row can't be stored is left
 pub leaves_row : (is_last : Bool) (old mid new : Context) (row : Result (Unit {0}) DecodeError) (before after : BitsAt)
@@ -157,8 +125,4 @@ pub leaves_row : (is_last : Bool) (old mid new : Context) (row : Result (Unit {0
     → new ≡ record mid { held = redrawn mid.held [] White; passed = 0; cut = false }
     → TriesRow is_last old new (Err OutOfMemory) before after
 leaves_row is_last old mid new (Ok x) before after rest read lacks frame = absurd cc
-leaves_row is_last old mid new (Err UnexpectedEof) before after rest read lacks frame = absurd cc
-leaves_row is_last old mid new (Err InvalidCode) before after rest read lacks frame = absurd cc
-leaves_row is_last old mid new (Err Overflow) before after rest read lacks frame = absurd cc
-leaves_row is_last old mid new (Err OutOfMemory) before after rest read lacks frame = grind (arith, common_steps)
-leaves_row is_last old mid new (Err Refused) before after rest read lacks frame = absurd cc
+leaves_row is_last old mid new (Err e) before after rest read lacks frame = grind (arith, common_steps, no_memory_is)

@@ -104,20 +104,7 @@ module _ {M : Type 0} {step : M → List ℕ → M} {lines : WhiteLines} {droppe
           mid = so_far;
           pass = subst (λ (m : M). PassWhite step lines dropped count (record { rows = rows; ctx = ctx; at = at; meaning = m })
               so_far) (sym start_is) pushed.pass;
-          ends = record {
-            reads = record {
-              follow = follow;
-              takes = subst (λ (r : RowState). TakesWhite lines (dropped + next.place) so_far.rows r so_far.ctx new next last)
-                  (sym kept_is) (subst (λ (x : Context). TakesWhite lines (dropped + next.place) so_far.rows
-                  (rows_behind (suc count) start_then rows) so_far.ctx x next last) (sym new_then)
-                  (subst (TakesWhite lines (dropped + next.place) so_far.rows (rows_behind (suc count) start_then rows) so_far.ctx
-                  (ctx_behind (suc count) ctx) next) (sym last_is) takes_more));
-            };
-            meaning = means;
-            is = is;
-            flag = flag;
-            row = row;
-          };
+          ends = grind (arith, common_steps, so_far, rows_behind, count, start_then, ctx_behind, takes_more);
         }
 
   -- none is next
@@ -128,16 +115,8 @@ module _ {M : Type 0} {step : M → List ℕ → M} {lines : WhiteLines} {droppe
     all_pushed kept_is new_is last_is = record {
       count = count;
       mid = so_far;
-      pass = subst (λ (m : M). PassWhite step lines dropped count
-          (record { rows = rows; ctx = ctx; at = at; meaning = m }) so_far)
-          (sym start_is) pushed.pass;
-      ends = (
-        ap (λ (r : RowState). record { rows = r; ctx = new; at = last; meaning = end.meaning }) kept_is
-            ∙ ap (λ (x : Context). record { rows = so_far.rows; ctx = x; at = last; meaning = end.meaning }) new_is
-            ∙ ap (λ (b : BitsAt). record { rows = so_far.rows; ctx = so_far.ctx; at = b; meaning = end.meaning }) last_is
-            ∙ ap (λ (m : M). record { rows = so_far.rows; ctx = so_far.ctx; at = next; meaning = m }) means,
-        flag,
-      );
+      pass = grind (arith, common_steps, count, so_far);
+      ends = grind (arith, common_steps, so_far);
     }
 
     pub some_pushed : (counted : ℕ) → counted ≡ most - left → left < most
@@ -154,13 +133,7 @@ module _ {M : Type 0} {step : M → List ℕ → M} {lines : WhiteLines} {droppe
           count = 0;
           mid = record { rows = rows; ctx = ctx; at = at; meaning = first.meaning };
           pass = refl;
-          ends = (
-            ap (λ (r : RowState). record { rows = r; ctx = new; at = last; meaning = end.meaning }) kept_is
-                ∙ ap (λ (x : Context). record { rows = rows; ctx = x; at = last; meaning = end.meaning }) new_is
-                ∙ ap (λ (b : BitsAt). record { rows = rows; ctx = ctx; at = b; meaning = end.meaning }) last_is
-                ∙ ap (λ (m : M). record { rows = rows; ctx = ctx; at = at; meaning = m }) (means ∙ unmoved ∙ sym start_is),
-            flag,
-          );
+          ends = grind (arith, common_steps);
         }
 
 -- no row was read

@@ -151,23 +151,10 @@ module _ (from : ℕ) (settings : DecodeSettings) (is : settings.encoding ≡ Gr
         begun = now;
         giving_up = 0;
         enough =
-            omega (
-              arith,
-              most_t6,
-              work,
-              ap tag_tests is,
-              looked_ahead_most settings.encoding line,
-              line_has_bits settings 0 last.has_eols bits line said,
-              length-drop place bits,
-            );
+            grind (arith, common_steps, most_t6, looked_ahead_most, line, line_has_bits, length-drop);
         sought = λ sought. absurd (false≢true (sym unsought ∙ sought));
         within = omega (arith, length-drop place bits);
-        paid = omega (
-          arith,
-          ap (λ (h : Held). length (changes h.reference)) frame,
-          changes_white settings.columns,
-          length-drop place bits,
-        );
+        paid = grind (arith, common_steps, changes_white, length-drop);
         short = omega (arith, ap (λ (h : Held). length (changes h.reference)) frame, changes_white settings.columns);
       }
   first_gap_paid (Err e) said over kept refused = omega (arith, most_t6, refused, looked_most bits)

@@ -1,6 +1,6 @@
 -- The lists of changes have no more room than the columns, and the bits that were read, account for.
 use Rattle.hayro_ccitt.proofs.Names.{common_steps}
-use Rattle.hayro_ccitt.proofs.Names.{◌≡◌, ℕ, suc, ◌+◌, ◌≤◌, Bool, true, false, cond, List, [], ◌∷◌, ◌++◌, length, ap, arith}
+use Rattle.hayro_ccitt.proofs.Names.{◌≡◌, ℕ, suc, ◌+◌, ◌≤◌, Bool, true, false, [], ◌∷◌, ◌++◌, length, ap, arith}
 use Rattle.hayro_ccitt.proofs.Names.{length-append, DecodeSettings, Bits, Row, Pen, changes}
 use Rattle.hayro_ccitt.proofs.Names.{front_of, line_here, most_room, most_stored, room_for, max, subst, BitsAt, Context, Line}
 use Rattle.hayro_ccitt.proofs.Names.{here, line_from_1d, line_from_2d, pen_of, min, ◌*◌, drop, Stand, Held, IsPaid, is_at_line}

@@ -1,4 +1,6 @@
-use Rattle.hayro_ccitt.proofs.Names.{rules, ap, length, ◌∙◌, HighestFirst, BitsAt}
+use Rattle.hayro_ccitt.proofs.Names.{arith}
+use Rattle.hayro_ccitt.proofs.Names.{common_steps}
+use Rattle.hayro_ccitt.proofs.Names.{rules, ap, HighestFirst, BitsAt}
 use Rattle.hayro_ccitt.proofs.BitReading.BitLists.{length-bits_in, bits_are_whole}
 use Rattle.hayro_ccitt.proofs.Readings.PlainAnswers.{whole_bytes_within}
 use Rattle.hayro_ccitt.proofs.decode.Goals as goal
@@ -8,9 +10,7 @@ decode_bits-requires-clause-whole g c =
     rw (ap (λ (at : BitsAt). at.bits) c.new.ensures) (bits_are_whole HighestFirst c.args.«data».now)
 
 pub returns-clause-within : goal.returns-clause-within
-returns-clause-within g c =
-    whole_bytes_within c.decode_bits.result (length c.new.result.bits) (length c.args.«data».now) (ap
-    (λ (at : BitsAt). length at.bits) c.new.ensures ∙ length-bits_in HighestFirst c.args.«data».now) c.decode_bits.ensures.within
+returns-clause-within g c = grind (arith, common_steps, whole_bytes_within, length-bits_in)
 
 pub returns-clause-decodes : goal.returns-clause-decodes
 returns-clause-decodes g c = rw (← ap (λ (at : BitsAt). at.bits) c.new.ensures) c.decode_bits.ensures.decodes

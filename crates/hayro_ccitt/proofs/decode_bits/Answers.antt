@@ -1,3 +1,4 @@
+use Rattle.hayro_ccitt.proofs.Names.{common_steps}
 use Rattle.hayro_ccitt.proofs.Names.{OnErr, OnOk, ◌≡◌, ◌≢◌, ◌-◌, None, Some, Result, Ok, Err, rules, ap, subst, ◌∙◌, drop, length}
 use Rattle.hayro_ccitt.proofs.Names.{arith, err_from_is_err_and, DecodeError, DecodeSettings, BitsAt, here, Context, AreSettings}
 use Rattle.hayro_ccitt.proofs.Decoded.{decodes}
@@ -27,10 +28,7 @@ returns-in_err-answer-clause-decodes g c =
     c.in_err-answer.ensures.fails c.fault_start_of.result place) tt)
 
 pub returns-clause-within : goal.returns-clause-within
-returns-clause-within g c =
-    let bits = ap (λ (at : BitsAt). at.bits) c.align.ensures.moved ∙ c.decode_rows-answer.ensures.same_bits in
-    let at = ap (λ (at : BitsAt). at.place) c.align.ensures.moved in
-    omega (arith, c.byte_pos.ensures, at, c.align.ensures.within, ap length bits)
+returns-clause-within g c = grind (arith, common_steps)
 
 pub returns-clause-decodes : goal.returns-clause-decodes
 returns-clause-decodes g c =

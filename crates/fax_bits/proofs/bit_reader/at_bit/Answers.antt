@@ -1,10 +1,6 @@
-use Rattle.fax_bits.proofs.Names.{◌≤◌, length, arith, bits_in}
+use Rattle.fax_bits.proofs.Names.{arith}
 use Rattle.fax_bits.proofs.BitReading.BitLists.{length-bits_in}
 use Rattle.fax_bits.proofs.bit_reader.at_bit.Goals as goal
 
 pub at_place-requires-clause-within : goal.at_place-requires-clause-within
-at_place-requires-clause-within c =
-    let order = c.reader.inside.order in
-    let bytes = c.reader.inside.«data».now in
-    let within : c.args.place ≤ length (bits_in order bytes) = rw (← c.reader.view_is) at c.requires in
-    omega (arith, length-bits_in order bytes, within)
+at_place-requires-clause-within c = grind (arith, length-bits_in)

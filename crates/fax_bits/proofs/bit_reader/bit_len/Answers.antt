@@ -6,6 +6,4 @@ pub returns-clause-length : goal.returns-clause-length
 returns-clause-length c = rw (← c.reader.view_is) (omega (arith, length-bits_in c.reader.inside.order c.reader.inside.«data».now))
 
 pub returns-clause-fit : goal.returns-clause-fit
-returns-clause-fit c =
-    let bits = length-bits_in c.reader.inside.order c.reader.inside.«data».now in
-    rw (← c.reader.view_is) (omega (arith, c.reader.invariant.fit, bits))
+returns-clause-fit c = grind (arith, length-bits_in)

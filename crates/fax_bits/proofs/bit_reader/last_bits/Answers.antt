@@ -1,4 +1,5 @@
-use Rattle.fax_bits.proofs.Names.{◌≡◌, ℕ, ◌+◌, ◌-◌, ◌*◌, ◌<◌, List, get_or, false, length, ap, ◌∙◌, arith, take_rest}
+use Rattle.fax_bits.proofs.Names.{common_steps}
+use Rattle.fax_bits.proofs.Names.{◌≡◌, ℕ, ◌+◌, ◌-◌, ◌*◌, ◌<◌, get_or, false, length, arith, take_rest}
 use Rattle.fax_bits.proofs.Names.{Bits, bit_of, bits_in}
 use Rattle.fax_bits.proofs.BitReading.BitLists.{length-bits_in}
 use Rattle.fax_bits.proofs.BitReading.FilledWindows.{all_behind}
@@ -9,11 +10,7 @@ pub returns-then-data-lt8 : goal.returns-then-data-lt8
 returns-then-data-lt8 c = λ k h.
     let bytes = c.args.«data».now in
     let bits : Bits = bits_in c.args.order bytes in
-    let shift : ℕ = length bytes * 8 - c.args.left in
-    let at : 8 * 0 + shift + k ≡ 8 * length bytes - c.args.left + k = omega arith in
-    all_behind bits (8 * 0) shift c.later_word.result
-    (omega (arith, length-bits_in c.args.order bytes, c.if-data-lt8.true)) c.later_word.ensures k h
-    ∙ ap (λ (i : ℕ). get_or bits i false) at
+    grind (arith, common_steps, all_behind bits (8 * 0), length-bits_in c.args.order bytes)
 
 pub returns : goal.returns
 returns c = λ k h.
@@ -23,8 +20,6 @@ returns c = λ k h.
     let shift : ℕ = 64 - c.args.left in
     let whole = c.if-data-lt8.false in
     let word : (k : ℕ) → k < 64 → bit_of c.whole_word.result (63 - k) ≡ get_or bits (8 * start + k) false =
-    λ k h. c.whole_word.ensures k h ∙ ap (λ (xs : List ℕ). get_or (bits_in c.args.order xs) k false) (take_rest bytes start)
-    ∙ bits_in-drop c.args.order bytes start k in
+    grind (arith, take_rest, bits_in-drop) in
     let at : 8 * start + shift + k ≡ 8 * length bytes - c.args.left + k = omega (arith, whole, c.requires.few) in
-    all_behind bits (8 * start) shift c.whole_word.result
-    (omega (arith, length-bits_in c.args.order bytes, whole)) word k h ∙ ap (λ (i : ℕ). get_or bits i false) at
+    grind (arith, all_behind, length-bits_in)

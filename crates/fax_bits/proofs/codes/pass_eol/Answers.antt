@@ -1,4 +1,4 @@
-use Rattle.fax_bits.proofs.Names.{◌+◌, Some, cond-true, cond-false, ap, sym, ◌∙◌, arith, le-leb, lt-leb, drop_min, here}
+use Rattle.fax_bits.proofs.Names.{cond-true, cond-false, ◌∙◌, arith, le-leb, lt-leb, drop_min}
 use Rattle.fax_bits.proofs.Names.{count_leading_zeros}
 use Rattle.fax_bits.proofs.BitReading.PlainEols.{word_says}
 use Rattle.fax_bits.proofs.codes.pass_eol.Goals as goal
@@ -18,8 +18,7 @@ returns-clause-eol c =
     let at = c.args.reader.now in
     let n = count_leading_zeros 32 c.peek_u32.result in
     let says = word_says at c.peek_u32.result c.peek_u32.type_inv c.peek_u32.ensures c.if-zeros-ge32.false in
-    let after = ap here c.consume.ensures.moved ∙ drop_min (at.place + (n + 1)) at.bits in
-    says.0 ∙ cond-true _ _ _ (le-leb 11 n c.if-zeros-lt11.false) ∙ ap Some (sym after)
+    grind (arith, drop_min, cond-true, le-leb)
 
 pub returns-clause-ticks : goal.returns-clause-ticks
 returns-clause-ticks c =

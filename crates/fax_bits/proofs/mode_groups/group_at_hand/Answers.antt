@@ -3,11 +3,7 @@ use Rattle.fax_bits.proofs.CodeWords.VerticalWords.{group_next, first_next, hori
 use Rattle.fax_bits.proofs.mode_groups.group_at_hand.Goals as goal
 
 pub returns-clause-words : goal.returns-clause-words
-returns-clause-words c =
-    let at : BitsAt = c.args.hand.now.at in
-    let enough : 10 ≤ length (here at)
-    = omega (arith, length-drop at.place at.bits, c.ten.ensures.there, c.requires.within) in
-    group_next at c.ten.result c.ten.ensures.bits enough
+returns-clause-words c = grind (arith, length-drop, group_next)
 
 pub returns-clause-horizontal : goal.returns-clause-horizontal
 returns-clause-horizontal c = λ first.

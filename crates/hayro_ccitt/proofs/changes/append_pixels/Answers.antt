@@ -1,4 +1,5 @@
-use Rattle.hayro_ccitt.proofs.Names.{◌≡◌, ◌+◌, length, refl, arith, append-nil}
+use Rattle.hayro_ccitt.proofs.Names.{common_steps}
+use Rattle.hayro_ccitt.proofs.Names.{◌≡◌, length, arith, append-nil}
 use Rattle.hayro_ccitt.proofs.PixelRows.ChangesAndPixels.{AreChanges-wider, AreChanges-push, pixels-same, pixels-push}
 use Rattle.hayro_ccitt.proofs.PixelRows.Painting.{last_pixel-agrees, last_pixel-differs, other_color}
 use Rattle.hayro_ccitt.proofs.changes.append_pixels.Goals.{else-count-gt0-via-then-count-gt0+else-last_is_white-is_white}
@@ -42,7 +43,5 @@ returns-else-count-gt0-clause-painted c =
           w.if-last_is_white-is_white.false in
           rw (← same) (pixels-same a.painted a.count a.changes.now.items c.requires)
       | else-count-gt0-via-else-count-gt0 w ↦
-          let none : a.count ≡ 0 = omega (arith, w.if-count-gt0.false) in
-          let e : a.painted + 0 ≡ a.painted = omega arith in
-          rw (none, e, append-nil) refl
+          grind (arith, common_steps, append-nil)
     ]

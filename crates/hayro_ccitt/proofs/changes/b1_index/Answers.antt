@@ -1,5 +1,6 @@
-use Rattle.hayro_ccitt.proofs.Names.{rules, ◌≡◌, sym, subst, ◌+◌, arith, right_of_painted}
-use Rattle.hayro_ccitt.proofs.PixelRows.ReferencePlaces.{IsSplit, IsSplit-painted, IsSplit-none, b1_first, b1_second, b2_after_b1}
+use Rattle.hayro_ccitt.proofs.Names.{common_steps}
+use Rattle.hayro_ccitt.proofs.Names.{rules, arith, right_of_painted}
+use Rattle.hayro_ccitt.proofs.PixelRows.ReferencePlaces.{IsSplit, b1_first, b1_second, b2_after_b1}
 use Rattle.hayro_ccitt.proofs.PixelRows.ReferencePlaces.{split_passed}
 use Rattle.hayro_ccitt.proofs.changes.b1_index.Goals.{After-is_white, then-painted-gt0+then-loop-index-test+else-changes-index}
 use Rattle.hayro_ccitt.proofs.changes.b1_index.Goals.{then-painted-gt0+else-loop-index-test, else-painted-gt0}
@@ -7,16 +8,7 @@ use Rattle.hayro_ccitt.proofs.changes.b1_index.Goals as goal
 
 -- the loop has passed the changes that are not right of a0, and no others
 split : (c : After-is_white) → IsSplit c.args.changes.now (right_of_painted c.args.painted) c.if-painted-gt0.index
-split c = elim c.if-painted-gt0.branch [
-  | then-painted-gt0+then-loop-index-test+else-changes-index w ↦ rw w.index-is (IsSplit-painted _ _ _ w.if-painted-gt0.true
-      w.loop-index.invariant.within w.loop-index.invariant.left (λ l. w.if-changes-index.false))
-  | then-painted-gt0+else-loop-index-test w ↦ rw w.index-is (IsSplit-painted _ _ _ w.if-painted-gt0.true
-      w.loop-index.invariant.within w.loop-index.invariant.left (λ l. absurd (omega arith)))
-  | else-painted-gt0 w ↦
-      let none = c.requires.passed.none (omega (arith, w.if-painted-gt0.false)) in
-      let first : c.if-painted-gt0.index ≡ 0 = omega (arith, w.index-is, none) in
-      subst (IsSplit c.args.changes.now (right_of_painted c.args.painted)) (sym first) (IsSplit-none _ _ w.if-painted-gt0.false)
-]
+split c = grind (arith, common_steps)
 
 pub returns-then-is_multiple_of-is_white-clause-b1 : goal.returns-then-is_multiple_of-is_white-clause-b1
 returns-then-is_multiple_of-is_white-clause-b1 c =
@@ -26,8 +18,7 @@ returns-then-is_multiple_of-is_white-clause-b1 c =
 
 pub returns-then-is_multiple_of-is_white-clause-b2 : goal.returns-then-is_multiple_of-is_white-clause-b2
 returns-then-is_multiple_of-is_white-clause-b2 c =
-    b2_after_b1 c.args.columns c.args.changes.now (right_of_painted c.args.painted)
-    (c.if-painted-gt0.index + 1) c.args.color c.requires.lawful (returns-then-is_multiple_of-is_white-clause-b1 c)
+    grind (arith, common_steps, b2_after_b1, returns-then-is_multiple_of-is_white-clause-b1 c)
 
 pub returns-else-is_multiple_of-is_white-clause-b1 : goal.returns-else-is_multiple_of-is_white-clause-b1
 returns-else-is_multiple_of-is_white-clause-b1 c =
@@ -37,8 +28,7 @@ returns-else-is_multiple_of-is_white-clause-b1 c =
 
 pub returns-else-is_multiple_of-is_white-clause-b2 : goal.returns-else-is_multiple_of-is_white-clause-b2
 returns-else-is_multiple_of-is_white-clause-b2 c =
-    b2_after_b1 c.args.columns c.args.changes.now (right_of_painted c.args.painted) c.if-painted-gt0.index c.args.color
-    c.requires.lawful (returns-else-is_multiple_of-is_white-clause-b1 c)
+    grind (arith, common_steps, b2_after_b1, returns-else-is_multiple_of-is_white-clause-b1 c)
 
 pub returns-then-is_multiple_of-is_white-clause-all : goal.returns-then-is_multiple_of-is_white-clause-all
 returns-then-is_multiple_of-is_white-clause-all c =

@@ -1,5 +1,6 @@
-use Rattle.hayro_ccitt.proofs.Names.{length, Result, Err, subst, ap, sym, arith, ◌∙◌, err_from_is_err_and, DecodeError, IsFault}
-use Rattle.hayro_ccitt.proofs.Names.{DrawsLine, Step, pen_of, step_of_run, Bits, BitsAt, here, Held, redrawn, Line, Pen}
+use Rattle.hayro_ccitt.proofs.Names.{common_steps}
+use Rattle.hayro_ccitt.proofs.Names.{length, Result, Err, subst, ap, sym, arith, ◌∙◌, err_from_is_err_and, DecodeError}
+use Rattle.hayro_ccitt.proofs.Names.{DrawsLine, Step, pen_of, step_of_run, Bits, BitsAt, here, Held, Line, Pen}
 use Rattle.hayro_ccitt.proofs.Names.{line_1d, Context}
 use Rattle.hayro_ccitt.proofs.{DrawingLines.ReadLines.drawn_run_shorter, Readings.Repeated.after_turn}
 use Rattle.hayro_ccitt.proofs.DrawingLines.CountedLines.{found_1d_from, found_after, counted_by_run, none_after_fault}
@@ -47,14 +48,12 @@ runs-preserved c =
     let found = counted_by_run before now (here c.runs.reader) so_far.held open_row in
     let found_on =
     ap (λ (step : Step). length (found_after (found_1d_from before.settings.strict before.settings.columns) step)) drawing.step in
-    let by_run : IsDrawn1d c.args.ctx.now c.draw_run.new.self c.args.reader.now c.draw_run.new.reader = (
-      record {
-        line = sym (line ∙ ap (after_turn (drawn_by (step_1d before.settings.strict before.settings.columns))) drawing.step);
-        held = drawing.held ∙ ap (λ (h : Held). redrawn h new.front new.color) so_far.held;
-        same_bits = drawing.same_bits ∙ so_far.same_bits;
-        counts = omega (arith, drawing.at_least, so_far.counts);
-      },
-      omega (arith, drawing.exact, found, found_on, c.runs.invariant.1),
+    let by_run : IsDrawn1d c.args.ctx.now c.draw_run.new.self c.args.reader.now c.draw_run.new.reader = grind (
+      arith,
+      common_steps,
+      after_turn,
+      drawn_by,
+      step_1d,
     ) in
     let twos = c.draw_usual_runs in
     let on = drawn_on c.args.ctx.now c.draw_run.new.self twos.new.self c.args.reader.now c.draw_run.new.reader twos.new.reader
@@ -71,11 +70,7 @@ runs-preserved c =
     )
 
 pub returns-clause-cut : goal.returns-clause-cut
-returns-clause-cut c =
-    let so_far = c.runs.invariant in
-    cut_drawn_1d c.args.ctx.now.held c.runs.ctx.held c.runs.ctx.cut
-    (line_1d true c.args.ctx.now.held.settings.columns (here c.args.reader.now)) (here c.runs.reader) so_far.0.held
-    (c.is_full.ensures.0 c.runs-test.false) so_far.3
+returns-clause-cut c = grind (arith, common_steps, cut_drawn_1d, c.is_full.ensures.0 c.runs-test.false)
 
 pub returns-in_err-draw_run-clause-line : goal.returns-in_err-draw_run-clause-line
 returns-in_err-draw_run-clause-line c =
@@ -96,26 +91,10 @@ returns-in_err-draw_run-clause-line c =
 
 pub returns-in_err-draw_run-clause-at_least : goal.returns-in_err-draw_run-clause-at_least
 returns-in_err-draw_run-clause-at_least c =
-    let p = err_from_is_err_and c.from_residual.result c.from_residual.ensures.1 in
-    let before : Held = c.args.ctx.now.held in
-    let now : Held = c.runs.ctx.held in
-    let pen : Pen = pen_of c.draw_run.new.self.held (here c.draw_run.new.reader) in
-    let fault : DecodeError = c.in_err-draw_run.field-0.0 in
-    let open_row = open_by c.is_full.result (length now.front) now.settings.columns c.runs-test.true c.is_full.ensures.1 in
-    let found = counted_by_run before now (here c.runs.reader) c.runs.invariant.0.held open_row in
-    rw (p.1, p.2) (λ (is : IsFault fault). omega (
-      arith,
-      found,
-      c.in_err-draw_run.ensures.at_least,
-      c.runs.invariant.1,
-      none_after_fault (found_1d_from before.settings.strict before.settings.columns)
-          (step_of_run now (here c.runs.reader)) fault pen is c.in_err-draw_run.ensures.step,
-    ))
+    grind (arith, common_steps, err_from_is_err_and, open_by, counted_by_run, none_after_fault, found_1d_from)
 
 pub returns-in_err-draw_run-clause-space : goal.returns-in_err-draw_run-clause-space
-returns-in_err-draw_run-clause-space c =
-    let few = drawn_so_far_1d c.args.ctx.now c.runs.ctx c.args.reader.now c.runs.reader c.runs.invariant.0 in
-    grown_again _ _ _ _ _ c.runs.invariant.2 c.draw_run.ensures.space few
+returns-in_err-draw_run-clause-space c = grind (arith, common_steps, drawn_so_far_1d, grown_again)
 
 pub returns-clause-space : goal.returns-clause-space
 returns-clause-space c = c.runs.invariant.2

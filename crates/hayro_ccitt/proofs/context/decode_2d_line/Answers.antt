@@ -1,4 +1,5 @@
-use Rattle.hayro_ccitt.proofs.Names.{◌≡◌, ◌+◌, ◌<◌, ◌≤◌, ℕ, suc, max, room_for, length, Err, refl, subst, ap, sym, arith, ◌∙◌}
+use Rattle.hayro_ccitt.proofs.Names.{common_steps}
+use Rattle.hayro_ccitt.proofs.Names.{◌≡◌, ◌+◌, ◌<◌, ◌≤◌, ℕ, suc, max, room_for, length, Err, refl, subst, ap, arith, ◌∙◌}
 use Rattle.hayro_ccitt.proofs.Names.{err_from_is_err_and, Mode}
 use Rattle.hayro_ccitt.proofs.Names.{DecodeError, IsFault, DrawsLine, DrawsStep, Step, line_from_2d, words_from_2d, pen_of}
 use Rattle.hayro_ccitt.proofs.Names.{step_of_mode, words_of_mode, changes, Bits, here, Context, Held, redrawn, context_of, Line}
@@ -55,8 +56,7 @@ modes-preserved c =
     let drawing = c.in_ok-draw_mode.ensures in
     let left : context_of c.ctx.inside ≡ c.modes.ctx = c.ctx.view_is in
     let open_row = open_by c.is_full.result (length now.front) now.settings.columns c.modes-test.true c.is_full.ensures.1 in
-    let draws : step_of_mode now rest mode ≡ Turn.next (pen_of new (here c.draw_mode.new.reader)) = subst
-    (λ (x : Context). step_of_mode x.held rest mode ≡ Turn.next (pen_of new (here c.draw_mode.new.reader))) left drawing.step in
+    let draws : step_of_mode now rest mode ≡ Turn.next (pen_of new (here c.draw_mode.new.reader)) = grind (arith, common_steps) in
     let kept : new ≡ redrawn now new.front new.color =
     subst (λ (x : Context). new ≡ redrawn x.held new.front new.color) left drawing.held in
     let ticks : (context_of c.ctx.inside).ticks ≡ c.modes.ctx.ticks = ap (λ (x : Context). x.ticks) left in
@@ -71,8 +71,7 @@ modes-preserved c =
     let changed = ap (λ (x : Context). length (changes x.held.reference)) left in
     let reference = ap (λ (h : Held). length (changes h.reference)) so_far.held in (
       record {
-        line = sym
-            (line ∙ ap (after_turn (drawn_by (step_2d before.settings.strict before.settings.columns before.reference))) draws);
+        line = grind (arith, common_steps, after_turn, drawn_by, step_2d);
         held = kept ∙ ap (λ (h : Held). redrawn h new.front new.color) so_far.held;
         same_bits = drawing.same_bits ∙ c.in_ok-mode.ensures.same_bits ∙ so_far.same_bits;
         counts = omega (arith, drawing.counts, c.in_ok-mode.ensures.ticks, so_far.counts, ticks);
@@ -92,11 +91,7 @@ modes-preserved c =
     )
 
 pub returns-clause-cut : goal.returns-clause-cut
-returns-clause-cut c =
-    let so_far = c.modes.invariant in
-    cut_drawn_2d c.args.ctx.now.held c.modes.ctx.held c.modes.ctx.cut
-    (line_2d true c.args.ctx.now.held.settings.columns c.args.ctx.now.held.reference (here c.args.reader.now))
-    (here c.modes.reader) so_far.0.held (c.is_full.ensures.0 c.modes-test.false) so_far.3
+returns-clause-cut c = grind (arith, common_steps, cut_drawn_2d, c.is_full.ensures.0 c.modes-test.false)
 
 -- a mode that isn't drawn
 module _ (c : In_err-draw_mode) where
@@ -133,17 +128,20 @@ module _ (c : In_err-draw_mode) where
   at_least : IsFault fault
       → c.args.ctx.now.ticks + length (words_from_2d before (here c.args.reader.now)) ≤ c.draw_mode.new.self.ticks
   at_least is =
-      let rest : Bits = here c.decode_mode.new.self in
-      let mode : Mode = c.in_ok-mode.mode in
-      omega (
+      grind (
         arith,
+        common_steps,
+        counted_by_mode,
+        none_after_fault,
+        found_2d_from,
+        before,
+        now,
+        open_row,
+        step,
+        fault,
+        pen,
+        draws,
         c.in_err-draw_mode.ensures.at_least is,
-        c.in_ok-mode.ensures.ticks,
-        c.modes.invariant.1.at_least,
-        counted_by_mode before now (here c.modes.reader) rest mode c.modes.invariant.0.held open_row c.in_ok-mode.ensures.mode,
-        ap (λ (x : Context). length (words_of_mode x.held rest mode)) c.ctx.view_is,
-        ap (λ (x : Context). x.ticks) c.ctx.view_is,
-        none_after_fault (found_2d_from before.settings.strict before.settings.columns before.reference) step fault pen is draws,
       )
 
 pub returns-in_err-draw_mode-clause-line : goal.returns-in_err-draw_mode-clause-line
@@ -158,8 +156,7 @@ returns-in_err-draw_mode-clause-at_least c =
 
 pub returns-in_err-draw_mode-clause-space : goal.returns-in_err-draw_mode-clause-space
 returns-in_err-draw_mode-clause-space c =
-    grown_again _ _ _ _ _ c.modes.invariant.2 (drawn_room c.ctx.view_is c.draw_mode.ensures.space)
-    (drawn_so_far_2d c.args.ctx.now c.modes.ctx c.args.reader.now c.modes.reader c.modes.invariant.0)
+    grind (arith, common_steps, grown_again, drawn_so_far_2d, drawn_room c.ctx.view_is c.draw_mode.ensures.space)
 
 pub returns-clause-space : goal.returns-clause-space
 returns-clause-space c = c.modes.invariant.2

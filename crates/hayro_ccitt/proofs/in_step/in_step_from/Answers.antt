@@ -1,3 +1,4 @@
+use Rattle.hayro_ccitt.proofs.Names.{common_steps}
 use Rattle.hayro_ccitt.proofs.Names.{◌≡◌, ℕ, length, drop, sym, ap, subst, ◌∙◌, arith, DecodeSettings, Bits, BitsAt, bits_of}
 use Rattle.hayro_ccitt.proofs.Names.{here, TellsStep, IsInStepFrom, ◌⊎◌, ◌<◌, false, Group3_1D, Group3_2D, refl, Some, ◌↔◌}
 use Rattle.hayro_ccitt.proofs.Names.{HighestFirst}
@@ -7,9 +8,7 @@ use Rattle.hayro_ccitt.proofs.in_step.in_step_from.Goals.{After-bit_pos}
 use Rattle.hayro_ccitt.proofs.in_step.in_step_from.Goals as goal
 
 pub returns-then-to-data-clause-place : goal.returns-then-to-data-clause-place
-returns-then-to-data-clause-place c =
-    no_step_found c.args.ctx.now.held.settings (bits_of c.args.data.now) c.args.to
-    (λ place given. omega (arith, given.within, c.if-to-data.true, length-bits_of c.args.data.now))
+returns-then-to-data-clause-place c = grind (arith, common_steps, no_step_found, length-bits_of)
 
 pub returns-then-not-pass_to_step-clause-place : goal.returns-then-not-pass_to_step-clause-place
 returns-then-not-pass_to_step-clause-place c =
@@ -50,11 +49,7 @@ returns-clause-rows c =
     ((place_found (goal.at.returns-clause-rows c).After-bit_pos c.bit_pos.result).0 refl)
 
 pub returns-clause-within : goal.returns-clause-within
-returns-clause-within c =
-    let bits = bits_of c.args.data.now in
-    let same : c.pass_to_step.new.reader.bits ≡ bits
-    = c.pass_to_step.ensures.same_bits ∙ ap (λ (at : BitsAt). at.bits) c.starting_at-reader.ensures in
-    omega (arith, c.bit_pos.ensures.within, ap length same, length-bits_of c.args.data.now)
+returns-clause-within c = grind (arith, common_steps, length-bits_of)
 
 pub returns-then-not-pass_to_step-clause-at_most : goal.returns-then-not-pass_to_step-clause-at_most
 returns-then-not-pass_to_step-clause-at_most c =

@@ -1,6 +1,6 @@
-use Rattle.hayro_ccitt.proofs.Names.{rules, ◌≡◌, ℕ, ◌+◌, ◌*◌, ◌≤◌, length, Some, sym, ap, subst, ◌∙◌, arith, IsTrue, ◌↔◌}
-use Rattle.hayro_ccitt.proofs.Names.{DecodeSettings}
-use Rattle.hayro_ccitt.proofs.Names.{Bits, BitsAt, here, Held, after_eol, next_eol, eols_here, EndsByWords, looked}
+use Rattle.hayro_ccitt.proofs.Names.{common_steps}
+use Rattle.hayro_ccitt.proofs.Names.{rules, ◌≡◌, ◌+◌, ◌*◌, ◌≤◌, length, Some, sym, ap, ◌∙◌, arith, IsTrue, ◌↔◌}
+use Rattle.hayro_ccitt.proofs.Names.{BitsAt, here, after_eol, next_eol, eols_here, EndsByWords, looked}
 use Rattle.hayro_ccitt.proofs.Names.{most_for_lines, Group3_2D, ComesBefore1D, false≢true}
 use Rattle.hayro_ccitt.proofs.DamagedLines.LinesPassed.{eol_passed}
 use Rattle.hayro_ccitt.proofs.KeptRows.StepsTold.{one_alone, told_by, no_step_beyond, step_next, eols_work, line_test_work}
@@ -11,29 +11,18 @@ use Rattle.hayro_ccitt.proofs.in_step.pass_to_step.Goals as goal
 -- one EOL was counted
 alone : (c : After-line_ends_before) → eols_here c.args.ctx.now.held.settings (here c.args.reader.now)
     ≡ (1, here c.copy-line.result)
-alone c =
-    c.read_eols.ensures.eols ∙ ap (λ (n : ℕ). (n, here c.read_eols.new.reader)) (c.is_alone.ensures.0 c.if-not-is_alone.false)
-    ∙ ap (λ (at : BitsAt). (1, here at)) (sym c.copy-line.ensures.value)
+alone c = grind (arith, common_steps, c.is_alone.ensures.0 c.if-not-is_alone.false)
 
 -- the next one, and what follows it
 next : (c : After-line_ends_before) → (next_eol (here c.copy-line.result) ≡ Some (here c.skip_to_eol.new.self))
     × (after_eol 0 (here c.skip_to_eol.new.self) ≡ Some (here c.pass_eol.new.reader))
-next c =
-    let found = here c.skip_to_eol.new.self in
-    let sought : next_eol (here c.read_eols.new.reader) ≡ Some found = c.if-not-skip_to_eol.ensures.next in (
-      ap (λ (at : BitsAt). next_eol (here at)) c.copy-line.ensures.value ∙ sought,
-      eol_passed c.pass_eol.result found _ (here c.pass_eol.new.reader)
-          (next_eol_found (here c.read_eols.new.reader) found sought).1.1
-          (ap (λ (at : BitsAt). after_eol 0 (here at)) (sym c.copy-end.ensures.value) ∙ c.pass_eol.ensures.eol),
-    )
+next c = grind (arith, common_steps, eol_passed, next_eol_found)
 
 -- whether the line ends before it
 ends : (c : After-line_ends_before) → IsTrue c.line_ends_before.result
     ↔ EndsByWords c.args.ctx.now.held.settings.encoding c.args.ctx.now.held.settings.columns (here c.pass_eol.new.reader)
     (here c.copy-line.result)
-ends c =
-    subst (λ (h : Held). IsTrue c.line_ends_before.result ↔ EndsByWords h.settings.encoding h.settings.columns
-    (here c.pass_eol.new.reader) (here c.copy-line.result)) c.read_eols.ensures.only_ticks.held c.line_ends_before.ensures.before
+ends c = grind (arith, common_steps)
 
 -- what was counted so far
 counted : (c : After-line_ends_before) → (c.args.ctx.now.ticks ≤ c.line_ends_before.new.ctx.ticks)
@@ -79,9 +68,7 @@ returns-then-not-is_alone-clause-at_most c =
     )
 
 pub returns-then-not-is_alone-clause-no_step : goal.returns-then-not-is_alone-clause-no_step
-returns-then-not-is_alone-clause-no_step c = λ e line rest told.
-    false≢true (sym c.if-not-is_alone.true
-    ∙ c.is_alone.ensures.1 (ap (λ (f : ℕ × Bits). f.0) (sym c.read_eols.ensures.eols ∙ told.step.alone)))
+returns-then-not-is_alone-clause-no_step c = λ e line rest told. grind (arith, common_steps, false≢true)
 
 pub returns-then-not-skip_to_eol-clause-at_most : goal.returns-then-not-skip_to_eol-clause-at_most
 returns-then-not-skip_to_eol-clause-at_most c =
@@ -115,10 +102,7 @@ returns-then-not-line_ends_before-clause-at_most c =
 -- the EOLs behind the line were counted
 behind : (c : After-needs_no_reference) → eols_here c.args.ctx.now.held.settings (here c.skip_to_eol.new.self)
     ≡ (c.read_eols-count.result, here c.read_eols-count.new.reader)
-behind c =
-    subst (λ (h : Held). eols_here h.settings (here c.skip_to_eol.new.self)
-    ≡ (c.read_eols-count.result, here c.read_eols-count.new.reader))
-    (c.line_ends_before.ensures.only_ticks.held ∙ c.read_eols.ensures.only_ticks.held) c.read_eols-count.ensures.eols
+behind c = grind (arith, common_steps)
 
 -- whether what follows them needs no reference row
 unreferred : (c : After-needs_no_reference)
@@ -126,14 +110,12 @@ unreferred : (c : After-needs_no_reference)
     ↔ (c.args.ctx.now.held.settings.encoding ≡ Group3_2D
     → ComesBefore1D c.args.ctx.now.held.settings (here c.skip_to_eol.new.self))
 unreferred c eol =
-    let found = here c.skip_to_eol.new.self in
-    let same : c.settings.result ≡ c.args.ctx.now.held.settings
-    = c.settings.ensures.value ∙ ap (λ (h : Held). h.settings)
-    (c.read_eols-count.ensures.only_ticks.held ∙ c.line_ends_before.ensures.only_ticks.held
-    ∙ c.read_eols.ensures.only_ticks.held) in
-    subst (λ (s : DecodeSettings). eols_here s found ≡ (c.read_eols-count.result, here c.read_eols-count.new.reader)
-    → IsTrue c.needs_no_reference.result ↔ (s.encoding ≡ Group3_2D → ComesBefore1D s found)) same
-    (c.needs_no_reference.ensures.tag found (here c.pass_eol.new.reader, eol)) (behind c)
+    grind (
+      arith,
+      common_steps,
+      behind c,
+      c.needs_no_reference.ensures.tag (here c.skip_to_eol.new.self) (here c.pass_eol.new.reader, eol),
+    )
 
 pub returns-clause-step : goal.returns-clause-step
 returns-clause-step c = λ e.
@@ -147,13 +129,17 @@ returns-clause-step c = λ e.
     )
 
 pub returns-clause-no_step : goal.returns-clause-no_step
-returns-clause-no_step c = λ e line rest told.
-    let at = (goal.at.returns-clause-no_step c).After-line_ends_before in
-    let last = (goal.at.returns-clause-no_step c).After-needs_no_reference in
-    let settings = c.args.ctx.now.held.settings in
-    false≢true (sym e ∙ (unreferred last (next at).1).1 (λ two. subst (ComesBefore1D settings)
-    (step_next settings (here c.args.reader.now) (here c.copy-line.result) (here c.skip_to_eol.new.self) line rest (alone at)
-    (next at).0 told) (told.tag two)))
+returns-clause-no_step c =
+    λ e line rest told. grind (
+      arith,
+      common_steps,
+      false≢true,
+      step_next,
+      unreferred ((goal.at.returns-clause-no_step c).After-needs_no_reference) (next ((goal.at.returns-clause-no_step
+          c).After-line_ends_before)).1,
+      next ((goal.at.returns-clause-no_step c).After-line_ends_before),
+      alone ((goal.at.returns-clause-no_step c).After-line_ends_before),
+    )
 
 pub returns-clause-only_ticks : goal.returns-clause-only_ticks
 returns-clause-only_ticks c = record {

@@ -1,10 +1,10 @@
 use Rattle.hayro_ccitt.proofs.Names.{◌≡◌, ◌<◌, ◌+◌, ℕ, arith, common_steps, refl, Err, subst, []}
 use Rattle.hayro_ccitt.specs.LineParts.{run_of_part}
 use Rattle.hayro_ccitt.specs.Rows.{paint}
-use Rattle.fax_bits.specs.declared.error.DecodeError.TheVariants.{InvalidCode}
 use Rattle.fax_bits.proofs.CodeWords.ReadRuns.{some_where}
 use Rattle.hayro_ccitt.proofs.DrawingLines.PartsOfLines.{run_ends, word_overflows}
 use Rattle.hayro_ccitt.proofs.line_parts.add_word.Goals as goal
+use Rattle.hayro_ccitt.proofs.Names.{too_many_pixels}
 
 pub returns-in_default-clause-goes : goal.returns-in_default-clause-goes
 returns-in_default-clause-goes c = λ rest front is.
@@ -21,5 +21,5 @@ returns-then-not-paint-clause-goes c = λ rest front is.
     run_ends c.args.settings [] front part.color rest
     (run_of_part part) c.args.n
     (omega (arith, sum.0)) (omega (arith, c.if-n-ge64.false))
-    (subst (λ (n : ℕ). paint c.args.settings.strict c.args.settings.columns front part.color n ≡ Err InvalidCode) sum.1
+    (subst (λ (n : ℕ). paint c.args.settings.strict c.args.settings.columns front part.color n ≡ Err too_many_pixels) sum.1
     (c.if-not-paint.ensures.too_many refl front is))

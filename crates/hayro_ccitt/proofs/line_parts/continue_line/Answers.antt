@@ -1,3 +1,4 @@
+use Rattle.hayro_ccitt.proofs.Names.{common_steps}
 use Rattle.hayro_ccitt.specs.declared.line_parts.KeptPart.{KeptPart}
 use Rattle.hayro_ccitt.proofs.Names.{◌≡◌, ◌∙◌, ◌<◌, ap, sym, subst, arith, here, Context, Bits, BitsAt, ℕ}
 use Rattle.hayro_ccitt.specs.declared.line_parts.Word.{Word}
@@ -16,9 +17,7 @@ went_to_word old part ctx now before at went = subst (λ (x : Context). WentOn o
 word_read : (part new : KeptPart) (ctx now next : Context) (at after : BitsAt) (found word : Word)
     → now ≡ record ctx { ticks = now.ticks } → found ≡ word → ReadsWord part new now next at after found
     → ReadsWord part new (record ctx { ticks = now.ticks }) next at after word
-word_read part new ctx now next at after found word same is reads =
-    subst (ReadsWord part new (record ctx { ticks = now.ticks }) next at after) is
-    (subst (λ (x : Context). ReadsWord part new x next at after found) same reads)
+word_read part new ctx now next at after found word same is reads = grind (arith, common_steps)
 
 put_back : (old part : KeptPart) (ctx now : Context) (before at : BitsAt) (place : ℕ) → WentOn old part ctx now before at
     → place ≡ at.place → record before { place = place } ≡ at

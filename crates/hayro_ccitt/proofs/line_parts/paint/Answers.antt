@@ -1,11 +1,10 @@
+use Rattle.hayro_ccitt.proofs.Names.{common_steps}
 use Rattle.hayro_ccitt.proofs.Names.{arith}
 use Rattle.hayro_ccitt.proofs.DrawingLines.PartsOfLines.{paints_all, paints_row}
 use Rattle.hayro_ccitt.proofs.line_parts.paint.Goals as goal
 
 pub returns-then-count-room-clause-painted : goal.returns-then-count-room-clause-painted
-returns-then-count-room-clause-painted c = λ e front is.
-    paints_all c.args.settings front c.args.part.now.color c.args.count c.args.part.now.painted is c.requires
-    (omega (arith, c.if-count-room.true))
+returns-then-count-room-clause-painted c = λ e front is. grind (arith, common_steps, paints_all)
 
 pub returns-clause-painted : goal.returns-clause-painted
 returns-clause-painted c = λ e front is.

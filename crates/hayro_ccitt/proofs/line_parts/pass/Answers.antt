@@ -1,9 +1,8 @@
-use Rattle.hayro_ccitt.proofs.Names.{◌≡◌, ◌∙◌, ◌-◌, ℕ, ap, sym, subst, refl, arith, length, Row, Context, DecodeSettings, Turn}
-use Rattle.hayro_ccitt.proofs.Names.{b2, right_of_painted, Err}
+use Rattle.hayro_ccitt.proofs.Names.{common_steps}
+use Rattle.hayro_ccitt.proofs.Names.{◌≡◌, ◌∙◌, ◌-◌, ap, subst, refl, arith, length, Row, Context, DecodeSettings, Turn}
+use Rattle.hayro_ccitt.proofs.Names.{b2, right_of_painted}
 use Rattle.hayro_ccitt.specs.declared.line_parts.KeptPart.{KeptPart}
 use Rattle.hayro_ccitt.specs.LineParts.{PaintsTo, IsLawfulPart}
-use Rattle.hayro_ccitt.specs.Rows.{paint}
-use Rattle.fax_bits.specs.declared.error.DecodeError.TheVariants.{InvalidCode}
 use Rattle.hayro_ccitt.proofs.DrawingLines.PartsOfLines.{at_mode_is, lawful_behind, pass_ends, pass_goes}
 use Rattle.hayro_ccitt.proofs.line_parts.pass.Goals.{After-paint}
 use Rattle.hayro_ccitt.proofs.line_parts.pass.Goals as goal
@@ -14,24 +13,23 @@ pass_settings c = c.settings.ensures.value ∙ ap (λ (x : Context). x.held.sett
 pass_counted : (c : After-paint) (front : Row) → length front ≡ c.args.part.now.painted
     → b2 c.args.ctx.now.held.reference (right_of_painted (length front)) c.args.part.now.color - length front
     ≡ c.saturating_sub.result
-pass_counted c front is =
-    ap (λ (n : ℕ). b2 c.args.ctx.now.held.reference (right_of_painted n) c.args.part.now.color - n) is
-    ∙ ap (λ (b : ℕ). b - c.args.part.now.painted) (sym c.places_behind-b2.ensures.b2) ∙ sym c.saturating_sub.ensures
+pass_counted c front is = grind (arith, common_steps)
 
 pass_lawful : (c : After-paint) → IsLawfulPart c.args.ctx.now.held.settings c.args.ctx.now.held.reference c.paint.new.part
-pass_lawful c =
-    lawful_behind c.args.ctx.now.held.settings c.args.ctx.now.held.reference c.paint.new.part c.args.part.now.painted
-    c.places_behind-b2.new.passed c.places_behind-b2.ensures.passed (ap (λ (p : KeptPart). p.passed) c.paint.ensures.frame)
-    c.paint.ensures.onward (omega (arith, c.paint.ensures.within, ap (λ (s : DecodeSettings). s.columns) (pass_settings c)))
+pass_lawful c = grind (arith, common_steps, lawful_behind, pass_settings c)
 
 pub returns-then-not-paint-clause-goes : goal.returns-then-not-paint-clause-goes
 returns-then-not-paint-clause-goes c = λ rest.
     let at = (goal.at.returns-then-not-paint-clause-goes c).After-paint in
     record {
-      leads = λ front is. pass_ends c.args.ctx.now.held.settings c.args.ctx.now.held.reference front c.args.part.now.color rest
-          c.saturating_sub.result (pass_counted at front is)
-          (subst (λ (s : DecodeSettings). paint s.strict s.columns front c.args.part.now.color c.saturating_sub.result
-          ≡ Err InvalidCode) (pass_settings at) (c.if-not-paint.ensures.too_many refl front is));
+      leads = λ front is. grind (
+        arith,
+        common_steps,
+        pass_ends,
+        pass_counted at front is,
+        pass_settings at,
+        c.if-not-paint.ensures.too_many refl front is,
+      );
       lawful = pass_lawful at;
     }
 

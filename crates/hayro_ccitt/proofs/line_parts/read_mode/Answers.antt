@@ -1,5 +1,6 @@
-use Rattle.hayro_ccitt.proofs.Names.{◌∙◌, ap, sym, subst, refl, arith, here, mode_codes, BitsAt, Vertical, pos}
-use Rattle.hayro_ccitt.specs.LineParts.{Leads, ReadsWord}
+use Rattle.hayro_ccitt.proofs.Names.{common_steps}
+use Rattle.hayro_ccitt.proofs.Names.{◌∙◌, ap, sym, subst, refl, arith, here, mode_codes, Vertical, pos}
+use Rattle.hayro_ccitt.specs.LineParts.{Leads}
 use Rattle.hayro_ccitt.specs.LinesGoOn.{LinePart, read_on}
 use Rattle.fax_bits.proofs.CodeWords.ReadRuns.{read_code_shorter}
 use Rattle.fax_reading.proofs.DrawingLines.ReadLines.{modes_not_empty}
@@ -36,7 +37,4 @@ returns-then-pass_v0 c =
     }
 
 pub returns : goal.returns
-returns c = record {
-  reads = subst (λ (b : BitsAt). ReadsWord c.args.part.now c.read_any_mode.new.part c.args.ctx.now c.read_any_mode.new.ctx b
-      c.read_any_mode.new.reader c.read_any_mode.result) (c.if-pass_v0.ensures.unchanged refl) c.read_any_mode.ensures.reads;
-}
+returns c = grind (arith, common_steps, c.if-pass_v0.ensures.unchanged refl)

@@ -1,5 +1,6 @@
+use Rattle.hayro_ccitt.proofs.Names.{common_steps}
 use Rattle.hayro_ccitt.proofs.Names.{ap, sym, subst, refl, arith, here, Bool, DecodeSettings, false}
-use Rattle.hayro_ccitt.specs.LineParts.{EndsLine, GoesOnBy, left_to_read, part_at, part_by, pen_of_part, run_of_part}
+use Rattle.hayro_ccitt.specs.LineParts.{EndsLine, GoesOnBy, part_at, part_by, pen_of_part, run_of_part}
 use Rattle.hayro_ccitt.specs.LinesGoOn.{read_on}
 use Rattle.hayro_ccitt.proofs.DrawingLines.PartsOfLines.{full_ends, reads_some}
 use Rattle.hayro_ccitt.proofs.line_parts.read_step.Goals as goal
@@ -38,10 +39,4 @@ returns-then-part-clause-smaller c = λ e.
     (here c.read_mode.new.reader)) e c.read_mode.ensures.reads.goes)
 
 pub returns-clause-smaller : goal.returns-clause-smaller
-returns-clause-smaller c = λ e.
-    let before = here c.args.reader.now in
-    omega (
-      arith,
-      ap (λ (b : Bool). left_to_read b before) c.requires.run,
-      ap (λ (b : Bool). left_to_read b before) c.begin_run.ensures.run,
-    )
+returns-clause-smaller c = λ e. grind (arith, common_steps)

@@ -1,3 +1,4 @@
+use Rattle.hayro_ccitt.proofs.Names.{common_steps}
 use Rattle.hayro_ccitt.proofs.Names.{◌≡◌, ◌∙◌, ◌-◌, ◌+ℤ◌, ℕ, pos, ap, sym, subst, refl, arith, length, Row, Context}
 use Rattle.hayro_ccitt.proofs.Names.{DecodeSettings, Turn}
 use Rattle.hayro_ccitt.proofs.Names.{b1, right_of_painted, opposite, Err, Color, ℤ, to_z, of_z, to_z-of_z, w8, SFits, rules}
@@ -5,10 +6,10 @@ use Rattle.hayro_ccitt.specs.declared.line_parts.KeptPart.{KeptPart}
 use Rattle.hayro_ccitt.specs.LineParts.{PaintsTo, IsLawfulPart}
 use Rattle.hayro_ccitt.specs.Lines.{place_from}
 use Rattle.hayro_ccitt.specs.Rows.{paint}
-use Rattle.fax_bits.specs.declared.error.DecodeError.TheVariants.{InvalidCode}
 use Rattle.hayro_ccitt.proofs.DrawingLines.PartsOfLines.{at_mode_is, lawful_behind, turn_ends, turn_goes, turn_unpainted}
 use Rattle.hayro_ccitt.proofs.line_parts.turn.Goals.{After-paint, After-vertical_place}
 use Rattle.hayro_ccitt.proofs.line_parts.turn.Goals as goal
+use Rattle.hayro_ccitt.proofs.Names.{too_many_pixels}
 
 turn_settings : (c : After-paint) → c.settings.result ≡ c.args.ctx.now.held.settings
 turn_settings c = c.settings.ensures.value ∙ ap (λ (x : Context). x.held.settings) c.places_behind-b1.ensures.frame
@@ -18,20 +19,14 @@ place_is : (c : After-vertical_place) (front : Row) → length front ≡ c.args.
     → place_from (length front) (pos (b1 c.args.ctx.now.held.reference (right_of_painted (length front)) c.args.part.now.color)
     +ℤ c.args.offset)
     ≡ place_from c.args.part.now.painted (pos c.places_behind-b1.result.0 +ℤ c.args.offset)
-place_is c front is =
-    ap (λ (n : ℕ). place_from n (pos (b1 c.args.ctx.now.held.reference (right_of_painted n) c.args.part.now.color)
-    +ℤ c.args.offset)) is
-    ∙ ap (λ (b : ℕ). place_from c.args.part.now.painted (pos b +ℤ c.args.offset)) (sym c.places_behind-b1.ensures.b1)
+place_is c front is = grind (arith, common_steps)
 
 -- an offset is itself
 offset_is : (c : After-vertical_place) → to_z w8 (of_z w8 c.args.offset) ≡ c.args.offset
 offset_is c = let narrow : SFits w8 c.args.offset = search rules in to_z-of_z narrow
 
 turn_lawful : (c : After-paint) → IsLawfulPart c.args.ctx.now.held.settings c.args.ctx.now.held.reference c.paint.new.part
-turn_lawful c =
-    lawful_behind c.args.ctx.now.held.settings c.args.ctx.now.held.reference c.paint.new.part c.args.part.now.painted
-    c.places_behind-b1.new.passed c.places_behind-b1.ensures.passed (ap (λ (p : KeptPart). p.passed) c.paint.ensures.frame)
-    c.paint.ensures.onward (omega (arith, c.paint.ensures.within, ap (λ (s : DecodeSettings). s.columns) (turn_settings c)))
+turn_lawful c = grind (arith, common_steps, lawful_behind, turn_settings c)
 
 pub returns-in_default-clause-goes : goal.returns-in_default-clause-goes
 returns-in_default-clause-goes c = λ rest.
@@ -55,9 +50,9 @@ returns-then-not-paint-clause-goes c = λ rest.
           ∙ ap (λ (k : ℤ). place_from c.args.part.now.painted (pos c.places_behind-b1.result.0 +ℤ k))
           (sym (offset_is (goal.at.returns-then-not-paint-clause-goes c).After-vertical_place)) ∙ c.in-Some.ensures.place)
           (subst (λ (n : ℕ). paint c.args.ctx.now.held.settings.strict c.args.ctx.now.held.settings.columns front color
-          (c.in-Some.place - n) ≡ Err InvalidCode) (sym is)
+          (c.in-Some.place - n) ≡ Err too_many_pixels) (sym is)
           (subst (λ (s : DecodeSettings). paint s.strict s.columns front color (c.in-Some.place - c.args.part.now.painted)
-          ≡ Err InvalidCode) (turn_settings at) (c.if-not-paint.ensures.too_many refl front is)));
+          ≡ Err too_many_pixels) (turn_settings at) (c.if-not-paint.ensures.too_many refl front is)));
       lawful = turn_lawful at;
     }
 

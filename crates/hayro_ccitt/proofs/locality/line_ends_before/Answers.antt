@@ -1,7 +1,6 @@
 use Rattle.hayro_ccitt.proofs.Names.{◌≡◌, ◌≢◌, ◌+◌, ◌≤◌, false, length, drop, Err, refl, sym, ap, subst, ◌∙◌, arith, OutOfMemory}
 use Rattle.hayro_ccitt.proofs.Names.{false≢true, DrawsLine, words_from_1d, BitsAt, bits_of, here, Context, Line, line_1d}
-use Rattle.hayro_ccitt.proofs.Names.{found_1d, common_steps, max, most_room, room_for, changes, front_of, length-drop}
-use Rattle.hayro_ccitt.proofs.Names.{line_from_1d}
+use Rattle.hayro_ccitt.proofs.Names.{found_1d, common_steps, max, most_room, length-drop}
 use Rattle.hayro_ccitt.proofs.Work.RoomTaken.{grown_within, line_1d_enough}
 use Rattle.hayro_ccitt.proofs.{BitReading.BitLists.length-bits_of, DamagedLines.BodyWork.same_bound}
 use Rattle.hayro_ccitt.proofs.{DrawingLines.DrawnLines.memory_has_black, locality.line_ends_before.Goals.After-decode_1d_line}
@@ -74,17 +73,7 @@ returns-in-Err-2-clause-at_most c = counted_by_line (goal.at.returns-in-Err-2-cl
 -- the lists have no more room than the line accounts for
 room_of_line : (c : After-decode_1d_line) → c.decode_1d_line.new.ctx.space
     ≤ max c.args.ctx.now.space (most_room c.args.ctx.now.held.settings (bits_of c.args.data.now))
-room_of_line c =
-    let bits = bits_of c.args.data.now in
-    let begun = c.reset.new.self in
-    let at = here c.starting_at-reader.result in
-    let within : length at ≤ length bits =
-    omega (arith, ap (λ (at : BitsAt). length (here at)) c.starting_at-reader.ensures, length-drop c.args.from bits) in
-    let enough = line_1d_enough begun.held.settings bits at within in
-    grown_within c.args.ctx.now.space begun.space c.decode_1d_line.new.ctx.space
-    (room_for (length (changes (front_of (line_from_1d begun.held at))))) _
-    (ap (λ (x : Context). x.space) c.reset.ensures.frame) c.decode_1d_line.ensures.space
-    (omega (arith, enough, ap (λ (x : Context). x.held.settings.columns) c.reset.ensures.frame))
+room_of_line c = grind (arith, common_steps, length-drop, line_1d_enough, grown_within)
 
 pub returns-in-Ok-clause-space : goal.returns-in-Ok-clause-space
 returns-in-Ok-clause-space c = room_of_line (goal.at.returns-in-Ok-clause-space c).After-decode_1d_line

@@ -1,3 +1,4 @@
+use Rattle.hayro_ccitt.proofs.Names.{common_steps}
 use Rattle.hayro_ccitt.proofs.Names.{◌∙◌, ap, refl, arith, AtHand}
 use Rattle.hayro_ccitt.proofs.DrawingLines.UsualModes.{draws_on}
 use Rattle.hayro_ccitt.proofs.modes.draw_bits.Goals as goal
@@ -9,13 +10,7 @@ modes-preserved-in-Some c =
     let kept = c.in-Some.ensures.kept in
     record {
       drawn = draws_on c.modes.invariant.drawn c.has_next_mode.ensures.same refl on.drawn;
-      can = record {
-        ended = can.ended;
-        fits = can.fits;
-        inside = c.in-Some.ensures.open.0 c.if-not-is_open.false;
-        reached = on.drawn.reached;
-        room = on.room;
-      };
+      can = grind (arith, common_steps, c.in-Some.ensures.open.0 c.if-not-is_open.false);
       same_bits = rw c.has_next_mode.ensures.same at kept.same_bits ∙ c.modes.invariant.same_bits;
       longer = omega (arith, kept.count, c.modes.invariant.longer);
       space = kept.capacity ∙ c.modes.invariant.space;
@@ -31,13 +26,7 @@ modes-preserved c =
     record {
       drawn = draws_on c.modes.invariant.drawn (ap (λ (h : AtHand). h.at) left.0 ∙ c.has_next_mode.ensures.same) left.1
           (rw (left.2, c.recolored-here.ensures) at on.drawn);
-      can = record {
-        ended = can.ended;
-        fits = can.fits;
-        inside = omega (arith, on.drawn.reached.within, c.if-next-line.false);
-        reached = on.drawn.reached;
-        room = on.room;
-      };
+      can = grind (arith, common_steps);
       same_bits = kept.same_bits ∙ rw c.has_next_mode.ensures.same at first.same_bits ∙ c.modes.invariant.same_bits;
       longer = omega (arith, kept.count, first.count, c.modes.invariant.longer);
       space = kept.capacity ∙ first.capacity ∙ c.modes.invariant.space;

@@ -1,3 +1,4 @@
+use Rattle.hayro_ccitt.proofs.Names.{common_steps}
 use Rattle.std.specs.Prelude.{get_or}
 use Rattle.hayro_ccitt.proofs.Names.{◌+◌, ◌-◌, ℕ, refl, arith, changes_in}
 use Rattle.hayro_ccitt.proofs.DrawingLines.RegularModes.{first_word, named_by}
@@ -7,16 +8,7 @@ use Rattle.hayro_ccitt.specs.ModeGroups.{words_of, offset_at}
 use Rattle.hayro_ccitt.proofs.modes.draw_first.Goals as goal
 
 pub overflow_add-above : goal.overflow_add-above
-overflow_add-above c =
-    let can = c.requires.can in
-    omega (
-      arith,
-      b1_within can.ended.lawful can.inside can.reached,
-      c.change_at.ensures,
-      c.from.ensures,
-      c.offsets.ensures.near 0 0 (omega arith),
-      can.fits,
-    )
+overflow_add-above c = grind (arith, common_steps, b1_within)
 
 pub returns-then-place-line-2-clause-drawn : goal.returns-then-place-line-2-clause-drawn
 returns-then-place-line-2-clause-drawn c =

@@ -1,4 +1,5 @@
-use Rattle.std.specs.Prelude.{length, vec_len, vec_capacity, get_or, take, drop, ◌<◌, ◌≤◌, ◌∷◌, ◌++◌}
+use Rattle.hayro_ccitt.proofs.Names.{common_steps}
+use Rattle.std.specs.Prelude.{length, vec_len, vec_capacity, get_or, take, ◌<◌, ◌≤◌, ◌∷◌, ◌++◌}
 use Rattle.std.proofs.Math.Seq.{take-append-add, drop-append_seam}
 use Rattle.hayro_ccitt.proofs.Names.{◌≡◌, ◌∙◌, ◌+◌, ℕ, List, Color, White, Black, TurnsFrom, opposite, suc, ap, sym, refl, arith}
 use Rattle.hayro_ccitt.proofs.Names.{BitsAt, length-append, moved}
@@ -48,32 +49,19 @@ module _ (c : After-painted_by-painted) where
   begin = omega (arith, c.len-start.ensures, c.args.row.now.ok.0)
 
   place_is : c.index-place.result.now ≡ get_or places n 0
-  place_is =
-      c.index-place.ensures
-      ∙ ap (λ xs. get_or xs (c.len-start.result + n) c.index-place.result.now) c.push_places.ensures.items
-      ∙ stored_at row places (c.len-start.result + n) n c.index-place.result.now few (omega (arith, begin))
+  place_is = grind (arith, common_steps, stored_at, n, row, places, few, begin)
 
   painted_is : c.painted_by-painted.result ≡ get_or (c.args.stroke.painted ∷ places) n 0
-  painted_is =
-      c.painted_by-painted.ensures
-      ∙ ap (λ xs. get_or (c.args.stroke.painted ∷ drop c.len-start.result xs) n 0) c.push_places.ensures.items
-      ∙ ap (λ k. get_or (c.args.stroke.painted ∷ drop k (row ++ places)) n 0) begin
-      ∙ ap (λ xs. get_or (c.args.stroke.painted ∷ xs) n 0) (drop-append_seam row places)
+  painted_is = grind (arith, common_steps, drop-append_seam, n, row, places, begin)
 
   -- what is kept of the places
   kept : (k : ℕ) {m : ℕ} {new : List ℕ} → new ≡ take m c.push_places.new.row.items → m ≡ c.len-start.result + k
       → new ≡ row ++ take k places
-  kept k {m} is e =
-      is ∙ ap (take m) c.push_places.ensures.items ∙ ap (λ j. take j (row ++ places)) (omega (arith, e, begin))
-      ∙ take-append-add row places k
+  kept k {m} is e = grind (arith, common_steps, take-append-add, row, places, begin)
 
   room : (n < 4) × (vec_len c.push_places.new.row ≡ c.len-start.result + 4)
       × (c.len-start.result + c.args.hand.now.left ≤ vec_capacity c.push_places.new.row)
-  room = (
-    omega (arith, few, c.requires.here.lead.four),
-    omega (arith, c.push_places.ensures.count, c.len-start.ensures),
-    omega (arith, c.requires.can.room, c.push_places.ensures.room, c.len-start.ensures),
-  )
+  room = grind (arith, common_steps, few)
 
   -- the bits of one mode more are passed
   passed : {width : ℕ} {to : BitsAt} → width ≡ width_of (take (n + 1) words) → to ≡ moved width c.args.hand.now.at
@@ -86,10 +74,7 @@ module _ (c : After-painted_by-painted) where
   colored_before : {count : ℕ} (color : Color) → count ≡ c.len-start.result + n + 1 → TurnsFrom count color
       → TurnsFrom (length (row ++ take n places)) (opposite color)
   colored_before {count} color e turns =
-      let taken = length-take-le n places (omega (arith, few)) in
-      let len : count ≡ length (row ++ take n places) + 1 =
-      omega (arith, e, begin, length-append row (take n places), taken) in
-      turned_back (length (row ++ take n places)) color (rw len at turns)
+      grind (arith, common_steps, length-take-le, length-append, n, places, few, row, begin, turned_back)
 
 pub b1_after-index-requires-clause-within : goal.b1_after-index-requires-clause-within
 b1_after-index-requires-clause-within c =

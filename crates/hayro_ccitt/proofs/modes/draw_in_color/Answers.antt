@@ -1,4 +1,5 @@
-use Rattle.hayro_ccitt.proofs.Names.{◌∙◌, refl, arith, Stroke, Draws, CanDraw}
+use Rattle.hayro_ccitt.proofs.Names.{common_steps}
+use Rattle.hayro_ccitt.proofs.Names.{◌∙◌, refl, arith, Stroke, Draws}
 use Rattle.hayro_ccitt.proofs.DrawingLines.UsualModes.{draws_on, recolored}
 use Rattle.hayro_ccitt.proofs.modes.draw_in_color.Goals as goal
 
@@ -21,14 +22,7 @@ modes-preserved c =
       drawn = recolored next (λ (s : Stroke). Draws c.args.line.now c.args.stroke c.args.hand.now c.args.row.now c.args.ticks.now
           s c.draw_mode_at_hand.new.hand c.draw_mode_at_hand.new.row c.draw_mode_at_hand.new.ticks) same
           (draws_on c.modes.invariant.drawn has.same refl on.drawn);
-      can = recolored next
-          (λ (s : Stroke). CanDraw c.args.line.now s c.draw_mode_at_hand.new.hand c.draw_mode_at_hand.new.row) same (record {
-            ended = c.requires.can.ended;
-            fits = c.requires.can.fits;
-            inside = omega (arith, on.drawn.reached.within, c.if-next-line.false);
-            reached = on.drawn.reached;
-            room = on.room;
-          });
+      can = grind (arith, common_steps, recolored);
       color = refl;
       same_bits = rw has.same at kept.same_bits ∙ c.modes.invariant.same_bits;
       onward = omega (arith, rw has.same at on.onward, c.modes.invariant.onward);

@@ -1,3 +1,4 @@
+use Rattle.hayro_ccitt.proofs.Names.{common_steps}
 use Rattle.std.specs.Prelude.{vec_len}
 use Rattle.hayro_ccitt.proofs.Names.{◌∙◌, ◌≡◌, refl, ap, arith, length}
 use Rattle.hayro_ccitt.proofs.DrawingLines.UsualModes.{draws_on, same_row_drawn}
@@ -12,13 +13,7 @@ rooms-preserved c =
     omega (arith, ap length made.same, c.make_room.new.changes.ok.0, own.new.row.ok.0) in
     record {
       drawn = on;
-      can = record {
-        ended = c.requires.can.ended;
-        fits = c.requires.can.fits;
-        inside = omega (arith, on.reached.within, c.if-reached-line.false);
-        reached = on.reached;
-        room = omega (arith, len, made.room, c.if-left-gt64.false, c.left.ensures);
-      };
+      can = grind (arith, common_steps);
       same_bits = own.ensures.same_bits ∙ c.rooms.invariant.same_bits;
       space = omega (arith, len, made.space, own.ensures.space, own.ensures.longer, c.rooms.invariant.space);
     }

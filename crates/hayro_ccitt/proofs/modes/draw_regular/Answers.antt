@@ -1,7 +1,8 @@
+use Rattle.hayro_ccitt.proofs.Names.{common_steps}
 use Rattle.std.specs.Prelude.{length, get_or, take, ◌∷◌, ◌++◌}
 use Rattle.std.proofs.Math.Seq.{take-length}
 use Rattle.std.proofs.lemmas.List.{get_or-take, length-take-le}
-use Rattle.hayro_ccitt.proofs.Names.{◌≡◌, ◌∙◌, ◌-◌, ℕ, ap, sym, refl, arith}
+use Rattle.hayro_ccitt.proofs.Names.{◌≡◌, ℕ, refl, arith}
 use Rattle.hayro_ccitt.proofs.DrawingLines.RegularModes.{draws_first, first_inside, stored_at, after_first}
 use Rattle.hayro_ccitt.specs.ModeGroups.{width_of, words_of}
 use Rattle.hayro_ccitt.proofs.modes.draw_regular.Goals as goal
@@ -14,18 +15,7 @@ stored c = c.turn_at_places.ensures.items
 -- the last place that is stored
 last : (c : goal.After-next_color) → c.index.result.now ≡ get_or (c.args.stroke.painted ∷ c.args.modes.now.places)
     c.count-count.result 0
-last c =
-    let places = c.args.modes.now.places in
-    let n : ℕ = c.count-count.result in
-    let here = c.requires.here in
-    let all = c.count-count.ensures.value in
-    let turned = c.turn_at_places.ensures in
-    c.index.ensures ∙ ap (λ xs. get_or xs (c.len.result - 1) c.index.result.now) (stored c)
-    ∙ stored_at c.args.row.now.items (take n places) (c.len.result - 1) (n - 1) c.index.result.now
-    (omega (arith, all, here.some, length-take-le n places (omega (arith, all, here.few, here.lead.four))))
-    (omega (arith, c.len.ensures, turned.count, c.args.row.now.ok.0, all, here.some))
-    ∙ get_or-take n places (n - 1) 0 (omega (arith, all, here.some)) ∙ after_first c.args.stroke.painted places n (omega
-    (arith, all, here.some))
+last c = grind (arith, common_steps, stored_at, length-take-le, get_or-take, after_first, stored c)
 
 pub returns-clause-drawn : goal.returns-clause-drawn
 returns-clause-drawn c =
@@ -34,8 +24,7 @@ returns-clause-drawn c =
     let n : ℕ = c.count-count.result in
     let all : n ≡ length words = c.count-count.ensures.value in
     let set = rw (← all) at c.requires.all in
-    let width : c.width.result ≡ width_of (take n words) = c.width.ensures.value ∙ ap width_of (rw all (sym (take-length
-    words))) in
+    let width : c.width.result ≡ width_of (take n words) = grind (arith, common_steps, take-length) in
     let turned = c.turn_at_places.ensures in
     draws_first c.requires.can c.requires.here n (omega (arith, all)) set
     (omega (

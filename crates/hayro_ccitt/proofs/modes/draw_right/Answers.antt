@@ -1,3 +1,4 @@
+use Rattle.hayro_ccitt.proofs.Names.{common_steps}
 use Rattle.hayro_ccitt.proofs.Names.{refl, arith}
 use Rattle.hayro_ccitt.proofs.DrawingLines.UsualModes.{draws_vertical, b1_within, b1_onward, right_near, right_stroke}
 use Rattle.hayro_ccitt.proofs.DrawingLines.UsualModes.{named_right}
@@ -5,14 +6,10 @@ use Rattle.hayro_ccitt.proofs.DrawingLines.UsualStrokes.{pixels-pending}
 use Rattle.hayro_ccitt.proofs.modes.draw_right.Goals as goal
 
 pub overflow_sub-line : goal.overflow_sub-line
-overflow_sub-line c =
-    let can = c.requires.can in
-    omega (arith, b1_within can.ended.lawful can.inside can.reached, c.change_at-b1.ensures)
+overflow_sub-line c = grind (arith, common_steps, b1_within)
 
 pub seek_b1-index-requires-clause-near : goal.seek_b1-index-requires-clause-near
-seek_b1-index-requires-clause-near c =
-    let can = c.requires.can in
-    rw c.change_at-b1.ensures (right_near can.ended.lawful can.inside can.reached c.args.mode.distance c.requires.some)
+seek_b1-index-requires-clause-near c = grind (arith, common_steps, right_near)
 
 pub returns-clause-drawn : goal.returns-clause-drawn
 returns-clause-drawn c =

@@ -1,3 +1,4 @@
+use Rattle.hayro_ccitt.proofs.Names.{common_steps}
 use Rattle.hayro_ccitt.proofs.Names.{◌≡◌, ◌+◌, refl, arith}
 use Rattle.hayro_ccitt.proofs.DrawingLines.UsualModes.{draws_mode, horizontal_on, horizontal_near, first_stroke}
 use Rattle.hayro_ccitt.proofs.DrawingLines.UsualModes.{horizontal_stroke}
@@ -5,10 +6,7 @@ use Rattle.hayro_ccitt.proofs.DrawingLines.UsualStrokes.{pixels-pending}
 use Rattle.hayro_ccitt.proofs.modes.draw_runs_of_words.Goals as goal
 
 pub seek_b1-index-requires-clause-near : goal.seek_b1-index-requires-clause-near
-seek_b1-index-requires-clause-near c =
-    let can = c.requires.can in
-    let runs = c.in_ok-runs.runs in
-    horizontal_near can.ended.lawful can.inside can.reached (c.args.stroke.painted + runs.first + runs.second) (omega arith)
+seek_b1-index-requires-clause-near c = grind (arith, common_steps, horizontal_near)
 
 pub returns-then-runs-room-2-clause-drawn : goal.returns-then-runs-room-2-clause-drawn
 returns-then-runs-room-2-clause-drawn c =

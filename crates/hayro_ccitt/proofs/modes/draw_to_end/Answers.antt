@@ -1,11 +1,10 @@
+use Rattle.hayro_ccitt.proofs.Names.{common_steps}
 use Rattle.hayro_ccitt.proofs.Names.{refl, arith}
 use Rattle.hayro_ccitt.proofs.DrawingLines.UsualModes.{draws_vertical, b1_within, full_stroke, named_right}
 use Rattle.hayro_ccitt.proofs.modes.draw_to_end.Goals as goal
 
 pub overflow_sub-line : goal.overflow_sub-line
-overflow_sub-line c =
-    let can = c.requires.can in
-    omega (arith, b1_within can.ended.lawful can.inside can.reached, c.change_at-b1.ensures)
+overflow_sub-line c = grind (arith, common_steps, b1_within)
 
 pub returns-clause-drawn : goal.returns-clause-drawn
 returns-clause-drawn c =

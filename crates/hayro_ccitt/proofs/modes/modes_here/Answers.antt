@@ -1,14 +1,12 @@
-use Rattle.std.specs.Prelude.{get_or}
-use Rattle.hayro_ccitt.proofs.Names.{◌+◌, ◌-◌, changes_in}
+use Rattle.hayro_ccitt.proofs.Names.{arith}
+use Rattle.hayro_ccitt.proofs.Names.{common_steps}
+use Rattle.hayro_ccitt.proofs.Names.{◌+◌, ◌-◌}
 use Rattle.hayro_ccitt.proofs.PixelRows.EndedPlaces.{ended_at}
 use Rattle.hayro_ccitt.proofs.PixelRows.ReferencePlaces.{end_within}
 use Rattle.hayro_ccitt.proofs.modes.modes_here.Goals as goal
 
 pub regular_places-regular-requires-clause-below : goal.regular_places-regular-requires-clause-below
-regular_places-regular-requires-clause-below c k =
-    let line = c.args.line.now in
-    rw (ended_at line.columns line.places.now c.requires.ended k)
-    (end_within line.columns (changes_in line.places.now) c.requires.ended.lawful k)
+regular_places-regular-requires-clause-below c k = grind (arith, common_steps, ended_at, end_within)
 
 pub returns-clause-lead : goal.returns-clause-lead
 returns-clause-lead c =

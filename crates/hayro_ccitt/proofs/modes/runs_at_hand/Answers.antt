@@ -1,4 +1,5 @@
-use Rattle.hayro_ccitt.proofs.Names.{◌≡◌, ◌+◌, ℕ, refl, subst, arith, Color, BitsAt, opposite, IsRunHere, moved}
+use Rattle.hayro_ccitt.proofs.Names.{common_steps}
+use Rattle.hayro_ccitt.proofs.Names.{◌≡◌, ◌+◌, refl, arith, BitsAt, opposite, IsRunHere, moved}
 use Rattle.hayro_ccitt.proofs.modes.runs_at_hand.Goals as goal
 
 pub returns-clause-runs : goal.returns-clause-runs
@@ -8,12 +9,9 @@ returns-clause-runs c =
     let second = c.in_ok-second in
     let sum : at.place + (3 + first.width) ≡ at.place + 3 + first.width = omega arith in
     let there : IsRunHere (opposite c.args.color) (moved (3 + first.width) at) second.second second.width2 second.words2 =
-    subst (λ (c : Color). IsRunHere c (moved (3 + first.width) at) second.second second.width2 second.words2)
-    c.opposite-other.ensures
-    second.ensures.run in
+    grind (arith, common_steps) in
     let on : IsRunHere (opposite c.args.color) (moved first.width (moved 3 at)) second.second second.width2 second.words2 =
-    subst (λ (p : ℕ). IsRunHere (opposite c.args.color) (record { bits = at.bits; place = p }) second.second second.width2
-    second.words2) sum there in
+    grind (arith, common_steps) in
     rw (← c.has_long_runs.ensures.same) (record {
       width = first.width;
       width2 = second.width2;

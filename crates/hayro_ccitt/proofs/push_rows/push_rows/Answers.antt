@@ -1,8 +1,9 @@
-use Rattle.hayro_ccitt.proofs.Names.{◌≡◌, ◌∙◌, ◌-◌, Bool, Result, Ok, Err, Some, refl, sym, ap, subst, arith, true}
+use Rattle.hayro_ccitt.proofs.Names.{common_steps}
+use Rattle.hayro_ccitt.proofs.Names.{◌≡◌, ◌∙◌, ◌-◌, Bool, Result, Ok, Err, refl, sym, ap, subst, arith, true}
 use Rattle.hayro_ccitt.proofs.Names.{err_from_is_err_and, length, DecodeError, DecodeSettings, Bits, BitsAt, Context, rules}
 use Rattle.hayro_ccitt.proofs.Names.{SinkState, here, failed_at, IsStanding, IsStandingAtLine, ReachesNextLine, ReadsNext, seen}
-use Rattle.hayro_ccitt.proofs.Names.{ended, row_came, is_some, sum_by, words_of, take, plain, None, ℕ}
-use Rattle.hayro_ccitt.proofs.Names.{drop, DecodesRows, meaning_after, ReaderStands, DamageIsCounted, WorkIsPaid, MissIsTold}
+use Rattle.hayro_ccitt.proofs.Names.{row_came, take, plain, ℕ}
+use Rattle.hayro_ccitt.proofs.Names.{drop, DecodesRows, meaning_after}
 use Rattle.hayro_ccitt.proofs.Names.{Refused, StandsAtLine, get_or, [], ◌≤◌, false}
 use Rattle.hayro_ccitt.specs.declared.row_reader.RowState.{RowState}
 use Rattle.hayro_ccitt.proofs.PixelRows.ChangesAndPixels.{AreChanges-wider}
@@ -18,7 +19,7 @@ use Rattle.hayro_ccitt.specs.declared.white_lines.WhiteLines.{WhiteLines}
 use Rattle.hayro_ccitt.proofs.Names.{List}
 use Rattle.hayro_ccitt.proofs.Readings.WhiteRowsRead.{CountsRows, IsBehindRows, counts_rows, some_on, white_behind, white_comes}
 use Rattle.hayro_ccitt.proofs.Readings.WhiteRowsRead.{white_empty}
-use Rattle.hayro_ccitt.proofs.Names.{max, line_here, most_room, most_stored, room_for}
+use Rattle.hayro_ccitt.proofs.Names.{max, most_room}
 use Rattle.hayro_ccitt.proofs.Work.RoomTaken.{grown_more, line_enough}
 use Rattle.hayro_ccitt.proofs.push_rows.push_rows.{Given.Over}
 use Rattle.hayro_ccitt.proofs.push_rows.push_rows.Goals.{After-read_line, After-push_row, After-push_white_rows}
@@ -31,10 +32,7 @@ at_line g c = (c.rows.invariant.at_line, c.rows.invariant.stands)
 
 line_stands : (g : Over) (c : After-read_line g)
     → StandsAtLine c.rows.ctx.held.settings c.rows.reader.bits c.rows.ctx.held (here c.rows.reader)
-line_stands g c =
-    let held = c.rows.ctx.held in
-    at_line_stands c.rows.rows.stand held.settings c.rows.reader.bits held c.rows.reader.place c.rows.invariant.at_line
-    c.rows.invariant.stands.0
+line_stands g c = grind (arith, common_steps, at_line_stands)
 
 -- what its line leaves
 reads : (g : Over) (c : After-read_line g) → ReadsNext (seen c.rows.rows c.rows.ctx c.rows.reader)
@@ -48,17 +46,7 @@ stands g c = c.read_line.ensures.stands c.args.ctx.now.ticks (at_line g c)
 -- the lists have no more room than the lines account for
 room_there : (g : Over) (c : After-read_line g) → c.read_line.new.ctx.space
     ≤ max c.args.ctx.now.space (most_room c.args.ctx.now.held.settings c.args.reader.now.bits)
-room_there g c =
-    let now = c.rows.ctx in
-    let inv = c.rows.invariant in
-    let at = at_line g c in
-    let line = line_here now.held.settings now.held.reference (here c.rows.reader) in
-    let stored = room_for (most_stored now.held.reference line) in
-    let enough = line_enough c.args.ctx.now.ticks c.rows.rows.stand now.held.settings c.rows.reader.bits now.held
-    c.rows.reader.place now.ticks at.0 at.1.2.paid in
-    grown_more c.args.ctx.now.space now.space c.read_line.new.ctx.space stored
-    (most_room c.args.ctx.now.held.settings c.args.reader.now.bits) inv.space c.read_line.ensures.space
-    (of_same (λ s b. stored ≤ most_room s b) inv.settings inv.bits enough)
+room_there g c = grind (arith, common_steps, line_enough, grown_more, of_same, at_line g c)
 
 pub returns-in_err-read_line-clause-space : goal.returns-in_err-read_line-clause-space
 returns-in_err-read_line-clause-space g c = room_there g (goal.at.returns-in_err-read_line-clause-space g c).After-read_line
@@ -68,10 +56,7 @@ returns-in-Err-clause-space g c =
     rw c.take_back_row.ensures.frame (room_there g (goal.at.returns-in-Err-clause-space g c).After-read_line)
 
 pub read_line-requires-clause-rows : goal.read_line-requires-clause-rows
-read_line-requires-clause-rows g c =
-    let held = c.rows.ctx.held in
-    few (at_line_stands c.rows.rows.stand held.settings c.rows.reader.bits held c.rows.reader.place c.rows.invariant.at_line
-    c.rows.invariant.stands.0)
+read_line-requires-clause-rows g c = grind (arith, common_steps, few, at_line_stands)
 
 pub push_row-requires : goal.push_row-requires
 push_row-requires g c =
@@ -90,36 +75,16 @@ row_came_here g c =
 
 pub returns-then-has_ended-clause-rows : goal.returns-then-has_ended-clause-rows
 returns-then-has_ended-clause-rows g c =
-    let settings = c.args.ctx.now.held.settings in
-    let bits = c.args.reader.now.bits in
-    let first = c.first_stand in
-    let ctx = first.new.ctx in
-    let reader = first.new.reader in
-    let none = first.ensures.none_taken in
-    let rows : RowState = record { started_at = 0; damage = None; cut = false; missed = None; stand = first.result } in
-    let step = g.D.Decoder.step (g.D.Decoder.width c.args.decoder.now) in
-    let sink : SinkState g.D.Decoder.Meaning = record {
-      meaning = g.D.Decoder.meaning c.args.decoder.now;
-      refused = g.D.Decoder.has_refused c.args.decoder.now;
-      refuses = g.D.Decoder.refuses c.args.decoder.now;
-    } in
-    let stands : IsStanding c.args.ctx.now.ticks rows ctx reader = of_same (λ s b. ReaderStands first.result s b ctx.held
-    reader.place × DamageIsCounted first.result s b ctx.held × WorkIsPaid c.args.ctx.now.ticks first.result s b ctx.held
-    reader.place ctx.ticks × MissIsTold first.result s b ctx.held.taken None)
-    (sym first.ensures.settings) (sym first.ensures.same_bits) (
-      first.ensures.stands,
-      first.ensures.damage,
-      record {
-        words = omega (arith, ap (λ (n : ℕ). sum_by length (take n (words_of settings bits))) none, first.ensures.first.counts);
-        paid = first.ensures.paid c.args.ctx.now.ticks refl;
-      },
-      none_missed first.result settings bits none,
-    ) in
-    let is : ended first.result ≡ Some (Ok tt) = ends_unfailed first.result first.ensures.unfailed
-    (ap (λ (r : RowState). is_some (ended r.stand)) (sym c.new-rows.ensures) ∙ sym c.has_ended.ensures ∙ c.if-has_ended.true) in
-    decodes_rows bits step sink sink c.args.ctx.now ctx (Ok (here reader)) c.requires.columns first.ensures.settings
-    (run_is_over rows ctx reader stands first.ensures.settings first.ensures.same_bits c.requires.columns (omega (arith, none))
-    (sym (ap (λ (n : ℕ). meaning_after step sink.meaning (take n (plain settings bits).rows)) none)) refl (Ok tt) is)
+    grind (
+      arith,
+      common_steps,
+      of_same,
+      none_missed,
+      ends_unfailed,
+      decodes_rows,
+      run_is_over,
+      c.first_stand.ensures.paid c.args.ctx.now.ticks refl,
+    )
 
 pub returns-in_err-read_line-clause-rows : goal.returns-in_err-read_line-clause-rows
 returns-in_err-read_line-clause-rows g c =
@@ -206,8 +171,7 @@ returns-in-Err-clause-fails g c =
     let came = (row_came_here g there).more refl in
     let taken : c.take_back_row.new.self.held.taken ≡ held.taken
     = omega (arith, ap (λ (x : Context). x.held.taken) c.take_back_row.ensures.frame, came.1) in
-    let back : here c.at_bit.result ≡ here c.rows.reader = ap here c.at_bit.ensures ∙ ap (λ (n : ℕ). drop n
-    c.read_line.new.reader.bits) c.read_line.ensures.started.0 ∙ ap (drop c.rows.reader.place) c.read_line.ensures.same_bits in
+    let back : here c.at_bit.result ≡ here c.rows.reader = grind (arith, common_steps) in
     of_same (λ s b. length b - length (here c.at_bit.result) ≡ failed_at s b c.take_back_row.new.self.held.taken)
     inv.settings inv.bits
     (ap (λ (x : Bits). length c.rows.reader.bits - length x) back ∙ reader_fails_at_line at
@@ -228,25 +192,15 @@ behind_before : (g : Over) (c : After-push_white_rows g) → IsBehindRows (g.D.D
     c.args.ctx.now.ticks c.args.ctx.now.held.settings c.args.reader.now.bits (g.D.Decoder.meaning c.args.decoder.now)
     (read_before g c)
 behind_before g c =
-    let came = subst (λ (r : Result (Unit {0}) DecodeError). ReadsNext (seen c.rows.rows c.rows.ctx c.rows.reader)
-    (seen c.read_line.new.self c.read_line.new.ctx c.read_line.new.reader) (row_came r)) c.in_ok-read_line.was
-    (c.read_line.ensures.reads c.args.ctx.now.ticks (c.rows.invariant.at_line, c.rows.invariant.stands)) in
-    let inv = c.rows.invariant in
-    let rows = (plain c.args.ctx.now.held.settings c.args.reader.now.bits).rows in
-    let new = c.read_line.new.ctx.held in
-    let within : new.taken ≤ length rows = of_same (λ s b. new.taken ≤ length (plain s b).rows) inv.settings inv.bits
-    (came.more refl).2 in
-    record {
-      stands = c.read_line.ensures.stands c.args.ctx.now.ticks (inv.at_line, inv.stands);
-      behind_row = c.in_ok-read_line.ensures.behind_row;
-      settings_are = c.read_line.ensures.settings ∙ inv.settings;
-      bits_are = c.read_line.ensures.same_bits ∙ inv.bits;
-      within = within;
-      means = means_pushed g.D.Decoder.step _ _ (g.D.Decoder.meaning c.args.decoder.now) _ _ rows c.rows.ctx.held.taken
-          new.taken new.reference c.reference_row.result.now inv.width inv.meaning c.in_default.ensures.taken
-          c.reference_row.ensures.changes (of_same (λ s b. new.reference ≡ get_or (plain s b).rows c.rows.ctx.held.taken [])
-          inv.settings inv.bits (came.row refl)) (came.more refl).1 within;
-    }
+    grind (
+      arith,
+      common_steps,
+      of_same,
+      means_pushed,
+      stands,
+      c.read_line.ensures.reads c.args.ctx.now.ticks (c.rows.invariant.at_line, c.rows.invariant.stands),
+      c.read_line.ensures.stands c.args.ctx.now.ticks (c.rows.invariant.at_line, c.rows.invariant.stands),
+    )
 
 pub push_white_rows-requires-clause-fits : goal.push_white_rows-requires-clause-fits
 push_white_rows-requires-clause-fits g c = omega (arith, c.bit_len-length.ensures.fit)
@@ -257,7 +211,7 @@ module _ (g : Over) (c : After-push_white_rows g) where
   step_here = g.D.Decoder.step (g.D.Decoder.width c.args.decoder.now)
 
   abbrev lines_here : WhiteLines
-  lines_here = c.repeats_white-repeats.new.lines
+  lines_here = c.white_is_next-repeats.new.lines
 
   abbrev sink_before : SinkState g.D.Decoder.Meaning
   sink_before = record {
@@ -283,10 +237,7 @@ module _ (g : Over) (c : After-push_white_rows g) where
 
   pushes_white : PushesWhite step_here lines_here 0 sink_before sink_behind c.read_line.new.self c.push_white_rows.new.rows
       c.read_line.new.ctx c.push_white_rows.new.ctx c.read_line.new.reader c.push_white_rows.new.reader c.push_white_rows.result
-  pushes_white = subst (λ (w : ℕ). PushesWhite (g.D.Decoder.step w) lines_here 0 sink_before sink_behind c.read_line.new.self
-      c.push_white_rows.new.rows c.read_line.new.ctx c.push_white_rows.new.ctx c.read_line.new.reader
-      c.push_white_rows.new.reader c.push_white_rows.result) (c.push_row.ensures.same_width ∙ c.rows.invariant.width)
-      c.push_white_rows.ensures.pushes
+  pushes_white = grind (arith, common_steps, lines_here, sink_before, sink_behind)
 
   behind_mid : IsBehindRows step_here c.args.ctx.now.ticks c.args.ctx.now.held.settings c.args.reader.now.bits
       (g.D.Decoder.meaning c.args.decoder.now) pushes_white.mid
@@ -331,10 +282,10 @@ white-init g c =
       unrefused = (came_behind g at is).1 ∙ c.in_default.ensures.not_refused ∙ inv.unrefused;
       space = rw (ap (λ (x : Context). x.space) counted.same) (room_there g (goal.at.white-init g c).After-read_line);
       unsought = λ is. ap (λ (x : Context). x.held.has_eols) counted.same ∙ c.read_line.ensures.has_eols ∙ inv.unsought is;
-      known = subst (λ (s : DecodeSettings). AreKnown s c.repeats_white-repeats.new.lines) (c.read_line.ensures.settings
-          ∙ inv.settings) c.repeats_white-repeats.ensures.known;
+      known = subst (λ (s : DecodeSettings). AreKnown s c.white_is_next-repeats.new.lines) (c.read_line.ensures.settings
+          ∙ inv.settings) c.white_is_next-repeats.ensures.known;
       follow = λ is. subst (λ (x : Context). MayFollow x.held.settings x.held.has_eols x.held.reference
-          c.repeats_white-repeats.new.lines) (sym counted.same) (c.repeats_white-repeats.ensures.follow is);
+          c.white_is_next-repeats.new.lines) (sym counted.same) (c.white_is_next-repeats.ensures.follow is);
     }
 
 -- one more was read, which the sink refuses
@@ -398,14 +349,9 @@ returns-in-Err-push_white_rows-clause-fails g c =
     let reads = (refused_behind g at c.in-Err-push_white_rows.is).reads in
     let takes = reads.takes in
     let last = c.take_back_row-in-Err-push_white_rows.new.self in
-    let taken : last.held.taken ≡ mid.ctx.held.taken = omega (
-      arith,
-      ap (λ (x : Context). x.held.taken) c.take_back_row-in-Err-push_white_rows.ensures.frame,
-      ap (λ (x : Context). x.held.taken) takes.new_is,
-    ) in
+    let taken : last.held.taken ≡ mid.ctx.held.taken = grind (arith, common_steps) in
     let back : here c.at_bit-in-Err-push_white_rows.result ≡ drop c.push_white_rows.new.rows.started_at mid.at.bits
-    = ap here c.at_bit-in-Err-push_white_rows.ensures ∙ ap (λ (b : BitsAt). drop c.push_white_rows.new.rows.started_at b.bits)
-    takes.passes.moved_on in
+    = grind (arith, common_steps) in
     of_same (λ s b. length b - length (here c.at_bit-in-Err-push_white_rows.result) ≡ failed_at s b last.held.taken)
     behind.settings_are behind.bits_are (ap (λ (x : Bits). length mid.at.bits - length x) back
     ∙ taken_starts {from = c.args.ctx.now.ticks} behind.stands behind.behind_row reads.follow (omega arith) takes
@@ -413,37 +359,43 @@ returns-in-Err-push_white_rows-clause-fails g c =
 
 pub returns-in-Err-push_white_rows-clause-no_eols : goal.returns-in-Err-push_white_rows-clause-no_eols
 returns-in-Err-push_white_rows-clause-no_eols g c =
-    let at = (goal.at.returns-in-Err-push_white_rows-clause-no_eols g c).After-push_white_rows in
-    let takes = (refused_behind g at c.in-Err-push_white_rows.is).reads.takes in
-    λ is. ap (λ (x : Context). x.held.has_eols) c.take_back_row-in-Err-push_white_rows.ensures.frame
-    ∙ ap (λ (x : Context). x.held.has_eols) takes.new_is ∙ ap (λ (x : Context). x.held.has_eols) (counted_mid g at).same
-    ∙ c.read_line.ensures.has_eols ∙ c.rows.invariant.unsought is
+    λ is. grind (
+      arith,
+      common_steps,
+      refused_behind g ((goal.at.returns-in-Err-push_white_rows-clause-no_eols g c).After-push_white_rows)
+          c.in-Err-push_white_rows.is,
+      counted_mid g ((goal.at.returns-in-Err-push_white_rows-clause-no_eols g c).After-push_white_rows),
+      c.rows.invariant.unsought is,
+    )
 
 pub returns-in-Err-push_white_rows-clause-same_bits : goal.returns-in-Err-push_white_rows-clause-same_bits
 returns-in-Err-push_white_rows-clause-same_bits g c =
-    let at = (goal.at.returns-in-Err-push_white_rows-clause-same_bits g c).After-push_white_rows in
-    let takes = (refused_behind g at c.in-Err-push_white_rows.is).reads.takes in
-    ap (λ (b : BitsAt). b.bits) c.at_bit-in-Err-push_white_rows.ensures ∙ ap (λ (b : BitsAt). b.bits) takes.passes.moved_on
-    ∙ (behind_mid g at).bits_are
+    grind (
+      arith,
+      common_steps,
+      refused_behind g ((goal.at.returns-in-Err-push_white_rows-clause-same_bits g c).After-push_white_rows)
+          c.in-Err-push_white_rows.is,
+      behind_mid g ((goal.at.returns-in-Err-push_white_rows-clause-same_bits g c).After-push_white_rows),
+    )
 
 pub returns-in-Err-push_white_rows-clause-space : goal.returns-in-Err-push_white_rows-clause-space
 returns-in-Err-push_white_rows-clause-space g c =
-    let there = goal.at.returns-in-Err-push_white_rows-clause-space g c in
-    let at = there.After-push_white_rows in
-    let takes = (refused_behind g at c.in-Err-push_white_rows.is).reads.takes in
-    rw (
-      c.take_back_row-in-Err-push_white_rows.ensures.frame,
-      ap (λ (x : Context). x.space) takes.new_is,
-      ap (λ (x : Context). x.space) (counted_mid g at).same,
-    ) (room_there g there.After-read_line)
+    grind (
+      arith,
+      common_steps,
+      refused_behind g (goal.at.returns-in-Err-push_white_rows-clause-space g c).After-push_white_rows
+          c.in-Err-push_white_rows.is,
+      counted_mid g (goal.at.returns-in-Err-push_white_rows-clause-space g c).After-push_white_rows,
+      room_there g (goal.at.returns-in-Err-push_white_rows-clause-space g c).After-read_line,
+    )
 
 -- a white row that is taken is the next one
 module _ (g : Over) (c : After-take_white_row g) (is : c.take_white_row.result ≡ true) where
   row_follows : MayFollow c.white.ctx.held.settings c.white.ctx.held.has_eols c.white.ctx.held.reference
-      c.repeats_white-repeats.new.lines
+      c.white_is_next-repeats.new.lines
   row_follows = c.white.invariant.follow (c.take_white_row.ensures.repeats is)
 
-  row_taken : TakesWhite c.repeats_white-repeats.new.lines c.bit_pos.result c.white.rows c.take_white_row.new.self c.white.ctx
+  row_taken : TakesWhite c.white_is_next-repeats.new.lines c.bit_pos.result c.white.rows c.take_white_row.new.self c.white.ctx
       c.take_white_row.new.ctx c.white.reader c.take_white_row.new.reader
   row_taken = c.take_white_row.ensures.taken is
 
@@ -462,9 +414,7 @@ module _ (g : Over) (c : After-take_white_row g) (is : c.take_white_row.result �
 -- otherwise nothing is read
 still_stands : (g : Over) (c : After-take_white_row g) → c.take_white_row.result ≡ false
     → IsStanding c.args.ctx.now.ticks c.take_white_row.new.self c.take_white_row.new.ctx c.take_white_row.new.reader
-still_stands g c is =
-    let none = c.take_white_row.ensures.none is in
-    rw (none.0, none.1, none.2) c.white.invariant.stands
+still_stands g c is = grind (arith, common_steps, c.take_white_row.ensures.none is)
 
 pub white-preserved : goal.white-preserved
 white-preserved g c =
@@ -475,8 +425,7 @@ white-preserved g c =
     let follows = row_follows g here c.white-test.true in
     let rows = (plain c.args.ctx.now.held.settings c.args.reader.now.bits).rows in
     let new = c.take_white_row.new.ctx.held in
-    let within : new.taken ≤ length rows = of_same (λ s b. new.taken ≤ length (plain s b).rows) inv.settings inv.bits
-    (came.more refl).2 in
+    let within : new.taken ≤ length rows = grind (arith, common_steps, of_same, came.more refl) in
     let pushed : g.D.Decoder.meaning c.push_row-in-white.new.self ≡ g.D.Decoder.step (g.D.Decoder.width c.white.decoder)
     (g.D.Decoder.meaning c.white.decoder) [] = search rules in
     let flag : g.D.Decoder.has_refused c.push_row-in-white.new.self ≡ g.D.Decoder.has_refused c.white.decoder = search rules in
@@ -498,7 +447,7 @@ white-preserved g c =
       unsought = λ is. ap (λ (x : Context). x.held.has_eols) takes.new_is ∙ inv.unsought is;
       known = inv.known;
       follow = λ is. subst (λ (x : Context). MayFollow x.held.settings x.held.has_eols x.held.reference
-          c.repeats_white-repeats.new.lines) (sym takes.new_is) (inv.follow is);
+          c.white_is_next-repeats.new.lines) (sym takes.new_is) (inv.follow is);
     }
 
 pub white-smaller : goal.white-smaller
@@ -579,8 +528,7 @@ returns-in-Err-push_row-clause-fails g c =
     let taken : last.held.taken ≡ held.taken
     = omega (arith, ap (λ (x : Context). x.held.taken) c.take_back_row-in-Err-push_row.ensures.frame, (came.more refl).1) in
     let back : here c.at_bit-in-Err-push_row.result ≡ drop c.take_white_row.new.self.started_at c.white.reader.bits
-    = ap here c.at_bit-in-Err-push_row.ensures ∙ ap (drop c.take_white_row.new.self.started_at)
-    (row_bits g at c.white-test.true) in
+    = grind (arith, common_steps, row_bits g at c.white-test.true) in
     of_same (λ s b. length b - length (here c.at_bit-in-Err-push_row.result) ≡ failed_at s b last.held.taken)
     inv.settings inv.bits
     (ap (λ (x : Bits). length c.white.reader.bits - length x) back
@@ -644,8 +592,7 @@ rows-preserved g c =
       bits = c.come_to_line.ensures.same_bits ∙ ap (λ (b : BitsAt). b.bits) none.2 ∙ inv.bits;
       within = omega (arith, taken, inv.within);
       width = inv.width;
-      meaning = inv.meaning ∙ ap (λ (n : ℕ). meaning_after step (g.D.Decoder.meaning c.args.decoder.now) (take n rows))
-          (sym taken);
+      meaning = grind (arith, common_steps, g.D.Decoder.meaning c.args.decoder.now);
       unrefused = inv.unrefused;
       space = rw (c.come_to_line.ensures.space, ap (λ (x : Context). x.space) none.1) inv.space;
       unsought = λ is. c.come_to_line.ensures.unsought (ap (λ (x : Context). x.held.has_eols) none.1 ∙ inv.unsought is);
@@ -681,11 +628,7 @@ returns-in-Err-push_row-clause-space g c =
     rw (c.take_back_row-in-Err-push_row.ensures.frame, ap (λ (x : Context). x.space) takes.new_is) c.white.invariant.space
 
 pub returns-in_err-come_to_line-clause-space : goal.returns-in_err-come_to_line-clause-space
-returns-in_err-come_to_line-clause-space g c =
-    rw (c.come_to_line.ensures.space, ap (λ (x : Context). x.space) (c.take_white_row.ensures.none c.white-test.false).1)
-    c.white.invariant.space
+returns-in_err-come_to_line-clause-space g c = grind (arith, common_steps, c.take_white_row.ensures.none c.white-test.false)
 
 pub returns-then-not-branch-clause-space : goal.returns-then-not-branch-clause-space
-returns-then-not-branch-clause-space g c =
-    rw (c.come_to_line.ensures.space, ap (λ (x : Context). x.space) (c.take_white_row.ensures.none c.white-test.false).1)
-    c.white.invariant.space
+returns-then-not-branch-clause-space g c = grind (arith, common_steps, c.take_white_row.ensures.none c.white-test.false)

@@ -1,49 +1,27 @@
-use Rattle.hayro_ccitt.proofs.Names.{◌≡◌, ◌∙◌, ◌+◌, ◌-◌, [], ℕ, BehindRow, BitsAt, Context, None, ap, arith, length, refl, subst}
+use Rattle.hayro_ccitt.proofs.Names.{common_steps}
+use Rattle.hayro_ccitt.proofs.Names.{◌≡◌, ◌∙◌, ◌+◌, ◌-◌, ℕ, BehindRow, BitsAt, None, ap, arith, refl}
 use Rattle.hayro_ccitt.proofs.Names.{sym, false}
 use Rattle.fax_bits.specs.Window.{WordsAt}
-use Rattle.hayro_ccitt.proofs.Readings.WhiteRowsPushed.{HasPushedWhite, ctx_behind, no_row_left, none_pushed, one_pushed}
+use Rattle.hayro_ccitt.proofs.Readings.WhiteRowsPushed.{ctx_behind, no_row_left, none_pushed, one_pushed}
 use Rattle.hayro_ccitt.proofs.Readings.WhiteRowsPushed.{one_refused, some_pushed}
 use Rattle.hayro_ccitt.specs.WhiteLines.{PassesLine}
-use Rattle.hayro_ccitt.specs.WhiteRows.{ArePlacedLines}
-use Rattle.fax_bits.specs.declared.bit_reader.BitOrder.{BitOrder}
 use Rattle.hayro_ccitt.proofs.push_rows.push_white_words.{Given.Over}
 use Rattle.hayro_ccitt.proofs.push_rows.push_white_words.Goals.{After-push_row, After-many}
 use Rattle.hayro_ccitt.proofs.push_rows.push_white_words.Goals.{else-many-test, then-many-test+then-not-pass_placed_line}
 use Rattle.hayro_ccitt.proofs.push_rows.push_white_words.Goals as goal
 
 pub many-init : goal.many-init
-many-init g c = record {
-  pushed = none_pushed c.requires.here;
-  rows = refl;
-  ctx = refl;
-  reader = refl;
-  placed = c.placed_lines-placed.ensures;
-  bits = ap (λ (b : BitsAt). b.bits) c.requires.here;
-  within = omega (arith, c.passed-start.ensures.within, ap (λ (b : BitsAt). length b.bits) c.requires.here);
-  width = refl;
-  unrefused = refl;
-}
+many-init g c = grind (arith, common_steps, none_pushed)
 
 -- a line is passed
 passes : (g : Over) (c : After-push_row g) → PassesLine c.args.lines.now c.many.words.at c.pass_placed_line.new.words.at
 passes g c = c.pass_placed_line.ensures.passed c.args.lines.now c.if-not-pass_placed_line.false c.many.invariant.placed
 
 pub take_white_rows-requires : goal.take_white_rows-requires
-take_white_rows-requires g c = omega (
-  arith,
-  c.rows_left-most.ensures,
-  c.decoded_rows.ensures,
-  c.requires.follow.known.limit_fits,
-  ap (λ (x : Context). x.held.taken) c.many.invariant.ctx,
-  c.many-test.true,
-  c.many.invariant.pushed.count_is,
-)
+take_white_rows-requires g c = grind (arith, common_steps)
 
 pub go_on_at-requires : goal.go_on_at-requires
-go_on_at-requires g c =
-    let here = (goal.at.go_on_at-requires g c).After-push_row in
-    ap (λ (b : BitsAt). b.bits) (passes g here).moved_on ∙ c.many.invariant.bits
-    ∙ sym (ap (λ (b : BitsAt). b.bits) c.many.invariant.reader)
+go_on_at-requires g c = grind (arith, common_steps, passes g ((goal.at.go_on_at-requires g c).After-push_row))
 
 pub returns-in-Err-clause-pushes : goal.returns-in-Err-clause-pushes
 returns-in-Err-clause-pushes g c =
@@ -64,41 +42,10 @@ returns-in-Err-clause-pushes g c =
     c.in-Err.ensures.kept c.in-Err.ensures.only_refused c.in-Err.ensures.refused c.in-Err.ensures.refused_row
 
 pub many-preserved : goal.many-preserved
-many-preserved g c =
-    let here = (goal.at.many-preserved g c).After-push_row in
-    let inv = c.many.invariant in
-    let step = g.D.Decoder.step (g.D.Decoder.width c.args.decoder.now) in
-    let meaning = g.D.Decoder.meaning c.many.decoder in
-    record {
-      pushed = subst (λ (n : ℕ). HasPushedWhite step c.args.lines.now c.args.dropped c.rows_left-most.result (c.many.left - 1) n
-          c.args.rows.now c.args.ctx.now c.args.reader.now c.pass_placed_line.new.words.at
-          (g.D.Decoder.meaning c.args.decoder.now) (g.D.Decoder.meaning c.push_row.new.self)) (sym c.passed-place.ensures.place)
-          (one_pushed inv.pushed c.requires.follow
-          (c.rows_left-most.ensures ∙ ap (λ (n : ℕ). c.args.lines.now.limit - n) c.decoded_rows.ensures)
-          c.many-test.true
-          (passes g here) (c.many.left - 1) (omega (arith, c.many-test.true)) (c.in_default.ensures.taken
-          ∙ ap (λ (w : ℕ). g.D.Decoder.step w meaning []) inv.width));
-      rows = inv.rows;
-      ctx = inv.ctx;
-      reader = inv.reader;
-      placed = subst (λ (o : BitOrder). ArePlacedLines o c.args.lines.now c.placed_lines-placed.result)
-          (sym c.pass_placed_line.ensures.order) inv.placed;
-      bits = ap (λ (b : BitsAt). b.bits) (passes g here).moved_on ∙ inv.bits;
-      within = omega (arith, c.passed-place.ensures.within, ap length inv.bits);
-      width = c.push_row.ensures.same_width ∙ inv.width;
-      unrefused = c.in_default.ensures.not_refused ∙ inv.unrefused;
-    }
+many-preserved g c = grind (arith, common_steps, one_pushed, passes g ((goal.at.many-preserved g c).After-push_row))
 
 pub take_white_rows-requires-then-left-most : goal.take_white_rows-requires-then-left-most
-take_white_rows-requires-then-left-most g c = omega (
-  arith,
-  c.rows_left-most.ensures,
-  c.decoded_rows.ensures,
-  c.requires.follow.known.limit_fits,
-  ap (λ (x : Context). x.held.taken) c.many.invariant.ctx,
-  c.if-left-most.true,
-  c.many.invariant.pushed.count_is,
-)
+take_white_rows-requires-then-left-most g c = grind (arith, common_steps)
 
 pub go_on_at-requires-then-left-most : goal.go_on_at-requires-then-left-most
 go_on_at-requires-then-left-most g c =

@@ -1,3 +1,4 @@
+use Rattle.hayro_ccitt.proofs.Names.{common_steps}
 use Rattle.hayro_ccitt.proofs.Names.{rules, ◌≡◌, ℕ, ◌+◌, ◌*◌, ◌≤◌, ◌⊎◌, true, [], ◌∷◌, length, drop, Some, None, sym, ap, subst}
 use Rattle.hayro_ccitt.proofs.Names.{◌∙◌}
 use Rattle.hayro_ccitt.proofs.Names.{arith, DecodeSettings, Bits, BitsAt, here, Held, after_eol, tagged_eols, looked}
@@ -93,24 +94,12 @@ returns-then-not-pass_line-clause-only_ticks c = record {
 
 -- the EOL is examined, and then it and those that follow with their tags
 read : (c : After-read_tagged_eols-count) → c.pass_eol.new.ticks ≡ c.lines.ctx.ticks + looked (here c.lines.reader)
-read c =
-    omega (
-      arith,
-      c.ticks.ensures.value,
-      c.pass_eol.ensures.ticks,
-      ap (λ (at : BitsAt). looked (here at)) c.copy-line.ensures.value,
-    )
+read c = grind (arith, common_steps)
 
 ahead : (c : After-read_tagged_eols-count)
     → c.read_tagged_eols-count.new.ticks + 2 * length (here c.read_tagged_eols-count.new.self)
     ≤ c.pass_eol.new.ticks + 2 * length (here c.lines.reader) + 3 + looked (drop 1 (here c.read_tagged_eols-count.new.self))
-ahead c =
-    omega (
-      arith,
-      c.ticks-in-lines.ensures.value,
-      c.read_tagged_eols-count.ensures.at_most,
-      ap (λ (at : BitsAt). length (here at)) c.copy-behind.ensures.value,
-    )
+ahead c = grind (arith, common_steps)
 
 pub returns-then-not-pass_eol-clause-at_most : goal.returns-then-not-pass_eol-clause-at_most
 returns-then-not-pass_eol-clause-at_most c =
@@ -145,13 +134,7 @@ returns-then-not-pass_line-clause-at_most c =
     (omega (arith, c.pass_line.ensures.at_most))
 
 pub lines-smaller : goal.lines-smaller
-lines-smaller c =
-    let eol = ap (λ (at : BitsAt). after_eol 0 (here at)) (sym c.copy-line.ensures.value) ∙ c.if-not-pass_eol.ensures.eol in
-    omega (
-      arith,
-      c.pass_line.ensures.onward,
-      after_eol_shorter 0 (here c.lines.reader) (here c.pass_eol.new.reader) eol,
-    )
+lines-smaller c = grind (arith, common_steps, after_eol_shorter)
 
 pub lines-preserved : goal.lines-preserved
 lines-preserved c =

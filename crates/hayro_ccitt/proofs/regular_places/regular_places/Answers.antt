@@ -1,3 +1,4 @@
+use Rattle.hayro_ccitt.proofs.Names.{common_steps}
 use Rattle.hayro_ccitt.proofs.Names.{arith, ◌+◌, ◌-◌}
 use Rattle.hayro_ccitt.proofs.DrawingLines.RegularLanes.{changes_fit, length-reached, mask_from_fits, reached_inside, regular_at}
 use Rattle.hayro_ccitt.proofs.regular_places.regular_places.Goals as goal
@@ -25,10 +26,7 @@ returns-clause-four c =
     )
 
 pub returns-clause-place : goal.returns-clause-place
-returns-clause-place c k lt inside =
-    let a = c.args in
-    reached_inside a.painted a.index a.places.now a.offsets.now c.requires.within c.requires.offsets a._columns k c.requires.fit.1
-    (c.requires.below _) lt inside
+returns-clause-place c k lt inside = grind (arith, common_steps, reached_inside)
 
 pub returns-clause-regular : goal.returns-clause-regular
 returns-clause-regular c =

@@ -1,7 +1,8 @@
-use Rattle.hayro_ccitt.proofs.Names.{◌≡◌, ◌≢◌, ◌∙◌, ◌<◌, ℕ, Bool, false, inl, inr, length, drop, ap, sym, subst, arith}
+use Rattle.hayro_ccitt.proofs.Names.{common_steps}
+use Rattle.hayro_ccitt.proofs.Names.{◌≡◌, ◌≢◌, ◌∙◌, ◌<◌, ℕ, false, length, drop, ap, sym, subst, arith}
 use Rattle.hayro_ccitt.proofs.Names.{on_err_weaker, Stand, DecodeSettings}
 use Rattle.hayro_ccitt.proofs.Names.{refl}
-use Rattle.hayro_ccitt.proofs.Names.{Group4, Bits, here, Held, gap_said, all_eols, gap_behind_row, first_line}
+use Rattle.hayro_ccitt.proofs.Names.{Group4, Bits, here, Held, gap_said, gap_behind_row, first_line}
 use Rattle.hayro_ccitt.proofs.Names.{IsPaid, ended, stand_after, AtLine, looked}
 use Rattle.hayro_ccitt.proofs.Readings.RowByRow.{no_fault}
 use Rattle.hayro_ccitt.proofs.Work.EolsPassed.{unsought_after}
@@ -13,23 +14,11 @@ use Rattle.hayro_ccitt.proofs.row_reader.first_stand.Goals as goal
 first_gap_said : (c : goal.After-stand_after_gap) → gap_behind_row c.args.ctx.now.held.settings 0 false c.args.reader.now.bits
     ≡ gap_said c.pass_gap-over.result c.pass_gap-over.new.ctx.held.has_eols
     (drop c.pass_gap-over.new.reader.place c.args.reader.now.bits)
-first_gap_said c =
-    let held = c.args.ctx.now.held in
-    let last = c.pass_gap-over.new.ctx.held in
-    ap (λ (h : Held). gap_behind_row held.settings h.taken h.has_eols c.args.reader.now.bits) (sym c.requires.fresh)
-    ∙ ap (λ (n : ℕ). gap_behind_row held.settings held.taken held.has_eols (drop n c.args.reader.now.bits))
-    (sym c.requires.start)
-    ∙ c.pass_gap-over.ensures.passes.gap ∙ ap (λ (b : Bits). gap_said c.pass_gap-over.result last.has_eols
-    (drop c.pass_gap-over.new.reader.place b)) c.pass_gap-over.ensures.same_bits
+first_gap_said c = grind (arith, common_steps)
 
 -- no EOLs are sought then
 unsought_there : (c : goal.After-stand_after_gap) → c.pass_gap-over.new.ctx.held.has_eols ≡ false
-unsought_there c =
-    let held = c.args.ctx.now.held in
-    unsought_after held.settings held.taken held.has_eols c.pass_gap-over.new.ctx.held.has_eols (here c.args.reader.now)
-    (here c.pass_gap-over.new.reader) c.pass_gap-over.result (ap (λ (h : Held). h.has_eols) c.requires.fresh)
-    c.pass_gap-over.ensures.passes.gap c.pass_gap-over.ensures.passes.given_up (on_err_weaker c.pass_gap-over.result
-    (λ kept. ap (λ (h : Held). h.has_eols) kept) c.pass_gap-over.ensures.passes.unchanged)
+unsought_there c = grind (arith, common_steps, unsought_after, on_err_weaker)
 
 pub returns-in-Group4-clause-no_eols : goal.returns-in-Group4-clause-no_eols
 returns-in-Group4-clause-no_eols c = λ is. unsought_there c
@@ -42,8 +31,7 @@ returns-in-Group4-clause-unfailed c error is =
     let unsought : held.has_eols ≡ false = ap (λ (h : Held). h.has_eols) c.requires.fresh in
     let said : gap_behind_row held.settings held.taken false (here c.args.reader.now)
     ≡ gap_said c.pass_gap-over.result last.has_eols rest
-    = ap (λ (b : Bool). gap_behind_row held.settings held.taken b (here c.args.reader.now)) (sym unsought)
-    ∙ c.pass_gap-over.ensures.passes.gap in
+    = grind (arith, common_steps) in
     no_fault held.settings held.taken (here c.args.reader.now) c.pass_gap-over.result last.has_eols rest said error
     (ap ended (sym c.stand_after_gap.ensures) ∙ is)
 
@@ -59,15 +47,11 @@ returns-in-Group3_1D c =
     let begins : here c.args.reader.now ≡ bits = ap (λ (n : ℕ). drop n bits) c.requires.start in
     let read : settings.encoding ≡ c.settings-2.result.encoding =
     ap (λ (s : DecodeSettings). s.encoding) (sym c.settings-2.ensures.value) in
-    let other : settings.encoding ≢ Group4 = λ is. elim c.in-Group3_1D.is [
-      | inl e ↦ let never = sym e ∙ sym read ∙ is in cc
-      | inr e ↦ let never = sym e ∙ sym read ∙ is in cc
-    ] in
+    let other : settings.encoding ≢ Group4 = λ is. grind (arith, common_steps) in
     let frame =
     c.read_leading_eols.ensures.has_eols ∙ ap (λ (x : Bits). record held { has_eols = (first_line settings x).has_eols }) begins
     ∙ ap (λ (h : Held). record h { has_eols = (first_line settings bits).has_eols }) c.requires.fresh in
-    let rest : drop at.place bits ≡ (first_line settings bits).rest = ap (λ (b : Bits). drop at.place b)
-    (sym c.read_leading_eols.ensures.same_bits) ∙ c.read_leading_eols.ensures.rest ∙ ap (λ (x : Bits). (all_eols x).1) begins in
+    let rest : drop at.place bits ≡ (first_line settings bits).rest = grind (arith, common_steps) in
     let first : StandsFirst AtLine c.args.ctx.now c.read_leading_eols.new.ctx c.args.reader.now at =
     subst (λ (n : ℕ). StandsFirst AtLine c.args.ctx.now c.read_leading_eols.new.ctx
     (record { bits = bits; place = n }) at)
@@ -132,7 +116,4 @@ pub returns-in-Group4-clause-damage : goal.returns-in-Group4-clause-damage
 returns-in-Group4-clause-damage c = first_damage (returns-in-Group4-clause-first c)
 
 pub returns-in-Group4-clause-paid : goal.returns-in-Group4-clause-paid
-returns-in-Group4-clause-paid c from begun =
-    subst (λ (n : ℕ). IsPaid n c.stand_after_gap.result c.args.ctx.now.held.settings c.args.reader.now.bits
-    c.pass_gap-over.new.ctx.held c.pass_gap-over.new.reader.place c.pass_gap-over.new.ctx.ticks) begun
-    (first_paid (returns-in-Group4-clause-first c))
+returns-in-Group4-clause-paid c from begun = grind (arith, common_steps, first_paid, returns-in-Group4-clause-first c)

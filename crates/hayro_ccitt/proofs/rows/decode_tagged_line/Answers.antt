@@ -1,4 +1,5 @@
-use Rattle.hayro_ccitt.proofs.Names.{rules, length, ap, arith, Group3_2D, Bits, here, line_1d, line_found}
+use Rattle.hayro_ccitt.proofs.Names.{common_steps}
+use Rattle.hayro_ccitt.proofs.Names.{rules, length, ap, arith, Group3_2D, Bits, line_found}
 use Rattle.hayro_ccitt.proofs.Work.RoomTaken.{more_stored}
 use Rattle.hayro_ccitt.proofs.DrawingLines.CountedLines.{on_answer_weaker}
 use Rattle.hayro_ccitt.proofs.rows.decode_tagged_line.Goals as goal
@@ -18,6 +19,5 @@ returns-then-tag-eq1-clause-line c =
       at_least = on_answer_weaker c.decode_1d_line.result
           (λ found. omega (arith, found, c.tick.ensures, c.ticks.ensures.value, words)) c.decode_1d_line.ensures.at_least;
       at_most = search rules;
-      space = rw next (more_stored _ _ held.reference (line_1d held.settings.strict held.settings.columns
-          (here c.read_bit.new.self)) c.decode_1d_line.ensures.space);
+      space = grind (arith, common_steps, more_stored);
     }

@@ -1,3 +1,4 @@
+use Rattle.hayro_ccitt.proofs.Names.{common_steps}
 use Rattle.hayro_ccitt.proofs.Names.{rules, ◌≡◌, ℕ, Bool, true, false, cond, length, Option, Some, None, Ok, refl, sym, ap, ◌∙◌}
 use Rattle.hayro_ccitt.proofs.Names.{arith, cond-true, cond-false, DecodeSettings, Bits, here, Context, Held, gap_said, next_eol}
 use Rattle.hayro_ccitt.proofs.Names.{Gap, eols_here, misses_eol, is_over, behind_eols, from_next_eol, looked, looked_ahead}
@@ -101,17 +102,7 @@ returns-clause-passes c = record {
   only_code = search rules;
   unchanged = search rules;
   counts =
-      let left = (next_eol_found (here c.read_eols-count.new.reader) (here c.skip_to_eol.new.self) (c.skip_to_eol.ensures.next
-      ∙ ap (λ (b : Bool). cond {A = Option Bits} b (Some (here c.skip_to_eol.new.self)) None) c.if-not-skip_to_eol.false)).0 in
-      omega (
-        arith,
-        c.read_eols-count.ensures.only_ticks.counts,
-        ap (λ (x : Context). x.ticks) c.count_missed_eol.ensures.frame,
-        c.read_eols-count-2.ensures.only_ticks.counts,
-        c.ticks.ensures.value,
-        c.skip_to_eol.ensures.ticks,
-        left,
-      );
+      grind (arith, common_steps, next_eol_found);
   work = λ kept.
       let settings = c.read_eols-count.new.ctx.held.settings in
       let none : c.read_eols-count.result ≡ 0 = omega (arith, c.if-count-gt0.false) in
@@ -153,18 +144,7 @@ returns-then-settings-clause-put_back c =
     (c.read_eols-count.ensures.eols ∙ ap (λ (n : ℕ). (n, now)) none)
 
 pub returns-clause-at_least : goal.returns-clause-at_least
-returns-clause-at_least c =
-    let none : c.read_eols-count.result ≡ 0 = omega (arith, c.if-count-gt0.false) in
-    let found = here c.skip_to_eol.new.self in
-    omega (
-      arith,
-      c.read_eols-count.ensures.at_least,
-      ap (λ (x : Context). x.ticks) c.count_missed_eol.ensures.frame,
-      c.ticks.ensures.value,
-      c.skip_to_eol.ensures.ticks,
-      ap (λ (b : Bool). cond b (looked found) (length found)) c.if-not-skip_to_eol.false,
-      c.read_eols-count-2.ensures.at_least,
-    )
+returns-clause-at_least c = grind (arith, common_steps)
 
 pub returns-then-count-gt0-clause-at_least : goal.returns-then-count-gt0-clause-at_least
 returns-then-count-gt0-clause-at_least c = search rules

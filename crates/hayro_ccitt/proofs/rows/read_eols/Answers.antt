@@ -1,4 +1,5 @@
-use Rattle.hayro_ccitt.proofs.Names.{rules, ◌≡◌, ℕ, refl, ap, sym, ◌∙◌, length, arith, EncodingMode, DecodeSettings, Bits, here}
+use Rattle.hayro_ccitt.proofs.Names.{common_steps}
+use Rattle.hayro_ccitt.proofs.Names.{◌≡◌, ℕ, refl, ap, sym, ◌∙◌, length, arith, EncodingMode, DecodeSettings, here}
 use Rattle.hayro_ccitt.proofs.Names.{eols_by}
 use Rattle.hayro_ccitt.proofs.Names.{eols_here, looked, looked_ahead, tag_tests}
 use Rattle.hayro_ccitt.proofs.{BitReading.EolCounts.all_eols_leave, Work.EolsPassed.eols_here_stay}
@@ -6,19 +7,7 @@ use Rattle.fax_bits.proofs.BitReading.ConsecutiveEols.{tagged_eols_counted}
 use Rattle.hayro_ccitt.proofs.rows.read_eols.Goals as goal
 
 pub returns-in-Group3_2D-clause-only_ticks : goal.returns-in-Group3_2D-clause-only_ticks
-returns-in-Group3_2D-clause-only_ticks c = record {
-  held = search rules;
-  counts =
-      let left = (tagged_eols_counted (here c.args.reader.now)).0 in
-      omega (
-        arith,
-        c.ticks.ensures.value,
-        c.read_tagged_eols.ensures.at_least,
-        left,
-        ap (λ (f : ℕ × Bits). length f.1) c.read_tagged_eols.ensures.eols,
-      );
-  space = search rules;
-}
+returns-in-Group3_2D-clause-only_ticks c = grind (arith, common_steps, tagged_eols_counted)
 
 pub returns-in-Group3_1D : goal.returns-in-Group3_1D
 returns-in-Group3_1D c =
@@ -29,8 +18,7 @@ returns-in-Group3_1D c =
     let from = c.ticks-in-Group3_1D.ensures.value in
     let left = all_eols_leave c.read_eol_if_available.result now rest c.read_eol_if_available.ensures.eols in
     let eols : eols_here c.args.ctx.now.held.settings now ≡ (c.read_eol_if_available.result, rest) =
-    ap (λ (e : EncodingMode). eols_by e c.args.ctx.now.held.settings.end_of_block now) (sym same ∙ c.in-Group3_1D.is)
-    ∙ c.read_eol_if_available.ensures.eols in
+    grind (arith, common_steps) in
     let ahead : looked_ahead c.args.ctx.now.held.settings.encoding rest ≡ looked rest
     = ap (λ (e : EncodingMode). looked_ahead e rest) (sym same ∙ c.in-Group3_1D.is) in
     let tags : tag_tests c.args.ctx.now.held.settings.encoding ≡ 0 = ap tag_tests (sym same ∙ c.in-Group3_1D.is) in

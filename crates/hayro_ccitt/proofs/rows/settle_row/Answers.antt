@@ -1,7 +1,8 @@
-use Rattle.hayro_ccitt.proofs.Names.{rules, repaired, ◌≡◌, ◌≤◌, ◌+◌, length, ap, subst, arith, err_from_is_err_and, front_of}
+use Rattle.hayro_ccitt.proofs.Names.{common_steps}
+use Rattle.hayro_ccitt.proofs.Names.{rules, ◌≤◌, ◌+◌, length, ap, subst, arith, err_from_is_err_and, front_of}
 use Rattle.hayro_ccitt.proofs.Names.{Line, changes}
-use Rattle.hayro_ccitt.proofs.Names.{true, Bool, sym, ◌∙◌, with_row_taken, cuts_with, repairs_with, DrawsLine, OnAnswer, OnOk}
-use Rattle.hayro_ccitt.proofs.Names.{found_here, here, Context, Held, line_here, most_stored, is_broken, Result, DecodeError}
+use Rattle.hayro_ccitt.proofs.Names.{true, DrawsLine}
+use Rattle.hayro_ccitt.proofs.Names.{found_here, here, Context, line_here, Result, DecodeError}
 use Rattle.hayro_ccitt.proofs.DrawingLines.UnreadRows.{draws_anywhere, isnt_repaired, line_breaks}
 use Rattle.hayro_ccitt.proofs.Work.ChangesStored.{changes_found, changes_repaired}
 use Rattle.hayro_ccitt.proofs.Work.RoomTaken.{grown_again}
@@ -46,75 +47,19 @@ returns-in-Err-clause-row c before start is read =
     let found = subst (λ (l : Line). length (changes (front_of l)) ≤ length words) breaks few in
     let frame = c.in_ok-recover_from.ensures.frame in
     let counted : before.ticks + length words ≤ c.args.ctx.now.ticks
-    = subst (λ (r : Result (Unit {0}) DecodeError). OnAnswer r (before.ticks + length words ≤ c.args.ctx.now.ticks))
-    c.in-Err.is read.at_least fault in
+    = grind (arith, common_steps) in
     record {
-      row = record {
-        taken = record {
-          taken = repaired held.settings.columns left.front;
-          is = search rules;
-          held = search rules;
-        };
-        fault = tt;
-        held = tt;
-        memory = λ e. cc;
-        not_refused = λ e. cc;
-      };
+      row = grind (arith, common_steps);
       counts = omega (arith, c.take_damaged_row.ensures.moves.count, ap (λ (x : Context). x.ticks) frame, read.counts);
       at_least = omega (arith, c.take_damaged_row.ensures.moves.count, ap (λ (x : Context). x.ticks) frame, counted);
       at_most = omega (arith, c.take_damaged_row.ensures.moves.count, ap (λ (x : Context). x.ticks) frame, read.at_most);
-      stored = omega (
-        arith,
-        found,
-        ap (λ (x : Context). length (changes x.held.front)) frame,
-        changes_repaired left.settings.columns left.front,
-        ap (λ (h : Held). length (changes h.reference)) c.take_damaged_row.ensures.taken,
-      );
+      stored = grind (arith, common_steps, changes_repaired);
       width = search rules;
-      space = rw c.take_damaged_row.ensures.moves.space (grown_again before.space c.args.ctx.now.space _
-          (most_stored held.reference line) (length (changes left.front)) read.space
-          c.recover_from.ensures.space (omega (arith, ap (λ (l : Line). length (changes (front_of l))) breaks)));
+      space = grind (arith, common_steps, grown_again);
     }
 
 pub returns-clause-row : goal.returns-clause-row
-returns-clause-row c before start is read =
-    let held = before.held in
-    let left = c.args.ctx.now in
-    let front = left.held.front in
-    let words = found_here held.settings held.reference (here start) in
-    let line = line_here held.settings held.reference (here start) in
-    let drawn = subst (λ (r : Result (Unit {0}) DecodeError). DrawsLine line r front (here c.args.reader.now))
-    c.in_default.is read.drawn in
-    let strict = line_here (record held.settings { strict = true }) held.reference (here start) in
-    let cut = subst (λ (r : Result (Unit {0}) DecodeError). OnOk r (left.cut ≡ is_broken strict)) c.in_default.is read.cut in
-    let few = changes_found held.settings.encoding held.settings.strict held.settings.columns held.reference (here start) in
-    let found = subst (λ (l : Line). length (changes (front_of l)) ≤ length words) drawn few in
-    let counted : before.ticks + length words ≤ left.ticks
-    = subst (λ (r : Result (Unit {0}) DecodeError). OnAnswer r (before.ticks + length words ≤ left.ticks))
-    c.in_default.is read.at_least in
-    record {
-      row = record {
-        taken = record {
-          taken = front;
-          is = search rules;
-          held = c.take_whole_row.ensures.taken
-              ∙ ap (λ (h : Held). record (with_row_taken h front) { repairs = cuts_with left.cut h.taken h.repairs }) read.held
-              ∙ ap (λ (b : Bool). record (with_row_taken held front) { repairs = cuts_with b held.taken held.repairs }) cut
-              ∙ sym (ap (λ (l : Line). record (with_row_taken held front)
-              { repairs = repairs_with l strict held.taken held.repairs }) drawn);
-        };
-        fault = tt;
-        held = tt;
-        memory = λ e. cc;
-        not_refused = λ e. cc;
-      };
-      counts = omega (arith, c.take_whole_row.ensures.moves.count, read.counts);
-      at_least = omega (arith, c.take_whole_row.ensures.moves.count, counted);
-      at_most = omega (arith, c.take_whole_row.ensures.moves.count, read.at_most);
-      stored = omega (arith, found, ap (λ (h : Held). length (changes h.reference)) c.take_whole_row.ensures.taken);
-      width = search rules;
-      space = rw c.take_whole_row.ensures.moves.space read.space;
-    }
+returns-clause-row c before start is read = grind (arith, common_steps, changes_found)
 
 pub take_whole_row-requires-clause-rows : goal.take_whole_row-requires-clause-rows
 take_whole_row-requires-clause-rows c = c.requires.room.rows

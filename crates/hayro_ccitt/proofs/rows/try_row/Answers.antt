@@ -1,4 +1,6 @@
-use Rattle.hayro_ccitt.proofs.Names.{rules, ◌≡◌, ap, sym, ◌∙◌, true, false, Held}
+use Rattle.hayro_ccitt.proofs.Names.{arith}
+use Rattle.hayro_ccitt.proofs.Names.{common_steps}
+use Rattle.hayro_ccitt.proofs.Names.{rules, ◌≡◌, sym, ◌∙◌, true, false}
 use Rattle.hayro_ccitt.proofs.Names.{here, line_here, OnAnswer, ◌⊎◌}
 use Rattle.hayro_ccitt.proofs.DrawingLines.FullRows.{line_by_full}
 use Rattle.hayro_ccitt.proofs.Readings.RowsTried.{drawn_full, settled, tries, leaves_row}
@@ -8,22 +10,12 @@ use Rattle.hayro_ccitt.proofs.rows.try_row.Goals.{After-settle_row-row}
 use Rattle.hayro_ccitt.proofs.rows.try_row.Goals as goal
 
 pub settle_row-row-requires-clause-full : goal.settle_row-row-requires-clause-full
-settle_row-row-requires-clause-full c =
-    let held = c.args.ctx.now.held in
-    let left = c.decode_line-line.new.ctx.held in
-    let read = c.decode_line-line.ensures.line in
-    rw (ap (λ (h : Held). h.settings.columns) read.held) (drawn_full held.settings.columns
-    (line_here held.settings held.reference (here c.args.reader.now)) c.decode_line-line.result left.front
-    (here c.decode_line-line.new.reader)
-    (line_by_full held.settings.encoding held.settings.strict held.settings.columns held.reference (here c.args.reader.now))
-    read.drawn)
+settle_row-row-requires-clause-full c = grind (arith, common_steps, drawn_full, line_by_full)
 
 -- nothing that follows changes the line
 unchanged : (c : After-settle_row-row) → OnAnswer c.decode_line-line.result ((c.args.is_last ≡ true)
     ⊎ (is_short (line_here c.args.ctx.now.held.settings c.args.ctx.now.held.reference (here c.args.reader.now)) ≡ false))
-unchanged c = settled c.args.is_last _ c.decode_line-line.result c.decode_line-line.new.ctx.held.front
-    (here c.decode_line-line.new.reader) c.decode_line-line.ensures.line.drawn (sym c.needs_more.ensures
-    ∙ c.if-needs_more.false)
+unchanged c = grind (arith, common_steps, settled)
 
 -- what is read of the bits here
 row_read : (c : After-settle_row-row) → ReadsRow c.args.ctx.now c.settle_row-row.new.ctx c.settle_row-row.result

@@ -1,3 +1,4 @@
+use Rattle.hayro_ccitt.proofs.Names.{common_steps}
 use Rattle.hayro_ccitt.proofs.Names.{ap, ◌∙◌, arith, White, BitsAt, GoesOn, pen_at}
 use Rattle.hayro_ccitt.proofs.DrawingLines.UsualStrokes.{goes_on_twice, reached_open, open_reached}
 use Rattle.hayro_ccitt.proofs.usual.draw_pairs.Goals.{After-has_two_runs}
@@ -22,8 +23,7 @@ returns-in-None-clause-drawn c =
     let same = c.in-None.ensures.left in
     record {
       drawn = rw (same.at, same.items, same.count) (so_far (goal.at.returns-in-None-clause-drawn c).After-has_two_runs);
-      reached = open_reached c.args.settings.columns c.runs.place _
-          (rw (same.items, c.in_default.ensures.left.items) c.runs.invariant.1);
+      reached = grind (arith, common_steps, open_reached);
     }
 
 pub returns-then-next-settings-clause-drawn : goal.returns-then-next-settings-clause-drawn

@@ -1,4 +1,5 @@
-use Rattle.hayro_ccitt.proofs.Names.{◌≡◌, ◌+◌, ℕ, subst, arith, moved, IsWordHere}
+use Rattle.hayro_ccitt.proofs.Names.{common_steps}
+use Rattle.hayro_ccitt.proofs.Names.{◌≡◌, ◌+◌, ℕ, arith, moved, IsWordHere}
 use Rattle.fax_bits.proofs.CodeWords.WordsHere.{run_of_two}
 use Rattle.hayro_ccitt.proofs.usual.run_at_hand.Goals as goal
 
@@ -12,7 +13,6 @@ returns-then-rest-lt64-clause-run c =
     let sum : place + (c.args.skip + first.result.1) ≡ place + c.args.skip + first.result.1 = omega arith in
     let there : IsWordHere color (moved (c.args.skip + first.result.1) c.args.hand.now.at) second.result.0 second.result.1 =
     second.ensures.word (omega (arith, c.if-rest-lt64.true)) in
-    let on : IsWordHere color (moved first.result.1 at) second.result.0 second.result.1 = subst (λ (p : ℕ). IsWordHere color
-    (record { bits = c.args.hand.now.at.bits; place = p }) second.result.0 second.result.1) sum there in
+    let on : IsWordHere color (moved first.result.1 at) second.result.0 second.result.1 = grind (arith, common_steps) in
     run_of_two color at first.result.0 first.result.1 second.result.0 second.result.1
     (first.ensures.word c.if-run-eq4095.false) on c.if-run-lt64.false c.if-rest-lt64.true first.ensures.below

@@ -1,4 +1,4 @@
-use Rattle.fax_bits.proofs.Names.{◌≡◌, ◌≢◌, ◌+◌, ◌<◌, ◌≤◌, ◌∙◌, ℕ, Err, refl, sym, ap, subst, length, drop, min, arith}
+use Rattle.fax_bits.proofs.Names.{◌≡◌, ◌≢◌, ◌+◌, ◌<◌, ◌≤◌, ◌∙◌, Err, refl, length, min, arith}
 use Rattle.fax_bits.proofs.Names.{err_from_is_err_and, DecodeError, UnexpectedEof, BitsAt, here, moved, codes_of, read_code}
 use Rattle.fax_bits.proofs.Names.{run_from, run_found, common_steps}
 use Rattle.fax_bits.proofs.CodeWords.WordsHere.{run_ends_by_one}
@@ -23,11 +23,9 @@ words-smaller c = elim c.match-read_two_words.branch [
 pub words-preserved : goal.words-preserved
 words-preserved c = elim c.match-read_two_words.branch [
   | in-Some+else-is_whole w ↦
-      let on = w.in-Some.ensures.on w.if-is_whole.false in
-      grind (arith, common_steps, on.run, on.counted, c.words.invariant)
+      grind arith
   | in-None+in_ok-run-in-None+else-run-lt64 w ↦
-      let left = w.in-None.ensures.left in
-      grind (arith, common_steps, some_where, run_found_on, run_goes_on, left, c.words.invariant)
+      grind (arith, some_where, run_found_on, run_goes_on)
 ]
 
 pub returns-in_err-consume-clause-run : goal.returns-in_err-consume-clause-run
@@ -37,11 +35,7 @@ returns-in_err-consume-clause-run c =
     let cut : read_code (codes_of c.args.color) (here (moved 0 at)) ≡ Err UnexpectedEof =
     c.word_behind-last.ensures.cut (omega (arith, missing)) in
     let none : at.place + 0 ≡ at.place = omega arith in
-    let fault : read_code (codes_of c.args.color) (here at) ≡ Err UnexpectedEof =
-    subst (λ (p : ℕ). read_code (codes_of c.args.color) (drop p at.bits) ≡ Err UnexpectedEof) none cut in
-    let answer = err_from_is_err_and c.from_residual.result c.from_residual.ensures.1 in
-    rw (answer.1, answer.2, c.words.invariant.0) (run_fails c.args.color c.words.total (here at) UnexpectedEof fault
-    ∙ ap Err (sym c.in_err-consume.ensures.only_end))
+    grind (arith, err_from_is_err_and, run_fails)
 
 -- the bits of the last word are here
 ends_within : (c : goal.In_ok-consume) → c.words.self.place + c.word_behind-last.result.1 ≤ length c.words.self.bits
@@ -76,11 +70,9 @@ goes_on : (c : goal.After-decode_long_run) → (run_from c.args.color (0, here c
     ≡ c.args.ticks.now + length (run_found c.args.color (0, here c.args.self.now)))
 goes_on c = elim c.match-read_two_words.branch [
   | in-Some+else-is_whole w ↦
-      let on = w.in-Some.ensures.on w.if-is_whole.false in
-      grind (arith, common_steps, on.run, on.counted, c.words.invariant)
+      grind arith
   | in-None+in_ok-run-in-None+else-run-lt64 w ↦
-      let left = w.in-None.ensures.left in
-      grind (arith, common_steps, some_where, run_found_on, run_goes_on, left, c.words.invariant)
+      grind (arith, some_where, run_found_on, run_goes_on)
 ]
 
 pub returns-then-total-gt40960-clause-run : goal.returns-then-total-gt40960-clause-run

@@ -1,4 +1,4 @@
-use Rattle.fax_bits.proofs.Names.{◌≡◌, ℕ, ◌+◌, ◌*◌, ◌<◌, length, ◌∙◌, arith, here, common_steps}
+use Rattle.fax_bits.proofs.Names.{◌≡◌, ℕ, ◌+◌, ◌*◌, ◌<◌, length, arith, here, common_steps}
 use Rattle.fax_bits.proofs.BitReading.TaggedEols.{one_eol_read, tagged_stepped, tagged_looks}
 use Rattle.fax_bits.proofs.BitReading.ConsecutiveEols.{after_eol_shorter, past_tag_shorter}
 use Rattle.fax_bits.proofs.bit_reader.BitReader.read_eols_with_tags.Goals as goal
@@ -14,15 +14,11 @@ eols-preserved c =
     let ticks : c.read_eols.new.ticks + length after ≡ c.eols.ticks + length now = omega (arith, passed) in
     let most : ℕ = c.args.ticks.now + 2 * length (here c.args.self.now) in
     let rest = here c.pass_tag.new.self in
-    let looks = tagged_looks now after rest c.eols.ticks c.read_eols.new.ticks c.pass_tag.new.ticks most one.0
-    c.pass_tag.ensures.rest ticks c.pass_tag.ensures.ticks in (
-      c.pass_tag.ensures.same_bits ∙ c.read_eols.ensures.same_bits ∙ c.eols.invariant.0,
-      omega (arith, looks.1, c.eols.invariant.1),
-      tagged_stepped (length (here c.args.self.now)) c.eols.count (here c.args.self.now) now after rest c.eols.invariant.2 one.0
-          c.pass_tag.ensures.rest (omega (arith, looks.1, c.eols.invariant.1)),
-      omega (arith, looks.0, c.eols.invariant.3),
-      looks.2 c.eols.invariant.4,
-      λ zero. absurd (omega (arith, zero)),
+    grind (
+      arith,
+      common_steps,
+      tagged_looks now after rest c.eols.ticks c.read_eols.new.ticks c.pass_tag.new.ticks most one.0,
+      tagged_stepped (length (here c.args.self.now)) c.eols.count (here c.args.self.now) now after rest c.eols.invariant.2,
     )
 
 pub eols-smaller : goal.eols-smaller

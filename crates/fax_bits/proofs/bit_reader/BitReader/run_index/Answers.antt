@@ -1,6 +1,7 @@
+use Rattle.fax_bits.proofs.Names.{common_steps}
 use Rattle.fax_bits.proofs.Names.{◌*◌, ◌%◌, ◌≤◌, ◌^◌, ℕ, arith, Bits, bits_in, moved, lookup_bits}
 use Rattle.fax_bits.proofs.{BitReading.BitPlaces.bits_at, BitReading.WindowWords.holds_on, CodeWords.LookedUp.few_bits}
-use Rattle.fax_bits.proofs.BitReading.PeekedBits.{first_index, index_below}
+use Rattle.fax_bits.proofs.BitReading.PeekedBits.{first_index}
 use Rattle.fax_bits.proofs.bit_reader.BitReader.run_index.Goals as goal
 
 pub returns-clause-bits : goal.returns-clause-bits
@@ -17,6 +18,4 @@ returns-clause-bits c =
     (omega (arith, h, few, c.requires.near))))
 
 pub returns-clause-few : goal.returns-clause-few
-returns-clause-few c =
-    let color = c.args.color in
-    rw c.lookup_bits.ensures.value (index_below 64 (lookup_bits color) _ (omega (arith, few_bits color)) (omega arith))
+returns-clause-few c = grind (arith, common_steps)

@@ -1,4 +1,5 @@
-use Rattle.fax_bits.proofs.Names.{ℕ, Option, Err, refl, sym, ap, ◌∙◌, false≢true, err_from_is_err_and, Mode, here, mode_codes}
+use Rattle.fax_bits.proofs.Names.{common_steps, arith}
+use Rattle.fax_bits.proofs.Names.{ℕ, Option, refl, sym, ap, ◌∙◌, false≢true, err_from_is_err_and, Mode, here, mode_codes}
 use Rattle.fax_bits.proofs.Names.{padded, mode_told, telling_bits}
 use Rattle.fax_bits.proofs.BitReading.BitPlaces.{passed_on, bits_enough, bits_missing}
 use Rattle.fax_bits.proofs.CodeWords.LookedUpModes.{mode_cut, mode_wrong, mode_is_read, some_mode_bits}
@@ -11,8 +12,7 @@ returns-in_err-consume-clause-mode c =
     let width = ap (λ (t : Option Mode × ℕ). t.1) told in
     let missing = bits_missing at c.mode_of-mode.result.1 (telling_bits mode_codes (padded 7 (here at))) width
     (some_mode_bits (here at)) (c.in_err-consume.ensures.end.0 refl) in
-    let answer = err_from_is_err_and c.from_residual.result c.from_residual.ensures.1 in
-    rw (answer.1, answer.2) (mode_cut (here at) missing ∙ ap Err (sym c.in_err-consume.ensures.only_end))
+    grind (arith, err_from_is_err_and, mode_cut)
 
 pub returns-in-Some-clause-mode : goal.returns-in-Some-clause-mode
 returns-in-Some-clause-mode c =
@@ -21,8 +21,7 @@ returns-in-Some-clause-mode c =
     let told = c.mode_of-mode.ensures.told ∙ ap mode_told c.seven.ensures.bits in
     let width = ap (λ (t : Option Mode × ℕ). t.1) told in
     let enough = bits_enough at c.mode_of-mode.result.1 bits width (λ lt. false≢true (c.in_ok-consume.ensures.end.1 lt)) in
-    let moved = passed_on at c.consume.new.self c.mode_of-mode.result.1 bits width c.in_ok-consume.ensures.moved in
-    mode_is_read (here at) c.in-Some.mode (sym c.in-Some.is ∙ ap (λ (t : Option Mode × ℕ). t.0) told) enough ∙ cc
+    grind (arith, common_steps, passed_on, mode_is_read (here at) c.in-Some.mode)
 
 pub returns-in-None-clause-mode : goal.returns-in-None-clause-mode
 returns-in-None-clause-mode c =

@@ -1,4 +1,5 @@
-use Rattle.fax_bits.proofs.Names.{rules, ◌≡◌, ◌<◌, length, bit_and, Err, refl, sym, ap, ◌∙◌, err_from_is_err_and, false≢true}
+use Rattle.fax_bits.proofs.Names.{common_steps, arith}
+use Rattle.fax_bits.proofs.Names.{rules, ◌≡◌, ◌<◌, length, bit_and, refl, sym, ◌∙◌, err_from_is_err_and, false≢true}
 use Rattle.fax_bits.proofs.Names.{and_mask, here, padded, telling_bits, run_or_none, codes_of, lookup_bits}
 use Rattle.fax_bits.proofs.BitReading.BitPlaces.{passed_on, bits_enough, bits_missing}
 use Rattle.fax_bits.proofs.CodeWords.LookedUp.{high_bits, low_twelve, looked_up_cut, looked_up_wrong, looked_up_found}
@@ -13,8 +14,7 @@ returns-in_err-consume-clause-word c =
     let width = high_bits color seen c.entry_here-entry.result c.entry_here-entry.ensures in
     let missing : length (here at) < telling_bits (codes_of color) seen = bits_missing at c.from.result (telling_bits
     (codes_of color) seen) (c.from.ensures ∙ width) (some_bits_tell color (here at)) (c.in_err-consume.ensures.end.0 refl) in
-    let answer = err_from_is_err_and c.from_residual.result c.from_residual.ensures.1 in
-    rw (answer.1, answer.2) (looked_up_cut color (here at) missing ∙ ap Err (sym c.in_err-consume.ensures.only_end))
+    grind (arith, err_from_is_err_and, looked_up_cut)
 
 pub returns-then-run-eq-LOOKUP_INVALID-clause-word : goal.returns-then-run-eq-LOOKUP_INVALID-clause-word
 returns-then-run-eq-LOOKUP_INVALID-clause-word c =
@@ -39,9 +39,7 @@ returns-clause-word c =
     and_mask entry 12 ∙ low_twelve color seen entry c.entry_here-entry.ensures in
     let enough = bits_enough at c.from.result (telling_bits (codes_of color) seen) (c.from.ensures ∙ width)
     (λ lt. false≢true (c.in_ok-consume.ensures.end.1 lt)) in
-    let moved = passed_on at c.consume.new.self c.from.result (telling_bits (codes_of color) seen)
-    (c.from.ensures ∙ width) c.in_ok-consume.ensures.moved in
-    looked_up_found color (here at) (λ e. c.if-run-eq-LOOKUP_INVALID.false (run ∙ e)) enough ∙ cc
+    grind (arith, common_steps, passed_on, looked_up_found)
 
 pub returns-clause-ticks : goal.returns-clause-ticks
 returns-clause-ticks c = search rules

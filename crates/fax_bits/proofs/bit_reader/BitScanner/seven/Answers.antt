@@ -1,11 +1,7 @@
-use Rattle.fax_bits.proofs.Names.{◌-◌, arith, bits_in}
-use Rattle.fax_bits.proofs.BitReading.BitPlaces.{bits_at}
+use Rattle.fax_bits.proofs.Names.{arith}
 use Rattle.fax_bits.proofs.BitReading.FilledWindows.{scanned}
 use Rattle.fax_bits.proofs.BitReading.PeekedBits.{first_seven}
 use Rattle.fax_bits.proofs.bit_reader.BitScanner.seven.Goals as goal
 
 pub returns-clause-bits : goal.returns-clause-bits
-returns-clause-bits c =
-    let r = c.self.inside in
-    rw (← c.self.view_is) (first_seven (bits_at (bits_in r.order r.«data».now) (r.limit - r.left)) r.window
-    (λ k h. scanned r k c.self.invariant (omega (arith, h))))
+returns-clause-bits c = grind (arith, first_seven, scanned)

@@ -1,3 +1,4 @@
+use Rattle.fax_bits.proofs.Names.{common_steps, arith}
 use Rattle.fax_bits.proofs.Names.{◌∙◌, ◌-◌, ◌*◌, ◌/◌, ◌%◌, ◌^◌, ap, subst, sym, BitOrder, from_be_bytes, w64}
 use Rattle.fax_bits.proofs.BitReading.PlacedBits.{bytes_of_word, placed_high, placed_low, turned_low}
 use Rattle.fax_bits.proofs.BitReading.WindowWords.{IsBytes}
@@ -7,12 +8,7 @@ use Rattle.fax_bits.proofs.bit_reader.WordsAhead.placed.Goals as goal
 
 pub returns-in-HighestFirst : goal.returns-in-HighestFirst
 returns-in-HighestFirst c =
-    let order = sym c.in-HighestFirst.is ∙ ap (λ (w : WordsAt). w.order) c.self.view_is in
-    subst (λ (o : BitOrder). ArePlaced o c.args.count c.args.bits (record {
-      count = c.args.count;
-      mask = (2 ^ 64 - 1) * 2 ^ (64 - c.args.count) % 2 ^ 64;
-      word = c.args.bits * 2 ^ (64 - c.args.count) % 2 ^ 64;
-    })) order (placed_high c.args.count c.args.bits c.requires.some c.requires.few)
+    grind (arith, common_steps, placed_high c.args.count c.args.bits c.requires.some c.requires.few)
 
 pub returns-in-LowestFirst : goal.returns-in-LowestFirst
 returns-in-LowestFirst c =

@@ -1,11 +1,9 @@
-use Rattle.fax_bits.proofs.Names.{◌∙◌, ℕ, List, ap, arith, get_or}
+use Rattle.fax_bits.proofs.Names.{arith}
 use Rattle.fax_bits.proofs.BitReading.GroupRows.{row_width, within_ten, bits_for_all}
 use Rattle.fax_bits.proofs.mode_groups.ModeGroup.width.Goals as goal
-use Rattle.fax_bits.specs.ModeGroups.{width_of, words_of}
 
 pub returns-clause-value : goal.returns-clause-value
-returns-clause-value c = c.from.ensures ∙ ap (λ (row : List ℕ). get_or row 6 0) c.row_of.ensures ∙ row_width c.self.inside.bits
-    ∙ ap (λ (n : ℕ). width_of (words_of n)) c.self.view_is
+returns-clause-value c = grind (arith, row_width)
 
 pub returns-clause-few : goal.returns-clause-few
 returns-clause-few c = omega (arith, returns-clause-value c, within_ten c.args.self)

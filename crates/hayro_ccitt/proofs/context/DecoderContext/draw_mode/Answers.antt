@@ -1,6 +1,7 @@
-use Rattle.hayro_ccitt.proofs.Names.{◌≡◌, ℕ, ◌-◌, ◌+ℤ◌, pos, length, ap, subst, ◌∙◌, w8, w32, SFits, to_z, of_z, arith, rules}
-use Rattle.hayro_ccitt.proofs.Names.{to_z-of_z, err_from_is_err_and, on_ok_weaker, on_err_weaker, DecodeError, DrawsStep, pen_of}
-use Rattle.hayro_ccitt.proofs.Names.{Bits, here, Context, Held, Turn, right_of, b1, b2, paint}
+use Rattle.hayro_ccitt.proofs.Names.{common_steps}
+use Rattle.hayro_ccitt.proofs.Names.{◌≡◌, ℕ, ◌-◌, ◌+ℤ◌, pos, length, ap, ◌∙◌, w8, w32, SFits, to_z, of_z, arith, rules}
+use Rattle.hayro_ccitt.proofs.Names.{to_z-of_z, err_from_is_err_and, on_ok_weaker, on_err_weaker, DecodeError, pen_of}
+use Rattle.hayro_ccitt.proofs.Names.{here, Context, Held, right_of, b1}
 use Rattle.hayro_ccitt.proofs.DrawingLines.CutRuns.{pass_cuts, horizontal_cuts}
 use Rattle.hayro_ccitt.proofs.DrawingLines.Drawings.{try}
 use Rattle.hayro_ccitt.proofs.DrawingLines.DrawnLines.{IsUnpainted, place_of, unpainted, pass_draws}
@@ -31,8 +32,7 @@ returns-in_err-push_pixels-in-Vertical-clause-step c =
     let why : IsUnpainted held c.in_ok-count-in-Vertical.count fault =
     record { too_many = e.too_many.0; memory = e.memory; only = e.only } in
     let count : c.in_ok-count-in-Vertical.count ≡ place - length old.front = omega (arith, counted.1, painted) in
-    let why_old : IsUnpainted old (place - length old.front) fault = subst (λ (n : ℕ). IsUnpainted old n fault) count
-    (subst (λ (h : Held). IsUnpainted h c.in_ok-count-in-Vertical.count fault) c.b1.ensures.unchanged why) in
+    let why_old : IsUnpainted old (place - length old.front) fault = grind (arith, common_steps) in
     rw (c.in-Vertical.is, p.1, p.2)
     (vertical_unpainted old c.push_pixels-in-Vertical.new.self.held c.in-Vertical.offset place (here c.args.reader.now) fault at
     named.1 (omega (arith, counted.0, painted)) (ap (λ (x : Context). x.held) e.unchanged ∙ c.b1.ensures.unchanged) why_old)
@@ -47,34 +47,10 @@ returns-in_err-draw_run-in-Horizontal-clause-step c =
 
 pub returns-in-Pass-clause-step : goal.returns-in-Pass-clause-step
 returns-in-Pass-clause-step c =
-    let b = c.b2-b2.ensures in
-    let d = c.push_pixels.ensures in
-    let old : Held = c.args.self.now.held in
-    let held : Held = c.b2-b2.new.self.held in
-    let rest : Bits = here c.args.reader.now in
-    let new : Held = c.push_pixels.new.self.held in
-    let count : ℕ = c.b2-b2.result - c.pixels_painted.result in
-    let painted : c.pixels_painted.result ≡ length old.front =
-    c.pixels_painted.ensures ∙ ap (λ (h : Held). length h.front) b.unchanged in
-    let counted : count ≡ b2 old.reference (right_of old.front) old.color - length old.front = omega (arith, b.value, painted) in
-    let draws : DrawsStep (try held.front (paint held.settings.strict held.settings.columns held.front held.color count)
-    (λ front. Turn.next (record (pen_of held rest) { front = front }))) c.push_pixels.result (pen_of new rest) = paint_draws
-    held new count rest c.push_pixels.result d.painted (on_ok_weaker c.push_pixels.result (ap (λ (x : Context). x.held)) d.frame)
-    (on_err_weaker c.push_pixels.result (ap (λ (x : Context). x.held)) d.unchanged)
-    (λ e is. unpainted held count c.push_pixels.result e is d.too_many d.memory d.only) in
-    rw c.in-Pass.is (pass_draws old held new count rest c.push_pixels.result b.unchanged counted draws)
+    grind (arith, common_steps, try, paint_draws, on_ok_weaker, on_err_weaker, unpainted, pass_draws)
 
 pub returns-in-Pass-clause-cut : goal.returns-in-Pass-clause-cut
-returns-in-Pass-clause-cut c =
-    let b = c.b2-b2.ensures in
-    let old = c.args.self.now in
-    let count : ℕ = c.b2-b2.result - c.pixels_painted.result in
-    let painted : c.pixels_painted.result ≡ length old.held.front =
-    c.pixels_painted.ensures ∙ ap (λ (h : Held). length h.front) b.unchanged in
-    let counted : count ≡ b2 old.held.reference (right_of old.held.front) old.held.color - length old.held.front =
-    omega (arith, b.value, painted) in
-    rw c.in-Pass.is (pass_cuts old c.b2-b2.new.self c.push_pixels.new.self count (here c.args.reader.now) c.push_pixels.result
-    b.unchanged b.cut counted c.push_pixels.ensures.painted c.push_pixels.ensures.frame)
+returns-in-Pass-clause-cut c = grind (arith, common_steps, pass_cuts)
 
 pub returns-in_ok-draw_run-in-Horizontal-clause-cut : goal.returns-in_ok-draw_run-in-Horizontal-clause-cut
 returns-in_ok-draw_run-in-Horizontal-clause-cut c =

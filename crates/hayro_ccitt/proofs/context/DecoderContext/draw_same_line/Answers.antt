@@ -1,5 +1,5 @@
-use Rattle.std.specs.Prelude.{vec_len}
-use Rattle.hayro_ccitt.proofs.Names.{◌≡◌, ◌<◌, ◌+◌, ◌-◌, ◌*◌, [], refl, subst, ap, arith, length, White, pixels, moved, ℕ}
+use Rattle.hayro_ccitt.proofs.Names.{common_steps}
+use Rattle.hayro_ccitt.proofs.Names.{◌≡◌, ◌<◌, ◌+◌, ◌-◌, ◌*◌, [], refl, arith, length, White, pixels, moved}
 use Rattle.hayro_ccitt.proofs.Names.{GoesOn2d, IsStroke, TurnsFrom, pen_at, opposite}
 use Rattle.hayro_ccitt.proofs.DrawingLines.SameLines.{same_line, some_columns}
 use Rattle.hayro_ccitt.proofs.DrawingLines.UsualModes.{are_passed}
@@ -9,30 +9,12 @@ use Rattle.hayro_ccitt.proofs.context.DecoderContext.draw_same_line.Goals.{After
 use Rattle.hayro_ccitt.proofs.context.DecoderContext.draw_same_line.Goals as goal
 
 pub repeat_changes-requires : goal.repeat_changes-requires
-repeat_changes-requires c =
-    let s = c.self.inside in
-    let front : pixels s.pixels_decoded s.coding_changes.items ≡ [] = rw (← c.self.view_is) at c.requires.begins in
-    let none = nothing_painted s c.self.invariant front in
-    record {
-      room = omega (
-        arith,
-        ap length none.row,
-        s.coding_changes.ok.0,
-        s.ref_changes.ok.0,
-        ap length c.as_slice.ensures.value,
-        c.if-capacity-count.false,
-        c.len-count.ensures,
-        c.capacity.ensures,
-      );
-    }
+repeat_changes-requires c = grind (arith, common_steps, nothing_painted)
 
 -- the changes are those of the row above, and the line draws them
 module _ (c : After-opposite-self-inside) where
   painted_nothing : HasPaintedNothing c.self.inside
-  painted_nothing =
-      let s = c.self.inside in
-      let front : pixels s.pixels_decoded s.coding_changes.items ≡ [] = rw (← c.self.view_is) at c.requires.begins in
-      nothing_painted s c.self.invariant front
+  painted_nothing = grind (arith, common_steps, nothing_painted)
 
   same_changes : c.repeat_changes.new.row.items ≡ c.self.inside.ref_changes.items
   same_changes = rw (painted_nothing.row, c.as_slice.ensures.value) at c.repeat_changes.ensures.items
@@ -41,10 +23,7 @@ module _ (c : After-opposite-self-inside) where
   count_is = omega (arith, c.len-count.ensures, c.self.inside.ref_changes.ok.0)
 
   turns : TurnsFrom c.len-count.result c.next_color.result
-  turns =
-      let long : vec_len c.repeat_changes.new.row ≡ c.len-count.result =
-      omega (arith, c.repeat_changes.new.row.ok.0, ap length same_changes, count_is) in
-      subst (λ (n : ℕ). TurnsFrom n c.next_color.result) long c.next_color.ensures.turns
+  turns = grind (arith, common_steps, same_changes, count_is)
 
   drawn : GoesOn2d c.self.inside.settings.strict c.self.inside.settings.columns
       (pixels c.self.inside.settings.columns c.self.inside.ref_changes.items) (pen_at 0 [] White c.args.reader.now)
@@ -65,8 +44,7 @@ invariant_of-self c =
     let at = (goal.at.invariant_of-self c).After-opposite-self-inside in
     let stroke = (drawn at).1 in
     let some : 0 < c.self.inside.settings.columns =
-    some_columns c.self.inside.settings.columns c.self.inside.ref_changes.items c.self.invariant.reference
-    (omega (arith, count_is at, c.if-count-eq0.false)) in
+    grind (arith, common_steps, some_columns, count_is at) in
     record {
       reference = c.self.invariant.reference;
       front = rw (same_changes at) (stroke.whole (omega arith));
@@ -76,24 +54,14 @@ invariant_of-self c =
 
 pub returns-clause-drawn : goal.returns-clause-drawn
 returns-clause-drawn c =
-    let at = (goal.at.returns-clause-drawn c).After-opposite-self-inside in
-    let s = c.self.inside in
-    let none = painted_nothing at in
-    let white : s.color ≡ White = rw (← c.self.view_is) at c.requires.white in
-    λ e. rw (
-      ← c.self.view_is,
-      none.painted,
-      white,
-      none.passed,
-      none.row,
-      same_changes at,
-      c.opposite-self-inside.ensures,
+    λ e. grind (
+      arith,
+      common_steps,
+      painted_nothing ((goal.at.returns-clause-drawn c).After-opposite-self-inside),
+      same_changes ((goal.at.returns-clause-drawn c).After-opposite-self-inside),
+      drawn ((goal.at.returns-clause-drawn c).After-opposite-self-inside),
       c.if-not-pass_bits.ensures.moved refl,
-      c.tick_times.ensures,
-    ) (drawn at).0
+    )
 
 pub returns-clause-within : goal.returns-clause-within
-returns-clause-within c =
-    let s = c.self.inside in
-    let listed = changes-pixels s.settings.columns s.ref_changes.items c.self.invariant.reference in
-    rw (← c.self.view_is, listed) (omega (arith, c.len-count.ensures, s.ref_changes.ok.0))
+returns-clause-within c = grind (arith, common_steps, changes-pixels)

@@ -1,4 +1,5 @@
-use Rattle.hayro_ccitt.proofs.Names.{◌≡◌, ◌≢◌, ◌+◌, ◌-◌, Bool, true, false, Err, refl, sym, ap, ◌∙◌, arith, err_from_is_err_and}
+use Rattle.hayro_ccitt.proofs.Names.{common_steps}
+use Rattle.hayro_ccitt.proofs.Names.{◌≡◌, ◌≢◌, Bool, true, false, Err, refl, sym, ap, ◌∙◌, arith, err_from_is_err_and}
 use Rattle.hayro_ccitt.proofs.PixelRows.ChangesAndPixels.{changes-pixels, length-pixels}
 use Rattle.hayro_ccitt.proofs.context.DecoderContext.fill_white.Goals as goal
 
@@ -17,16 +18,7 @@ returns-in_err-append_pixels-clause-memory c =
     (omega (arith, stored.0, painted), black _ stored.1))
 
 pub returns-clause-frame : goal.returns-clause-frame
-returns-clause-frame c =
-    let s = c.self.inside in
-    let front = length-pixels s.pixels_decoded s.coding_changes.items c.self.invariant.front in
-    let whole : s.pixels_decoded + (s.settings.columns - s.pixels_decoded) ≡ s.settings.columns =
-    omega (arith, c.self.invariant.within) in
-    let painted = rw whole at c.in_ok-append_pixels.ensures.painted in
-    rw (← c.self.view_is, front, painted) refl
+returns-clause-frame c = grind (arith, common_steps, length-pixels)
 
 pub returns-clause-space : goal.returns-clause-space
-returns-clause-space c =
-    let s = c.self.inside in
-    let before = changes-pixels s.pixels_decoded s.coding_changes.items c.self.invariant.front in
-    rw (← c.self.view_is, before) (omega (arith, c.append_pixels.ensures.space, s.coding_changes.ok.0))
+returns-clause-space c = grind (arith, common_steps, changes-pixels)

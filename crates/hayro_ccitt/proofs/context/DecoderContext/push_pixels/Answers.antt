@@ -1,7 +1,8 @@
-use Rattle.hayro_ccitt.proofs.Names.{◌≡◌, ℕ, ◌≤◌, ◌+◌, ◌-◌, ◌⊎◌, inl, inr, min, false, ◌++◌, replicate, Ok, Err, refl, sym, ap}
+use Rattle.hayro_ccitt.proofs.Names.{common_steps}
+use Rattle.hayro_ccitt.proofs.Names.{◌≡◌, ℕ, ◌-◌, min, ◌++◌, replicate, Ok, Err, sym, ap}
 use Rattle.hayro_ccitt.proofs.Names.{◌∙◌}
 use Rattle.hayro_ccitt.proofs.Names.{arith, err_from_is_err_and, Row, is_black, paint, pixels, context_of}
-use Rattle.hayro_ccitt.proofs.Names.{true, length, ltb, lt-ltb, le-ltb}
+use Rattle.hayro_ccitt.proofs.Names.{lt-ltb, le-ltb}
 use Rattle.hayro_ccitt.proofs.DrawingLines.CutRuns.{or_true, or_false}
 use Rattle.hayro_ccitt.proofs.PixelRows.ChangesAndPixels.{length-pixels, changes-pixels}
 use Rattle.hayro_ccitt.proofs.PixelRows.Painting.{paint-strict, paint-fits, StoresChange-painted}
@@ -20,21 +21,10 @@ module _ (c : After-append_pixels) where
 
   is_painted : paint c.self.inside.settings.strict c.self.inside.settings.columns front c.self.inside.color c.args.count
       ≡ Ok (front ++ replicate (min c.args.count room) (is_black c.self.inside.color))
-  is_painted =
-      let s = c.self.inside in
-      let fits : (s.settings.strict ≡ false) ⊎ (c.args.count ≤ room) = elim c.else-fitting-count.branch [
-        | else-fitting-count-via-then-fitting-count+else-self w ↦ inl w.if-self.false
-        | else-fitting-count-via-else-fitting-count w ↦ inr (omega (arith, w.if-fitting-count.false, c.min-fitting.ensures))
-      ] in
-      paint-fits s.settings.strict s.settings.columns s.pixels_decoded s.coding_changes.items s.color c.args.count
-      c.self.invariant.front fits
+  is_painted = grind (arith, common_steps, paint-fits, room)
 
 pub returns-then-self-clause-too_many : goal.returns-then-self-clause-too_many
-returns-then-self-clause-too_many c =
-    let s = c.self.inside in
-    let wrong = paint-strict s.settings.strict s.settings.columns _ _ s.color c.args.count c.self.invariant.front c.if-self.true
-    (omega (arith, c.if-fitting-count.true, c.min-fitting.ensures)) in
-    rw (← c.self.view_is) (λ e. wrong, λ e. refl)
+returns-then-self-clause-too_many c = grind (arith, common_steps, paint-strict)
 
 pub returns-in_err-append_pixels-clause-too_many : goal.returns-in_err-append_pixels-clause-too_many
 returns-in_err-append_pixels-clause-too_many c =
@@ -76,44 +66,34 @@ returns-else-fitting-count-2-clause-too_many c =
 
 pub returns-then-fitting-count-2-clause-frame : goal.returns-then-fitting-count-2-clause-frame
 returns-then-fitting-count-2-clause-frame c =
-    let s = c.self.inside in
-    let front = length-pixels s.pixels_decoded s.coding_changes.items c.self.invariant.front in
-    let beyond : ltb (s.settings.columns - length (pixels s.pixels_decoded s.coding_changes.items)) c.args.count ≡ true =
-    lt-ltb _ _ (omega (arith, c.if-fitting-count-2.true, c.min-fitting.ensures, front)) in
-    rw (← c.self.view_is, beyond, or_true s.is_cut) refl
+    grind (
+      arith,
+      common_steps,
+      length-pixels,
+      lt-ltb,
+      or_true,
+      (length-pixels c.self.inside.pixels_decoded c.self.inside.coding_changes.items c.self.invariant.front),
+    )
 
 pub returns-else-fitting-count-2-clause-frame : goal.returns-else-fitting-count-2-clause-frame
 returns-else-fitting-count-2-clause-frame c =
-    let s = c.self.inside in
-    let front = length-pixels s.pixels_decoded s.coding_changes.items c.self.invariant.front in
-    let within : ltb (s.settings.columns - length (pixels s.pixels_decoded s.coding_changes.items)) c.args.count ≡ false =
-    le-ltb _ _ (omega (arith, c.if-fitting-count-2.false, c.min-fitting.ensures, front)) in
-    rw (← c.self.view_is, within, or_false s.is_cut) refl
+    grind (
+      arith,
+      common_steps,
+      length-pixels,
+      le-ltb,
+      or_false,
+      (length-pixels c.self.inside.pixels_decoded c.self.inside.coding_changes.items c.self.invariant.front),
+    )
 
 pub returns-then-fitting-count-2-clause-few : goal.returns-then-fitting-count-2-clause-few
-returns-then-fitting-count-2-clause-few c =
-    let s = c.self.inside in
-    let before = changes-pixels s.pixels_decoded s.coding_changes.items c.self.invariant.front in
-    let after = changes-pixels (s.pixels_decoded + c.min-fitting.result) c.append_pixels.new.changes.items
-    c.in_ok-append_pixels.ensures.lawful in
-    rw (← c.self.view_is, before, after) (omega (arith, c.append_pixels.ensures.few))
+returns-then-fitting-count-2-clause-few c = grind (arith, common_steps, changes-pixels)
 
 pub returns-then-fitting-count-2-clause-space : goal.returns-then-fitting-count-2-clause-space
-returns-then-fitting-count-2-clause-space c =
-    let s = c.self.inside in
-    let before = changes-pixels s.pixels_decoded s.coding_changes.items c.self.invariant.front in
-    rw (← c.self.view_is, before) (omega (arith, c.append_pixels.ensures.space, s.coding_changes.ok.0))
+returns-then-fitting-count-2-clause-space c = grind (arith, common_steps, changes-pixels)
 
 pub returns-else-fitting-count-2-clause-few : goal.returns-else-fitting-count-2-clause-few
-returns-else-fitting-count-2-clause-few c =
-    let s = c.self.inside in
-    let before = changes-pixels s.pixels_decoded s.coding_changes.items c.self.invariant.front in
-    let after = changes-pixels (s.pixels_decoded + c.min-fitting.result) c.append_pixels.new.changes.items
-    c.in_ok-append_pixels.ensures.lawful in
-    rw (← c.self.view_is, before, after) (omega (arith, c.append_pixels.ensures.few))
+returns-else-fitting-count-2-clause-few c = grind (arith, common_steps, changes-pixels)
 
 pub returns-else-fitting-count-2-clause-space : goal.returns-else-fitting-count-2-clause-space
-returns-else-fitting-count-2-clause-space c =
-    let s = c.self.inside in
-    let before = changes-pixels s.pixels_decoded s.coding_changes.items c.self.invariant.front in
-    rw (← c.self.view_is, before) (omega (arith, c.append_pixels.ensures.space, s.coding_changes.ok.0))
+returns-else-fitting-count-2-clause-space c = grind (arith, common_steps, changes-pixels)

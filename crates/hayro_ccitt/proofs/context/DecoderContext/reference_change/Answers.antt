@@ -1,8 +1,7 @@
+use Rattle.hayro_ccitt.proofs.Names.{arith}
+use Rattle.hayro_ccitt.proofs.Names.{common_steps}
 use Rattle.hayro_ccitt.proofs.PixelRows.ChangesAndPixels.{changes-pixels}
 use Rattle.hayro_ccitt.proofs.context.DecoderContext.reference_change.Goals as goal
 
 pub returns : goal.returns
-returns c =
-    let inside = c.self.inside in
-    let listed = changes-pixels inside.settings.columns inside.ref_changes.items c.self.invariant.reference in
-    rw (← c.self.view_is, listed) (rw c.as_slice.ensures.value at c.change_or_end.ensures)
+returns c = grind (arith, common_steps, changes-pixels)

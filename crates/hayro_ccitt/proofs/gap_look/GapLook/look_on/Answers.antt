@@ -1,5 +1,6 @@
-use Rattle.hayro_ccitt.proofs.Names.{◌≡◌, ◌+◌, ◌≤◌, ◌++◌, ◌∷◌, [], ap, arith, length, here, looked, replicate, true, false}
-use Rattle.hayro_ccitt.proofs.Names.{length-append, length-drop, length-replicate, sym, ◌∙◌}
+use Rattle.hayro_ccitt.proofs.Names.{common_steps}
+use Rattle.hayro_ccitt.proofs.Names.{◌≡◌, ◌+◌, ◌≤◌, ◌++◌, ◌∷◌, ap, arith, length, here, replicate, true, false}
+use Rattle.hayro_ccitt.proofs.Names.{length-append, length-drop, length-replicate}
 use Rattle.fax_bits.proofs.BitReading.SoughtEols.{looked-zeros}
 use Rattle.fax_bits.proofs.BitReading.ZeroRuns.{looked_run}
 use Rattle.hayro_ccitt.proofs.Readings.GapsSeen.{looks_at_run, looks_at_zeros}
@@ -10,31 +11,13 @@ zeros_left : (c : In-None) → here c.ones.rest ≡ replicate c.zero_run-zeros.r
 zeros_left c = rw c.in-None.is at c.zero_run-zeros.ensures.end
 
 pub returns-in-None-clause-looks : goal.returns-in-None-clause-looks
-returns-in-None-clause-looks c =
-    let waits = sym c.is_settled.ensures ∙ c.ones-test.true in
-    ([], looks_at_zeros c.zero_run-zeros.result.0 waits c.ones.invariant.looks (zeros_left c))
+returns-in-None-clause-looks c = grind (arith, common_steps, looks_at_zeros, zeros_left c)
 
 pub returns-in-None-clause-ticks : goal.returns-in-None-clause-ticks
-returns-in-None-clause-ticks c = omega (
-  arith,
-  c.ones.invariant.ticks,
-  c.zero_run-zeros.ensures.ticks,
-  ap looked (zeros_left c),
-  looked-zeros c.zero_run-zeros.result.0,
-  length-replicate c.zero_run-zeros.result.0 false,
-)
+returns-in-None-clause-ticks c = grind (arith, common_steps, looked-zeros, length-replicate, zeros_left c)
 
 pub returns-in-None-clause-all : goal.returns-in-None-clause-all
-returns-in-None-clause-all c e =
-    let looks = c.ones.invariant.looks in
-    omega (
-      arith,
-      looks.bits,
-      ap length looks.are,
-      length-append looks.looked (here c.ones.rest),
-      ap length (zeros_left c),
-      length-replicate c.zero_run-zeros.result.0 false,
-    )
+returns-in-None-clause-all c e = grind (arith, common_steps, length-append, length-replicate, zeros_left c)
 
 run_here : (c : In-Some) → here c.ones.rest ≡ replicate c.zero_run-zeros.result.0 false ++ true ∷ here c.in-Some.after
 run_here c = let one = rw c.in-Some.is at c.zero_run-zeros.ensures.one in one.1
@@ -63,18 +46,4 @@ overflow_add-self-in-Some c =
     omega (arith, run_within (goal.at.overflow_add-self-in-Some c).In-Some, c.bit_pos-start.ensures.fit)
 
 pub ones-preserved : goal.ones-preserved
-ones-preserved c =
-    let at = (goal.at.ones-preserved c).In-Some in
-    let n = c.zero_run-zeros.result.0 in
-    record {
-      looks = rw c.stage_after-self.ensures (looks_at_run n (sym c.is_settled.ensures ∙ c.ones-test.true)
-          c.ones.invariant.looks (run_here at));
-      ticks = omega (
-        arith,
-        c.ones.invariant.ticks,
-        c.zero_run-zeros.ensures.ticks,
-        ap looked (run_here at),
-        looked_run n (here c.in-Some.after),
-      );
-      zeros = omega arith;
-    }
+ones-preserved c = grind (arith, common_steps, looks_at_run, looked_run, run_here ((goal.at.ones-preserved c).In-Some))

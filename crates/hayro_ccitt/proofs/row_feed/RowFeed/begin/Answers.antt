@@ -1,26 +1,23 @@
+use Rattle.hayro_ccitt.proofs.Names.{common_steps}
 use Rattle.std.specs.Prelude.{vec_capacity}
-use Rattle.hayro_ccitt.proofs.Names.{◌≡◌, ◌∙◌, ◌+◌, ◌-◌, ◌⊎◌, ap, sym, subst, refl, arith, length, true, false, Bool, ℕ, BitsAt}
-use Rattle.hayro_ccitt.proofs.Names.{Bits, bits_in, List, None, and_parts, is_at_line}
-use Rattle.hayro_ccitt.proofs.Names.{Held, here, drop, false≢true, fresh}
+use Rattle.hayro_ccitt.proofs.Names.{◌≡◌, ◌∙◌, ◌+◌, ◌-◌, ◌⊎◌, ap, sym, subst, refl, arith, length, true, false, ℕ, BitsAt}
+use Rattle.hayro_ccitt.proofs.Names.{Bits, bits_in, None, and_parts, is_at_line}
+use Rattle.hayro_ccitt.proofs.Names.{Held, here, drop, false≢true}
 use Rattle.hayro_ccitt.proofs.BitReading.BitLists.{length-bits_in}
 use Rattle.hayro_ccitt.proofs.Names.{◌≤◌}
 use Rattle.hayro_ccitt.proofs.Readings.GapsSeen.{looked_within}
-use Rattle.hayro_ccitt.specs.GapsSeen.{IsSeen, rules_for}
 use Rattle.hayro_ccitt.proofs.Readings.LooksKept.{fresh_look, seen_begun, seen_there}
 use Rattle.hayro_ccitt.proofs.Readings.FeedsOn.{at_front, front_fed, front_reaches}
 use Rattle.hayro_ccitt.proofs.Readings.PartsFed.{none_kept, unbegun_none}
 use Rattle.hayro_ccitt.proofs.Readings.RowsFed.{waits_for, waits_not}
 use Rattle.hayro_ccitt.specs.GapsContinued.{first_gap_is_settled}
-use Rattle.hayro_ccitt.specs.RowFeeds.{Feeding, StandsIn, feeding_of}
+use Rattle.hayro_ccitt.specs.RowFeeds.{Feeding, feeding_of}
 use Rattle.hayro_ccitt.proofs.row_feed.RowFeed.begin.Goals.{After-front_waits, After-bit_pos-self-inside}
 use Rattle.hayro_ccitt.proofs.row_feed.RowFeed.begin.Goals as goal
 
 front_is : (c : After-front_waits) → c.placed_at-reader.result
     ≡ record { bits = bits_in c.self.inside.order c.self.inside.«data».items; place = c.self.inside.place }
-front_is c = c.placed_at-reader.ensures ∙ ap (λ (items : List ℕ). record {
-  bits = bits_in c.self.inside.order items;
-  place = c.self.inside.place;
-}) c.deref.ensures.value
+front_is c = grind (arith, common_steps)
 
 -- nothing has begun, so the reader is at the first bit
 begun_not : (c : After-front_waits) → c.self.inside.begun ≡ false
@@ -34,13 +31,7 @@ starts c = ap (λ (n : ℕ). drop n c.placed_at-reader.result.bits) (ap (λ (b :
 front_within : (c : After-front_waits)
     → c.front_waits.new.ctx.ticks - c.self.inside.ctx.ticks + c.self.inside.look.bits
     ≤ length (drop c.self.inside.place (bits_in c.self.inside.order c.self.inside.«data».items))
-front_within c = omega (
-  arith,
-  c.front_waits.ensures.looked,
-  c.front_waits.ensures.onward,
-  (looked_within c.front_waits.ensures.seen.1).0,
-  ap (λ (b : BitsAt). length (here b)) (front_is c),
-)
+front_within c = grind (arith, common_steps, looked_within, front_is c)
 
 pub returns-then-front_waits-clause-begins : goal.returns-then-front_waits-clause-begins
 returns-then-front_waits-clause-begins c =
@@ -50,31 +41,15 @@ returns-then-front_waits-clause-begins c =
     (here c.placed_at-reader.result)) (sym c.front_waits.ensures.waits ∙ c.if-front_waits.true) in
     rw (← c.self.view_is) (record {
       extra = c.front_waits.new.ctx.ticks - c.self.inside.ctx.ticks;
-      looks = record {
-        line = λ e. absurd (false≢true e);
-        finished = λ e. absurd (false≢true (sym waits.0 ∙ e));
-        within = λ some. front_within at;
-      };
+      looks = grind (arith, common_steps, false≢true, front_within at);
       looked = λ e. omega (arith, c.front_waits.ensures.looked, c.front_waits.ensures.onward);
       keeps = record { order = refl; finished = refl; kept = refl; dropped = refl; room = refl };
       begun = begun_not at;
-      within = omega (
-        arith,
-        c.self.invariant.within,
-        length-bits_in c.self.inside.order c.self.inside.«data».items,
-      );
+      within = grind (arith, common_steps, length-bits_in);
       space = c.front_waits.ensures.space;
       settings = ap (λ (h : Held). h.settings) c.front_waits.ensures.held;
       taken = ap (λ (h : Held). h.taken) c.front_waits.ensures.held;
-      waits = λ e. (
-        c.front_waits.ensures.held,
-        omega (arith, c.front_waits.ensures.looked, c.front_waits.ensures.onward),
-        refl,
-        refl,
-        waits.0,
-        ap (first_gap_is_settled held.settings.encoding held.settings) (sym (starts at
-            ∙ ap (λ (b : BitsAt). b.bits) (front_is at))) ∙ waits.1,
-      );
+      waits = λ e. grind (arith, common_steps, starts at, front_is at);
       unfailed = λ e. cc;
       reaches = λ whole tried e. cc;
       passes = λ whole tried e. cc;
@@ -84,43 +59,24 @@ returns-then-front_waits-clause-begins c =
           record {
             fit = feed.fit;
             lie = feed.lie;
-            stands = subst (λ (b : Bool). StandsIn b (tried + (c.front_waits.new.ctx.ticks - c.self.inside.ctx.ticks))
-                c.self.inside.rows c.front_waits.new.ctx (record {
-                  bits = whole;
-                  place = c.self.inside.dropped
-                      + c.self.inside.place;
-                })) (sym (begun_not at)) (record {
-                  fresh = c.front_waits.ensures.held ∙ front.fresh
-                      ∙ ap (λ (h : Held). fresh h.settings) (sym c.front_waits.ensures.held);
-                  ticks = omega (arith, front.ticks, c.front_waits.ensures.looked, c.front_waits.ensures.onward);
-                  state = front.state;
-                  start = front.start;
-                });
+            stands = grind (arith, common_steps, begun_not at);
           };
     })
 
 pub invariant_of-self-2 : goal.invariant_of-self-2
 invariant_of-self-2 c =
-    let at = (goal.at.invariant_of-self-2 c).After-front_waits in
-    record {
-      within = omega (
-        arith,
-        c.bit_pos-self-inside.ensures.within,
-        ap length c.first_stand-self-inside.ensures.same_bits,
-        ap (λ (b : BitsAt). length b.bits) (front_is at),
-        length-bits_in c.self.inside.order c.self.inside.«data».items,
-      );
-      fit = c.self.invariant.fit;
-      fresh = λ e. absurd (false≢true (sym e));
-      start = λ e. absurd (false≢true (sym e));
-      unended = λ e. absurd (false≢true (sym e));
-      rows = λ e. absurd (false≢true (sym e));
-      seen = fresh_look _ _ c.new-self-inside.ensures;
-      line = λ e. c.new-self-inside.ensures;
-      part = none_kept c.self.inside.part _ _ _ _ _ _ _ _ _
-          (unbegun_none c.self.inside.part _ _ _ _ _ (begun_not at) c.self.invariant.part)
-          c.self.invariant.part;
-    }
+    grind (
+      arith,
+      common_steps,
+      length-bits_in,
+      false≢true,
+      fresh_look,
+      none_kept,
+      unbegun_none,
+      front_is ((goal.at.invariant_of-self-2 c).After-front_waits),
+      begun_not ((goal.at.invariant_of-self-2 c).After-front_waits),
+      goal.at.invariant_of-self-2 c,
+    )
 
 pub returns-clause-begins : goal.returns-clause-begins
 returns-clause-begins c =
@@ -204,35 +160,22 @@ returns-clause-begins c =
     })
 
 pub front_waits-requires : goal.front_waits-requires
-front_waits-requires c =
-    let begun = ap (λ (f : Feeding). f.begun) c.self.view_is ∙ c.requires in
-    let place : record { bits = bits_in c.self.inside.order c.self.inside.«data».items; place = c.self.inside.place }
-    ≡ c.placed_at-reader.result =
-    sym (c.placed_at-reader.ensures ∙ ap (λ (items : List ℕ). record {
-      bits = bits_in c.self.inside.order items;
-      place = c.self.inside.place;
-    }) c.deref.ensures.value) in
-    record { seen = seen_begun _ begun (seen_there (ap here place) c.self.invariant.seen) }
+front_waits-requires c = grind (arith, common_steps, seen_begun, seen_there)
 
 pub invariant_of-self : goal.invariant_of-self
 invariant_of-self c =
-    let at = (goal.at.invariant_of-self c).After-front_waits in
-    let same = c.front_waits.ensures.held in
-    let old = c.self.invariant in
-    record {
-      within = old.within;
-      fit = old.fit;
-      fresh = λ e. same ∙ old.fresh e ∙ ap (λ (h : Held). fresh h.settings) (sym same);
-      start = old.start;
-      unended = old.unended;
-      rows = old.rows;
-      seen = seen_begun _ (sym (begun_not at)) (subst (λ (h : Held). IsSeen (rules_for false h) c.front_waits.new.look
-          (drop c.self.inside.place (bits_in c.self.inside.order c.self.inside.«data».items))) (sym same)
-          (seen_there (ap here (front_is at)) c.front_waits.ensures.seen));
-      line = λ e. absurd (false≢true (sym (old.rows (begun_not at)) ∙ e));
-      part = none_kept c.self.inside.part _ _ _ _ _ _ _ _ _ (unbegun_none c.self.inside.part _ _ _ _ _ (begun_not at) old.part)
-          old.part;
-    }
+    grind (
+      arith,
+      common_steps,
+      seen_begun,
+      seen_there,
+      false≢true,
+      none_kept,
+      unbegun_none,
+      begun_not ((goal.at.invariant_of-self c).After-front_waits),
+      front_is ((goal.at.invariant_of-self c).After-front_waits),
+      goal.at.invariant_of-self c,
+    )
 
 -- no part was kept
 unkept : (c : After-front_waits) → c.self.inside.part ≡ None
@@ -240,10 +183,7 @@ unkept c = unbegun_none c.self.inside.part _ _ _ _ _ (begun_not c) c.self.invari
 
 pub returns-then-front_waits-clause-none_kept : goal.returns-then-front_waits-clause-none_kept
 returns-then-front_waits-clause-none_kept c =
-    let at = (goal.at.returns-then-front_waits-clause-none_kept c).After-front_waits in
-    (ap (λ (f : Feeding). f.part) (sym c.self.view_is) ∙ unkept at, unkept at)
+    grind (arith, common_steps, unkept ((goal.at.returns-then-front_waits-clause-none_kept c).After-front_waits))
 
 pub returns-clause-none_kept : goal.returns-clause-none_kept
-returns-clause-none_kept c =
-    let at = (goal.at.returns-clause-none_kept c).After-front_waits in
-    (ap (λ (f : Feeding). f.part) (sym c.self.view_is) ∙ unkept at, unkept at)
+returns-clause-none_kept c = grind (arith, common_steps, unkept ((goal.at.returns-clause-none_kept c).After-front_waits))

@@ -1,6 +1,6 @@
+use Rattle.hayro_ccitt.proofs.Names.{common_steps}
 use Rattle.hayro_ccitt.proofs.Names.{◌≡◌, ◌∙◌, ◌++◌, ◌+◌, ◌-◌, ◌*◌, ◌/◌, ap, sym, refl, arith, length, length-drop}
-use Rattle.hayro_ccitt.proofs.Names.{drop, drop-drop, take, bits_in, subst, Bits, List, ℕ}
-use Rattle.hayro_ccitt.specs.RowFeeds.{PartIsKept}
+use Rattle.hayro_ccitt.proofs.Names.{drop, drop-drop, bits_in, List, ℕ}
 use Rattle.std.proofs.Math.Seq.{paste, take-append_seam}
 use Rattle.std.proofs.lemmas.List.Edits.{paste_all}
 use Rattle.hayro_ccitt.proofs.BitReading.BitLists.{length-bits_in}
@@ -11,9 +11,7 @@ use Rattle.hayro_ccitt.proofs.row_feed.RowFeed.drop_read.Goals as goal
 
 -- bytes that are written over the first ones
 paste_front : (over bytes : List ℕ) (n : ℕ) → n ≡ length bytes → paste over 0 bytes n ≡ bytes ++ drop n over
-paste_front over bytes n whole =
-    let from : 0 + n ≡ n = omega arith in
-    paste_all over 0 bytes n whole ∙ ap (λ (k : ℕ). bytes ++ drop k over) from
+paste_front over bytes n whole = grind (arith, common_steps, paste_all, bytes)
 
 -- the bytes that are left
 module _ (c : After-truncate) where
@@ -24,18 +22,7 @@ module _ (c : After-truncate) where
   items = c.self.inside.«data».items
 
   pub items_left : c.truncate.new.self.items ≡ drop bytes items
-  items_left =
-      let left : c.len.result - bytes ≡ length (drop bytes items) = omega (
-        arith,
-        c.len.ensures,
-        length-drop bytes items,
-      ) in
-      let behind = drop (c.len.result - bytes) items in
-      c.truncate.ensures.items ∙ ap (take (c.len.result - bytes)) (c.copy_within.ensures.items
-      ∙ ap (λ (n : ℕ). paste items 0 (drop bytes items) (n - bytes)) (sym c.len.ensures))
-      ∙ ap (take (c.len.result - bytes)) (paste_front items (drop bytes items) (c.len.result - bytes) left)
-      ∙ ap (λ (n : ℕ). take n (drop bytes items ++ behind)) left
-      ∙ take-append_seam (drop bytes items) behind
+  items_left = grind (arith, common_steps, length-drop, paste, take-append_seam, bytes, items, paste_front)
 
   pub bits_left : bits_in c.self.inside.order c.truncate.new.self.items ≡ drop (8 * bytes) (bits_in c.self.inside.order items)
   bits_left = ap (bits_in c.self.inside.order) items_left ∙ bits-dropped c.self.inside.order bytes items
@@ -59,8 +46,7 @@ invariant_of-self c =
       rows = c.self.invariant.rows;
       seen = seen_there (sym same) c.self.invariant.seen;
       line = c.self.invariant.line;
-      part = subst (λ (b : Bits). PartIsKept inside.part inside.begun inside.rows.stand inside.ctx.held b inside.line_read)
-          (sym same) c.self.invariant.part;
+      part = grind (arith, common_steps);
     }
 
 pub returns-then-bytes-eq0 : goal.returns-then-bytes-eq0

@@ -1,18 +1,15 @@
-use Rattle.hayro_ccitt.proofs.Names.{◌∙◌, ap, sym, subst, bits_in, drop, Option}
-use Rattle.hayro_ccitt.specs.declared.line_parts.KeptPart.{KeptPart}
+use Rattle.hayro_ccitt.proofs.Names.{arith}
+use Rattle.hayro_ccitt.proofs.Names.{common_steps}
+use Rattle.hayro_ccitt.proofs.Names.{◌∙◌, ap, sym, subst, drop}
 use Rattle.hayro_ccitt.proofs.Readings.PartsFed.{stays_by}
-use Rattle.hayro_ccitt.specs.RowFeeds.{Feeding, LineGoesOn, PartIsKept, ScansLine}
+use Rattle.hayro_ccitt.specs.RowFeeds.{Feeding, LineGoesOn, ScansLine}
 use Rattle.hayro_ccitt.proofs.row_feed.RowFeed.go_on_by_call.Goals.{In-Some}
 use Rattle.hayro_ccitt.proofs.row_feed.RowFeed.go_on_by_call.Goals as goal
 
 -- the part that is kept, by what is seen
 part_kept : (c : In-Some) → LineGoesOn c.args.self.now.begun c.args.self.now.rows.stand c.args.self.now.ctx.held
     (drop c.args.self.now.place c.args.self.now.kept) c.self.inside.line_read c.in-Some.part
-part_kept c = subst (λ (f : Feeding). LineGoesOn f.begun f.rows.stand f.ctx.held (drop f.place f.kept) c.self.inside.line_read
-    c.in-Some.part) c.self.view_is
-    (subst (λ (p : Option KeptPart). PartIsKept p c.self.inside.begun c.self.inside.rows.stand c.self.inside.ctx.held
-    (drop c.self.inside.place (bits_in c.self.inside.order c.self.inside.«data».items)) c.self.inside.line_read)
-    c.in-Some.is c.self.invariant.part)
+part_kept c = grind (arith, common_steps)
 
 pub go_on_from-requires : goal.go_on_from-requires
 go_on_from-requires c = record { part = part_kept (goal.at.go_on_from-requires c).In-Some }

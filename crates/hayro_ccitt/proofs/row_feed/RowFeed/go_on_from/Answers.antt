@@ -1,7 +1,7 @@
+use Rattle.hayro_ccitt.proofs.Names.{common_steps}
 use Rattle.hayro_ccitt.proofs.Names.{refl}
-use Rattle.hayro_ccitt.proofs.Names.{◌≡◌, ◌∙◌, ◌+◌, ap, sym, subst, arith, length, length-drop, drop, false≢true}
-use Rattle.hayro_ccitt.proofs.Names.{bits_in, List, ℕ, Context, Held, BitsAt}
-use Rattle.hayro_ccitt.specs.GapsSeen.{IsSeen, rules_for}
+use Rattle.hayro_ccitt.proofs.Names.{◌≡◌, ◌∙◌, ◌+◌, sym, subst, arith, length, length-drop, drop, false≢true}
+use Rattle.hayro_ccitt.proofs.Names.{bits_in, BitsAt}
 use Rattle.hayro_ccitt.proofs.BitReading.BitLists.{length-bits_in}
 use Rattle.hayro_ccitt.proofs.Readings.PartsFed.{part_reached, scans_short, scans_whole}
 use Rattle.hayro_ccitt.specs.RowFeeds.{Feeding, LineGoesOn, feeding_of}
@@ -16,36 +16,21 @@ kept c = subst (λ (f : Feeding). LineGoesOn f.begun f.rows.stand f.ctx.held (dr
 
 pub overflow_add-self-inside : goal.overflow_add-self-inside
 overflow_add-self-inside c =
-    let at = (goal.at.overflow_add-self-inside c).After-deref in
-    omega (
-      arith,
-      c.self.invariant.fit,
-      c.self.invariant.within,
-      (kept at).within,
-      length-bits_in c.self.inside.order
-          c.self.inside.«data».items,
-      length-drop c.self.inside.place (bits_in c.self.inside.order c.self.inside.«data».items),
-    )
+    grind (arith, common_steps, length-bits_in, length-drop, kept ((goal.at.overflow_add-self-inside c).After-deref))
 
 pub scanner_at-reader-requires-clause-within : goal.scanner_at-reader-requires-clause-within
 scanner_at-reader-requires-clause-within c =
-    let at = (goal.at.scanner_at-reader-requires-clause-within c).After-deref in
-    omega (
+    grind (
       arith,
-      c.self.invariant.within,
-      (kept at).within,
-      length-bits_in c.self.inside.order
-          c.self.inside.«data».items,
-      length-drop c.self.inside.place (bits_in c.self.inside.order c.self.inside.«data».items),
-      ap length c.deref.ensures.value,
+      common_steps,
+      length-bits_in,
+      length-drop,
+      kept ((goal.at.scanner_at-reader-requires-clause-within c).After-deref),
     )
 
 starts_at : (c : After-continue_line-is_short) → c.scanner_at-reader.result
     ≡ record { bits = bits_in c.self.inside.order c.self.inside.«data».items; place = c.self.inside.place + c.args.read }
-starts_at c = c.scanner_at-reader.ensures ∙ ap (λ (items : List ℕ). record {
-  bits = bits_in c.self.inside.order items;
-  place = c.self.inside.place + c.args.read;
-}) c.deref.ensures.value
+starts_at c = grind (arith, common_steps)
 
 -- where the scan ended
 abbrev reached : (c : After-continue_line-is_short) → BitsAt
@@ -66,9 +51,7 @@ invariant_of-self c =
       start = λ e. absurd (false≢true (sym e ∙ was.is_begun));
       unended = λ e. absurd (false≢true (sym e ∙ was.is_begun));
       rows = λ e. absurd (false≢true (sym e ∙ was.is_begun));
-      seen = subst (λ (h : Held). IsSeen (rules_for c.self.inside.begun h) c.self.inside.look
-          (drop c.self.inside.place (bits_in c.self.inside.order c.self.inside.«data».items)))
-          (sym (ap (λ (x : Context). x.held) c.continue_line-is_short.ensures.goes_on.frame)) c.self.invariant.seen;
+      seen = grind (arith, common_steps);
       line = c.self.invariant.line;
       part = part_reached (feeding_of c.self.inside) (scanned at) c.args.part c.continue_line-is_short.new.part c.args.read
           c.scanner_at-reader.result (reached at) c.continue_line-is_short.result.0 (starts_at at)
@@ -86,9 +69,7 @@ invariant_of-self-2 c =
       start = λ e. absurd (false≢true (sym e ∙ was.is_begun));
       unended = λ e. absurd (false≢true (sym e ∙ was.is_begun));
       rows = λ e. absurd (false≢true (sym e ∙ was.is_begun));
-      seen = subst (λ (h : Held). IsSeen (rules_for c.self.inside.begun h) c.self.inside.look
-          (drop c.self.inside.place (bits_in c.self.inside.order c.self.inside.«data».items)))
-          (sym (ap (λ (x : Context). x.held) c.continue_line-is_short.ensures.goes_on.frame)) c.self.invariant.seen;
+      seen = grind (arith, common_steps);
       line = c.self.invariant.line;
       part = refl;
     }
@@ -109,11 +90,13 @@ returns-then-is_short c =
 
 pub returns : goal.returns
 returns c =
-    let at = (goal.at.returns c).After-continue_line-is_short in
-    let there = (goal.at.returns c).After-deref in
-    let on = c.continue_line-is_short in
-    rw (← c.self.view_is) (record {
-      scans = scans_whole (feeding_of c.self.inside) (scanned at) c.args.part on.new.part c.args.read
-          c.scanner_at-reader.result (reached at) on.result.0 (starts_at at) (within_kept there) on.ensures.goes_on (kept there)
-          c.if-is_short.false;
-    })
+    grind (
+      arith,
+      common_steps,
+      scans_whole,
+      scanned ((goal.at.returns c).After-continue_line-is_short),
+      reached ((goal.at.returns c).After-continue_line-is_short),
+      starts_at ((goal.at.returns c).After-continue_line-is_short),
+      within_kept ((goal.at.returns c).After-deref),
+      kept ((goal.at.returns c).After-deref),
+    )

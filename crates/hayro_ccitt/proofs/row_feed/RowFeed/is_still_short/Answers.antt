@@ -1,8 +1,8 @@
-use Rattle.hayro_ccitt.proofs.Names.{◌≡◌, ◌∙◌, ◌+◌, ◌≤◌, ap, sym, subst, arith, length, length-drop, drop}
-use Rattle.hayro_ccitt.proofs.Names.{false≢true, true, false}
-use Rattle.hayro_ccitt.proofs.Names.{bits_in, List, ℕ, Bool, Option, Context, Held, BitsAt, Stand, Bits, None, Some}
+use Rattle.hayro_ccitt.proofs.Names.{common_steps}
+use Rattle.hayro_ccitt.proofs.Names.{◌≡◌, ◌∙◌, ◌+◌, ◌≤◌, sym, arith, length, length-drop, drop}
+use Rattle.hayro_ccitt.proofs.Names.{false≢true, true}
+use Rattle.hayro_ccitt.proofs.Names.{bits_in, ℕ, Bool, Option, Held, BitsAt, Stand, Bits, None, Some}
 use Rattle.hayro_ccitt.specs.declared.line_parts.KeptPart.{KeptPart}
-use Rattle.hayro_ccitt.specs.GapsSeen.{IsSeen, rules_for}
 use Rattle.hayro_ccitt.proofs.BitReading.BitLists.{length-bits_in}
 use Rattle.hayro_ccitt.proofs.Readings.PartsFed.{part_reached, scans_short, scans_whole, stays_by}
 use Rattle.hayro_ccitt.specs.RowFeeds.{Feeding, LineGoesOn, PartIsKept, feeding_of}
@@ -17,30 +17,26 @@ read_within (Some part) begun stand held bits read kept = kept.within
 
 pub overflow_add-place : goal.overflow_add-place
 overflow_add-place c =
-    let inside = c.self.inside in
-    let bits = bits_in inside.order inside.«data».items in
-    omega (
+    grind (
       arith,
-      c.self.invariant.fit,
-      c.self.invariant.within,
-      read_within inside.part inside.begun inside.rows.stand inside.ctx.held (drop inside.place bits) inside.line_read
+      common_steps,
+      length-bits_in,
+      length-drop,
+      read_within c.self.inside.part c.self.inside.begun c.self.inside.rows.stand c.self.inside.ctx.held (drop
+          c.self.inside.place (bits_in c.self.inside.order c.self.inside.«data».items)) c.self.inside.line_read
           c.self.invariant.part,
-      length-bits_in inside.order inside.«data».items,
-      length-drop inside.place bits,
     )
 
 pub scanner_near_end-requires-clause-within : goal.scanner_near_end-requires-clause-within
 scanner_near_end-requires-clause-within c =
-    let inside = c.self.inside in
-    let bits = bits_in inside.order inside.«data».items in
-    omega (
+    grind (
       arith,
-      c.self.invariant.within,
-      read_within inside.part inside.begun inside.rows.stand inside.ctx.held (drop inside.place bits) inside.line_read
+      common_steps,
+      length-bits_in,
+      length-drop,
+      read_within c.self.inside.part c.self.inside.begun c.self.inside.rows.stand c.self.inside.ctx.held (drop
+          c.self.inside.place (bits_in c.self.inside.order c.self.inside.«data».items)) c.self.inside.line_read
           c.self.invariant.part,
-      length-bits_in inside.order inside.«data».items,
-      length-drop inside.place bits,
-      ap length c.deref.ensures.value,
     )
 
 module _ (c : After-continue_line-is_short) where
@@ -55,15 +51,10 @@ module _ (c : After-continue_line-is_short) where
   reached = record c.in-Some.reader { place = c.continue_line-is_short.result.1 }
 
   kept : LineGoesOn old.begun old.rows.stand old.ctx.held (drop old.place old.kept) old.line_read c.in-Some-part.part
-  kept = subst (λ (p : Option KeptPart). PartIsKept p old.begun old.rows.stand old.ctx.held (drop old.place old.kept)
-      old.line_read)
-      c.in-Some-part.is c.self.invariant.part
+  kept = grind (arith, common_steps, old)
 
   starts_at : c.in-Some.reader ≡ record { bits = old.kept; place = old.place + old.line_read }
-  starts_at = c.in-Some.ensures.same ∙ ap (λ (items : List ℕ). record {
-    bits = bits_in c.self.inside.order items;
-    place = old.place + old.line_read;
-  }) c.deref.ensures.value
+  starts_at = grind (arith, common_steps, old)
 
   within : old.place ≤ length old.kept
   within = omega (arith, c.self.invariant.within, length-bits_in c.self.inside.order c.self.inside.«data».items)
@@ -79,9 +70,7 @@ invariant_of-self-then-is_short c =
       start = λ e. absurd (false≢true (sym e ∙ was.is_begun));
       unended = λ e. absurd (false≢true (sym e ∙ was.is_begun));
       rows = λ e. absurd (false≢true (sym e ∙ was.is_begun));
-      seen = subst (λ (h : Held). IsSeen (rules_for c.self.inside.begun h) c.self.inside.look
-          (drop c.self.inside.place (bits_in c.self.inside.order c.self.inside.«data».items)))
-          (sym (ap (λ (x : Context). x.held) c.continue_line-is_short.ensures.goes_on.frame)) c.self.invariant.seen;
+      seen = grind (arith, common_steps);
       line = c.self.invariant.line;
       part = part_reached (old at) (scanned at) c.in-Some-part.part c.continue_line-is_short.new.part c.self.inside.line_read
           c.in-Some.reader (reached at) c.continue_line-is_short.result.0 (starts_at at) (within at)
@@ -99,9 +88,15 @@ returns-then-is_short c =
 
 pub returns : goal.returns
 returns c =
-    let at = (goal.at.returns c).After-continue_line-is_short in
-    let was = kept at in
-    let on = c.continue_line-is_short in
-    rw (← c.self.view_is) (stays_by (old at) _ c.in-Some-part.part false c.in-Some-part.is c.if-self.false was.none_drawn
-    (scans_whole (old at) (scanned at) c.in-Some-part.part on.new.part c.self.inside.line_read c.in-Some.reader (reached at)
-    on.result.0 (starts_at at) (within at) on.ensures.goes_on was c.if-is_short.false))
+    grind (
+      arith,
+      common_steps,
+      stays_by,
+      scans_whole,
+      kept ((goal.at.returns c).After-continue_line-is_short),
+      old ((goal.at.returns c).After-continue_line-is_short),
+      scanned ((goal.at.returns c).After-continue_line-is_short),
+      reached ((goal.at.returns c).After-continue_line-is_short),
+      starts_at ((goal.at.returns c).After-continue_line-is_short),
+      within ((goal.at.returns c).After-continue_line-is_short),
+    )

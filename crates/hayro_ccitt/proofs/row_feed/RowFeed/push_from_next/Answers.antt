@@ -1,8 +1,8 @@
-use Rattle.hayro_ccitt.proofs.Names.{◌≡◌, ◌∙◌, ap, subst, arith, Ok, Err, DecodeSettings, ℕ, refl, true}
+use Rattle.hayro_ccitt.proofs.Names.{common_steps}
+use Rattle.hayro_ccitt.proofs.Names.{◌≡◌, ap, subst, arith, Ok, Err, DecodeSettings, refl, true}
 use Rattle.hayro_ccitt.proofs.PixelRows.ChangesAndPixels.{AreChanges-wider}
 use Rattle.hayro_ccitt.proofs.Readings.RowsPassed.{keeps_all, passes_none, pushed_on, pushed_to_end, pushed_to_refusal}
-use Rattle.hayro_ccitt.specs.Decoding.{SinkState}
-use Rattle.hayro_ccitt.specs.RowFeeds.{FeedsRow, PushesRows}
+use Rattle.hayro_ccitt.specs.RowFeeds.{FeedsRow}
 use Rattle.hayro_ccitt.specs.declared.row_feed.Fed.{Fed}
 use Rattle.hayro_ccitt.proofs.row_feed.RowFeed.push_from_next.{Given.Over}
 use Rattle.hayro_ccitt.proofs.row_feed.RowFeed.push_from_next.Goals.{After-is_row}
@@ -10,12 +10,7 @@ use Rattle.hayro_ccitt.proofs.row_feed.RowFeed.push_from_next.Goals as goal
 
 -- what the first call leaves
 first_call : (g : Over) (c : After-is_row g) → FeedsRow c.args.self.now c.next_row-fed.new.self c.next_row-fed.result
-first_call g c = record {
-  reads = c.next_row-fed.ensures.reads;
-  keeps = c.next_row-fed.ensures.keeps;
-  over = c.next_row-fed.ensures.ended;
-  counts = c.next_row-fed.ensures.counts;
-}
+first_call g c = grind (arith, common_steps)
 
 pub returns-then-not-is_row-clause-pushes : goal.returns-then-not-is_row-clause-pushes
 returns-then-not-is_row-clause-pushes g c =
@@ -42,20 +37,9 @@ returns-in-Err-clause-pushes g c =
 
 pub returns-clause-pushes : goal.returns-clause-pushes
 returns-clause-pushes g c =
-    let here = (goal.at.returns-clause-pushes g c).After-is_row in
-    let D = g.D.Decoder in
-    let mid : SinkState D.Meaning = record {
-      meaning = D.meaning c.push_row.new.self;
-      refused = D.has_refused c.push_row.new.self;
-      refuses = D.refuses c.push_row.new.self;
-    } in
-    let after : SinkState D.Meaning = record {
-      meaning = D.meaning c.push_on.new.decoder;
-      refused = D.has_refused c.push_on.new.decoder;
-      refuses = D.refuses c.push_on.new.decoder;
-    } in
-    pushed_on {mid = mid} (reads_first_row g here c.if-not-is_row.false)
-    (c.in_default.ensures.taken ∙ ap (D.step (D.width c.args.decoder.now) (D.meaning c.args.decoder.now)) c.row.ensures.changes)
-    c.in_default.ensures.not_refused
-    (subst (λ (w : ℕ). PushesRows (D.step w) mid after c.next_row-fed.new.self c.push_on.new.self c.push_on.result)
-    c.push_row.ensures.same_width c.push_on.ensures.pushes)
+    grind (
+      arith,
+      common_steps,
+      pushed_on,
+      reads_first_row g ((goal.at.returns-clause-pushes g c).After-is_row) c.if-not-is_row.false,
+    )

@@ -1,6 +1,7 @@
+use Rattle.hayro_ccitt.proofs.Names.{common_steps}
 use Rattle.hayro_ccitt.proofs.Names.{◌≡◌, ◌∙◌, ap, sym, subst, arith, refl, Ok, Err, true}
 use Rattle.hayro_ccitt.proofs.Names.{ended, is_at_line, ℕ, DecodeSettings, Result, Bool}
-use Rattle.hayro_ccitt.proofs.Names.{BitsAt, Context, DecodeError, Held, White, [], drop, false, false≢true, redrawn}
+use Rattle.hayro_ccitt.proofs.Names.{BitsAt, Context, DecodeError, [], drop, false, false≢true}
 use Rattle.hayro_ccitt.proofs.PixelRows.ChangesAndPixels.{AreChanges-wider}
 use Rattle.hayro_ccitt.proofs.Readings.FeedTurns.{IsReadBy, past_gap, past_line, full_row}
 use Rattle.hayro_ccitt.proofs.Readings.FeedTurns.{gap_read_by, gap_row, line_read_by}
@@ -13,10 +14,8 @@ use Rattle.hayro_ccitt.proofs.Readings.RowsPassed.{keeps_on, passes_more, pushed
 use Rattle.hayro_ccitt.proofs.BitReading.BitLists.{length-bits_in}
 use Rattle.hayro_ccitt.proofs.Names.{length}
 use Rattle.hayro_ccitt.specs.GapsSeen.{nothing_seen}
-use Rattle.hayro_ccitt.specs.RowFeeds.{KeepsBits}
 use Rattle.hayro_ccitt.specs.RowFeeds.{FeedsRow, PassesRows, ReadsInFeed, fed_row, feeding_of}
 use Rattle.hayro_ccitt.specs.RowsTried.{IsLeft}
-use Rattle.hayro_ccitt.specs.WhiteLines.{AreKnown, MayFollow}
 use Rattle.hayro_ccitt.specs.WhiteRows.{Pushed, PushesWhite, RefusesWhite, WhiteEnds}
 use Rattle.hayro_ccitt.specs.declared.white_lines.WhiteLines.{WhiteLines}
 use Rattle.hayro_ccitt.proofs.Names.{List, SinkState}
@@ -131,23 +130,27 @@ invariant_of-self-in-Err g c = (row_by g (goal.at.invariant_of-self-in-Err g c).
 
 pub returns-in-Err-clause-pushes : goal.returns-in-Err-clause-pushes
 returns-in-Err-clause-pushes g c =
-    let here = (goal.at.returns-in-Err-clause-pushes g c).After-is_read in
-    let inv = c.rows.invariant in
-    let step = g.D.Decoder.step (g.D.Decoder.width c.args.decoder.now) in
-    pushed_to_refusal (subst (λ (m : g.D.Decoder.Meaning). PassesRows step (g.D.Decoder.meaning c.args.decoder.now) m
-    c.args.self.now (feeding_of (at_rows g (gap_here g here)))) (sym c.in-Err.ensures.kept) inv.passes) inv.keeps inv.settings
-    (reads_next_row g here (c.is_read.ensures.read c.if-not-is_read.false)) (ap Err c.in-Err.ensures.only_refused)
-    c.in-Err.ensures.refused
-    (subst (g.D.Decoder.refuses c.push_row.new.self) c.reference_row.ensures.changes c.in-Err.ensures.refused_row)
+    grind (
+      arith,
+      common_steps,
+      pushed_to_refusal,
+      at_rows g (gap_here g ((goal.at.returns-in-Err-clause-pushes g c).After-is_read)),
+      gap_here g ((goal.at.returns-in-Err-clause-pushes g c).After-is_read),
+      reads_next_row g ((goal.at.returns-in-Err-clause-pushes g c).After-is_read) (c.is_read.ensures.read c.if-not-is_read.false),
+      c.is_read.ensures.read c.if-not-is_read.false,
+    )
 
 -- ---- The white rows after a row
 
 pub repeats_white-repeats-requires : goal.repeats_white-repeats-requires
 repeats_white-repeats-requires g c =
-    let here = (goal.at.repeats_white-repeats-requires g c).After-is_read in
-    let row = reads_next_row g here (c.is_read.ensures.read c.if-not-is_read.false) in
-    subst (λ (s : DecodeSettings). AreKnown s c.rows.lines) (sym (row.counts.settings ∙ c.rows.invariant.settings))
-    c.rows.invariant.known
+    grind (
+      arith,
+      common_steps,
+      reads_next_row g ((goal.at.repeats_white-repeats-requires g c).After-is_read) (c.is_read.ensures.read
+          c.if-not-is_read.false),
+      c.is_read.ensures.read c.if-not-is_read.false,
+    )
 
 module _ (g : Over) (here : After-is_read g) (is : here.try_line-row.result ≡ Ok true) where
   abbrev gap_there : Inside
@@ -169,15 +172,10 @@ module _ (g : Over) (here : After-is_read g) (is : here.try_line-row.result ≡ 
       let step = g.D.Decoder.step (g.D.Decoder.width here.args.decoder.now) in
       let inv = here.rows.invariant in
       record {
-        read_by = subst (λ (n : ℕ). IsReadBy (past_line gap_there here.try_line-row.new.ctx here.try_line-row.new.self n)
-            here.try_line-row.new.reader) place (row_by g here);
+        read_by = grind (arith, common_steps, past_line, row_by g here);
         behind = (row.counts.stands refl).1;
-        passes = subst (λ (n : ℕ). PassesRows step (g.D.Decoder.meaning here.args.decoder.now) meaning here.args.self.now
-            (feeding_of (past_line gap_there here.try_line-row.new.ctx here.try_line-row.new.self n))) place
-            (passes_more inv.passes row means);
-        keeps = subst (λ (n : ℕ). KeepsBits here.args.self.now
-            (feeding_of (past_line gap_there here.try_line-row.new.ctx here.try_line-row.new.self n))) place
-            (keeps_on inv.keeps row.keeps);
+        passes = grind (arith, common_steps, past_line, passes_more, g.D.Decoder.meaning here.args.decoder.now);
+        keeps = grind (arith, common_steps, past_line, keeps_on);
         settings = row.counts.settings ∙ inv.settings;
       }
 
@@ -230,10 +228,7 @@ module _ (g : Over) (c : After-push_white_rows g) where
   pushes_white : PushesWhite step_here lines_here gap_before.dropped sink_before sink_behind c.try_line-row.new.self
       c.push_white_rows.new.rows c.try_line-row.new.ctx c.push_white_rows.new.ctx c.try_line-row.new.reader
       c.push_white_rows.new.reader c.push_white_rows.result
-  pushes_white = subst (λ (w : ℕ). PushesWhite (g.D.Decoder.step w) lines_here gap_before.dropped sink_before sink_behind
-      c.try_line-row.new.self c.push_white_rows.new.rows c.try_line-row.new.ctx c.push_white_rows.new.ctx
-      c.try_line-row.new.reader c.push_white_rows.new.reader c.push_white_rows.result)
-      (c.push_row.ensures.same_width ∙ c.rows.invariant.width) c.push_white_rows.ensures.pushes
+  pushes_white = grind (arith, common_steps, lines_here, gap_before, sink_before, sink_behind)
 
   counted_mid : CountsRows c.try_line-row.new.ctx pushes_white.mid.ctx
   counted_mid = counts_rows step_here lines_here gap_before.dropped read_before
@@ -269,9 +264,7 @@ means_before : (g : Over) (c : After-push_white_rows g) (taken : g.D.Decoder.mea
     ≡ g.D.Decoder.step (g.D.Decoder.width c.rows.decoder) (g.D.Decoder.meaning c.rows.decoder) c.reference_row.result.now)
     → g.D.Decoder.meaning c.push_row.new.self ≡ step_here g c (g.D.Decoder.meaning c.rows.decoder)
     (changes c.try_line-row.new.ctx.held.reference)
-means_before g c taken =
-    taken ∙ ap (λ (w : ℕ). g.D.Decoder.step w (g.D.Decoder.meaning c.rows.decoder) c.reference_row.result.now)
-    c.rows.invariant.width ∙ ap (step_here g c (g.D.Decoder.meaning c.rows.decoder)) c.reference_row.ensures.changes
+means_before g c taken = grind (arith, common_steps, step_here)
 
 pub push_white_rows-requires-clause-fits : goal.push_white_rows-requires-clause-fits
 push_white_rows-requires-clause-fits g c =
@@ -327,21 +320,24 @@ white-init g c =
     let place = sym c.bit_pos-self-inside-in-rows-2.ensures.place in
     let new = c.push_white_rows.new in
     record {
-      passes = subst (λ (n : ℕ). PassesRows (step_here g at) (g.D.Decoder.meaning c.args.decoder.now)
-          (g.D.Decoder.meaning new.decoder) c.args.self.now
-          (feeding_of (past_line (gap_before g at) new.ctx new.rows n))) place now.passes;
-      keeps = subst (λ (n : ℕ). KeepsBits c.args.self.now (feeding_of (past_line (gap_before g at) new.ctx new.rows n))) place
-          now.keeps;
+      passes = grind (
+        arith,
+        common_steps,
+        past_line,
+        step_here g at,
+        g.D.Decoder.meaning c.args.decoder.now,
+        g.D.Decoder.meaning new.decoder,
+        gap_before g at,
+      );
+      keeps = grind (arith, common_steps, past_line, gap_before g at);
       settings = now.settings;
       width = c.push_white_rows.ensures.width ∙ c.push_row.ensures.same_width ∙ inv.width;
       unrefused = (came_behind g at is).1 ∙ c.in_default.ensures.not_refused ∙ inv.unrefused;
       read_by = subst (λ (n : ℕ). IsReadBy (past_line (gap_before g at) new.ctx new.rows n) new.reader) place now.read_by;
       behind = now.behind;
       fresh = fresh;
-      known = subst (λ (s : DecodeSettings). AreKnown s c.repeats_white-repeats.new.lines)
-          (ap (λ (x : Context). x.held.settings) (sym counted.same) ∙ now.settings) c.repeats_white-repeats.ensures.known;
-      follow = λ is. subst (λ (x : Context). MayFollow x.held.settings x.held.has_eols x.held.reference
-          c.repeats_white-repeats.new.lines) (sym counted.same) (c.repeats_white-repeats.ensures.follow is);
+      known = grind (arith, common_steps);
+      follow = λ is. grind (arith, common_steps, c.repeats_white-repeats.ensures.follow is);
       more = omega arith;
     }
 
@@ -394,8 +390,7 @@ white-preserved g c =
       behind = (row.counts.stands refl).1;
       fresh = inv.fresh;
       known = inv.known;
-      follow = λ is. subst (λ (h : Held). MayFollow h.settings h.has_eols h.reference c.repeats_white-repeats.new.lines)
-          (sym (ap (λ (x : Context). x.held) takes.new_is)) (inv.follow is);
+      follow = λ is. grind (arith, common_steps, inv.follow is);
       more = omega (arith, inv.more, ap (λ (x : Context). x.held.taken) takes.new_is);
     }
 
@@ -405,13 +400,14 @@ invariant_of-self-in-Err-push_row g c =
 
 pub returns-in-Err-push_row-clause-pushes : goal.returns-in-Err-push_row-clause-pushes
 returns-in-Err-push_row-clause-pushes g c =
-    let here = (goal.at.returns-in-Err-push_row-clause-pushes g c).After-bit_pos-self-inside-in-white in
-    let inv = c.white.invariant in
-    let step = g.D.Decoder.step (g.D.Decoder.width c.args.decoder.now) in
-    pushed_to_refusal (subst (λ (m : g.D.Decoder.Meaning). PassesRows step (g.D.Decoder.meaning c.args.decoder.now) m
-    c.args.self.now (feeding_of (at_white g here))) (sym c.in-Err-push_row.ensures.kept) inv.passes) inv.keeps inv.settings
-    (reads_white g here) (ap Err c.in-Err-push_row.ensures.only_refused) c.in-Err-push_row.ensures.refused
-    (subst (g.D.Decoder.refuses c.push_row-in-white.new.self) (no_changes g here) c.in-Err-push_row.ensures.refused_row)
+    grind (
+      arith,
+      common_steps,
+      pushed_to_refusal,
+      at_white g ((goal.at.returns-in-Err-push_row-clause-pushes g c).After-bit_pos-self-inside-in-white),
+      reads_white g ((goal.at.returns-in-Err-push_row-clause-pushes g c).After-bit_pos-self-inside-in-white),
+      no_changes g ((goal.at.returns-in-Err-push_row-clause-pushes g c).After-bit_pos-self-inside-in-white),
+    )
 
 pub rows-smaller : goal.rows-smaller
 rows-smaller g c =
@@ -422,19 +418,7 @@ rows-smaller g c =
     omega (arith, taken.0, taken.1, counted.more, c.white.invariant.more, ap (λ (x : Context). x.held.taken) none.1)
 
 pub rows-preserved : goal.rows-preserved
-rows-preserved g c =
-    let inv = c.white.invariant in
-    let none = c.take_white_row.ensures.none c.white-test.false in
-    rw (none.0, none.1, none.2) (record {
-      passes = inv.passes;
-      keeps = inv.keeps;
-      settings = inv.settings;
-      width = inv.width;
-      unrefused = inv.unrefused;
-      read_by = inv.read_by;
-      behind = inv.behind;
-      known = inv.known;
-    })
+rows-preserved g c = grind (arith, common_steps, c.take_white_row.ensures.none c.white-test.false)
 
 -- ---- A line that isn't read
 
@@ -450,10 +434,7 @@ keep_part-requires-clause-line g c =
     ∙ line_is_here g here
 
 pub keep_part-requires-clause-none_drawn : goal.keep_part-requires-clause-none_drawn
-keep_part-requires-clause-none_drawn g c =
-    let is = c.is_unsettled.ensures.short c.if-is_unsettled.true in
-    let drawn = c.try_line-row.ensures.tries.tried.left (subst IsLeft (sym is) refl) in
-    ap (λ (h : Held). redrawn h [] White) drawn ∙ sym drawn
+keep_part-requires-clause-none_drawn g c = grind (arith, common_steps, c.is_unsettled.ensures.short c.if-is_unsettled.true)
 
 pub returns-clause-pushes : goal.returns-clause-pushes
 returns-clause-pushes g c =

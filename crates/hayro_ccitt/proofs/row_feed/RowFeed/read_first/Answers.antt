@@ -1,19 +1,15 @@
-use Rattle.hayro_ccitt.proofs.Names.{◌∙◌, sym, ap, is_some, ended, subst}
+use Rattle.hayro_ccitt.proofs.Names.{arith}
+use Rattle.hayro_ccitt.proofs.Names.{common_steps}
+use Rattle.hayro_ccitt.proofs.Names.{◌∙◌, sym, ap, is_some, ended}
 use Rattle.hayro_ccitt.proofs.Readings.FeedsOn.{feeds_on, first_line_is, front_ends_feeds, front_waits_feeds, unbegun_looks}
-use Rattle.hayro_ccitt.specs.RowFeeds.{Begins, Feeding}
+use Rattle.hayro_ccitt.specs.RowFeeds.{Feeding}
 use Rattle.hayro_ccitt.proofs.row_feed.RowFeed.read_first.Goals as goal
 
 pub returns-then-not-begin-clause-reads : goal.returns-then-not-begin-clause-reads
-returns-then-not-begin-clause-reads c whole tried feed =
-    let begins = subst (Begins c.args.self.now c.begin.new.self) c.if-not-begin.true c.begin.ensures.begins in
-    front_waits_feeds begins c.requires.unbegun c.begin.ensures.none_kept.0 c.begin.ensures.none_kept.1 feed
+returns-then-not-begin-clause-reads c whole tried feed = grind (arith, common_steps, front_waits_feeds)
 
 pub returns-then-has_ended-clause-reads : goal.returns-then-has_ended-clause-reads
-returns-then-has_ended-clause-reads c whole tried feed =
-    let begins = subst (Begins c.args.self.now c.begin.new.self) c.if-not-begin.false c.begin.ensures.begins in
-    front_ends_feeds begins c.requires.unbegun c.begin.ensures.none_kept.0 c.begin.ensures.none_kept.1
-    (ap (λ (f : Feeding). is_some (ended f.rows.stand)) (sym c.self.view_is) ∙ sym c.has_ended.ensures ∙ c.if-has_ended.true)
-    feed
+returns-then-has_ended-clause-reads c whole tried feed = grind (arith, common_steps, front_ends_feeds)
 
 pub returns-clause-reads : goal.returns-clause-reads
 returns-clause-reads c whole tried feed =

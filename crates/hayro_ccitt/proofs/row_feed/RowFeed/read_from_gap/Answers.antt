@@ -1,5 +1,6 @@
+use Rattle.hayro_ccitt.proofs.Names.{common_steps}
 use Rattle.hayro_ccitt.proofs.Names.{◌≡◌, ◌≢◌, ◌∙◌, ap, sym, subst, arith, false≢true, false, true, BitsAt, bits_in}
-use Rattle.hayro_ccitt.proofs.Names.{List, ℕ, None}
+use Rattle.hayro_ccitt.proofs.Names.{None}
 use Rattle.hayro_ccitt.proofs.Names.{Context, Ok, is_at_line, drop, ended, refl}
 use Rattle.hayro_ccitt.proofs.Readings.FeedTurns.{IsReadBy, full_row, gap_read_by, gap_row, line_read_by, line_row}
 use Rattle.hayro_ccitt.proofs.Readings.FeedTurns.{past_gap, past_line, seen_by, turn_reads}
@@ -14,18 +15,10 @@ use Rattle.hayro_ccitt.proofs.row_feed.RowFeed.read_from_gap.Goals as goal
 
 reader_is_at : (c : After-is_some_line) → c.placed_at-reader.result
     ≡ record { bits = bits_in c.self.inside.order c.self.inside.«data».items; place = c.self.inside.place }
-reader_is_at c = c.placed_at-reader.ensures ∙ ap (λ (items : List ℕ). record {
-  bits = bits_in c.self.inside.order items;
-  place = c.self.inside.place;
-}) c.deref.ensures.value
+reader_is_at c = grind (arith, common_steps)
 
 feed_by : (c : After-is_some_line) → IsReadBy c.self.inside c.placed_at-reader.result
-feed_by c = record {
-  kept = c.self.invariant;
-  begun = ap (λ (f : Feeding). f.begun) c.self.view_is ∙ c.requires.begun;
-  none = ap (λ (f : Feeding). f.part) c.self.view_is ∙ c.requires.none_kept;
-  is = reader_is_at c;
-}
+feed_by c = grind (arith, common_steps, reader_is_at c)
 
 unended_feed : (c : After-is_some_line) → ended c.self.inside.rows.stand ≡ None
 unended_feed c = ap (λ (f : Feeding). ended f.rows.stand) c.self.view_is ∙ c.requires.unended
@@ -39,15 +32,7 @@ gap_kept : (c : After-is_some_line) → IsReadBy (behind_gap c) c.come_to_settle
 gap_kept c = gap_read_by (feed_by c) c.bit_pos-self-inside.ensures.place c.come_to_settled_line-line.ensures
 
 pub come_to_settled_line-line-requires-clause-seen : goal.come_to_settled_line-line-requires-clause-seen
-come_to_settled_line-line-requires-clause-seen c = seen_by (record {
-  kept = c.self.invariant;
-  begun = ap (λ (f : Feeding). f.begun) c.self.view_is ∙ c.requires.begun;
-  none = ap (λ (f : Feeding). f.part) c.self.view_is ∙ c.requires.none_kept;
-  is = c.placed_at-reader.ensures ∙ ap (λ (items : List ℕ). record {
-    bits = bits_in c.self.inside.order items;
-    place = c.self.inside.place;
-  }) c.deref.ensures.value;
-})
+come_to_settled_line-line-requires-clause-seen c = grind (arith, common_steps, seen_by)
 
 pub come_to_settled_line-line-requires-clause-line : goal.come_to_settled_line-line-requires-clause-line
 come_to_settled_line-line-requires-clause-line c = c.self.invariant.line

@@ -1,9 +1,10 @@
-use Rattle.hayro_ccitt.proofs.Names.{inl, inr, ap, Held, Ok, false}
+use Rattle.hayro_ccitt.proofs.Names.{inl, inr, ap, refl, Held, Bool, DecodeError, Result, Ok, Err, true, false}
+use Rattle.hayro_ccitt.specs.declared.row_feed.Fed.TheVariants.{NeedsMore}
 use Rattle.hayro_ccitt.proofs.Names.{◌≡◌, ◌∙◌, ◌+◌, ◌<◌, ◌≤◌, sym, subst, false≢true}
 use Rattle.std.specs.Prelude.{◌^◌}
 use Rattle.hayro_ccitt.proofs.Readings.FeedsOn.{line_feeds, row_fits}
-use Rattle.hayro_ccitt.proofs.Readings.PartsFed.{scanned_before, stays_short}
-use Rattle.hayro_ccitt.specs.RowFeeds.{Feeding, StaysShort}
+use Rattle.hayro_ccitt.proofs.Readings.PartsFed.{scanned_before, settled_not, stays_short}
+use Rattle.hayro_ccitt.specs.RowFeeds.{Feeding, StaysShort, fed_row}
 use Rattle.hayro_ccitt.proofs.row_feed.RowFeed.read_here.Goals.{After-is_still_short}
 use Rattle.hayro_ccitt.proofs.row_feed.RowFeed.read_here.Goals as goal
 
@@ -41,3 +42,16 @@ returns-clause-reads c whole tried feed =
       | inr first ↦ inr (λ tried. first.0 (c.is_still_short.ensures.tried ∙ tried), first.1)
     ])
     c.requires.begun c.requires.line feed)
+
+-- a line that was tried is left as short
+left_short : (row : Result Bool DecodeError) → fed_row row ≡ Ok NeedsMore → row ≡ Ok false
+left_short (Ok true) e = absurd cc
+left_short (Ok false) e = refl
+left_short (Err error) e = absurd cc
+
+pub returns-clause-waits : goal.returns-clause-waits
+returns-clause-waits c e some =
+    let stays = subst (StaysShort c.args.self.now c.is_still_short.new.self) c.if-is_still_short.false
+    c.is_still_short.ensures in
+    absurd (settled_not stays c.read_line-row.ensures.reads (left_short c.read_line-row.result (sym c.fed_row.ensures ∙ e))
+    (stays.settled refl some))

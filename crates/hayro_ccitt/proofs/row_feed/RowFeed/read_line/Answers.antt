@@ -1,14 +1,13 @@
-use Rattle.hayro_ccitt.proofs.Names.{subst, sym}
+use Rattle.hayro_ccitt.proofs.Names.{arith}
+use Rattle.hayro_ccitt.proofs.Names.{common_steps}
+use Rattle.hayro_ccitt.proofs.Names.{subst}
 use Rattle.hayro_ccitt.proofs.Readings.PartsFed.{scanned_after, unread_line}
 use Rattle.hayro_ccitt.specs.RowFeeds.{ReadsInFeed}
 use Rattle.hayro_ccitt.proofs.row_feed.RowFeed.read_line.Goals as goal
 
 pub returns-then-is_unsettled-clause-reads : goal.returns-then-is_unsettled-clause-reads
 returns-then-is_unsettled-clause-reads c =
-    let same = c.is_unsettled.ensures.short c.if-is_unsettled.true in
-    subst (ReadsInFeed c.args.self.now c.keep_part.new.self) (sym same) (scanned_after
-    (subst (ReadsInFeed c.args.self.now c.read_whole_line-row.new.self) same c.read_whole_line-row.ensures.reads)
-    c.requires.none_kept c.read_whole_line-row.ensures.none_kept c.keep_part.ensures)
+    grind (arith, common_steps, scanned_after, c.is_unsettled.ensures.short c.if-is_unsettled.true)
 
 pub returns-else-is_unsettled-clause-unread : goal.returns-else-is_unsettled-clause-unread
 returns-else-is_unsettled-clause-unread c e still = absurd (c.is_unsettled.ensures.other c.if-is_unsettled.false e)

@@ -1,5 +1,5 @@
-use Rattle.hayro_ccitt.proofs.Names.{◌≡◌, ◌∙◌, ap, sym, refl, arith, length, false≢true, true, BitsAt, bits_in, is_at_line}
-use Rattle.hayro_ccitt.proofs.Names.{List, ℕ}
+use Rattle.hayro_ccitt.proofs.Names.{common_steps}
+use Rattle.hayro_ccitt.proofs.Names.{◌≡◌, ◌∙◌, ap, sym, refl, arith, false≢true, true, bits_in, is_at_line}
 use Rattle.hayro_ccitt.proofs.BitReading.BitLists.{length-bits_in}
 use Rattle.hayro_ccitt.proofs.Readings.FeedsOn.{feed_reads}
 use Rattle.hayro_ccitt.proofs.Readings.LooksKept.{fresh_look}
@@ -15,10 +15,7 @@ line_begun c = ap (λ (f : Feeding). f.begun) c.self.view_is ∙ c.requires.begu
 
 line_is_at : (c : After-try_line-row) → c.placed_at-reader.result
     ≡ record { bits = bits_in c.self.inside.order c.self.inside.«data».items; place = c.self.inside.place }
-line_is_at c = c.placed_at-reader.ensures ∙ ap (λ (items : List ℕ). record {
-  bits = bits_in c.self.inside.order items;
-  place = c.self.inside.place;
-}) c.deref.ensures.value
+line_is_at c = grind (arith, common_steps)
 
 -- of the gap behind the line nothing was seen
 at_line_fresh : (c : After-try_line-row) → c.self.inside.look ≡ nothing_seen
@@ -29,13 +26,7 @@ pub invariant_of-self : goal.invariant_of-self
 invariant_of-self c =
     let at = (goal.at.invariant_of-self c).After-try_line-row in
     record {
-      within = omega (
-        arith,
-        c.bit_pos-self-inside.ensures.within,
-        ap length c.try_line-row.ensures.tries.same_bits,
-        ap (λ (b : BitsAt). length b.bits) (line_is_at at),
-        length-bits_in c.self.inside.order c.self.inside.«data».items,
-      );
+      within = grind (arith, common_steps, length-bits_in, line_is_at at);
       fit = c.self.invariant.fit;
       fresh = λ e. absurd (false≢true (sym e ∙ line_begun at));
       start = λ e. absurd (false≢true (sym e ∙ line_begun at));
@@ -43,8 +34,7 @@ invariant_of-self c =
       rows = λ e. absurd (false≢true (sym e ∙ line_begun at));
       seen = fresh_look _ _ (at_line_fresh at);
       line = λ e. at_line_fresh at;
-      part = none_kept c.self.inside.part _ _ _ _ _ _ _ _ _
-          (ap (λ (f : Feeding). f.part) c.self.view_is ∙ c.requires.none_kept) c.self.invariant.part;
+      part = grind (arith, common_steps, none_kept);
     }
 
 pub returns-clause-reads : goal.returns-clause-reads

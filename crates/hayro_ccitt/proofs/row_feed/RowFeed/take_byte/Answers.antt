@@ -1,10 +1,11 @@
-use Rattle.hayro_ccitt.proofs.Names.{◌∙◌, ap, sym, subst, bits_in, Bits, drop, length, arith, length-append, [], ◌∷◌, get_or}
+use Rattle.hayro_ccitt.proofs.Names.{common_steps}
+use Rattle.hayro_ccitt.proofs.Names.{◌∙◌, ap, sym, bits_in, drop, length, arith, length-append, [], ◌∷◌, get_or}
 use Rattle.hayro_ccitt.proofs.Readings.LooksKept.{seen_more, seen_there}
 use Rattle.hayro_ccitt.proofs.Readings.PartsFed.{kept_longer}
 use Rattle.std.proofs.lemmas.List.{drop-append-le}
 use Rattle.std.proofs.lemmas.List.Concat.{flat_map-append}
 use Rattle.hayro_ccitt.specs.Bits.{bits_of_byte}
-use Rattle.hayro_ccitt.specs.RowFeeds.{Feeding, PartIsKept, fed_bits}
+use Rattle.hayro_ccitt.specs.RowFeeds.{Feeding}
 use Rattle.hayro_ccitt.proofs.BitReading.BitLists.{length-bits_in}
 use Rattle.hayro_ccitt.proofs.row_feed.RowFeed.take_byte.Goals as goal
 
@@ -27,14 +28,7 @@ invariant_of-self c =
           (seen_more inside.place (bits_in inside.order inside.«data».items) (bits_in inside.order next)
           (omega (arith, old.within, length-bits_in inside.order inside.«data».items)) old.seen);
       line = old.line;
-      part = subst (λ (b : Bits). PartIsKept inside.part inside.begun inside.rows.stand inside.ctx.held b inside.line_read)
-          (sym (drop-append-le inside.place (bits_in inside.order inside.«data».items) (bits_in inside.order next)
-          (omega (arith, old.within, length-bits_in inside.order inside.«data».items)))
-          ∙ ap (drop inside.place) (sym (ap (bits_in inside.order) items
-          ∙ flat_map-append (bits_of_byte inside.order) inside.«data».items next)))
-          (kept_longer inside.part inside.begun inside.rows.stand inside.ctx.held
-          (drop inside.place (bits_in inside.order inside.«data».items)) inside.line_read (bits_in inside.order next)
-          old.part);
+      part = grind (arith, common_steps, drop-append-le, length-bits_in, flat_map-append, kept_longer);
     }
 
 pub returns-clause-few_read : goal.returns-clause-few_read
@@ -52,11 +46,4 @@ returns-clause-few_read c = λ e. (
 )
 
 pub returns-clause-fit : goal.returns-clause-fit
-returns-clause-fit c = λ e. omega (
-  arith,
-  ap fed_bits c.self.view_is,
-  length-bits_in c.self.inside.order c.self.inside.«data».items,
-  c.len-kept.ensures,
-  c.if-self-kept.false,
-  c.if-bytes-ne1.false,
-)
+returns-clause-fit c = λ e. grind (arith, common_steps, length-bits_in)

@@ -1,15 +1,12 @@
+use Rattle.hayro_ccitt.proofs.Names.{arith}
+use Rattle.hayro_ccitt.proofs.Names.{common_steps}
 use Rattle.hayro_ccitt.proofs.Names.{rules}
 use Rattle.hayro_ccitt.proofs.Work.CallsPaid.{work_is_counted}
 use Rattle.hayro_ccitt.proofs.row_reader.RowReader.next_row.Goals as goal
 
 -- what was counted so far is within the bound
 pub returns-in-AtLine-clause-work : goal.returns-in-AtLine-clause-work
-returns-in-AtLine-clause-work c =
-    let rows = c.next_row.new.self in
-    let ctx = c.next_row.new.ctx in
-    let reader = c.next_row.new.reader in
-    let stands = c.next_row.ensures.stands c.self.invariant.0 in
-    work_is_counted rows.stand ctx.held.settings reader.bits ctx.held reader.place ctx.ticks stands.0 stands.2
+returns-in-AtLine-clause-work c = grind (arith, common_steps, work_is_counted, c.next_row.ensures.stands c.self.invariant.0)
 
 pub returns-in-AtFault-clause-ended : goal.returns-in-AtFault-clause-ended
 returns-in-AtFault-clause-ended c = search rules

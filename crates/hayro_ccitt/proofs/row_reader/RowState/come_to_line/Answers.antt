@@ -1,8 +1,9 @@
+use Rattle.hayro_ccitt.proofs.Names.{common_steps}
 use Rattle.hayro_ccitt.proofs.Names.{◌≡◌, ◌∙◌, ◌++◌, [], ap, sym, subst, refl, inl, append-nil, Bits, BitsAt, Result, Bool}
 use Rattle.hayro_ccitt.proofs.Names.{DecodeError, here, drop}
-use Rattle.hayro_ccitt.proofs.Names.{ReachesNextLine, IsStanding, seen, Held, length, arith, ◌-◌, length-drop, OnErr, Ok, Err}
-use Rattle.hayro_ccitt.proofs.Names.{line_after, start_after}
-use Rattle.hayro_ccitt.proofs.Names.{on_err_weaker, ℕ}
+use Rattle.hayro_ccitt.proofs.Names.{ReachesNextLine, IsStanding, seen, Held, length, arith, length-drop}
+use Rattle.hayro_ccitt.proofs.Names.{line_after}
+use Rattle.hayro_ccitt.proofs.Names.{on_err_weaker}
 use Rattle.hayro_ccitt.specs.declared.row_reader.RowState.{RowState}
 use Rattle.hayro_ccitt.specs.RowsTried.{PassesGap, rows_behind_gap}
 use Rattle.hayro_ccitt.proofs.Readings.GapsPassed.{gap_stays, gap_reaches}
@@ -27,9 +28,7 @@ passed c =
 kept_behind_gap : (c : After-pass_gap_here)
     → c.pass_gap_here.new.self ≡ rows_behind_gap c.args.self.now c.pass_gap_here.ensures.over
     c.args.reader.now.place c.args.ctx.now c.pass_gap_here.new.ctx
-kept_behind_gap c = c.pass_gap_here.ensures.kept_is ∙ ap (λ
-    (n : ℕ). rows_behind_gap c.args.self.now c.pass_gap_here.ensures.over n
-    c.args.ctx.now c.pass_gap_here.new.ctx) c.bit_pos-gap_start.ensures.place
+kept_behind_gap c = grind (arith, common_steps)
 
 at_gap_end : (c : After-pass_gap_here)
     → record { bits = c.args.reader.now.bits; place = c.pass_gap_here.new.reader.place } ≡ c.pass_gap_here.new.reader
@@ -67,37 +66,25 @@ returns-clause-comes c from stands =
     gap.over (passed at) gap.begun (omega (arith, gap.within, ap length gap.same_bits)) c.requires
     (sym c.is_at_line.ensures ∙ c.if-is_at_line.false) stands)))
 
--- a faulty gap isn't passed
-stays : (over : Result Bool DecodeError) (place before now : ℕ) → OnErr over (now ≡ place)
-    → OnErr (line_after over) (now ≡ start_after over place before)
-stays (Ok b) place before now same = tt
-stays (Err e) place before now same = same
-
 pub returns-clause-fails : goal.returns-clause-fails
 returns-clause-fails c =
-    let gap = c.pass_gap_here.ensures in
-    let before = c.args.reader.now in
-    let now = length c.pass_gap_here.new.reader.bits - length (here c.pass_gap_here.new.reader) in
-    let at = (goal.at.returns-clause-fails c).After-pass_gap_here in
-    subst (λ (r : Result Bool DecodeError). OnErr r (now ≡ c.pass_gap_here.new.self.started_at)) (sym gap.said)
-    (subst (λ (r : RowState). OnErr (line_after gap.over) (now ≡ r.started_at)) (sym (kept_behind_gap at))
-    (stays gap.over before.place c.args.self.now.started_at now (on_err_weaker gap.over (λ same. omega (
+    grind (
       arith,
-      ap length same,
-      ap length gap.same_bits,
-      gap.begun,
-      length-drop before.place before.bits,
-    )) gap.put_back)))
+      common_steps,
+      on_err_weaker,
+      length-drop,
+      kept_behind_gap ((goal.at.returns-clause-fails c).After-pass_gap_here),
+    )
 
 pub returns-clause-unsought : goal.returns-clause-unsought
 returns-clause-unsought c unsought =
-    let held = c.args.ctx.now.held in
-    let gap = c.pass_gap_here.ensures in
-    let at = (goal.at.returns-clause-unsought c).After-pass_gap_here in
-    let passes = passed at in
-    unsought_after held.settings held.taken held.has_eols c.pass_gap_here.new.ctx.held.has_eols (here c.args.reader.now)
-    (drop c.pass_gap_here.new.reader.place c.args.reader.now.bits) gap.over unsought passes.gap
-    passes.given_up (on_err_weaker gap.over (λ same. ap (λ (h : Held). h.has_eols) same) passes.unchanged)
+    grind (
+      arith,
+      common_steps,
+      unsought_after,
+      on_err_weaker,
+      passed ((goal.at.returns-clause-unsought c).After-pass_gap_here),
+    )
 
 pub returns-clause-settings : goal.returns-clause-settings
 returns-clause-settings c =

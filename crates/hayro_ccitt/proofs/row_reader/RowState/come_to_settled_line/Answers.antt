@@ -1,5 +1,6 @@
+use Rattle.hayro_ccitt.proofs.Names.{common_steps}
 use Rattle.hayro_ccitt.proofs.Names.{◌≡◌, ◌∙◌, ◌+◌, ◌-◌, ◌⊎◌, ap, sym, subst, refl, true, inl, ℕ}
-use Rattle.hayro_ccitt.proofs.Names.{arith, [], Ok, here, Held, IsStanding, ReachesNextLine, is_at_line, seen}
+use Rattle.hayro_ccitt.proofs.Names.{arith, [], Ok, here, Held}
 use Rattle.hayro_ccitt.proofs.Names.{false≢true, inr, length-drop, append-nil, Result, Bool, DecodeError, BitsAt, Context}
 use Rattle.hayro_ccitt.proofs.Names.{gap_behind_row, gap_said, length, ◌≤◌}
 use Rattle.hayro_ccitt.specs.GapsSeen.{bits_needed, rules_for}
@@ -35,14 +36,8 @@ returns-then-is_at_line c =
       space = refl;
       frame = refl;
       waits = λ e. cc;
-      comes = λ from whole dropped passed lie starts stands. subst (λ (n : ℕ). ReachesNextLine
-          (seen c.args.self.now c.args.ctx.now (record { bits = whole; place = c.args.gap_start }))
-          (seen c.args.self.now c.args.ctx.now (record { bits = whole; place = n })) (Ok true)) starts
-          (stays_at_line from c.args.self.now c.args.ctx.now (record { bits = whole; place = c.args.gap_start }) line stands);
-      stands = λ from whole dropped passed lie starts stands. subst (λ (n : ℕ). IsStanding (from + 0) c.args.self.now
-          c.args.ctx.now (record { bits = whole; place = n })) starts
-          (stands_later from 0 c.args.self.now c.args.ctx.now c.args.ctx.now (record { bits = whole; place = c.args.gap_start })
-          refl (omega arith) stands);
+      comes = λ from whole dropped passed lie starts stands. grind (arith, common_steps, stays_at_line);
+      stands = λ from whole dropped passed lie starts stands. grind (arith, common_steps, stands_later);
       line = λ e. line;
       only_code = tt;
     }
@@ -54,16 +49,7 @@ returns-then-gap_waits c =
     (sym c.gap_waits.ensures.waits ∙ c.if-gap_waits.true) in
     record {
       extra = c.gap_waits.new.ctx.ticks - c.args.ctx.now.ticks;
-      looks = record {
-        line = λ e. absurd (false≢true (sym c.if-is_at_line.false ∙ c.is_at_line.ensures ∙ e));
-        finished = λ e. absurd (false≢true (sym unsettled.0 ∙ e));
-        within = λ some. omega (
-          arith,
-          c.gap_waits.ensures.looked,
-          c.gap_waits.ensures.onward,
-          (looked_within c.gap_waits.ensures.seen.1).0,
-        );
-      };
+      looks = grind (arith, common_steps, false≢true, looked_within);
       looked = λ e. (omega (arith, c.gap_waits.ensures.looked, c.gap_waits.ensures.onward), c.gap_waits.ensures.seen);
       none_looked = λ passed. absurd (passed refl);
       near = λ passed unfinished. absurd (passed refl);
@@ -75,15 +61,7 @@ returns-then-gap_waits c =
       within = omega (arith, c.bit_pos-start.ensures.place, c.bit_pos-start.ensures.within);
       space = c.gap_waits.ensures.space;
       frame = rw c.gap_waits.ensures.held refl;
-      waits = λ e. (
-        c.gap_waits.ensures.held,
-        omega (arith, c.gap_waits.ensures.looked, c.gap_waits.ensures.onward),
-        refl,
-        refl,
-        unsettled.0,
-        sym c.is_at_line.ensures ∙ c.if-is_at_line.false,
-        unsettled.1,
-      );
+      waits = λ e. grind (arith, common_steps);
       comes = λ from whole dropped passed lie starts stands. absurd (passed refl);
       stands = λ from whole dropped passed lie starts stands. absurd (passed refl);
       line = λ e. cc;
@@ -140,8 +118,7 @@ eol_passed mid new before after settled sought gap over =
     let settings = mid.held.settings in
     let taken = mid.held.taken in
     let line : gap_behind_row settings taken true (here before) ≡ Gap.line_at new.held.has_eols (here after) =
-    ap (λ (b : Bool). gap_behind_row settings taken b (here before)) (sym sought) ∙ gap_is mid new before after gap
-    ∙ ap (λ (r : Result Bool DecodeError). gap_said r new.held.has_eols (here after)) over in
+    grind (arith, common_steps, gap_is mid new before after gap) in
     let still = settled_sought settings taken (here before) (here after) new.held.has_eols
     (ap (λ (b : Bool). gap_is_settled settings taken b (here before)) (sym sought) ∙ settled) line in
     let eol = line_past_eol settings taken (here before) (here after)
@@ -150,16 +127,7 @@ eol_passed mid new before after settled sought gap over =
       fill = eol.1.fill;
       behind = eol.0;
       place = eol.1.place;
-      passed = omega (
-        arith,
-        length-within (here before) eol.0 eol.1,
-        eol.2,
-        gap.begun,
-        gap.within,
-        ap length gap.same_bits,
-        length-drop before.place before.bits,
-        length-drop after.place after.bits,
-      );
+      passed = grind (arith, common_steps, length-within, length-drop);
     }
 
 pub returns : goal.returns
@@ -208,21 +176,12 @@ returns c =
             length-drop c.args.reader.now.place c.args.reader.now.bits,
             length-drop c.pass_gap_here.new.reader.place c.pass_gap_here.new.reader.bits,
           );
-      counts = omega (
+      counts = grind (arith, common_steps, gap.passes [] (inl refl));
+      onward = λ e. grind (
         arith,
-        c.gap_waits.ensures.looked,
-        c.gap_waits.ensures.onward,
-        (gap.passes [] (inl refl)).counts,
-      );
-      onward = λ e. omega (
-        arith,
+        common_steps,
+        length-drop,
         gap_shorter mid c.pass_gap_here.new.ctx c.args.reader.now c.pass_gap_here.new.reader gap,
-        c.bit_pos-start.ensures.place,
-        c.bit_pos-start.ensures.within,
-        gap.within,
-        ap length gap.same_bits,
-        length-drop c.args.reader.now.place c.args.reader.now.bits,
-        length-drop c.pass_gap_here.new.reader.place c.pass_gap_here.new.reader.bits,
       );
       at_line = λ e. absurd (false≢true (sym no_line ∙ e));
       past_eol = λ unfinished was sought e.
@@ -235,10 +194,7 @@ returns c =
       same_bits = gap.same_bits;
       within = gap.within;
       space = gap.space ∙ c.gap_waits.ensures.space;
-      frame = (gap.passes [] (inl refl)).held ∙ ap (λ (h : Held). record h {
-        has_eols = c.pass_gap_here.new.ctx.held.has_eols;
-        repairs = c.pass_gap_here.new.ctx.held.repairs;
-      }) same;
+      frame = grind (arith, common_steps, gap.passes [] (inl refl));
       waits = λ e. absurd (passed_some answer (sym c.some_line.ensures ∙ e));
       comes = λ from whole dropped passed lie starts stands. rw c.some_line.ensures (gap_step_reaches c.args.is_last
           c.args.gap_start rows c.pass_gap_here.new.self old mid c.pass_gap_here.new.ctx c.args.reader.now
@@ -248,7 +204,6 @@ returns c =
           c.args.gap_start rows c.pass_gap_here.new.self old mid c.pass_gap_here.new.ctx c.args.reader.now
           c.pass_gap_here.new.reader
           answer more same ticks gap settled c.requires.unended no_line from whole dropped lie starts stands;
-      line = λ e. ap (λ (r : RowState). is_at_line r.stand) gap.kept_is
-          ∙ said_line gap.over answer gap.said (sym c.some_line.ensures ∙ e);
+      line = λ e. grind (arith, common_steps, said_line);
       only_code = rw c.some_line.ensures (said_code gap.over answer gap.said (gap.passes [] (inl refl)).only_code);
     }

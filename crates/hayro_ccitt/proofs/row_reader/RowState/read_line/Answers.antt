@@ -1,3 +1,4 @@
+use Rattle.hayro_ccitt.proofs.Names.{common_steps}
 use Rattle.hayro_ccitt.proofs.Names.{rules, ◌≡◌, ap, sym, subst, drop, here, Bits, BitsAt, arith, length, IsStanding}
 use Rattle.hayro_ccitt.proofs.Names.{ReadsNext, seen, row_came}
 use Rattle.hayro_ccitt.proofs.Readings.LinesRead.{line_stays, line_is_next}
@@ -10,10 +11,7 @@ use Rattle.hayro_ccitt.proofs.row_reader.RowState.read_line.Goals as goal
 read_here : (c : After-note_line) → ReadsRow c.args.ctx.now c.read_row-row.new.ctx c.read_row-row.result
     (here c.args.reader.now)
     (drop c.read_row-row.new.reader.place c.args.reader.now.bits)
-read_here c =
-    let row = c.read_row-row.ensures in
-    subst (λ (b : Bits). ReadsRow c.args.ctx.now c.read_row-row.new.ctx c.read_row-row.result (here c.args.reader.now)
-    (drop c.read_row-row.new.reader.place b)) row.same_bits row.row
+read_here c = grind (arith, common_steps)
 
 at_line_end : (c : After-note_line)
     → record { bits = c.args.reader.now.bits; place = c.read_row-row.new.reader.place } ≡ c.read_row-row.new.reader

@@ -1,4 +1,5 @@
-use Rattle.hayro_ccitt.proofs.Names.{rules, ◌≡◌, ◌∙◌, ap, sym, refl, arith, length, ◌≤◌, ℕ, Bool, true, Result, Ok, Err}
+use Rattle.hayro_ccitt.proofs.Names.{common_steps}
+use Rattle.hayro_ccitt.proofs.Names.{rules, ◌≡◌, ◌∙◌, sym, refl, arith, length, ◌≤◌, ℕ, Bool, true, Result, Ok, Err}
 use Rattle.hayro_ccitt.proofs.Names.{BehindRow, DecodeError}
 use Rattle.hayro_ccitt.specs.Context.{Repairs}
 use Rattle.hayro_ccitt.specs.declared.row_reader.RowState.{RowState}
@@ -48,9 +49,13 @@ returns-clause-tries c =
       same_bits = row.same_bits;
       within = omega (arith, c.bit_pos-end.ensures.place, c.bit_pos-end.ensures.within);
       left = λ is. absurd (left_not answer other is);
-      behind = λ e. ap (λ (r : RowState). r.stand) (kept_behind_try c)
-          ∙ read_behind c.args.self.now answer c.args.line_start c.args.ctx.now.held.repairs.rows
-          c.args.ctx.now.held.repairs.cut c.try_row-row.new.ctx.held.repairs e;
+      behind = λ e. grind (
+        arith,
+        common_steps,
+        kept_behind_try c,
+        read_behind c.args.self.now answer c.args.line_start c.args.ctx.now.held.repairs.rows
+            c.args.ctx.now.held.repairs.cut c.try_row-row.new.ctx.held.repairs e,
+      );
       reads = λ from whole dropped read lie starts at. line_step_reads c.args.is_last c.args.line_start c.args.self.now
           c.note_line.new.self c.args.ctx.now c.try_row-row.new.ctx c.args.reader.now c.try_row-row.new.reader answer row.row
           other
