@@ -609,7 +609,7 @@ impl DecoderContext {
         lines.first.count != 0
     }
 
-    /// Returns whether one of these white lines may be next, as `repeats_white` does, and its bits are next.
+    /// Returns whether the bits of one of these white lines are next, and that line may be next (see `repeats_white`).
     #[inline(always)]
     pub(crate) fn white_is_next(&self, lines: &mut WhiteLines, reader: &BitReader<'_>) -> bool
         requires { AreKnown self.now.held.settings lines.old }
