@@ -1,12 +1,12 @@
 //! Painting a row by its black runs: each is turned black in a white row. That is fast where runs are few.
 
-ghost use Rattle.std.specs.Prelude.{◌≡◌, ◌+◌, ◌-◌, ◌*◌, ◌/◌, ◌^◌, ◌≤◌, ◌<◌, ◌++◌, true, false, drop, get_or, length, replicate, take};
-ghost use Rattle.hayro_ccitt.specs.Bits.{Bits, bits_of, low_bits};
+ghost use Rattle.std.specs.Prelude.{◌≡◌, ◌+◌, ◌-◌, ◌*◌, ◌/◌, ◌^◌, ◌≤◌, ◌<◌, ◌++◌, true, drop, get_or, length, replicate, take};
+ghost use Rattle.hayro_ccitt.specs.Bits.{Bits, bits_of};
 ghost use Rattle.hayro_ccitt.specs.Rows.{AreChanges, pixels};
 ghost use Rattle.fax_encode.specs.Chosen.{filled_up};
 ghost use Rattle.fax_encode.specs.Painting.{then_white};
 
-use crate::pixel_words::{fill_all, fill_bytes, first_pixels, plain_word, put_pixels};
+use crate::pixel_words::{fill_all, fill_bytes, first_pixels, ones_before, put_pixels};
 
 /// Returns a word whose bits are zeros left of an offset, and ones from there on.
 #[inline(always)]
@@ -29,15 +29,6 @@ fn paint_in_word(row: &mut [u8], start: usize, from: usize, to: usize)
 {
     let word = first_pixels(&row[start..]);
     put_pixels(row, start, word ^ ones_behind(from) ^ ones_behind(to));
-}
-
-/// Returns a word of ones, of which the last bits, less than eight, are zeros.
-#[inline(always)]
-fn ones_before(zeros: usize) -> u64
-    requires { zeros < 8 }
-    ensures { low_bits 64 result ≡ replicate (64 - zeros) true ++ replicate zeros false }
-{
-    plain_word(true) ^ ((1 << zeros) - 1)
 }
 
 /// Paints the bytes between two positions, if the second is behind the first.

@@ -180,12 +180,13 @@ fn paint_narrow(row: &mut [u8], columns: u32, changes: &[u32])
     put_first(row, brush.word);
 }
 
-/// Returns whether a row of so many bytes is best cleared, by one call of the library's, and then painted by its black runs.
+/// Returns whether a row of so many bytes is best cleared, with others before it, by one call of the library's, and then painted
+/// by its black runs.
 #[inline(always)]
-pub fn is_cleared_first(bytes: usize, changes: &[u32]) -> bool
+pub fn is_cleared_first(bytes: usize, cleared: usize, changes: &[u32]) -> bool
     ensures { result ≡ true → 8 ≤ bytes }
 {
-    changes.len() <= FEW && bytes >= 8 && bytes <= MOST_FILLED
+    changes.len() <= FEW && bytes >= 8 && cleared <= MOST_FILLED
 }
 
 /// Paints a row whatever it held, without clearing all of it first if its changes are many or it is narrow.
@@ -216,7 +217,7 @@ pub fn paint_row(row: &mut [u8], columns: u32, changes: &[u32])
     requires room { length row.old ≡ (columns + 7) / 8 }
     ensures painted { bits_of row.new ≡ filled_up (pixels columns changes.now) }
 {
-    if is_cleared_first(row.len(), changes) {
+    if is_cleared_first(row.len(), row.len(), changes) {
         fill_bytes(row, 0);
         paint_cleared(row, columns, changes);
     } else {

@@ -7,7 +7,7 @@ ghost use Rattle.hayro_ccitt.specs.Rows.{AreChanges, pixels};
 ghost use Rattle.hayro_ccitt_c.specs.Packing.{packed_row, packing_up_to, spaced, white_byte};
 
 use crate::change_count::counted;
-use fax_encode::{fill_all, paint_row};
+use fax_encode::{fill_all, fill_bytes, is_cleared_first, paint_cleared, paint_row};
 use hayro_ccitt::{DecodeError, Decoder};
 
 /// A white row of fewer bytes is written at once.
@@ -146,8 +146,9 @@ pub(crate) struct PackedRows<'a> {
 }
 
 impl<'a> PackedRows<'a> {
-    ghost use Rattle.std.specs.Prelude.{◌≡◌, ◌<◌, ◌≤◌, ◌+◌, ◌-◌, ◌/◌, All, false, length, true};
-    ghost use Rattle.hayro_ccitt_c.specs.Packing.{packing_up_to};
+    ghost use Rattle.std.specs.Prelude.{◌≡◌, ◌<◌, ◌≤◌, ◌+◌, ◌-◌, ◌/◌, All, IsOkUnless, OnErr, OnOk, [], false, length, true};
+    ghost use Rattle.hayro_ccitt.specs.Rows.{AreChanges};
+    ghost use Rattle.hayro_ccitt_c.specs.Packing.{counted, packing_up_to, with_packed};
 
     /// Creates a sink without rows.
     pub(crate) fn new(bitmap: &'a mut [u8], columns: u32, layout: Layout) -> PackedRows<'a>
@@ -233,6 +234,97 @@ impl<'a> PackedRows<'a> {
         }
     }
 
+    /// Goes on behind a row that is in memory, as all before it.
+    #[inline(always)]
+    fn go_on(&mut self, changes: &[u32])
+        requires room { self.old.start + (self.old.columns + 7) / 8 ≤ length self.old.bitmap.now }
+        ensures start { self.new.start ≡ self.old.start + self.old.layout.stride }
+        ensures written { self.new.written ≡ self.new.start }
+        ensures changes { self.new.changes ≡ counted self.old.changes (length changes.now) }
+        ensures layout { self.new.layout ≡ self.old.layout }
+        ensures memory { self.new.bitmap.now ≡ self.old.bitmap.now }
+        ensures same_reference { self.new.bitmap.ghost_name ≡ self.old.bitmap.ghost_name }
+        ensures columns { self.new.columns ≡ self.old.columns }
+        ensures has_refused { self.new.has_refused ≡ self.old.has_refused }
+    {
+        self.start += self.layout.stride as usize;
+        self.written = self.start;
+        self.changes = counted(self.changes, changes);
+    }
+
+    /// Packs a row for which there is room, after the white rows that aren't written.
+    #[inline(never)]
+    fn pack_apart(&mut self, changes: &[u32])
+        requires changes { AreChanges self.old.columns changes.now }
+        requires room { self.old.start + (self.old.columns + 7) / 8 ≤ length self.old.bitmap.now }
+        ensures meaning { packing_up_to self.new.layout self.new.start self.new.written self.new.bitmap.now self.new.changes
+            self.new.bitmap.ghost_name ≡ with_packed self.old.columns (packing_up_to self.old.layout self.old.start
+            self.old.written self.old.bitmap.now self.old.changes self.old.bitmap.ghost_name) changes.now }
+        ensures columns { self.new.columns ≡ self.old.columns }
+        ensures has_refused { self.new.has_refused ≡ self.old.has_refused }
+    {
+        self.write_white();
+        let end = self.start + self.bytes;
+        pack_row(
+            &mut self.bitmap[self.start..end],
+            self.columns,
+            changes,
+            self.layout.black_is_0,
+        );
+        self.go_on(changes);
+    }
+
+    /// Clears the white rows that aren't written, and the next row with them, and paints that by its black runs.
+    #[inline(always)]
+    fn paint_next(&mut self, changes: &[u32])
+        requires changes { AreChanges self.old.columns changes.now }
+        requires room { self.old.start + (self.old.columns + 7) / 8 ≤ length self.old.bitmap.now }
+        requires long { 8 ≤ (self.old.columns + 7) / 8 }
+        requires plain { self.old.layout.black_is_0 ≡ false }
+        ensures meaning { packing_up_to self.new.layout self.new.start self.new.written self.new.bitmap.now self.new.changes
+            self.new.bitmap.ghost_name ≡ with_packed self.old.columns (packing_up_to self.old.layout self.old.start
+            self.old.written self.old.bitmap.now self.old.changes self.old.bitmap.ghost_name) changes.now }
+        ensures columns { self.new.columns ≡ self.old.columns }
+        ensures has_refused { self.new.has_refused ≡ self.old.has_refused }
+    {
+        let end = self.start + self.bytes;
+        fill_bytes(&mut self.bitmap[self.written..end], 0);
+        paint_cleared(
+            &mut self.bitmap[self.start..end],
+            self.columns,
+            changes,
+        );
+        self.go_on(changes);
+    }
+
+    /// Packs a white row that doesn't wait, or refuses it.
+    #[inline(never)]
+    fn push_white(&mut self) -> hayro_ccitt::Result<()>
+        ensures taken { OnOk result (packing_up_to self.new.layout self.new.start self.new.written self.new.bitmap.now
+            self.new.changes self.new.bitmap.ghost_name ≡ with_packed self.old.columns (packing_up_to self.old.layout
+            self.old.start self.old.written self.old.bitmap.now self.old.changes self.old.bitmap.ghost_name) []) }
+        ensures not_refused { OnOk result (self.new.has_refused ≡ self.old.has_refused) }
+        ensures kept { OnErr result (packing_up_to self.new.layout self.new.start self.new.written self.new.bitmap.now
+            self.new.changes self.new.bitmap.ghost_name ≡ packing_up_to self.old.layout self.old.start self.old.written
+            self.old.bitmap.now self.old.changes self.old.bitmap.ghost_name) }
+        ensures refused { OnErr result (self.new.has_refused ≡ true) }
+        ensures only_refused { IsOkUnless result DecodeError.Refused }
+        ensures columns { self.new.columns ≡ self.old.columns }
+    {
+        if self.bitmap.len() < self.start + self.bytes {
+            self.has_refused = true;
+            return Err(DecodeError::Refused);
+        }
+        self.write_white();
+        let end = self.start + self.bytes;
+        fill_all(
+            &mut self.bitmap[self.start..end],
+            white_byte(self.layout.black_is_0),
+        );
+        self.go_on(&[]);
+        Ok(())
+    }
+
     /// Returns whether a row was refused.
     pub(crate) fn has_refused(&self) -> bool
         ensures { result ≡ self.now.has_refused }
@@ -257,27 +349,25 @@ impl Decoder for PackedRows<'_> {
 
     #[inline(always)]
     fn push_row(&mut self, changes: &[u32]) -> hayro_ccitt::Result<()> {
-        if changes.is_empty() && self.start < self.waits_until {
-            self.start += self.bytes;
-            self.changes = counted(self.changes, changes);
-            return Ok(());
+        if changes.is_empty() {
+            if self.start < self.waits_until {
+                self.start += self.bytes;
+                self.changes = counted(self.changes, changes);
+                return Ok(());
+            }
+            return self.push_white();
         }
         let bytes = self.bytes;
-        if self.bitmap.len() < self.start + bytes {
+        let end = self.start + bytes;
+        if self.bitmap.len() < end {
             self.has_refused = true;
             return Err(DecodeError::Refused);
         }
-        self.write_white();
-        let end = self.start + bytes;
-        pack_row(
-            &mut self.bitmap[self.start..end],
-            self.columns,
-            changes,
-            self.layout.black_is_0,
-        );
-        self.start += self.layout.stride as usize;
-        self.written = self.start;
-        self.changes = counted(self.changes, changes);
+        if !self.layout.black_is_0 && is_cleared_first(bytes, end - self.written, changes) {
+            self.paint_next(changes);
+        } else {
+            self.pack_apart(changes);
+        }
         Ok(())
     }
 }
