@@ -72,7 +72,7 @@ fn paint_long_run(row: &mut [u8], from: usize, to: u32)
     let first = from / 8;
     let last = (to as usize + 7) / 8 - 8;
     paint_in_word(row, first, from % 8, 64);
-    put_pixels(row, last, ones_before(8 * last + 64 - to as usize));
+    put_pixels(row, last, ones_before(((8 - to % 8) % 8) as usize));
     paint_bytes(row, first + 8, last);
 }
 
@@ -134,11 +134,12 @@ fn end_of_first(columns: u32, changes: &[u32]) -> u32
     if changes.len() > 1 { changes[1] } else { columns }
 }
 
-/// Paints a row of 57 pixels or more that is zeros. It takes time in proportion to the black runs. One at most needs no call but
-/// the last, and so no room for what is kept over a call.
+/// Paints a row of 57 pixels or more that is zeros, and has a change. It takes time in proportion to the black runs. One needs no
+/// call but the last, and so no room for what is kept over a call.
 #[inline(never)]
 pub fn paint_cleared(row: &mut [u8], columns: u32, changes: &[u32])
     requires changes { AreChanges columns changes.now }
+    requires some { 0 < length changes.now }
     requires room { length row.old ≡ (columns + 7) / 8 }
     requires long { 8 ≤ length row.old }
     requires white { row.old ≡ replicate (length row.old) 0 }
@@ -146,7 +147,7 @@ pub fn paint_cleared(row: &mut [u8], columns: u32, changes: &[u32])
 {
     if changes.len() > 2 {
         paint_many_runs(row, columns, changes);
-    } else if !changes.is_empty() {
+    } else {
         paint_black(row, changes[0], end_of_first(columns, changes));
     }
 }

@@ -33,7 +33,7 @@ pub use closed_pictures::{encode_1d, encode_bitmap_1d, encode_bitmap_g4, encode_
 pub use encoder::Encoder;
 pub use encoding::names_encoding;
 pub use error::EncodeError;
-pub use painting::{is_cleared_first, paint_row};
+pub use painting::{most_cleared_first, paint_over, paint_row};
 pub use pixel_words::{fill_all, fill_bytes};
 pub use round_trip::{bitmap_by_group3, bitmap_by_group4};
 pub use settings::{Effort, EncodeSettings};

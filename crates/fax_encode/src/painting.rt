@@ -1,6 +1,6 @@
 //! Painting rows: a row's changes become packed pixels, 64 at a time.
 
-ghost use Rattle.std.specs.Prelude.{◌≡◌, ◌+◌, ◌-◌, ◌*◌, ◌/◌, ◌%◌, ◌<◌, ◌≤◌, ◌++◌, true, not, length, replicate, take};
+ghost use Rattle.std.specs.Prelude.{◌≡◌, ◌+◌, ◌-◌, ◌*◌, ◌/◌, ◌%◌, ◌<◌, ◌≤◌, ◌++◌, not, length, replicate, take};
 ghost use Rattle.hayro_ccitt.specs.BitOrder.TheVariants.{HighestFirst};
 ghost use Rattle.hayro_ccitt.specs.Bits.{Bits, bits_of, bits_of_byte, low_bits};
 ghost use Rattle.hayro_ccitt.specs.Rows.{AreChanges, pixels};
@@ -180,18 +180,18 @@ fn paint_narrow(row: &mut [u8], columns: u32, changes: &[u32])
     put_first(row, brush.word);
 }
 
-/// Returns whether a row of so many bytes is best cleared, with others before it, by one call of the library's, and then painted
-/// by its black runs.
+/// Returns the most changes of a row of so many bytes that is best cleared, by one call of the library's, and then painted by its
+/// black runs. It is 0 if none is.
 #[inline(always)]
-pub fn is_cleared_first(bytes: usize, cleared: usize, changes: &[u32]) -> bool
-    ensures { result ≡ true → 8 ≤ bytes }
+pub fn most_cleared_first(bytes: usize) -> usize
+    ensures { 0 < result → 8 ≤ bytes }
 {
-    changes.len() <= FEW && bytes >= 8 && cleared <= MOST_FILLED
+    if bytes >= 8 && bytes <= MOST_FILLED { FEW } else { 0 }
 }
 
-/// Paints a row whatever it held, without clearing all of it first if its changes are many or it is narrow.
+/// Paints a row that isn't best cleared first.
 #[inline(never)]
-fn paint_over(row: &mut [u8], columns: u32, changes: &[u32])
+pub fn paint_over(row: &mut [u8], columns: u32, changes: &[u32])
     requires changes { AreChanges columns changes.now }
     requires room { length row.old ≡ (columns + 7) / 8 }
     ensures painted { bits_of row.new ≡ filled_up (pixels columns changes.now) }
@@ -217,10 +217,10 @@ pub fn paint_row(row: &mut [u8], columns: u32, changes: &[u32])
     requires room { length row.old ≡ (columns + 7) / 8 }
     ensures painted { bits_of row.new ≡ filled_up (pixels columns changes.now) }
 {
-    if is_cleared_first(row.len(), row.len(), changes) {
+    if changes.is_empty() || changes.len() > most_cleared_first(row.len()) {
+        paint_over(row, columns, changes);
+    } else {
         fill_bytes(row, 0);
         paint_cleared(row, columns, changes);
-    } else {
-        paint_over(row, columns, changes);
     }
 }

@@ -1,17 +1,20 @@
 //! A sink that packs rows into the caller's memory.
 
-ghost use Rattle.std.specs.Prelude.{◌≡◌, ◌+◌, ◌/◌, ◌<◌, ◌≤◌, true, length, map, not};
+ghost use Rattle.std.specs.Prelude.{◌≡◌, ◌+◌, ◌/◌, ◌<◌, ◌≤◌, false, true, length, map, not};
 ghost use Rattle.hayro_ccitt.specs.BitOrder.TheVariants.{HighestFirst};
 ghost use Rattle.hayro_ccitt.specs.Bits.{bits_of, bits_of_byte};
 ghost use Rattle.hayro_ccitt.specs.Rows.{AreChanges, pixels};
 ghost use Rattle.hayro_ccitt_c.specs.Packing.{packed_row, packing_up_to, spaced, white_byte};
 
 use crate::change_count::counted;
-use fax_encode::{fill_all, fill_bytes, is_cleared_first, paint_cleared, paint_row};
+use fax_encode::{fill_all, fill_bytes, most_cleared_first, paint_cleared, paint_over, paint_row};
 use hayro_ccitt::{DecodeError, Decoder};
 
 /// A white row of fewer bytes is written at once.
 const LEAST_WAITING: usize = 16;
+
+/// The most bytes that are cleared by one call.
+const MOST_TOGETHER: usize = 2047;
 
 /// Where packed rows begin, and what their bits say.
 #[derive(Copy, Clone)]
@@ -115,6 +118,29 @@ pub(crate) fn pack_row(row: &mut [u8], columns: u32, changes: &[u32], black_is_0
     }
 }
 
+/// Packs a row that isn't best cleared first.
+#[inline(always)]
+fn pack_over(row: &mut [u8], columns: u32, changes: &[u32], black_is_0: bool)
+    requires changes { AreChanges columns changes.now }
+    requires room { length row.old ≡ (columns + 7) / 8 }
+    ensures packed { bits_of row.new ≡ packed_row black_is_0 (pixels columns changes.now) }
+{
+    if black_is_0 {
+        pack_black_as_0(row, columns, changes);
+    } else {
+        paint_over(row, columns, changes);
+    }
+}
+
+/// Returns the most changes of a row of so many bytes that is cleared first. With 0 for black none is.
+#[inline(always)]
+fn most_cleared(bytes: usize, black_is_0: bool) -> usize
+    ensures long { 0 < result → 8 ≤ bytes }
+    ensures plain { 0 < result → black_is_0 ≡ false }
+{
+    if black_is_0 { 0 } else { most_cleared_first(bytes) }
+}
+
 /// Rows as a bitmap in the caller's memory, from the top, as [`pack_row`] packs them. The bytes between them keep their values.
 /// A row that doesn't fit is refused.
 ///
@@ -133,6 +159,8 @@ pub(crate) struct PackedRows<'a> {
     columns: u32,
     /// The bytes of a row.
     bytes: usize,
+    /// A row of changes, but no more than these, is cleared first.
+    few: usize,
     changes: u64,
     has_refused: bool,
     ghost reaches: { (columns + 7) / 8 ≤ layout.stride },
@@ -142,6 +170,8 @@ pub(crate) struct PackedRows<'a> {
     ghost inside: { written < start → start ≤ length bitmap.now },
     ghost together: { 0 < waits_until → (columns + 7) / 8 ≡ layout.stride },
     ghost ready: { 0 < waits_until → waits_until + (columns + 7) / 8 ≤ length bitmap.now + 1 },
+    ghost long: { 0 < few → 8 ≤ (columns + 7) / 8 },
+    ghost plain: { 0 < few → layout.black_is_0 ≡ false },
     ghost full: { has_refused ≡ true → length bitmap.now < start + (columns + 7) / 8 },
 }
 
@@ -172,6 +202,7 @@ impl<'a> PackedRows<'a> {
             waits_until,
             columns,
             bytes,
+            few: most_cleared(bytes, layout.black_is_0),
             changes: 0,
             has_refused: false,
         }
@@ -252,9 +283,9 @@ impl<'a> PackedRows<'a> {
         self.changes = counted(self.changes, changes);
     }
 
-    /// Packs a row for which there is room, after the white rows that aren't written.
-    #[inline(never)]
-    fn pack_apart(&mut self, changes: &[u32])
+    /// Packs a row for which there is room, and that isn't cleared first, after the white rows that aren't written.
+    #[inline(always)]
+    fn pack_next(&mut self, changes: &[u32])
         requires changes { AreChanges self.old.columns changes.now }
         requires room { self.old.start + (self.old.columns + 7) / 8 ≤ length self.old.bitmap.now }
         ensures meaning { packing_up_to self.new.layout self.new.start self.new.written self.new.bitmap.now self.new.changes
@@ -265,7 +296,7 @@ impl<'a> PackedRows<'a> {
     {
         self.write_white();
         let end = self.start + self.bytes;
-        pack_row(
+        pack_over(
             &mut self.bitmap[self.start..end],
             self.columns,
             changes,
@@ -274,19 +305,38 @@ impl<'a> PackedRows<'a> {
         self.go_on(changes);
     }
 
+    /// Writes the white rows that aren't written if they are too many bytes to be cleared with the next row.
+    #[inline(always)]
+    fn fill_many(&mut self)
+        requires { self.old.start ≤ length self.old.bitmap.now }
+        ensures meaning { packing_up_to self.new.layout self.new.start self.new.written self.new.bitmap.now self.new.changes
+            self.new.bitmap.ghost_name ≡ packing_up_to self.old.layout self.old.start self.old.written self.old.bitmap.now
+            self.old.changes self.old.bitmap.ghost_name }
+        ensures layout { self.new.layout ≡ self.old.layout }
+        ensures start { self.new.start ≡ self.old.start }
+        ensures size { length self.new.bitmap.now ≡ length self.old.bitmap.now }
+        ensures columns { self.new.columns ≡ self.old.columns }
+        ensures has_refused { self.new.has_refused ≡ self.old.has_refused }
+    {
+        if self.start + self.bytes - self.written > MOST_TOGETHER {
+            self.fill_white();
+        }
+    }
+
     /// Clears the white rows that aren't written, and the next row with them, and paints that by its black runs.
     #[inline(always)]
     fn paint_next(&mut self, changes: &[u32])
         requires changes { AreChanges self.old.columns changes.now }
         requires room { self.old.start + (self.old.columns + 7) / 8 ≤ length self.old.bitmap.now }
-        requires long { 8 ≤ (self.old.columns + 7) / 8 }
-        requires plain { self.old.layout.black_is_0 ≡ false }
+        requires some { 0 < length changes.now }
+        requires few { length changes.now ≤ self.old.few }
         ensures meaning { packing_up_to self.new.layout self.new.start self.new.written self.new.bitmap.now self.new.changes
             self.new.bitmap.ghost_name ≡ with_packed self.old.columns (packing_up_to self.old.layout self.old.start
             self.old.written self.old.bitmap.now self.old.changes self.old.bitmap.ghost_name) changes.now }
         ensures columns { self.new.columns ≡ self.old.columns }
         ensures has_refused { self.new.has_refused ≡ self.old.has_refused }
     {
+        self.fill_many();
         let end = self.start + self.bytes;
         fill_bytes(&mut self.bitmap[self.written..end], 0);
         paint_cleared(
@@ -358,15 +408,14 @@ impl Decoder for PackedRows<'_> {
             return self.push_white();
         }
         let bytes = self.bytes;
-        let end = self.start + bytes;
-        if self.bitmap.len() < end {
+        if self.bitmap.len() < self.start + bytes {
             self.has_refused = true;
             return Err(DecodeError::Refused);
         }
-        if !self.layout.black_is_0 && is_cleared_first(bytes, end - self.written, changes) {
+        if changes.len() <= self.few {
             self.paint_next(changes);
         } else {
-            self.pack_apart(changes);
+            self.pack_next(changes);
         }
         Ok(())
     }

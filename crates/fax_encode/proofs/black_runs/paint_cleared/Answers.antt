@@ -1,18 +1,18 @@
-use Rattle.fax_encode.proofs.Names.{rules, ◌≡◌, ℕ, ◌+◌, ◌-◌, ◌*◌, ◌/◌, ◌<◌, ◌≤◌, ◌++◌, List, true, get_or, length, replicate, ap, ◌∙◌, arith}
+use Rattle.fax_encode.proofs.Names.{◌≡◌, ℕ, ◌+◌, ◌-◌, ◌*◌, ◌/◌, ◌<◌, ◌≤◌, ◌++◌, List, true, get_or, length, replicate, ap, ◌∙◌, arith}
 use Rattle.fax_encode.proofs.Names.{then_white}
 use Rattle.std.proofs.Common.{inl, inr}
 use Rattle.std.proofs.lemmas.Bool.{cases_lt}
 use Rattle.fax_encode.proofs.BlackRuns.{AreBlack, all_painted_is_filled, last_painted, no_run_left, none_painted, run_painted}
 use Rattle.fax_encode.proofs.black_runs.paint_cleared.Goals as goal
 
-pub returns-then-not-is_empty : goal.returns-then-not-is_empty
-returns-then-not-is_empty c =
+pub returns-else-changes-gt2 : goal.returns-else-changes-gt2
+returns-else-changes-gt2 c =
     let columns : ℕ = c.args.columns in
     let changes : List ℕ = c.args.changes.now in
     let row : List ℕ = c.args.row.now in
     let row' : List ℕ = c.paint_black.new.row in
     let first : ℕ = get_or changes 0 0 in
-    let some : 0 < length changes = search rules in
+    let some : 0 < length changes = c.requires.some in
     let room : columns ≤ 8 * length row = omega (arith, c.requires.room) in
     let same : length row' ≡ length row = c.paint_black.ensures.length in
     let bytes : length row' ≡ (columns + 7) / 8 = same ∙ c.requires.room in
@@ -31,16 +31,4 @@ returns-then-not-is_empty c =
             (λ front long white. c.paint_black.ensures.painted front long white
             ∙ ap (λ (n : ℕ). then_white (front ++ replicate (n - first) true) (length row)) (c.end_of_first.ensures.end one)))
       ];
-    }
-
-pub returns-else-not-is_empty : goal.returns-else-not-is_empty
-returns-else-not-is_empty c =
-    let columns : ℕ = c.args.columns in
-    let changes : List ℕ = c.args.changes.now in
-    let row : List ℕ = c.args.row.now in
-    let none : length changes ≡ 0 = search rules in
-    record {
-      painted = all_painted_is_filled columns changes row row c.requires.changes c.requires.room
-          (no_run_left columns changes 0 row (omega (arith, none)) (omega (arith, c.requires.room))
-          (none_painted columns changes row c.requires.changes c.requires.white));
     }
