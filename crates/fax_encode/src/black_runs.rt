@@ -131,7 +131,11 @@ fn end_of_first(columns: u32, changes: &[u32]) -> u32
     ensures change { 1 < length changes.now → result ≡ get_or changes.now 1 0 }
     ensures end { length changes.now ≤ 1 → result ≡ columns }
 {
-    if changes.len() > 1 { changes[1] } else { columns }
+    if changes.len() > 1 {
+        changes[1]
+    } else {
+        columns
+    }
 }
 
 /// Paints a row of 57 pixels or more that is zeros, and has a change. It takes time in proportion to the black runs. One needs no

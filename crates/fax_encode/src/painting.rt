@@ -186,7 +186,11 @@ fn paint_narrow(row: &mut [u8], columns: u32, changes: &[u32])
 pub fn most_cleared_first(bytes: usize) -> usize
     ensures { 0 < result → 8 ≤ bytes }
 {
-    if bytes >= 8 && bytes <= MOST_FILLED { FEW } else { 0 }
+    if bytes >= 8 && bytes <= MOST_FILLED {
+        FEW
+    } else {
+        0
+    }
 }
 
 /// Paints a row that isn't best cleared first.

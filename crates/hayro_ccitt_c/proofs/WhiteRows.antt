@@ -219,8 +219,13 @@ module _ (written start bytes : ℕ) (memory filled : List ℕ) (le : written �
   packed_cleared layout columns list row changes more name plain whole reaches long packs count =
       let k : ℕ = start + bytes - start in
       let there : length (take k (drop start cleared)) ≡ bytes =
-      omega (arith, length-take k (drop start cleared), ap length from_row, length-append (replicate bytes 0) behind,
-      length-replicate {A = ℕ} bytes 0) in
+      omega (
+        arith,
+        length-take k (drop start cleared),
+        ap length from_row,
+        length-append (replicate bytes 0) behind,
+        length-replicate {A = ℕ} bytes 0,
+      ) in
       let fits : length row ≡ length (take k (drop start before_row)) =
       omega (arith, long, there, length-take k (drop start before_row), length-drop start before_row, size_before, room) in
       ap (λ (l : List ℕ). packing_up_to layout (start + layout.stride) (start + layout.stride) l more name) (same_with_row row)

@@ -138,7 +138,11 @@ fn most_cleared(bytes: usize, black_is_0: bool) -> usize
     ensures long { 0 < result → 8 ≤ bytes }
     ensures plain { 0 < result → black_is_0 ≡ false }
 {
-    if black_is_0 { 0 } else { most_cleared_first(bytes) }
+    if black_is_0 {
+        0
+    } else {
+        most_cleared_first(bytes)
+    }
 }
 
 /// Rows as a bitmap in the caller's memory, from the top, as [`pack_row`] packs them. The bytes between them keep their values.
@@ -339,11 +343,7 @@ impl<'a> PackedRows<'a> {
         self.fill_many();
         let end = self.start + self.bytes;
         fill_bytes(&mut self.bitmap[self.written..end], 0);
-        paint_cleared(
-            &mut self.bitmap[self.start..end],
-            self.columns,
-            changes,
-        );
+        paint_cleared(&mut self.bitmap[self.start..end], self.columns, changes);
         self.go_on(changes);
     }
 
@@ -367,10 +367,8 @@ impl<'a> PackedRows<'a> {
         }
         self.write_white();
         let end = self.start + self.bytes;
-        fill_all(
-            &mut self.bitmap[self.start..end],
-            white_byte(self.layout.black_is_0),
-        );
+        let white = white_byte(self.layout.black_is_0);
+        fill_all(&mut self.bitmap[self.start..end], white);
         self.go_on(&[]);
         Ok(())
     }
