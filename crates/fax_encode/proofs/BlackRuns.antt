@@ -4,11 +4,16 @@ use Rattle.fax_encode.proofs.Names.{◌++◌, length, get_or, take, drop, replic
 use Rattle.fax_encode.proofs.Names.{flat_map-append, length-append, length-replicate, length-drop, drop_all, bit_xor}
 use Rattle.fax_encode.proofs.Names.{replicate-append-replicate, take-replicate, drop-replicate, take-append-add}
 use Rattle.fax_encode.proofs.Names.{drop-append-add, drop-drop}
-use Rattle.fax_encode.proofs.Names.{append-nil, take-append-le, drop-append-le, take-append-drop, put_mid, HighestFirst, Bits}
+use Rattle.fax_encode.proofs.Names.{take-append-le, drop-append-le, take-append-drop, put_mid, HighestFirst, Bits}
 use Rattle.fax_encode.proofs.Names.{bits_of}
 use Rattle.fax_encode.proofs.Names.{AreChanges, bits_of_byte, filled_up, length-pixels, low_bits, AscendFrom, pixels, pixels_from}
 use Rattle.fax_encode.proofs.Names.{then_white, White}
 use Rattle.fax_encode.proofs.PaintedRows.{bits_of_plain}
+use Rattle.fax_encode.proofs.ScannedRows.{bits_of-parts}
+use Rattle.std.proofs.lemmas.List.{drop_at, take_at}
+use Rattle.std.proofs.lemmas.Bool.{cases_lt}
+use Rattle.std.proofs.Common.{inl, inr}
+use Rattle.fax_encode.proofs.Names.{◌%◌}
 use Rattle.fax_encode.proofs.PaintedWords.{bits_of-take, bits_of-drop, turned_behind}
 use Rattle.fax_encode.proofs.RunsWritten.{next_is, next_right, next_within, next_ascends, one_part}
 
@@ -106,24 +111,119 @@ word_painted start from to row row' word new front within ascend below long whit
     part_painted start 8 (to - from) row row' front (low_bits 64 new) within (omega arith) (omega arith) white
     (back ∙ ap (λ (k : ℕ). (inside ++ replicate (to - from) true) ++ replicate k false) left) written
 
--- bytes are painted from one that begins where the white does
-pub bytes_painted : (from to : ℕ) (row row' : List ℕ) (front : Bits) → from ≤ to → to ≤ length row → length front ≡ 8 * from
-    → bits_of row ≡ then_white front (length row) → row' ≡ put_mid from (to - from) row (replicate (to - from) 255)
-    → bits_of row' ≡ then_white (front ++ replicate (8 * (to - from)) true) (length row)
-bytes_painted from to row row' front ascend within long white is =
-    let count : ℕ = to - from in
-    let black : Bits = replicate (8 * count) true in
-    let part : List ℕ = replicate count 255 in
-    let none : drop (8 * from) front ≡ [] = drop_all (8 * from) front (omega arith) in
-    let left : 0 ≡ 8 * (from + count) - (length front + 8 * count) = omega arith in
-    let shape : bits_of part ≡ (drop (8 * from) front ++ black)
-    ++ replicate (8 * (from + count) - (length front + 8 * count)) false = bits_of_plain 255 count true refl
-    ∙ ap (λ (b : Bits). b ++ black) (sym none) ∙ sym (append-nil (drop (8 * from) front ++ black))
-    ∙ ap (λ (k : ℕ). (drop (8 * from) front ++ black) ++ replicate k false) left in
-    let written : bits_of row' ≡ bits_of (take from row) ++ (bits_of part ++ bits_of (drop (from + count) row)) = ap bits_of is
-    ∙ bits_of-put_mid from count row part in
-    part_painted from count (8 * count) row row' front (bits_of part) (omega arith) (omega arith) (omega arith) white shape
-    written
+-- bytes are painted whatever they held
+pub bytes_painted : (from count : ℕ) (row : List ℕ)
+    → bits_of (put_mid from count row (replicate count 255))
+    ≡ bits_of (take from row) ++ (replicate (8 * count) true ++ bits_of (drop (from + count) row))
+bytes_painted from count row = bits_of-put_mid from count row (replicate count 255)
+    ∙ ap (λ (b : Bits). bits_of (take from row) ++ (b ++ bits_of (drop (from + count) row))) (bits_of_plain 255 count true refl)
+
+-- black pixels in three parts, and white ones in two
+black_then_white : (front : Bits) (p q s z r n m : ℕ) → p + q + s ≡ n → z + r ≡ m
+    → (front ++ replicate p true) ++ (replicate q true ++ ((replicate s true ++ replicate z false) ++ replicate r false))
+    ≡ (front ++ replicate n true) ++ replicate m false
+black_then_white front p q s z r n m black white =
+    let all : (front ++ replicate p true) ++ (replicate q true ++ ((replicate s true ++ replicate z false) ++ replicate r false))
+    ≡ (((front ++ replicate p true) ++ replicate q true) ++ replicate s true) ++ (replicate z false ++ replicate r false) =
+    simp append_assoc refl in
+    all ∙ ap (λ (b : Bits). b ++ (replicate z false ++ replicate r false)) (black_three front p q s n black)
+    ∙ ap (λ (b : Bits). (front ++ replicate n true) ++ b)
+    (replicate-append-replicate z r false ∙ ap (λ (k : ℕ). replicate k false) white)
+
+-- A black run is painted by its first word, its last one, and the bytes between them, if there are any.
+module _ (from to last zeros : ℕ) (row row1 row2 row3 : List ℕ) (front : Bits) (far : from / 8 * 8 + 64 < to)
+    (end : last + 8 ≡ (to + 7) / 8) (left : zeros + to ≡ 8 * last + 64) (within : to ≤ 8 * length row)
+    (long : length front ≡ from) (same1 : length row1 ≡ length row) (same2 : length row2 ≡ length row1)
+    (one : bits_of row1 ≡ then_white (front ++ replicate (64 - from % 8) true) (length row))
+    (two : bits_of row2 ≡ bits_of (take last row1)
+    ++ ((replicate (64 - zeros) true ++ replicate zeros false) ++ bits_of (drop (last + 8) row1)))
+    (three : bits_of row3 ≡ bits_of (take (from / 8 + 8) row2) ++ (replicate (8 * (last - (from / 8 + 8))) true
+    ++ bits_of (drop (from / 8 + 8 + (last - (from / 8 + 8))) row2))) where
+  abbrev first_black : Bits
+  first_black = front ++ replicate (64 - from % 8) true
+
+  abbrev next : ℕ
+  next = from / 8 + 8
+
+  abbrev end_word : Bits
+  end_word = replicate (64 - zeros) true ++ replicate zeros false
+
+  abbrev whites : ℕ
+  whites = 8 * length row - length first_black
+
+  first_long : length first_black ≡ 8 * next
+  first_long = omega (arith, longer front (64 - from % 8), long)
+
+  -- the last word begins behind the first
+  apart : next ≤ last → bits_of row3 ≡ then_white (front ++ replicate (to - from) true) (length row)
+  apart le =
+      let k : ℕ = last - next in
+      let before : bits_of (take last row1) ≡ first_black ++ replicate (8 * k) false =
+      bits_of-take last row1 ∙ ap (take (8 * last)) one
+      ∙ ap (λ (m : ℕ). take m (first_black ++ replicate whites false)) (omega (arith, first_long, le))
+      ∙ take-append-add first_black (replicate whites false) (8 * k)
+      ∙ ap (λ (b : Bits). first_black ++ b) (take-replicate (8 * k) whites false (omega (arith, first_long, le, end, within))) in
+      let r : ℕ = whites - (8 * k + 64) in
+      let behind : bits_of (drop (last + 8) row1) ≡ replicate r false = bits_of-drop (last + 8) row1 ∙ ap (drop (8 * (last + 8))) one
+      ∙ ap (λ (m : ℕ). drop m (first_black ++ replicate whites false)) (omega (arith, first_long, le))
+      ∙ drop-append-add first_black (replicate whites false) (8 * k + 64) ∙ drop-replicate (8 * k + 64) whites false in
+      let front_bits : Bits = first_black ++ replicate (8 * k) false in
+      let written : bits_of row2 ≡ front_bits ++ (end_word ++ replicate r false) =
+      two ∙ ap (λ (b : Bits). b ++ (end_word ++ bits_of (drop (last + 8) row1))) before
+      ∙ ap (λ (b : Bits). front_bits ++ (end_word ++ b)) behind in
+      let long_front : length front_bits ≡ 8 * last =
+      omega (arith, length-append first_black (replicate (8 * k) false), length-replicate (8 * k) false, first_long, le) in
+      let head : bits_of (take next row2) ≡ first_black = bits_of-take next row2 ∙ ap (take (8 * next)) (written
+      ∙ append_assoc first_black (replicate (8 * k) false) (end_word ++ replicate r false))
+      ∙ take_at first_black (replicate (8 * k) false ++ (end_word ++ replicate r false)) (8 * next) first_long in
+      let there : next + k ≡ last = omega (arith, le) in
+      let tail : bits_of (drop (next + k) row2) ≡ end_word ++ replicate r false =
+      ap (λ (m : ℕ). bits_of (drop m row2)) there ∙ bits_of-drop last row2 ∙ ap (drop (8 * last)) written
+      ∙ drop_at front_bits (end_word ++ replicate r false) (8 * last) long_front in
+      let sum : (64 - from % 8) + 8 * k + (64 - zeros) ≡ to - from = omega (arith, le, left, end, far) in
+      let black : length (front ++ replicate (to - from) true) ≡ length front + (to - from) = longer front (to - from) in
+      let rest : zeros + r ≡ 8 * length row - length (front ++ replicate (to - from) true) =
+      omega (arith, first_long, le, left, end, far, within, black, long) in
+      three ∙ ap (λ (b : Bits). b ++ (replicate (8 * k) true ++ bits_of (drop (next + k) row2))) head
+      ∙ ap (λ (b : Bits). first_black ++ (replicate (8 * k) true ++ b)) tail
+      ∙ black_then_white front (64 - from % 8) (8 * k) (64 - zeros) zeros r (to - from)
+      (8 * length row - length (front ++ replicate (to - from) true)) sum rest
+
+  -- and within it
+  together : last < next → bits_of row3 ≡ then_white (front ++ replicate (to - from) true) (length row)
+  together lt =
+      let none : last - next ≡ 0 = omega (arith, lt) in
+      let here : next + 0 ≡ next = omega arith in
+      let all : bits_of row3 ≡ bits_of row2 = three
+      ∙ ap (λ (m : ℕ). bits_of (take next row2) ++ (replicate (8 * m) true ++ bits_of (drop (next + m) row2))) none
+      ∙ ap (λ (m : ℕ). bits_of (take next row2) ++ bits_of (drop m row2)) here ∙ sym (bits_of-parts next row2) in
+      let more : ℕ = to - 8 * next in
+      let begun : ℕ = 8 * last - from in
+      let left_black : ℕ = (64 - from % 8) - begun in
+      let inside : drop (8 * last) first_black ≡ replicate left_black true =
+      ap (λ (m : ℕ). drop m first_black) (omega (arith, long, far, end))
+      ∙ drop-append-add front (replicate (64 - from % 8) true) begun ∙ drop-replicate begun (64 - from % 8) true in
+      let sum : left_black + more ≡ 64 - zeros = omega (arith, lt, left, far, end) in
+      let zeros_are : zeros ≡ 8 * (last + 8) - (length first_black + more) = omega (arith, first_long, left, far, end) in
+      let part : end_word
+      ≡ (drop (8 * last) first_black ++ replicate more true) ++ replicate (8 * (last + 8) - (length first_black + more)) false
+      = ap (λ (m : ℕ). replicate (64 - zeros) true ++ replicate m false) zeros_are
+      ∙ ap (λ (b : Bits). b ++ replicate (8 * (last + 8) - (length first_black + more)) false)
+      (ap (λ (m : ℕ). replicate m true) (sym sum) ∙ sym (replicate-append-replicate left_black more true)
+      ∙ ap (λ (b : Bits). b ++ replicate more true) (sym inside)) in
+      let painted : bits_of row2 ≡ then_white (first_black ++ replicate more true) (length row1) =
+      part_painted last 8 more row1 row2 first_black end_word (omega (arith, same1, within, end)) (omega (arith, first_long, lt))
+      (omega (arith, first_long, left, far)) (one ∙ ap (then_white first_black) (sym same1)) part two in
+      let whole : (64 - from % 8) + more ≡ to - from = omega (arith, far) in
+      all ∙ painted ∙ ap (then_white (first_black ++ replicate more true)) same1
+      ∙ ap (λ (b : Bits). then_white b (length row)) (black_more front (64 - from % 8) more
+      ∙ ap (λ (m : ℕ). front ++ replicate m true) whole)
+
+  pub long_painted : bits_of row3 ≡ then_white (front ++ replicate (to - from) true) (length row)
+  long_painted = elim (cases_lt last next) [
+    | inl lt ↦ together lt
+    | inr le ↦ apart le
+  ]
 
 -- ---- what is left to paint
 -- A row is painted up to a position, and white from there on; this many changes are done, an even number.

@@ -25,7 +25,7 @@ pub use Rattle.fax_encode.specs.WhiteRows.{AreWhiteLines, IsWhiteLine}
 pub use Rattle.fax_encode.specs.Writing.{IsWord, Marked, Written, all_bits}
 pub use Rattle.fax_encode.specs.declared.bit_order.TheConstants.{TURNED}
 pub use Rattle.fax_encode.specs.declared.painting.Brush.{Brush}
-pub use Rattle.fax_encode.specs.declared.pixel_words.TheConstants.{ONES_FROM}
+pub use Rattle.fax_encode.specs.declared.pixel_words.TheConstants.{ONES_BEFORE, ONES_FROM}
 pub use Rattle.fax_encode.specs.declared.settings.Effort.{Effort}
 pub use Rattle.fax_encode.specs.declared.settings.Effort.TheVariants.{Procedure, Shortest}
 pub use Rattle.fax_encode.specs.declared.settings.EncodeSettings.{EncodeSettings}

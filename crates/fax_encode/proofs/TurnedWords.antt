@@ -4,7 +4,7 @@ use Rattle.fax_encode.proofs.Names.{◌∷◌, ◌++◌, length, get_or, map, se
 use Rattle.fax_encode.proofs.Names.{bit_xor, Bits, bit_of, low_bits, length-append, length-low_bits, length-replicate, map-append}
 use Rattle.fax_encode.proofs.Names.{replicate-append-replicate, AscendFrom, pixels_from, length-map}
 use Rattle.fax_encode.proofs.Names.{drop, drop_all, drop_more, joined_pixels, turned_after, turned_at_all, turned_from}
-use Rattle.fax_encode.proofs.Names.{ONES_FROM, agree_below_at, eqb, eqb-true}
+use Rattle.fax_encode.proofs.Names.{ONES_BEFORE, ONES_FROM, agree_below_at, eqb, eqb-true}
 use Rattle.fax_encode.proofs.Names.{append-nil, bits_of, length-bits_of, length-drop, length-take, put_mid, take, take-append-add}
 use Rattle.fax_encode.proofs.Names.{take-append-le, take-append_seam}
 use Rattle.fax_encode.proofs.BlackRuns.{bits_of-put_mid}
@@ -17,6 +17,19 @@ is_entry k = eqb (get_or ONES_FROM k 0) (2 ^ (64 - k) - 1)
 pub ones_at : (k : ℕ) → k < 64 → get_or ONES_FROM k 0 ≡ 2 ^ (64 - k) - 1
 unfolding is_entry
 ones_at k lt = eqb-true _ _ (agree_below_at is_entry (λ b. true) 64 k refl lt)
+
+-- each word of the shorter table is ones, and then zeros
+pub ones_before_at : (k : ℕ) → k < 8
+    → low_bits 64 (get_or ONES_BEFORE k 0) ≡ replicate (64 - k) true ++ replicate k false
+ones_before_at zero lt = refl
+ones_before_at (suc zero) lt = refl
+ones_before_at (suc (suc zero)) lt = refl
+ones_before_at (suc (suc (suc zero))) lt = refl
+ones_before_at (suc (suc (suc (suc zero)))) lt = refl
+ones_before_at (suc (suc (suc (suc (suc zero))))) lt = refl
+ones_before_at (suc (suc (suc (suc (suc (suc zero)))))) lt = refl
+ones_before_at (suc (suc (suc (suc (suc (suc (suc zero))))))) lt = refl
+ones_before_at (suc (suc (suc (suc (suc (suc (suc (suc k)))))))) lt = absurd (omega (arith, lt))
 
 -- ---- turning pixels
 after_turned : (color pixel : Bool) → turned_after (not color) pixel ≡ not (turned_after color pixel)

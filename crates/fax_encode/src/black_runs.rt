@@ -1,12 +1,12 @@
 //! Painting a row by its black runs: each is turned black in a white row. That is fast where runs are few.
 
-ghost use Rattle.std.specs.Prelude.{◌≡◌, ◌+◌, ◌-◌, ◌*◌, ◌/◌, ◌^◌, ◌≤◌, ◌<◌, ◌++◌, [], true, length, replicate};
+ghost use Rattle.std.specs.Prelude.{◌≡◌, ◌+◌, ◌-◌, ◌*◌, ◌/◌, ◌^◌, ◌≤◌, ◌<◌, ◌++◌, true, drop, get_or, length, replicate, take};
 ghost use Rattle.hayro_ccitt.specs.Bits.{Bits, bits_of};
 ghost use Rattle.hayro_ccitt.specs.Rows.{AreChanges, pixels};
 ghost use Rattle.fax_encode.specs.Chosen.{filled_up};
 ghost use Rattle.fax_encode.specs.Painting.{then_white};
 
-use crate::pixel_words::{fill_all, fill_bytes, first_pixels, put_pixels};
+use crate::pixel_words::{fill_all, fill_bytes, first_pixels, ones_before, put_pixels};
 
 /// Returns a word whose bits are zeros left of an offset, and ones from there on.
 #[inline(always)]
@@ -31,13 +31,12 @@ fn paint_in_word(row: &mut [u8], start: usize, from: usize, to: usize)
     put_pixels(row, start, word ^ ones_behind(from) ^ ones_behind(to));
 }
 
-/// Paints the bytes between two positions, each of them a byte's first.
+/// Paints the bytes between two positions, if the second is behind the first.
 #[inline(always)]
 fn paint_bytes(row: &mut [u8], from: usize, to: usize)
-    requires ascend { from ≤ to }
     requires within { to ≤ length row.old }
-    ensures painted { (front : Bits) → length front ≡ 8 * from → bits_of row.old ≡ then_white front (length row.old)
-        → bits_of row.new ≡ then_white (front ++ replicate (8 * (to - from)) true) (length row.old) }
+    ensures painted { bits_of row.new ≡ bits_of (take from row.old)
+        ++ (replicate (8 * (to - from)) true ++ bits_of (drop (from + (to - from)) row.old)) }
     ensures length { length row.new ≡ length row.old }
 {
     if from < to {
@@ -45,67 +44,41 @@ fn paint_bytes(row: &mut [u8], from: usize, to: usize)
     }
 }
 
-/// Paints a black run that ends in a word which the row has whole.
+/// Paints a black run that ends within the eight bytes from its first one on.
 #[inline(always)]
-fn paint_run(row: &mut [u8], from: usize, to: usize)
-    requires ascend { from ≤ to }
-    requires within { to / 64 * 8 + 8 ≤ length row.old }
-    ensures painted { (front : Bits) → length front ≡ from → bits_of row.old ≡ then_white front (length row.old)
-        → bits_of row.new ≡ then_white (front ++ replicate (to - from) true) (length row.old) }
-    ensures length { length row.new ≡ length row.old }
-{
-    let first = from / 64 * 8;
-    let last = to / 64 * 8;
-    if from / 64 == to / 64 {
-        paint_in_word(row, first, from % 64, to % 64);
-    } else {
-        paint_in_word(row, first, from % 64, 64);
-        paint_bytes(row, first + 8, last);
-        paint_in_word(row, last, 0, to % 64);
-    }
-}
-
-/// Paints a black run that begins before the last eight bytes of the row, and ends behind its last whole word.
-#[inline(always)]
-fn paint_long_run(row: &mut [u8], from: usize, to: usize)
+fn paint_short_run(row: &mut [u8], from: usize, to: usize)
     requires long { 8 ≤ length row.old }
-    requires before { from < 8 * (length row.old - 8) }
-    requires right { length row.old / 8 ≤ to / 64 }
+    requires ascend { from ≤ to }
+    requires short { to ≤ from / 8 * 8 + 64 }
     requires within { to ≤ 8 * length row.old }
     ensures painted { (front : Bits) → length front ≡ from → bits_of row.old ≡ then_white front (length row.old)
         → bits_of row.new ≡ then_white (front ++ replicate (to - from) true) (length row.old) }
     ensures length { length row.new ≡ length row.old }
 {
-    let first = from / 64 * 8;
-    let last = row.len() - 8;
-    let behind = last.max(first + 8);
-    paint_in_word(row, first, from % 64, 64);
-    paint_bytes(row, first + 8, behind);
-    paint_in_word(row, last, 8 * (behind - last), to - 8 * last);
+    let start = (from / 8).min(row.len() - 8);
+    paint_in_word(row, start, from - 8 * start, to - 8 * start);
 }
 
-/// Paints a black run that ends behind the last whole word of the row.
+/// Paints a black run that ends behind the eight bytes from its first one on: the first eight, the last eight, and those between
+/// them, which is the last call.
 #[inline(always)]
-fn paint_last_run(row: &mut [u8], from: usize, to: usize)
-    requires long { 8 ≤ length row.old }
-    requires ascend { from ≤ to }
-    requires right { length row.old / 8 ≤ to / 64 }
+fn paint_long_run(row: &mut [u8], from: usize, to: u32)
+    requires long { from / 8 * 8 + 64 < to }
     requires within { to ≤ 8 * length row.old }
     ensures painted { (front : Bits) → length front ≡ from → bits_of row.old ≡ then_white front (length row.old)
         → bits_of row.new ≡ then_white (front ++ replicate (to - from) true) (length row.old) }
     ensures length { length row.new ≡ length row.old }
 {
-    let last = row.len() - 8;
-    if from < 8 * last {
-        paint_long_run(row, from, to);
-    } else {
-        paint_in_word(row, last, from - 8 * last, to - 8 * last);
-    }
+    let first = from / 8;
+    let last = (to as usize + 7) / 8 - 8;
+    paint_in_word(row, first, from % 8, 64);
+    put_pixels(row, last, ones_before(((8 - to % 8) % 8) as usize));
+    paint_bytes(row, first + 8, last);
 }
 
 /// Paints a black run.
 #[inline(always)]
-fn paint_black(row: &mut [u8], from: usize, to: usize)
+fn paint_black(row: &mut [u8], from: u32, to: u32)
     requires long { 8 ≤ length row.old }
     requires ascend { from ≤ to }
     requires within { to ≤ 8 * length row.old }
@@ -113,10 +86,11 @@ fn paint_black(row: &mut [u8], from: usize, to: usize)
         → bits_of row.new ≡ then_white (front ++ replicate (to - from) true) (length row.old) }
     ensures length { length row.new ≡ length row.old }
 {
-    if to / 64 < row.len() / 8 {
-        paint_run(row, from, to);
+    let start = from as usize;
+    if start / 8 * 8 + 64 < to as usize {
+        paint_long_run(row, start, to);
     } else {
-        paint_last_run(row, from, to);
+        paint_short_run(row, start, to as usize);
     }
 }
 
@@ -131,25 +105,55 @@ fn paint_runs(row: &mut [u8], columns: u32, changes: &[u32])
 {
     let mut done = 0;
     'runs: while done + 1 < changes.len() {
-        paint_black(row, changes[done] as usize, changes[done + 1] as usize);
+        paint_black(row, changes[done], changes[done + 1]);
         done += 2;
     }
     if done < changes.len() {
-        paint_black(row, changes[done] as usize, columns as usize);
+        paint_black(row, changes[done], columns);
     }
 }
 
-/// Paints a row of 57 pixels or more by its black runs. It takes time in proportion to the runs, and the library's time to
-/// clear the row.
-#[inline(always)]
-pub fn paint_by_runs(row: &mut [u8], columns: u32, changes: &[u32])
+/// Paints a row of zeros by its black runs. It is a function of its own, so that their loop has all registers.
+#[inline(never)]
+fn paint_many_runs(row: &mut [u8], columns: u32, changes: &[u32])
     requires changes { AreChanges columns changes.now }
     requires room { length row.old ≡ (columns + 7) / 8 }
     requires long { 8 ≤ length row.old }
+    requires white { row.old ≡ replicate (length row.old) 0 }
     ensures painted { bits_of row.new ≡ filled_up (pixels columns changes.now) }
 {
-    fill_bytes(row, 0);
     paint_runs(row, columns, changes);
+}
+
+/// Returns where a row's first black run ends.
+#[inline(always)]
+fn end_of_first(columns: u32, changes: &[u32]) -> u32
+    ensures change { 1 < length changes.now → result ≡ get_or changes.now 1 0 }
+    ensures end { length changes.now ≤ 1 → result ≡ columns }
+{
+    if changes.len() > 1 {
+        changes[1]
+    } else {
+        columns
+    }
+}
+
+/// Paints a row of 57 pixels or more that is zeros, and has a change. It takes time in proportion to the black runs. One needs no
+/// call but the last, and so no room for what is kept over a call.
+#[inline(never)]
+pub fn paint_cleared(row: &mut [u8], columns: u32, changes: &[u32])
+    requires changes { AreChanges columns changes.now }
+    requires some { 0 < length changes.now }
+    requires room { length row.old ≡ (columns + 7) / 8 }
+    requires long { 8 ≤ length row.old }
+    requires white { row.old ≡ replicate (length row.old) 0 }
+    ensures painted { bits_of row.new ≡ filled_up (pixels columns changes.now) }
+{
+    if changes.len() > 2 {
+        paint_many_runs(row, columns, changes);
+    } else {
+        paint_black(row, changes[0], end_of_first(columns, changes));
+    }
 }
 
 /// Paints a row of many bytes, which are cleared by pieces, or of many runs, by them. It is a function of its own, so that their

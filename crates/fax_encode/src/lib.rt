@@ -27,12 +27,13 @@ mod words;
 
 pub use bitmap_rows::rows_of_bitmap;
 pub use bitmap_sink::BitmapSink;
+pub use black_runs::paint_cleared;
 pub use by_settings::{encode, encode_bitmap};
 pub use closed_pictures::{encode_1d, encode_bitmap_1d, encode_bitmap_g4, encode_g4};
 pub use encoder::Encoder;
 pub use encoding::names_encoding;
 pub use error::EncodeError;
-pub use painting::paint_row;
-pub use pixel_words::fill_all;
+pub use painting::{most_cleared_first, paint_over, paint_row};
+pub use pixel_words::{fill_all, fill_bytes};
 pub use round_trip::{bitmap_by_group3, bitmap_by_group4};
 pub use settings::{Effort, EncodeSettings};

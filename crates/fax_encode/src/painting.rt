@@ -7,11 +7,11 @@ ghost use Rattle.hayro_ccitt.specs.Rows.{AreChanges, pixels};
 ghost use Rattle.fax_encode.specs.Chosen.{filled_up};
 ghost use Rattle.fax_encode.specs.Painting.{under, StandsAt};
 
-use crate::black_runs::{paint_apart, paint_by_runs};
-use crate::pixel_words::{MOST_FILLED, fill_all, ones_from, plain_word};
+use crate::black_runs::{paint_apart, paint_cleared};
+use crate::pixel_words::{MOST_FILLED, fill_all, fill_bytes, ones_from, plain_word};
 use crate::turned_words::{MOST_TURNED, paint_by_words};
 
-/// The most changes of a row that is painted without a call.
+/// The most changes of a row that is cleared first.
 const FEW: usize = 24;
 
 /// How far a row is painted.
@@ -180,10 +180,22 @@ fn paint_narrow(row: &mut [u8], columns: u32, changes: &[u32])
     put_first(row, brush.word);
 }
 
-/// Paints a row: one bit a pixel, 1 for black, the leftmost pixel in each byte's highest bit, and zeros up to the end of
-/// the last byte. It takes time in proportion to the bytes and the changes.
+/// Returns the most changes of a row of so many bytes that is best cleared, by one call of the library's, and then painted by its
+/// black runs. It is 0 if none is.
+#[inline(always)]
+pub fn most_cleared_first(bytes: usize) -> usize
+    ensures { 0 < result → 8 ≤ bytes }
+{
+    if bytes >= 8 && bytes <= MOST_FILLED {
+        FEW
+    } else {
+        0
+    }
+}
+
+/// Paints a row that isn't best cleared first.
 #[inline(never)]
-pub fn paint_row(row: &mut [u8], columns: u32, changes: &[u32])
+pub fn paint_over(row: &mut [u8], columns: u32, changes: &[u32])
     requires changes { AreChanges columns changes.now }
     requires room { length row.old ≡ (columns + 7) / 8 }
     ensures painted { bits_of row.new ≡ filled_up (pixels columns changes.now) }
@@ -192,13 +204,27 @@ pub fn paint_row(row: &mut [u8], columns: u32, changes: &[u32])
         paint_narrow(row, columns, changes);
     } else if changes.is_empty() {
         fill_all(row, 0);
-    } else if changes.len() <= FEW && row.len() <= MOST_FILLED {
-        paint_by_runs(row, columns, changes);
     } else if row.len() + row.len() / 2 <= changes.len() {
         paint_changes(row, columns, changes);
     } else if row.len() <= MOST_TURNED {
         paint_by_words(row, columns, changes);
     } else {
         paint_apart(row, columns, changes);
+    }
+}
+
+/// Paints a row: one bit a pixel, 1 for black, the leftmost pixel in each byte's highest bit, and zeros up to the end of
+/// the last byte. It takes time in proportion to the bytes and the changes.
+#[inline(always)]
+pub fn paint_row(row: &mut [u8], columns: u32, changes: &[u32])
+    requires changes { AreChanges columns changes.now }
+    requires room { length row.old ≡ (columns + 7) / 8 }
+    ensures painted { bits_of row.new ≡ filled_up (pixels columns changes.now) }
+{
+    if changes.is_empty() || changes.len() > most_cleared_first(row.len()) {
+        paint_over(row, columns, changes);
+    } else {
+        fill_bytes(row, 0);
+        paint_cleared(row, columns, changes);
     }
 }

@@ -1,6 +1,6 @@
 //! Words of 64 pixels, the leftmost in the highest bit.
 
-ghost use Rattle.std.specs.Prelude.{◌≡◌, ◌+◌, ◌-◌, ◌^◌, ◌<◌, ◌≤◌, ◌++◌, false, length, get_or, replicate, take, drop};
+ghost use Rattle.std.specs.Prelude.{◌≡◌, ◌+◌, ◌-◌, ◌^◌, ◌<◌, ◌≤◌, ◌++◌, true, false, length, get_or, replicate, take, drop};
 ghost use Rattle.hayro_ccitt.specs.Bits.{bits_of, low_bits};
 
 /// Returns a word of pixels of one colour.
@@ -48,6 +48,23 @@ pub fn ones_from(offset: usize) -> u64
     ensures { result ≡ 2 ^ (64 - offset) - 1 }
 {
     word_of(&ONES_FROM, offset)
+}
+
+/// For each number of bits below eight a word of ones, of which the last ones, as many, are zeros.
+#[rattlefmt::skip]
+const ONES_BEFORE: [u64; 8] = [
+    0xFFFFFFFFFFFFFFFF, 0xFFFFFFFFFFFFFFFE, 0xFFFFFFFFFFFFFFFC, 0xFFFFFFFFFFFFFFF8,
+    0xFFFFFFFFFFFFFFF0, 0xFFFFFFFFFFFFFFE0, 0xFFFFFFFFFFFFFFC0, 0xFFFFFFFFFFFFFF80,
+];
+
+/// Returns a word of ones, of which the last bits, less than eight, are zeros: the bytes of a word that is looked up are turned
+/// by one instruction.
+#[inline(always)]
+pub fn ones_before(zeros: usize) -> u64
+    requires { zeros < 8 }
+    ensures { low_bits 64 result ≡ replicate (64 - zeros) true ++ replicate zeros false }
+{
+    word_of(&ONES_BEFORE, zeros)
 }
 
 /// Returns the first 64 pixels of eight bytes or more.

@@ -2,15 +2,20 @@
 use Rattle.std.proofs.Common.{◌≡◌, ℕ, ◌+◌, ◌-◌, ◌*◌, ◌≤◌, Bool, true, false, not, List, [], ◌∷◌, ◌++◌, length, map, take, drop}
 use Rattle.std.proofs.Common.{replicate, refl, sym, ap, ◌∙◌, arith, append_assoc, zero, suc}
 use Rattle.std.proofs.lemmas.Grind.{flat_map-append}
-use Rattle.std.proofs.lemmas.List.{append-nil, drop-drop, length-replicate, replicate-append-replicate}
+use Rattle.std.proofs.lemmas.List.{append-nil, drop-append-le, drop-drop, drop-replicate, length-append, length-drop}
+use Rattle.std.proofs.lemmas.List.{length-replicate, length-take, replicate-append-replicate, take-append-le, take-replicate}
+use Rattle.std.proofs.lemmas.List.{take_at}
+use Rattle.std.proofs.lemmas.Slice.{drop-put_mid, take-put_mid}
+use Rattle.std.proofs.Math.Seq.{drop-append-add}
 use borrow.Rule.Slice.PartMut.{put_mid}
 use Rattle.hayro_ccitt.specs.BitOrder.TheVariants.{HighestFirst}
 use Rattle.hayro_ccitt.specs.Bits.{Bits, bits_of, bits_of_byte}
 use Rattle.hayro_ccitt.specs.Rows.{pixels}
+use Rattle.fax_encode.specs.Chosen.{filled_up}
 use Rattle.fax_encode.proofs.PaintedRows.{white, bits_of_plain}
 use Rattle.hayro_ccitt_c.specs.Packing.{Packing, bytes_of_row, counted, packed_row, packing_up_to, white_byte, with_packed}
 use Rattle.hayro_ccitt_c.specs.declared.packed_rows.Layout.{Layout}
-use Rattle.hayro_ccitt_c.proofs.PackedMemory.{bits_more, packing_of, rest_more, same_packing, size_more}
+use Rattle.hayro_ccitt_c.proofs.PackedMemory.{bits_more, packing_of, rest_more, same_packing, size_more, take_into}
 
 black_of_white : (n : ℕ) → map not (replicate n false) ≡ replicate n true
 black_of_white zero = refl
@@ -99,3 +104,131 @@ packed_behind layout columns start written bytes list memory row changes more na
     (size_more layout columns start bytes list memory row is reaches within room same packs) count
     ∙ ap (λ (p : Packing). with_packed columns p list) (sym (all_in_memory layout start written memory changes name all) ∙ means)
     ∙ ap (λ (n : ℕ). with_packed n before list) wide
+
+-- a row with 1 for black
+pub plain_row : (black_is_0 : Bool) (bits row : Bits) → black_is_0 ≡ false → bits ≡ filled_up row → bits ≡ packed_row black_is_0 row
+plain_row false bits row plain is = is
+plain_row true bits row plain is = cc
+
+-- the same parts mean the same
+pub same_up_to : (layout layout' : Layout) (start start' written written' : ℕ) (memory memory' : List ℕ)
+    (changes changes' name name' : ℕ) → layout ≡ layout' → start ≡ start' → written ≡ written' → memory ≡ memory'
+    → changes ≡ changes' → name ≡ name' → packing_up_to layout start written memory changes name
+    ≡ packing_up_to layout' start' written' memory' changes' name'
+same_up_to layout layout' start start' written written' memory memory' changes changes' name name' e f g h i j = cc
+
+-- the white rows that aren't in memory, and the next row with them, are cleared
+module _ (written start bytes : ℕ) (memory filled : List ℕ) (le : written ≤ start) (room : start + bytes ≤ length memory)
+    (is : filled ≡ replicate (start + bytes - written) 0) where
+  abbrev cleared : List ℕ
+  cleared = put_mid written (start + bytes - written) memory filled
+
+  -- without the next row
+  abbrev before_row : List ℕ
+  before_row = put_mid written (start - written) memory (replicate (start - written) 0)
+
+  abbrev behind : List ℕ
+  behind = drop (start + bytes - written) (drop written memory)
+
+  zeros_long : length filled ≡ start + bytes - written
+  zeros_long = ap length is ∙ length-replicate {A = ℕ} (start + bytes - written) 0
+
+  front_long : length (take written memory) ≡ written
+  front_long = omega (arith, length-take written memory, room, le)
+
+  from_row : drop start cleared ≡ replicate bytes 0 ++ behind
+  from_row =
+      let sum : start ≡ length (take written memory) + (start - written) = omega (arith, front_long, le) in
+      let fewer : start - written ≤ length filled = omega (arith, zeros_long, le) in
+      let left : start + bytes - written - (start - written) ≡ bytes = omega (arith, le) in
+      ap (λ (n : ℕ). drop n cleared) sum ∙ drop-append-add (take written memory) (filled ++ behind) (start - written)
+      ∙ drop-append-le (start - written) filled behind fewer
+      ∙ ap (λ (l : List ℕ). drop (start - written) l ++ behind) is
+      ∙ ap (λ (l : List ℕ). l ++ behind) (drop-replicate (start - written) (start + bytes - written) 0
+      ∙ ap (λ (n : ℕ). replicate n 0) left)
+
+  pub row_cleared : take (start + bytes - start) (drop start cleared)
+      ≡ replicate (length (take (start + bytes - start) (drop start cleared))) 0
+  row_cleared =
+      let count : start + bytes - start ≡ bytes = omega arith in
+      let there : take (start + bytes - start) (drop start cleared) ≡ replicate bytes 0 =
+      ap (λ (n : ℕ). take n (drop start cleared)) count ∙ ap (take bytes) from_row
+      ∙ take_at (replicate bytes 0) behind bytes (length-replicate {A = ℕ} bytes 0) in
+      there ∙ ap (λ (n : ℕ). replicate n 0) (sym (ap length there ∙ length-replicate {A = ℕ} bytes 0))
+
+  front_cleared : take start cleared ≡ take written memory ++ replicate (start - written) 0
+  front_cleared =
+      let sum : start ≡ length (take written memory) + (start - written) = omega (arith, front_long, le) in
+      let fewer : start - written ≤ length filled = omega (arith, zeros_long, le) in
+      let within : start - written ≤ start + bytes - written = omega (arith, le) in
+      take_into (take written memory) (filled ++ behind) start (start - written) sum
+      ∙ ap (λ (l : List ℕ). take written memory ++ l) (take-append-le (start - written) filled behind fewer
+      ∙ ap (take (start - written)) is ∙ take-replicate (start - written) (start + bytes - written) 0 within)
+
+  front_before : take start before_row ≡ take written memory ++ replicate (start - written) 0
+  front_before = take-put_mid written (start - written) memory (replicate (start - written) 0) start
+      (omega (arith, length-replicate {A = ℕ} (start - written) 0, le)) (omega (arith, room, le))
+
+  size_before : length before_row ≡ length memory
+  size_before =
+      omega (
+        arith,
+        front_long,
+        room,
+        le,
+        length-replicate {A = ℕ} (start - written) 0,
+        length-append (take written memory)
+            (replicate (start - written) 0 ++ drop (start - written) (drop written memory)),
+        length-append (replicate (start - written) 0) (drop (start - written) (drop written memory)),
+        length-drop (start - written) (drop written memory),
+        length-drop written memory,
+      )
+
+  same_with_row : (row : List ℕ) → put_mid start (start + bytes - start) cleared row
+      ≡ put_mid start (start + bytes - start) before_row row
+  same_with_row row =
+      let k : ℕ = start + bytes - start in
+      let one : drop k (drop start cleared) ≡ drop (start + k) memory = drop-drop k start cleared
+      ∙ drop-put_mid written (start + bytes - written) memory filled (start + k) (omega (arith, le)) (omega (arith, room, le))
+      zeros_long in
+      let two : drop k (drop start before_row) ≡ drop (start + k) memory = drop-drop k start before_row
+      ∙ drop-put_mid written (start - written) memory (replicate (start - written) 0) (start + k) (omega (arith, le))
+      (omega (arith, room, le)) (length-replicate {A = ℕ} (start - written) 0) in
+      ap (λ (l : List ℕ). l ++ (row ++ drop k (drop start cleared))) (front_cleared ∙ sym front_before)
+      ∙ ap (λ (l : List ℕ). take start before_row ++ (row ++ l)) (one ∙ sym two)
+
+  means_before : (layout : Layout) (changes name : ℕ) → layout.black_is_0 ≡ false
+      → packing_up_to layout start start before_row changes name ≡ packing_up_to layout start written memory changes name
+  means_before layout changes name plain =
+      let byte : ℕ = white_byte layout.black_is_0 in
+      let zero_byte : 0 ≡ byte = sym (ap white_byte plain) in
+      same_packing layout _ _ _ _ _ _ _ _ _ _ name refl
+      (ap bits_of (no_white (take start before_row) start byte ∙ front_before
+      ∙ ap (λ (b : ℕ). take written memory ++ replicate (start - written) b) zero_byte))
+      (drop-put_mid written (start - written) memory (replicate (start - written) 0) start (omega (arith, le))
+      (omega (arith, room, le)) (length-replicate {A = ℕ} (start - written) 0)) size_before refl
+
+  -- and the row is packed
+  pub packed_cleared : (layout : Layout) (columns : ℕ) (list row : List ℕ) (changes more name : ℕ)
+      → layout.black_is_0 ≡ false → bytes ≡ bytes_of_row columns → bytes_of_row columns ≤ layout.stride
+      → length row ≡ length (take (start + bytes - start) (drop start cleared))
+      → bits_of row ≡ packed_row layout.black_is_0 (pixels columns list) → more ≡ counted changes (length list)
+      → packing_up_to layout (start + layout.stride) (start + layout.stride)
+      (put_mid start (start + bytes - start) cleared row) more name
+      ≡ with_packed columns (packing_up_to layout start written memory changes name) list
+  packed_cleared layout columns list row changes more name plain whole reaches long packs count =
+      let k : ℕ = start + bytes - start in
+      let there : length (take k (drop start cleared)) ≡ bytes =
+      omega (
+        arith,
+        length-take k (drop start cleared),
+        ap length from_row,
+        length-append (replicate bytes 0) behind,
+        length-replicate {A = ℕ} bytes 0,
+      ) in
+      let fits : length row ≡ length (take k (drop start before_row)) =
+      omega (arith, long, there, length-take k (drop start before_row), length-drop start before_row, size_before, room) in
+      ap (λ (l : List ℕ). packing_up_to layout (start + layout.stride) (start + layout.stride) l more name) (same_with_row row)
+      ∙ packed_behind layout columns start start bytes list before_row row changes more name refl whole reaches
+      (omega (arith, size_before, room)) (omega (arith, size_before, room)) fits packs count columns
+      (packing_up_to layout start written memory changes name) (means_before layout changes name plain) refl

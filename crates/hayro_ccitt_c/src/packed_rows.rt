@@ -1,17 +1,20 @@
 //! A sink that packs rows into the caller's memory.
 
-ghost use Rattle.std.specs.Prelude.{◌≡◌, ◌+◌, ◌/◌, ◌<◌, ◌≤◌, true, length, map, not};
+ghost use Rattle.std.specs.Prelude.{◌≡◌, ◌+◌, ◌/◌, ◌<◌, ◌≤◌, false, true, length, map, not};
 ghost use Rattle.hayro_ccitt.specs.BitOrder.TheVariants.{HighestFirst};
 ghost use Rattle.hayro_ccitt.specs.Bits.{bits_of, bits_of_byte};
 ghost use Rattle.hayro_ccitt.specs.Rows.{AreChanges, pixels};
 ghost use Rattle.hayro_ccitt_c.specs.Packing.{packed_row, packing_up_to, spaced, white_byte};
 
 use crate::change_count::counted;
-use fax_encode::{fill_all, paint_row};
+use fax_encode::{fill_all, fill_bytes, most_cleared_first, paint_cleared, paint_over, paint_row};
 use hayro_ccitt::{DecodeError, Decoder};
 
 /// A white row of fewer bytes is written at once.
 const LEAST_WAITING: usize = 16;
+
+/// The most bytes that are cleared by one call.
+const MOST_TOGETHER: usize = 2047;
 
 /// Where packed rows begin, and what their bits say.
 #[derive(Copy, Clone)]
@@ -115,6 +118,33 @@ pub(crate) fn pack_row(row: &mut [u8], columns: u32, changes: &[u32], black_is_0
     }
 }
 
+/// Packs a row that isn't best cleared first.
+#[inline(always)]
+fn pack_over(row: &mut [u8], columns: u32, changes: &[u32], black_is_0: bool)
+    requires changes { AreChanges columns changes.now }
+    requires room { length row.old ≡ (columns + 7) / 8 }
+    ensures packed { bits_of row.new ≡ packed_row black_is_0 (pixels columns changes.now) }
+{
+    if black_is_0 {
+        pack_black_as_0(row, columns, changes);
+    } else {
+        paint_over(row, columns, changes);
+    }
+}
+
+/// Returns the most changes of a row of so many bytes that is cleared first. With 0 for black none is.
+#[inline(always)]
+fn most_cleared(bytes: usize, black_is_0: bool) -> usize
+    ensures long { 0 < result → 8 ≤ bytes }
+    ensures plain { 0 < result → black_is_0 ≡ false }
+{
+    if black_is_0 {
+        0
+    } else {
+        most_cleared_first(bytes)
+    }
+}
+
 /// Rows as a bitmap in the caller's memory, from the top, as [`pack_row`] packs them. The bytes between them keep their values.
 /// A row that doesn't fit is refused.
 ///
@@ -133,6 +163,8 @@ pub(crate) struct PackedRows<'a> {
     columns: u32,
     /// The bytes of a row.
     bytes: usize,
+    /// A row of changes, but no more than these, is cleared first.
+    few: usize,
     changes: u64,
     has_refused: bool,
     ghost reaches: { (columns + 7) / 8 ≤ layout.stride },
@@ -142,12 +174,15 @@ pub(crate) struct PackedRows<'a> {
     ghost inside: { written < start → start ≤ length bitmap.now },
     ghost together: { 0 < waits_until → (columns + 7) / 8 ≡ layout.stride },
     ghost ready: { 0 < waits_until → waits_until + (columns + 7) / 8 ≤ length bitmap.now + 1 },
+    ghost long: { 0 < few → 8 ≤ (columns + 7) / 8 },
+    ghost plain: { 0 < few → layout.black_is_0 ≡ false },
     ghost full: { has_refused ≡ true → length bitmap.now < start + (columns + 7) / 8 },
 }
 
 impl<'a> PackedRows<'a> {
-    ghost use Rattle.std.specs.Prelude.{◌≡◌, ◌<◌, ◌≤◌, ◌+◌, ◌-◌, ◌/◌, All, false, length, true};
-    ghost use Rattle.hayro_ccitt_c.specs.Packing.{packing_up_to};
+    ghost use Rattle.std.specs.Prelude.{◌≡◌, ◌<◌, ◌≤◌, ◌+◌, ◌-◌, ◌/◌, All, IsOkUnless, OnErr, OnOk, [], false, length, true};
+    ghost use Rattle.hayro_ccitt.specs.Rows.{AreChanges};
+    ghost use Rattle.hayro_ccitt_c.specs.Packing.{counted, packing_up_to, with_packed};
 
     /// Creates a sink without rows.
     pub(crate) fn new(bitmap: &'a mut [u8], columns: u32, layout: Layout) -> PackedRows<'a>
@@ -171,6 +206,7 @@ impl<'a> PackedRows<'a> {
             waits_until,
             columns,
             bytes,
+            few: most_cleared(bytes, layout.black_is_0),
             changes: 0,
             has_refused: false,
         }
@@ -233,6 +269,110 @@ impl<'a> PackedRows<'a> {
         }
     }
 
+    /// Goes on behind a row that is in memory, as all before it.
+    #[inline(always)]
+    fn go_on(&mut self, changes: &[u32])
+        requires room { self.old.start + (self.old.columns + 7) / 8 ≤ length self.old.bitmap.now }
+        ensures start { self.new.start ≡ self.old.start + self.old.layout.stride }
+        ensures written { self.new.written ≡ self.new.start }
+        ensures changes { self.new.changes ≡ counted self.old.changes (length changes.now) }
+        ensures layout { self.new.layout ≡ self.old.layout }
+        ensures memory { self.new.bitmap.now ≡ self.old.bitmap.now }
+        ensures same_reference { self.new.bitmap.ghost_name ≡ self.old.bitmap.ghost_name }
+        ensures columns { self.new.columns ≡ self.old.columns }
+        ensures has_refused { self.new.has_refused ≡ self.old.has_refused }
+    {
+        self.start += self.layout.stride as usize;
+        self.written = self.start;
+        self.changes = counted(self.changes, changes);
+    }
+
+    /// Packs a row for which there is room, and that isn't cleared first, after the white rows that aren't written.
+    #[inline(always)]
+    fn pack_next(&mut self, changes: &[u32])
+        requires changes { AreChanges self.old.columns changes.now }
+        requires room { self.old.start + (self.old.columns + 7) / 8 ≤ length self.old.bitmap.now }
+        ensures meaning { packing_up_to self.new.layout self.new.start self.new.written self.new.bitmap.now self.new.changes
+            self.new.bitmap.ghost_name ≡ with_packed self.old.columns (packing_up_to self.old.layout self.old.start
+            self.old.written self.old.bitmap.now self.old.changes self.old.bitmap.ghost_name) changes.now }
+        ensures columns { self.new.columns ≡ self.old.columns }
+        ensures has_refused { self.new.has_refused ≡ self.old.has_refused }
+    {
+        self.write_white();
+        let end = self.start + self.bytes;
+        pack_over(
+            &mut self.bitmap[self.start..end],
+            self.columns,
+            changes,
+            self.layout.black_is_0,
+        );
+        self.go_on(changes);
+    }
+
+    /// Writes the white rows that aren't written if they are too many bytes to be cleared with the next row.
+    #[inline(always)]
+    fn fill_many(&mut self)
+        requires { self.old.start ≤ length self.old.bitmap.now }
+        ensures meaning { packing_up_to self.new.layout self.new.start self.new.written self.new.bitmap.now self.new.changes
+            self.new.bitmap.ghost_name ≡ packing_up_to self.old.layout self.old.start self.old.written self.old.bitmap.now
+            self.old.changes self.old.bitmap.ghost_name }
+        ensures layout { self.new.layout ≡ self.old.layout }
+        ensures start { self.new.start ≡ self.old.start }
+        ensures size { length self.new.bitmap.now ≡ length self.old.bitmap.now }
+        ensures columns { self.new.columns ≡ self.old.columns }
+        ensures has_refused { self.new.has_refused ≡ self.old.has_refused }
+    {
+        if self.start + self.bytes - self.written > MOST_TOGETHER {
+            self.fill_white();
+        }
+    }
+
+    /// Clears the white rows that aren't written, and the next row with them, and paints that by its black runs.
+    #[inline(always)]
+    fn paint_next(&mut self, changes: &[u32])
+        requires changes { AreChanges self.old.columns changes.now }
+        requires room { self.old.start + (self.old.columns + 7) / 8 ≤ length self.old.bitmap.now }
+        requires some { 0 < length changes.now }
+        requires few { length changes.now ≤ self.old.few }
+        ensures meaning { packing_up_to self.new.layout self.new.start self.new.written self.new.bitmap.now self.new.changes
+            self.new.bitmap.ghost_name ≡ with_packed self.old.columns (packing_up_to self.old.layout self.old.start
+            self.old.written self.old.bitmap.now self.old.changes self.old.bitmap.ghost_name) changes.now }
+        ensures columns { self.new.columns ≡ self.old.columns }
+        ensures has_refused { self.new.has_refused ≡ self.old.has_refused }
+    {
+        self.fill_many();
+        let end = self.start + self.bytes;
+        fill_bytes(&mut self.bitmap[self.written..end], 0);
+        paint_cleared(&mut self.bitmap[self.start..end], self.columns, changes);
+        self.go_on(changes);
+    }
+
+    /// Packs a white row that doesn't wait, or refuses it.
+    #[inline(never)]
+    fn push_white(&mut self) -> hayro_ccitt::Result<()>
+        ensures taken { OnOk result (packing_up_to self.new.layout self.new.start self.new.written self.new.bitmap.now
+            self.new.changes self.new.bitmap.ghost_name ≡ with_packed self.old.columns (packing_up_to self.old.layout
+            self.old.start self.old.written self.old.bitmap.now self.old.changes self.old.bitmap.ghost_name) []) }
+        ensures not_refused { OnOk result (self.new.has_refused ≡ self.old.has_refused) }
+        ensures kept { OnErr result (packing_up_to self.new.layout self.new.start self.new.written self.new.bitmap.now
+            self.new.changes self.new.bitmap.ghost_name ≡ packing_up_to self.old.layout self.old.start self.old.written
+            self.old.bitmap.now self.old.changes self.old.bitmap.ghost_name) }
+        ensures refused { OnErr result (self.new.has_refused ≡ true) }
+        ensures only_refused { IsOkUnless result DecodeError.Refused }
+        ensures columns { self.new.columns ≡ self.old.columns }
+    {
+        if self.bitmap.len() < self.start + self.bytes {
+            self.has_refused = true;
+            return Err(DecodeError::Refused);
+        }
+        self.write_white();
+        let end = self.start + self.bytes;
+        let white = white_byte(self.layout.black_is_0);
+        fill_all(&mut self.bitmap[self.start..end], white);
+        self.go_on(&[]);
+        Ok(())
+    }
+
     /// Returns whether a row was refused.
     pub(crate) fn has_refused(&self) -> bool
         ensures { result ≡ self.now.has_refused }
@@ -257,27 +397,24 @@ impl Decoder for PackedRows<'_> {
 
     #[inline(always)]
     fn push_row(&mut self, changes: &[u32]) -> hayro_ccitt::Result<()> {
-        if changes.is_empty() && self.start < self.waits_until {
-            self.start += self.bytes;
-            self.changes = counted(self.changes, changes);
-            return Ok(());
+        if changes.is_empty() {
+            if self.start < self.waits_until {
+                self.start += self.bytes;
+                self.changes = counted(self.changes, changes);
+                return Ok(());
+            }
+            return self.push_white();
         }
         let bytes = self.bytes;
         if self.bitmap.len() < self.start + bytes {
             self.has_refused = true;
             return Err(DecodeError::Refused);
         }
-        self.write_white();
-        let end = self.start + bytes;
-        pack_row(
-            &mut self.bitmap[self.start..end],
-            self.columns,
-            changes,
-            self.layout.black_is_0,
-        );
-        self.start += self.layout.stride as usize;
-        self.written = self.start;
-        self.changes = counted(self.changes, changes);
+        if changes.len() <= self.few {
+            self.paint_next(changes);
+        } else {
+            self.pack_next(changes);
+        }
         Ok(())
     }
 }

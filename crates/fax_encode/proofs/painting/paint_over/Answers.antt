@@ -1,6 +1,6 @@
 use Rattle.fax_encode.proofs.Names.{rules, ◌≡◌, length}
 use Rattle.fax_encode.proofs.PaintedRows.{white}
-use Rattle.fax_encode.proofs.painting.paint_row.Goals as goal
+use Rattle.fax_encode.proofs.painting.paint_over.Goals as goal
 
 pub returns-then-is_empty : goal.returns-then-is_empty
 returns-then-is_empty c =
