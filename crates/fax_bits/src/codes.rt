@@ -887,8 +887,7 @@ pub fn is_long_pair(reader: &BitReader<'_>, skip: u8, color: Color, tables: &Tab
         }
         behind += more;
     }
-    let (second, _) = reader.word_ahead(behind, color.opposite(), tables);
-    second == 2560
+    reader.has_longest_ahead(behind)
 }
 
 /// The same behind the modes of `horizontal_ends`. This is a call, so that other lines cost nothing for it.

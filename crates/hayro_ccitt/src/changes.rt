@@ -1,8 +1,9 @@
 //! Rows as lists of changes: the positions at which a row's colour turns, white at first.
 
 ghost use Rattle.std.specs.Prelude.{vec_len, vec_capacity, ◌≡◌, ◌≢◌, ◌+◌, ◌<◌, ◌≤◌, OnOk, OnErr, Err, IsOkUnless, false, length};
-ghost use Rattle.std.specs.Prelude.{get_or, ◌++◌, ◌∷◌, [], replicate, true, max};
+ghost use Rattle.std.specs.Prelude.{get_or, ◌++◌, ◌∷◌, [], replicate, true, max, IfSome, IfNone, Ok, pos, ◌+ℤ◌};
 ghost use Rattle.hayro_ccitt.specs.Rows.{AreChanges, pixels, b1, b2, is_black, last_pixel};
+ghost use Rattle.hayro_ccitt.specs.Lines.{place_from};
 ghost use Rattle.hayro_ccitt.specs.Context.{right_of_painted, ArePassed, passed_changes};
 ghost use Rattle.hayro_ccitt.specs.Space.{room_for};
 
@@ -55,6 +56,21 @@ pub fn change_or_end(changes: &[u32], index: usize, columns: u32) -> u32
     ensures { result ≡ get_or changes.now index columns }
 {
     changes.get(index).copied().unwrap_or(columns)
+}
+
+/// Returns the position that a vertical mode names, this far from b1, unless it is left of the pixels painted or has more than 32
+/// bits (T.4, 4.2.1.3).
+#[inline(always)]
+pub(crate) fn vertical_place(b1: u32, painted: u32, offset: i8) -> Option<u32>
+    ensures place { IfSome result (λ place. place_from painted (pos b1 +ℤ offset) ≡ Ok place) }
+    ensures none { IfNone result (place_from painted (pos b1 +ℤ offset) ≡ Err DecodeError.Overflow) }
+    ensures right { IfSome result (λ place. painted ≤ place) }
+{
+    let place = i64::from(b1) + i64::from(offset);
+    if place < i64::from(painted) || place > i64::from(u32::MAX) {
+        return None;
+    }
+    Some(place as u32)
 }
 
 /// Makes room for as many changes again, and for at least 64 more, and for no more than that; returns whether there is.

@@ -21,7 +21,7 @@ ghost use Rattle.hayro_ccitt.specs.Answers.{strict_step_of_mode, TellsCut};
 ghost use Rattle.hayro_ccitt.specs.Lines.{line_1d, line_2d};
 ghost use Rattle.hayro_ccitt.specs.Space.{room_for, most_stored};
 
-use crate::changes::{append_pixels, b1_index, change_or_end};
+use crate::changes::{append_pixels, b1_index, change_or_end, vertical_place};
 use crate::modes::{
     CodingLine, draw_modes, has_mode, has_no_room, is_white_row, lay_down_row, next_color,
     put_ends, repeat_changes, take_ends,
@@ -97,6 +97,8 @@ pub struct DecoderContext {
     tables: Tables,
     /// Whether the last line with many changes suits drawing by groups: it has few bits for each.
     suits_groups: bool,
+    /// Whether the last line that began in horizontal mode, below a row of one change or none, is likely to have no other mode.
+    is_filled_by_runs: bool,
     ticks: Ticks,
 }
 
@@ -150,6 +152,7 @@ impl DecoderContext {
             settings,
             tables: Tables::new(alloc)?,
             suits_groups: false,
+            is_filled_by_runs: true,
             ticks: Ticks::new(),
         })
     }
@@ -1227,6 +1230,30 @@ impl DecoderContext {
         true
     }
 
+    /// Draws modes from the start of a line that begins in horizontal mode, below a row of one change or none, while they are
+    /// usual; or none, if it is likely to be the only mode: plain calls draw it at less cost.
+    #[inline(always)]
+    fn draw_from_horizontal(&mut self, reader: &mut BitReader<'_>)
+        requires begins { self.old.held.front ≡ [] }
+        requires white { self.old.held.color ≡ Color.White }
+        requires none { self.old.passed ≡ 0 }
+        ensures drawn { GoesOn2d self.old.held.settings.strict self.old.held.settings.columns self.old.held.reference
+            (pen_of self.old.held (here reader.old)) (pen_of self.new.held (here reader.new)) self.old.ticks self.new.ticks
+            self.old.passed self.new.passed }
+        ensures held { self.new.held ≡ redrawn self.old.held self.new.held.front self.new.held.color }
+        ensures cut { self.new.cut ≡ self.old.cut }
+        ensures within { self.new.passed ≤ length (changes self.old.held.reference) }
+        ensures same_bits { reader.new.bits ≡ reader.old.bits }
+        ensures space { self.new.space ≤ max self.old.space (room_for
+            (max (length (changes self.old.held.reference)) (suc (length (changes self.new.held.front))))) }
+    {
+        if self.is_filled_by_runs || self.begins_with_long_runs(reader) {
+            return;
+        }
+        self.draw_modes_of(reader);
+        self.is_filled_by_runs = self.coding_changes.len() < 2;
+    }
+
     /// Draws modes from the start of a line as long as they are usual: a white line at once.
     #[inline(always)]
     fn draw_usual_modes(&mut self, reader: &mut BitReader<'_>)
@@ -1243,14 +1270,20 @@ impl DecoderContext {
         ensures space { self.new.space ≤ max self.old.space (room_for
             (max (length (changes self.old.held.reference)) (suc (length (changes self.new.held.front))))) }
     {
-        if self.draw_white_line(reader) {
-            return;
+        if self.ref_changes.len() < 2 {
+            if self.draw_white_line(reader) {
+                return;
+            }
+            // The first row with changes is drawn by calls that ask for the room that it needs.
+            if is_white_row(&self.ref_changes) && has_no_room(&self.coding_changes) {
+                return;
+            }
+            if reader.peek_u32() >> 29 == 1 {
+                self.draw_from_horizontal(reader);
+                return;
+            }
         }
         if self.draw_same_line(reader) {
-            return;
-        }
-        // The first row with changes is drawn by calls that ask for the room that it needs.
-        if is_white_row(&self.ref_changes) && has_no_room(&self.coding_changes) {
             return;
         }
         if self.begins_with_long_runs(reader) {
@@ -1259,9 +1292,31 @@ impl DecoderContext {
         self.draw_modes_of(reader);
     }
 
-    /// Draws a mode (T.4, 4.2.1.3).
+    /// Draws the two runs of a horizontal mode (T.4, 4.2.1.3).
     #[inline(never)]
-    fn draw_mode(&mut self, mode: Mode, reader: &mut BitReader<'_>) -> Result<()>
+    fn draw_both_runs(&mut self, reader: &mut BitReader<'_>) -> Result<()>
+        ensures step { DrawsStep (step_of_mode self.old.held (here reader.old) Mode.Horizontal)
+            result (pen_of self.new.held (here reader.new)) }
+        ensures held { self.new.held ≡ redrawn self.old.held self.new.held.front self.new.held.color }
+        ensures same_bits { reader.new.bits ≡ reader.old.bits }
+        ensures counts { self.old.ticks ≤ self.new.ticks }
+        ensures at_least { OnAnswer result (self.old.ticks
+            + length (words_of_mode self.old.held (here reader.old) Mode.Horizontal) ≤ self.new.ticks) }
+        ensures at_most { self.new.ticks + self.old.passed
+            ≤ self.old.ticks + length (words_of_mode self.old.held (here reader.old) Mode.Horizontal) + self.new.passed + 3 }
+        ensures within { self.old.passed ≤ length (changes self.old.held.reference)
+            → self.new.passed ≤ length (changes self.old.held.reference) }
+        ensures cut { OnOk result (TellsCut (strict_step_of_mode self.old.held (here reader.old) Mode.Horizontal)
+            (pen_of self.new.held (here reader.new)) self.old.cut self.new.cut) }
+        ensures space { self.new.space ≤ max self.old.space (room_for (suc (length (changes self.old.held.front)))) }
+    {
+        self.draw_run(reader)?;
+        self.draw_run(reader)
+    }
+
+    /// Draws a mode, the runs of a horizontal one by a call.
+    #[inline(never)]
+    fn draw_other_mode(&mut self, mode: Mode, reader: &mut BitReader<'_>) -> Result<()>
         ensures step { DrawsStep (step_of_mode self.old.held (here reader.old) mode)
             result (pen_of self.new.held (here reader.new)) }
         ensures held { self.new.held ≡ redrawn self.old.held self.new.held.front self.new.held.color }
@@ -1283,20 +1338,48 @@ impl DecoderContext {
                 self.push_pixels(b2 - self.pixels_painted())
             }
             Mode::Vertical(offset) => {
-                let place = self
-                    .b1()
-                    .checked_add_signed(i32::from(offset))
-                    .ok_or(DecodeError::Overflow)?;
-                let count = place
-                    .checked_sub(self.pixels_painted())
-                    .ok_or(DecodeError::Overflow)?;
-                self.push_pixels(count)?;
+                let b1 = self.b1();
+                let painted = self.pixels_painted();
+                let place = vertical_place(b1, painted, offset).ok_or(DecodeError::Overflow)?;
+                self.push_pixels(place - painted)?;
                 self.turn_color();
                 Ok(())
             }
-            Mode::Horizontal => {
-                self.draw_run(reader)?;
-                self.draw_run(reader)
+            Mode::Horizontal => self.draw_both_runs(reader),
+        }
+    }
+
+    /// Notes that plain calls draw another mode than a horizontal one.
+    #[inline(always)]
+    fn note_other_mode(&mut self)
+        ensures { self.new ≡ self.old }
+    {
+        self.is_filled_by_runs = false;
+    }
+
+    /// Draws a mode (T.4, 4.2.1.3).
+    #[inline(always)]
+    fn draw_mode(&mut self, mode: Mode, reader: &mut BitReader<'_>) -> Result<()>
+        ensures step { DrawsStep (step_of_mode self.old.held (here reader.old) mode)
+            result (pen_of self.new.held (here reader.new)) }
+        ensures held { self.new.held ≡ redrawn self.old.held self.new.held.front self.new.held.color }
+        ensures same_bits { reader.new.bits ≡ reader.old.bits }
+        ensures counts { self.old.ticks ≤ self.new.ticks }
+        ensures at_least { OnAnswer result (self.old.ticks
+            + length (words_of_mode self.old.held (here reader.old) mode) ≤ self.new.ticks) }
+        ensures at_most { self.new.ticks + self.old.passed
+            ≤ self.old.ticks + length (words_of_mode self.old.held (here reader.old) mode) + self.new.passed + 3 }
+        ensures within { self.old.passed ≤ length (changes self.old.held.reference)
+            → self.new.passed ≤ length (changes self.old.held.reference) }
+        ensures cut { OnOk result (TellsCut (strict_step_of_mode self.old.held (here reader.old) mode)
+            (pen_of self.new.held (here reader.new)) self.old.cut self.new.cut) }
+        ensures space { self.new.space ≤ max self.old.space (room_for (suc (length (changes self.old.held.front)))) }
+    {
+        match mode {
+            Mode::Horizontal => self.draw_both_runs(reader),
+            other => {
+                self.note_other_mode();
+                self.draw_other_mode(other, reader)
             }
         }
     }

@@ -14,6 +14,7 @@ ghost use Rattle.hayro_ccitt.specs.LinesGoOn.{OpenRun, mode_added, word_added};
 ghost use Rattle.hayro_ccitt.specs.PlainReading.{line_here};
 ghost use Rattle.hayro_ccitt.specs.Rows.{Row, paint, too_many_pixels};
 
+use crate::changes::vertical_place;
 use crate::context::DecoderContext;
 use crate::{DecodeError, EncodingMode};
 use fax_bits::DecodeSettings;
@@ -69,21 +70,6 @@ fn paint(part: &mut KeptPart, settings: DecodeSettings, count: u32) -> bool
     }
     part.painted = settings.columns;
     true
-}
-
-/// Returns the position that a vertical mode names, this far from b1, unless it is left of the pixels painted or has more than 32
-/// bits (T.4, 4.2.1.3).
-#[inline(always)]
-fn vertical_place(b1: u32, painted: u32, offset: i8) -> Option<u32>
-    ensures place { IfSome result (λ place. place_from painted (pos b1 +ℤ offset) ≡ Ok place) }
-    ensures none { IfNone result (place_from painted (pos b1 +ℤ offset) ≡ Err DecodeError.Overflow) }
-    ensures right { IfSome result (λ place. painted ≤ place) }
-{
-    let place = i64::from(b1) + i64::from(offset);
-    if place < i64::from(painted) || place > i64::from(u32::MAX) {
-        return None;
-    }
-    Some(place as u32)
 }
 
 /// Returns what a word leads to that is read with this error.
