@@ -726,6 +726,27 @@ impl<'a> BitsAtHand<'a> {
         true
     }
 
+    /// Fills the window with all bits that are left, if there are sixteen at least, and at most as many as it has room for;
+    /// otherwise nothing changes.
+    #[inline(always)]
+    pub fn refill_with_last(&mut self) -> bool
+        ensures same { self.new.at ≡ self.old.at }
+        ensures enough { result ≡ true → 16 ≤ self.new.left }
+        ensures most { result ≡ true → self.new.left ≤ 64 }
+        ensures all { result ≡ true → self.new.at.place + self.new.left ≡ length self.new.at.bits }
+        ensures unchanged { result ≡ false → self.new ≡ self.old }
+    {
+        let end = self.data.len() * 8;
+        let left = end - (self.limit - self.left);
+        if left < 16 || left > 64 {
+            return false;
+        }
+        self.window = last_window(self.data, self.order, left);
+        self.limit = end;
+        self.left = left;
+        true
+    }
+
     /// Consumes `n` bits of the window.
     #[inline(always)]
     pub fn pass(&mut self, n: usize)
@@ -876,6 +897,20 @@ fn last_bits(data: &[u8], order: BitOrder, left: usize) -> u64
         return later_word(data, order, 0) << (data.len() * 8 - left);
     }
     whole_word(&data[data.len() - 8..], order) << (64 - left)
+}
+
+/// Returns the last `left` bits, as `last_bits` does, by a call: a line's modes rarely need them.
+#[cold]
+#[inline(never)]
+fn last_window(data: &[u8], order: BitOrder, left: usize) -> u64
+    requires some { 0 < left }
+    requires few { left ≤ 64 }
+    requires within { left ≤ 8 * length «data».now }
+    requires fit { BitsFit «data».now }
+    ensures { (k : ℕ) → k < 64
+        → bit_of result (63 - k) ≡ get_or (bits_in order «data».now) (8 * length «data».now - left + k) false }
+{
+    last_bits(data, order, left)
 }
 
 /// Creates a scanner at one of the last 64 bits, or returns `None` if it is none of them. All bits that are left are in its window.

@@ -65,23 +65,36 @@ fn has_room_for_window(row: &Vec<u32>) -> bool
     row.len() + 64 <= row.capacity()
 }
 
-/// Fills the window if it has fewer than 32 bits; returns false if it can't be filled, or there is no room for its changes.
+/// Fills the window, with the last bits of the data if no more are left, and makes room for its changes. Returns false if it can't be
+/// filled with sixteen bits at least, or there is no room.
 #[inline(always)]
 pub(crate) fn has_mode(hand: &mut BitsAtHand<'_>, row: &mut Vec<u32>) -> bool
-    requires room { vec_len row.old + hand.old.left ≤ vec_capacity row.old }
     ensures same { hand.new.at ≡ hand.old.at }
     ensures same_row { row.new.items ≡ row.old.items }
-    ensures enough { result ≡ true → 32 ≤ hand.new.left }
+    ensures enough { result ≡ true → 16 ≤ hand.new.left }
     ensures room { result ≡ true → vec_len row.new + hand.new.left ≤ vec_capacity row.new }
     ensures space { vec_capacity row.new ≤ max (vec_capacity row.old) (room_for (vec_len row.old)) }
 {
-    if hand.left() >= 32 {
-        return true;
-    }
-    if !hand.refill() {
+    if !hand.refill() && !hand.refill_with_last() {
         return false;
     }
     has_room_for_window(row) || make_room(row)
+}
+
+/// Makes room for the changes of a window if there is none, or else fills a window that has fewer than 16 bits with the last bits
+/// of the data. Returns false if neither can be done, or need be.
+#[inline(always)]
+fn can_go_on(hand: &mut BitsAtHand<'_>, row: &mut Vec<u32>) -> bool
+    ensures same { hand.new.at ≡ hand.old.at }
+    ensures same_row { row.new.items ≡ row.old.items }
+    ensures room { result ≡ true → vec_len row.new + hand.new.left ≤ vec_capacity row.new }
+    ensures space { vec_capacity row.new ≤ max (vec_capacity row.old) (room_for (vec_len row.old)) }
+{
+    if has_room_for_window(row) {
+        return hand.left() < 16 && hand.refill_with_last();
+    }
+    // A window has at most 64 bits.
+    hand.left() <= 64 && make_room(row)
 }
 
 /// Fills the window if it has fewer than 16 bits; returns false if it can't be filled, or there is no room for its changes.
@@ -1275,14 +1288,7 @@ pub(crate) fn draw_modes(
         if reached.painted == line.columns {
             return reached;
         }
-        // A window has at most 64 bits.
-        if hand.left() > 64 {
-            return reached;
-        }
-        if has_room_for_window(row) {
-            return reached;
-        }
-        if !make_room(row) {
+        if !can_go_on(hand, row) {
             return reached;
         }
         now = reached;
