@@ -727,8 +727,9 @@ impl<'a> BitsAtHand<'a> {
     }
 
     /// Fills the window with all bits that are left, if there are sixteen at least, and at most as many as it has room for;
-    /// otherwise nothing changes.
-    #[inline(always)]
+    /// otherwise nothing changes. This is a call, so that the loops that draw modes have their values in registers.
+    #[cold]
+    #[inline(never)]
     pub fn refill_with_last(&mut self) -> bool
         ensures same { self.new.at ≡ self.old.at }
         ensures enough { result ≡ true → 16 ≤ self.new.left }
@@ -741,7 +742,7 @@ impl<'a> BitsAtHand<'a> {
         if left < 16 || left > 64 {
             return false;
         }
-        self.window = last_window(self.data, self.order, left);
+        self.window = last_bits(self.data, self.order, left);
         self.limit = end;
         self.left = left;
         true
@@ -897,20 +898,6 @@ fn last_bits(data: &[u8], order: BitOrder, left: usize) -> u64
         return later_word(data, order, 0) << (data.len() * 8 - left);
     }
     whole_word(&data[data.len() - 8..], order) << (64 - left)
-}
-
-/// Returns the last `left` bits, as `last_bits` does, by a call: a line's modes rarely need them.
-#[cold]
-#[inline(never)]
-fn last_window(data: &[u8], order: BitOrder, left: usize) -> u64
-    requires some { 0 < left }
-    requires few { left ≤ 64 }
-    requires within { left ≤ 8 * length «data».now }
-    requires fit { BitsFit «data».now }
-    ensures { (k : ℕ) → k < 64
-        → bit_of result (63 - k) ≡ get_or (bits_in order «data».now) (8 * length «data».now - left + k) false }
-{
-    last_bits(data, order, left)
 }
 
 /// Creates a scanner at one of the last 64 bits, or returns `None` if it is none of them. All bits that are left are in its window.
