@@ -217,7 +217,7 @@ fn draw_v0_below(
 /// Returns whether the next two bits are ones: V0 twice.
 #[inline(always)]
 fn has_two_v0(hand: &BitsAtHand<'_>) -> bool
-    requires enough { 16 ≤ hand.now.left }
+    requires enough { 7 ≤ hand.now.left }
     ensures two { result ≡ true → (next : AtHand) → next.at ≡ moved 1 hand.now.at → next.left + 1 ≡ hand.now.left
         → IsNextMode (Mode.Vertical (pos 0)) 1 next }
 {
@@ -238,7 +238,7 @@ fn draw_v0(
     ticks: &mut Ticks,
 ) -> Stroke
     requires mode { IsNextMode (Mode.Vertical (pos 0)) 1 hand.old }
-    requires enough { 16 ≤ hand.old.left }
+    requires enough { 7 ≤ hand.old.left }
     requires can { CanDraw line.now stroke hand.old row.old }
     ensures drawn { DrawsMode line.now stroke hand.old row.old ticks.old result hand.new row.new ticks.new }
     ensures kept { KeepsRoom hand.old row.old hand.new row.new }
@@ -618,7 +618,7 @@ fn draw_vertical(
 ) -> Option<Stroke>
     requires mode { IsNextMode read.0 read.1 hand.old }
     requires v0 { read.0 ≡ Mode.Vertical (pos 0) → read.1 ≡ 1 }
-    requires enough { 16 ≤ hand.old.left }
+    requires enough { 7 ≤ hand.old.left }
     requires can { CanDraw line.now stroke hand.old row.old }
     ensures drawn { DrawsSome line.now stroke hand.old row.old ticks.old result hand.new row.new ticks.new }
     ensures kept { KeepsRoom hand.old row.old hand.new row.new }
@@ -1263,6 +1263,42 @@ fn draw_own_row(
     reached
 }
 
+/// Draws vertical modes one at a time, while they are of the usual kind and seven bits are in the window. Returns the stroke that is
+/// reached then. This is a call: it is for the last bits of the data.
+#[cold]
+#[inline(never)]
+fn draw_last_modes(
+    hand: &mut BitsAtHand<'_>,
+    row: &mut Vec<u32>,
+    line: &CodingLine<'_>,
+    stroke: Stroke,
+    ticks: &mut Ticks,
+) -> Stroke
+    requires can { CanDraw line.now stroke hand.old row.old }
+    ensures drawn { Draws line.now stroke hand.old row.old ticks.old result hand.new row.new ticks.new }
+    ensures same_bits { hand.new.at.bits ≡ hand.old.at.bits }
+    ensures longer { vec_len row.old ≤ vec_len row.new }
+    ensures space { vec_capacity row.new ≡ vec_capacity row.old }
+{
+    let mut now = stroke;
+    'modes: while hand.left() >= 7 {
+        let (mode, width) = mode_at_hand(hand);
+        let Some(mode) = mode else {
+            return now;
+        };
+        match draw_vertical(hand, row, line, now, (mode, width), ticks) {
+            None => return now,
+            Some(next) => {
+                if next.painted == line.columns {
+                    return next;
+                }
+                now = next;
+            }
+        }
+    }
+    now
+}
+
 /// Draws modes from a line's start on, while they are of the usual kind, and makes room as it is needed. Returns the stroke
 /// that is reached then.
 #[inline(always)]
@@ -1289,6 +1325,9 @@ pub(crate) fn draw_modes(
             return reached;
         }
         if !can_go_on(hand, row) {
+            if hand.left() < 16 && has_room_for_window(row) {
+                return draw_last_modes(hand, row, line, reached, ticks);
+            }
             return reached;
         }
         now = reached;

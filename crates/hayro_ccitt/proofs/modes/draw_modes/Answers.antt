@@ -27,3 +27,9 @@ returns-then-not-can_go_on-clause-drawn c =
     let made = c.can_go_on.ensures in
     let drawn = draws_on c.rooms.invariant.drawn refl refl c.draw_own_row-reached.ensures.drawn in
     same_row_drawn (same_place_drawn drawn made.same) made.same_row
+
+pub returns-then-has_room_for_window-clause-drawn : goal.returns-then-has_room_for_window-clause-drawn
+returns-then-has_room_for_window-clause-drawn c =
+    let made = c.can_go_on.ensures in
+    let drawn = draws_on c.rooms.invariant.drawn refl refl c.draw_own_row-reached.ensures.drawn in
+    draws_on drawn made.same made.same_row c.draw_last_modes.ensures.drawn
