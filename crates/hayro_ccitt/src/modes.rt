@@ -1264,23 +1264,30 @@ fn draw_own_row(
 }
 
 /// Draws vertical modes one at a time, while they are of the usual kind and seven bits are in the window. Returns the stroke that is
-/// reached then. This is a call: it is for the last bits of the data.
+/// reached then. This is a call, for the last bits of the data; it is given the stroke's fields, so that they are values of the caller.
 #[cold]
 #[inline(never)]
 fn draw_last_modes(
     hand: &mut BitsAtHand<'_>,
     row: &mut Vec<u32>,
     line: &CodingLine<'_>,
-    stroke: Stroke,
+    painted: u32,
+    index: usize,
+    color: Color,
     ticks: &mut Ticks,
 ) -> Stroke
-    requires can { CanDraw line.now stroke hand.old row.old }
-    ensures drawn { Draws line.now stroke hand.old row.old ticks.old result hand.new row.new ticks.new }
+    requires can { CanDraw line.now (record { painted = painted; index = index; color = color }) hand.old row.old }
+    ensures drawn { Draws line.now (record { painted = painted; index = index; color = color }) hand.old row.old ticks.old
+        result hand.new row.new ticks.new }
     ensures same_bits { hand.new.at.bits ≡ hand.old.at.bits }
     ensures longer { vec_len row.old ≤ vec_len row.new }
     ensures space { vec_capacity row.new ≡ vec_capacity row.old }
 {
-    let mut now = stroke;
+    let mut now = Stroke {
+        painted,
+        index,
+        color,
+    };
     'modes: while hand.left() >= 7 {
         let (mode, width) = mode_at_hand(hand);
         let Some(mode) = mode else {
@@ -1326,7 +1333,17 @@ pub(crate) fn draw_modes(
         }
         if !can_go_on(hand, row) {
             if hand.left() < 16 && has_room_for_window(row) {
-                return draw_last_modes(hand, row, line, reached, ticks);
+                // A copy, so that the line's fields are values of this call.
+                let last = *line;
+                return draw_last_modes(
+                    hand,
+                    row,
+                    &last,
+                    reached.painted,
+                    reached.index,
+                    reached.color,
+                    ticks,
+                );
             }
             return reached;
         }
