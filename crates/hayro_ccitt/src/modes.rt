@@ -65,8 +65,8 @@ fn has_room_for_window(row: &Vec<u32>) -> bool
     row.len() + 64 <= row.capacity()
 }
 
-/// Fills the window, with the last bits of the data if no more are left, and makes room for its changes. Returns false if it can't be
-/// filled with sixteen bits at least, or there is no room.
+/// Fills the window, with the last bits of the data if no more are left, and makes room for its changes. Returns false if it
+/// can't be filled with sixteen bits at least, or there is no room.
 #[inline(always)]
 pub(crate) fn has_mode(hand: &mut BitsAtHand<'_>, row: &mut Vec<u32>) -> bool
     ensures same { hand.new.at ≡ hand.old.at }
@@ -1263,8 +1263,9 @@ fn draw_own_row(
     reached
 }
 
-/// Draws vertical modes one at a time, while they are of the usual kind and seven bits are in the window. Returns the stroke that is
-/// reached then. This is a call, for the last bits of the data; it is given the stroke's fields, so that they are values of the caller.
+/// Draws vertical modes one at a time, while they are of the usual kind and seven bits are in the window. Returns the stroke
+/// that is reached then. This is a call, for the last bits of the data; it is given the stroke's fields, so that they are
+/// values of the caller.
 #[cold]
 #[inline(never)]
 fn draw_last_modes(

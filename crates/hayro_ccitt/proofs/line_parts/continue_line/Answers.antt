@@ -94,9 +94,9 @@ modes-preserved c =
     let went = c.modes.invariant.went_on in
     record {
       went_on = went_on c.args.part.now c.modes.part c.read_step.new.part c.args.ctx.now c.modes.ctx.ticks c.read_step.new.ctx
-        c.args.reader.now c.modes.reader c.read_step.new.reader
-        (went_to_word c.args.part.now c.modes.part c.args.ctx.now c.modes.ctx c.args.reader.now c.modes.reader went)
-        (step_read at Word.GoesOn c.in-GoesOn-read_step.is);
+          c.args.reader.now c.modes.reader c.read_step.new.reader
+          (went_to_word c.args.part.now c.modes.part c.args.ctx.now c.modes.ctx c.args.reader.now c.modes.reader went)
+          (step_read at Word.GoesOn c.in-GoesOn-read_step.is);
       no_more = omega (arith, c.modes.invariant.no_more, c.read_step.ensures.smaller c.in-GoesOn-read_step.is);
     }
 
@@ -108,8 +108,8 @@ returns-in-Missing-read_step-clause-goes_on c =
     c.args.reader.now c.modes.reader c.read_step.new.reader
     (went_to_word c.args.part.now c.modes.part c.args.ctx.now c.modes.ctx c.args.reader.now c.modes.reader went)
     (record c.args.reader.now { place = c.offset-step_start.result })
-    (put_back c.args.part.now c.modes.part c.args.ctx.now c.modes.ctx c.args.reader.now c.modes.reader c.offset-step_start.result went
-    c.offset-step_start.ensures.place)
+    (put_back c.args.part.now c.modes.part c.args.ctx.now c.modes.ctx c.args.reader.now c.modes.reader
+    c.offset-step_start.result went c.offset-step_start.ensures.place)
     (omega (arith, c.offset-start.ensures.place, c.offset-start.ensures.within))
     (omega (arith, c.offset-step_start.ensures.place, c.offset-step_start.ensures.within))
     (step_read at Word.Missing c.in-Missing-read_step.is)
@@ -122,8 +122,8 @@ returns-in-Ends-read_step-clause-goes_on c =
     c.args.reader.now c.modes.reader c.read_step.new.reader
     (went_to_word c.args.part.now c.modes.part c.args.ctx.now c.modes.ctx c.args.reader.now c.modes.reader went)
     (record c.args.reader.now { place = c.offset-step_start.result })
-    (put_back c.args.part.now c.modes.part c.args.ctx.now c.modes.ctx c.args.reader.now c.modes.reader c.offset-step_start.result went
-    c.offset-step_start.ensures.place)
+    (put_back c.args.part.now c.modes.part c.args.ctx.now c.modes.ctx c.args.reader.now c.modes.reader
+    c.offset-step_start.result went c.offset-step_start.ensures.place)
     (omega (arith, c.offset-start.ensures.place, c.offset-start.ensures.within))
     (omega (arith, c.offset-step_start.ensures.place, c.offset-step_start.ensures.within))
     (step_read at Word.Ends c.in-Ends-read_step.is)
