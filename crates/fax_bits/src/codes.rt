@@ -841,6 +841,22 @@ impl<'a> BitScanner<'a> {
         ensures same_bits { self.new.bits ≡ self.old.bits }
         ensures ticks { ticks.new ≡ ticks.old + 1 }
     {
+        // Six zeros are separate, as mostly a word ends the data there: what follows is compiled for them alone.
+        if self.seven() < 2 {
+            return self.mode_here(ticks);
+        }
+        self.mode_here(ticks)
+    }
+
+    /// Reads any mode, as `next_mode` does.
+    #[inline(always)]
+    fn mode_here(&mut self, ticks: &mut Ticks) -> Result<Mode>
+        ensures mode { MatchResult result
+            (λ m. read_code mode_codes (here self.old) ≡ Ok (m, here self.new))
+            (λ e. read_code mode_codes (here self.old) ≡ Err e) }
+        ensures same_bits { self.new.bits ≡ self.old.bits }
+        ensures ticks { ticks.new ≡ ticks.old + 1 }
+    {
         ticks.tick();
         let (mode, bits) = mode_of(self.seven());
         // If the data ends inside a word these bits aren't there.

@@ -330,11 +330,14 @@ pub(crate) fn continue_line(
                 Word::Ends => return (false, word_start),
             }
         }
-        let step_start = reader.offset();
-        match read_step(ctx, reader, part) {
-            Word::GoesOn => {}
-            Word::Missing => return (true, step_start),
-            Word::Ends => return (false, step_start),
+        // Steps are a loop of their own, since mostly a mode follows a mode.
+        'modes: while !part.in_run {
+            let step_start = reader.offset();
+            match read_step(ctx, reader, part) {
+                Word::GoesOn => {}
+                Word::Missing => return (true, step_start),
+                Word::Ends => return (false, step_start),
+            }
         }
     }
 }

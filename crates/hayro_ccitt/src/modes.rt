@@ -65,23 +65,36 @@ fn has_room_for_window(row: &Vec<u32>) -> bool
     row.len() + 64 <= row.capacity()
 }
 
-/// Fills the window if it has fewer than 32 bits; returns false if it can't be filled, or there is no room for its changes.
+/// Fills the window, with the last bits of the data if no more are left, and makes room for its changes. Returns false if it
+/// can't be filled with sixteen bits at least, or there is no room.
 #[inline(always)]
 pub(crate) fn has_mode(hand: &mut BitsAtHand<'_>, row: &mut Vec<u32>) -> bool
-    requires room { vec_len row.old + hand.old.left ≤ vec_capacity row.old }
     ensures same { hand.new.at ≡ hand.old.at }
     ensures same_row { row.new.items ≡ row.old.items }
-    ensures enough { result ≡ true → 32 ≤ hand.new.left }
+    ensures enough { result ≡ true → 16 ≤ hand.new.left }
     ensures room { result ≡ true → vec_len row.new + hand.new.left ≤ vec_capacity row.new }
     ensures space { vec_capacity row.new ≤ max (vec_capacity row.old) (room_for (vec_len row.old)) }
 {
-    if hand.left() >= 32 {
-        return true;
-    }
-    if !hand.refill() {
+    if !hand.refill() && !hand.refill_with_last() {
         return false;
     }
     has_room_for_window(row) || make_room(row)
+}
+
+/// Makes room for the changes of a window if there is none, or else fills a window that has fewer than 16 bits with the last bits
+/// of the data. Returns false if neither can be done, or need be.
+#[inline(always)]
+fn can_go_on(hand: &mut BitsAtHand<'_>, row: &mut Vec<u32>) -> bool
+    ensures same { hand.new.at ≡ hand.old.at }
+    ensures same_row { row.new.items ≡ row.old.items }
+    ensures room { result ≡ true → vec_len row.new + hand.new.left ≤ vec_capacity row.new }
+    ensures space { vec_capacity row.new ≤ max (vec_capacity row.old) (room_for (vec_len row.old)) }
+{
+    if has_room_for_window(row) {
+        return hand.left() < 16 && hand.refill_with_last();
+    }
+    // A window has at most 64 bits.
+    hand.left() <= 64 && make_room(row)
 }
 
 /// Fills the window if it has fewer than 16 bits; returns false if it can't be filled, or there is no room for its changes.
@@ -204,7 +217,7 @@ fn draw_v0_below(
 /// Returns whether the next two bits are ones: V0 twice.
 #[inline(always)]
 fn has_two_v0(hand: &BitsAtHand<'_>) -> bool
-    requires enough { 16 ≤ hand.now.left }
+    requires enough { 7 ≤ hand.now.left }
     ensures two { result ≡ true → (next : AtHand) → next.at ≡ moved 1 hand.now.at → next.left + 1 ≡ hand.now.left
         → IsNextMode (Mode.Vertical (pos 0)) 1 next }
 {
@@ -225,7 +238,7 @@ fn draw_v0(
     ticks: &mut Ticks,
 ) -> Stroke
     requires mode { IsNextMode (Mode.Vertical (pos 0)) 1 hand.old }
-    requires enough { 16 ≤ hand.old.left }
+    requires enough { 7 ≤ hand.old.left }
     requires can { CanDraw line.now stroke hand.old row.old }
     ensures drawn { DrawsMode line.now stroke hand.old row.old ticks.old result hand.new row.new ticks.new }
     ensures kept { KeepsRoom hand.old row.old hand.new row.new }
@@ -605,7 +618,7 @@ fn draw_vertical(
 ) -> Option<Stroke>
     requires mode { IsNextMode read.0 read.1 hand.old }
     requires v0 { read.0 ≡ Mode.Vertical (pos 0) → read.1 ≡ 1 }
-    requires enough { 16 ≤ hand.old.left }
+    requires enough { 7 ≤ hand.old.left }
     requires can { CanDraw line.now stroke hand.old row.old }
     ensures drawn { DrawsSome line.now stroke hand.old row.old ticks.old result hand.new row.new ticks.new }
     ensures kept { KeepsRoom hand.old row.old hand.new row.new }
@@ -1250,6 +1263,50 @@ fn draw_own_row(
     reached
 }
 
+/// Draws vertical modes one at a time, while they are of the usual kind and seven bits are in the window. Returns the stroke
+/// that is reached then. This is a call, for the last bits of the data; it is given the stroke's fields, so that they are
+/// values of the caller.
+#[cold]
+#[inline(never)]
+fn draw_last_modes(
+    hand: &mut BitsAtHand<'_>,
+    row: &mut Vec<u32>,
+    line: &CodingLine<'_>,
+    painted: u32,
+    index: usize,
+    color: Color,
+    ticks: &mut Ticks,
+) -> Stroke
+    requires can { CanDraw line.now (record { painted = painted; index = index; color = color }) hand.old row.old }
+    ensures drawn { Draws line.now (record { painted = painted; index = index; color = color }) hand.old row.old ticks.old
+        result hand.new row.new ticks.new }
+    ensures same_bits { hand.new.at.bits ≡ hand.old.at.bits }
+    ensures longer { vec_len row.old ≤ vec_len row.new }
+    ensures space { vec_capacity row.new ≡ vec_capacity row.old }
+{
+    let mut now = Stroke {
+        painted,
+        index,
+        color,
+    };
+    'modes: while hand.left() >= 7 {
+        let (mode, width) = mode_at_hand(hand);
+        let Some(mode) = mode else {
+            return now;
+        };
+        match draw_vertical(hand, row, line, now, (mode, width), ticks) {
+            None => return now,
+            Some(next) => {
+                if next.painted == line.columns {
+                    return next;
+                }
+                now = next;
+            }
+        }
+    }
+    now
+}
+
 /// Draws modes from a line's start on, while they are of the usual kind, and makes room as it is needed. Returns the stroke
 /// that is reached then.
 #[inline(always)]
@@ -1275,14 +1332,20 @@ pub(crate) fn draw_modes(
         if reached.painted == line.columns {
             return reached;
         }
-        // A window has at most 64 bits.
-        if hand.left() > 64 {
-            return reached;
-        }
-        if has_room_for_window(row) {
-            return reached;
-        }
-        if !make_room(row) {
+        if !can_go_on(hand, row) {
+            if hand.left() < 16 && has_room_for_window(row) {
+                // A copy, so that the line's fields are values of this call.
+                let last = *line;
+                return draw_last_modes(
+                    hand,
+                    row,
+                    &last,
+                    reached.painted,
+                    reached.index,
+                    reached.color,
+                    ticks,
+                );
+            }
             return reached;
         }
         now = reached;

@@ -19,3 +19,13 @@ invariant-run l = record {
 
 abbrev pub decreases-run : goal.decreases-run
 decreases-run l = left_to_read l.part.in_run (here l.reader)
+
+-- and so it does between runs
+abbrev pub invariant-modes : goal.invariant-modes
+invariant-modes l = record {
+  went_on : WentOn l.fn.part l.part l.fn.ctx l.ctx l.fn.reader l.reader;
+  no_more : left_to_read l.part.in_run (here l.reader) ≤ left_to_read l.initial.part.in_run (here l.initial.reader);
+}
+
+abbrev pub decreases-modes : goal.decreases-modes
+decreases-modes l = left_to_read l.part.in_run (here l.reader)

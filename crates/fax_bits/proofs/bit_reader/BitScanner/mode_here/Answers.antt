@@ -3,7 +3,7 @@ use Rattle.fax_bits.proofs.Names.{ℕ, Option, refl, sym, ap, ◌∙◌, false�
 use Rattle.fax_bits.proofs.Names.{padded, mode_told, telling_bits}
 use Rattle.fax_bits.proofs.BitReading.BitPlaces.{passed_on, bits_enough, bits_missing}
 use Rattle.fax_bits.proofs.CodeWords.LookedUpModes.{mode_cut, mode_wrong, mode_is_read, some_mode_bits}
-use Rattle.fax_bits.proofs.bit_reader.BitScanner.next_mode.Goals as goal
+use Rattle.fax_bits.proofs.bit_reader.BitScanner.mode_here.Goals as goal
 
 pub returns-in_err-consume-clause-mode : goal.returns-in_err-consume-clause-mode
 returns-in_err-consume-clause-mode c =

@@ -1,0 +1,18 @@
+use Rattle.std.specs.Prelude.{vec_len, vec_capacity}
+use Rattle.hayro_ccitt.specs.DrawnModes.{CanDraw, Draws}
+use Rattle.hayro_ccitt.proofs.Names.{◌≡◌, ◌-◌, ◌≤◌, length}
+use Rattle.hayro_ccitt.proofs.modes.draw_last_modes.Given as goal
+
+-- what is drawn so far, and that the row isn't full
+abbrev pub invariant-modes : goal.invariant-modes
+invariant-modes l = record {
+  drawn : Draws l.line (record { painted = l.fn.painted; index = l.fn.index; color = l.fn.color }) l.fn.hand l.fn.row
+      l.fn.ticks l.now l.hand l.row l.ticks;
+  can : CanDraw l.line l.now l.hand l.row;
+  same_bits : l.hand.at.bits ≡ l.fn.hand.at.bits;
+  longer : vec_len l.fn.row ≤ vec_len l.row;
+  space : vec_capacity l.row ≡ vec_capacity l.fn.row;
+}
+
+abbrev pub decreases-modes : goal.decreases-modes
+decreases-modes l = length l.hand.at.bits - l.hand.at.place
