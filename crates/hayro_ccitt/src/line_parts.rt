@@ -6,8 +6,8 @@ ghost use Rattle.hayro_ccitt.specs.Bits.{Bits, here};
 ghost use Rattle.hayro_ccitt.specs.Context.{right_of_painted};
 ghost use Rattle.hayro_ccitt.specs.Continuations.{is_short};
 ghost use Rattle.hayro_ccitt.specs.Faults.{misses_end};
-ghost use Rattle.hayro_ccitt.specs.LineParts.{ContinuesLine, GoesOnBy, IsLawfulPart, IsPartOf, Leads, PaintsTo};
-ghost use Rattle.hayro_ccitt.specs.LineParts.{ReadsWord, first_kept, is_missing, left_to_read, pen_of_part};
+ghost use Rattle.hayro_ccitt.specs.LineParts.{ContinuesLine, GoesOnBy, IsAtRun, IsLawfulPart, IsPartOf, Leads, PaintsTo};
+ghost use Rattle.hayro_ccitt.specs.LineParts.{ReadsWord, WentOn, first_kept, is_missing, left_to_read, pen_of_part};
 ghost use Rattle.hayro_ccitt.specs.LineParts.{run_of_part};
 ghost use Rattle.hayro_ccitt.specs.Lines.{place_from};
 ghost use Rattle.hayro_ccitt.specs.LinesGoOn.{OpenRun, mode_added, word_added};
@@ -318,6 +318,77 @@ pub(crate) fn begin_part(ctx: &mut DecoderContext, reader: &mut BitReader<'_>) -
     }
 }
 
+/// Returns whether a run of a one-dimensional line begins, of which no word is read.
+#[inline(always)]
+fn is_at_run(part: &KeptPart) -> bool
+    ensures { result ≡ true → IsAtRun part.now }
+{
+    !part.is_2d && part.in_run && !part.another && part.total == 0
+}
+
+/// Goes on behind a word of a run of a one-dimensional line that is read here. Mostly the run ends with it within the row, and then
+/// the next one begins.
+#[inline(always)]
+fn read_next_run(ctx: &mut DecoderContext, reader: &mut BitScanner<'_>, part: &mut KeptPart) -> Word
+    requires lawful { IsLawfulPart ctx.old.held.settings ctx.old.held.reference part.old }
+    requires start { IsAtRun part.old }
+    ensures goes { result ≡ Word.GoesOn → WentOn part.old part.new ctx.old ctx.new reader.old reader.new }
+    ensures stops { result ≢ Word.GoesOn → ReadsWord part.old part.new ctx.old ctx.new reader.old reader.new result }
+    ensures shorter { result ≡ Word.GoesOn → length (here reader.new) < length (here reader.old) }
+{
+    match ctx.read_word(part.color, reader) {
+        Ok(n) => {
+            let end = u64::from(part.painted) + u64::from(n);
+            if n < 64 && end < u64::from(ctx.settings().columns) {
+                part.painted = end as u32;
+                part.color = part.color.opposite();
+                return Word::GoesOn;
+            }
+            add_word(part, ctx.settings(), u32::from(n))
+        }
+        Err(error) => word_of_fault(error),
+    }
+}
+
+/// Reads runs from a part of a one-dimensional line on that is at the start of one, as `continue_line` does, as long as a word ends
+/// each within the row. Returns `None` where the line goes on otherwise.
+#[inline(always)]
+fn continue_runs(
+    ctx: &mut DecoderContext,
+    reader: &mut BitScanner<'_>,
+    part: &mut KeptPart,
+) -> Option<(bool, usize)>
+    requires { IsLawfulPart ctx.old.held.settings ctx.old.held.reference part.old }
+    ensures stops { IfSome result (λ r. ContinuesLine part.old part.new ctx.old ctx.new reader.old
+        (record reader.old { place = r.1 }) r.0) }
+    ensures within { IfSome result (λ r. r.1 ≤ length reader.old.bits) }
+    ensures goes { IfNone result (WentOn part.old part.new ctx.old ctx.new reader.old reader.new) }
+{
+    // An offset is known to be within the data once it is read.
+    let _start = reader.offset();
+    if !is_at_run(part) {
+        return None;
+    }
+    // A part of its own, so that its fields are values of this call.
+    let mut now = *part;
+    'runs: while is_at_run(&now) {
+        let run_start = reader.offset();
+        match read_next_run(ctx, reader, &mut now) {
+            Word::GoesOn => {}
+            Word::Missing => {
+                *part = now;
+                return Some((true, run_start));
+            }
+            Word::Ends => {
+                *part = now;
+                return Some((false, run_start));
+            }
+        }
+    }
+    *part = now;
+    None
+}
+
 /// Reads words from a part of a line on, and returns whether the data ends within the line. If it does, the part is then that
 /// from which the line goes on, and the second number is the offset there. Otherwise it is the offset of the word with which the
 /// line ends. The reader's offset is then unspecified. Each word that is looked for is a tick, and so is each change of the
@@ -335,6 +406,9 @@ pub(crate) fn continue_line(
 {
     // An offset is known to be within the data once it is read.
     let _start = reader.offset();
+    if let Some(stopped) = continue_runs(ctx, reader, part) {
+        return stopped;
+    }
     'steps: loop {
         'run: while part.in_run {
             let word_start = reader.offset();
