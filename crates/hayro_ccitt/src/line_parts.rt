@@ -1,7 +1,7 @@
 //! A line that is read a word at a time and not drawn: whether the data ends within it.
 
 ghost use Rattle.std.specs.Prelude.{◌≡◌, ◌≢◌, ◌≤◌, ◌<◌, ◌+◌, ◌*◌, ◌+ℤ◌, true, false, length, pos, IfSome, IfNone, Err};
-ghost use Rattle.std.specs.Prelude.{Ok, None, Some, [], suc};
+ghost use Rattle.std.specs.Prelude.{Ok, None, Some, [], suc, not};
 ghost use Rattle.hayro_ccitt.specs.Bits.{Bits, here};
 ghost use Rattle.hayro_ccitt.specs.Context.{right_of_painted};
 ghost use Rattle.hayro_ccitt.specs.Continuations.{is_short};
@@ -318,30 +318,56 @@ pub(crate) fn begin_part(ctx: &mut DecoderContext, reader: &mut BitReader<'_>) -
     }
 }
 
-/// Returns whether a run of a one-dimensional line begins, of which no word is read.
+/// Returns whether a part is one of a one-dimensional line.
 #[inline(always)]
-fn is_at_run(part: &KeptPart) -> bool
-    ensures { result ≡ true → IsAtRun part.now }
+pub(crate) fn is_1d(part: &KeptPart) -> bool
+    ensures { result ≡ not part.now.is_2d }
 {
-    !part.is_2d && part.in_run && !part.another && part.total == 0
+    !part.is_2d
+}
+
+/// Returns whether the next pixels of a part have this colour.
+#[inline(always)]
+fn has_color(part: &KeptPart, color: Color) -> bool
+    ensures { result ≡ true → part.now.color ≡ color }
+{
+    match color {
+        Color::White => matches!(part.color, Color::White),
+        Color::Black => matches!(part.color, Color::Black),
+    }
+}
+
+/// Returns whether a run of this colour begins in a one-dimensional line, of which no word is read.
+#[inline(always)]
+fn is_at_run(part: &KeptPart, color: Color) -> bool
+    ensures start { result ≡ true → IsAtRun part.now }
+    ensures color { result ≡ true → part.now.color ≡ color }
+{
+    !part.is_2d && part.in_run && !part.another && part.total == 0 && has_color(part, color)
 }
 
 /// Goes on behind a word of a run of a one-dimensional line that is read here. Mostly the run ends with it within the row, and then
 /// the next one begins.
 #[inline(always)]
-fn read_next_run(ctx: &mut DecoderContext, reader: &mut BitScanner<'_>, part: &mut KeptPart) -> Word
+fn read_next_run(
+    ctx: &mut DecoderContext,
+    reader: &mut BitScanner<'_>,
+    part: &mut KeptPart,
+    color: Color,
+) -> Word
     requires lawful { IsLawfulPart ctx.old.held.settings ctx.old.held.reference part.old }
     requires start { IsAtRun part.old }
+    requires color { part.old.color ≡ color }
     ensures goes { result ≡ Word.GoesOn → WentOn part.old part.new ctx.old ctx.new reader.old reader.new }
     ensures stops { result ≢ Word.GoesOn → ReadsWord part.old part.new ctx.old ctx.new reader.old reader.new result }
     ensures shorter { result ≡ Word.GoesOn → length (here reader.new) < length (here reader.old) }
 {
-    match ctx.read_word(part.color, reader) {
+    match ctx.read_word(color, reader) {
         Ok(n) => {
             let end = u64::from(part.painted) + u64::from(n);
             if n < 64 && end < u64::from(ctx.settings().columns) {
                 part.painted = end as u32;
-                part.color = part.color.opposite();
+                part.color = color.opposite();
                 return Word::GoesOn;
             }
             add_word(part, ctx.settings(), u32::from(n))
@@ -350,8 +376,33 @@ fn read_next_run(ctx: &mut DecoderContext, reader: &mut BitScanner<'_>, part: &m
     }
 }
 
-/// Reads runs from a part of a one-dimensional line on that is at the start of one, as `continue_line` does, as long as a word ends
-/// each within the row. Returns `None` where the line goes on otherwise.
+/// Reads a word of a run of a one-dimensional line on, as `continue_line` does. Returns `None` where the line goes on behind it.
+#[inline(always)]
+fn continue_run(
+    ctx: &mut DecoderContext,
+    reader: &mut BitScanner<'_>,
+    part: &mut KeptPart,
+    color: Color,
+) -> Option<(bool, usize)>
+    requires lawful { IsLawfulPart ctx.old.held.settings ctx.old.held.reference part.old }
+    requires start { IsAtRun part.old }
+    requires color { part.old.color ≡ color }
+    ensures stops { IfSome result (λ r. ContinuesLine part.old part.new ctx.old ctx.new reader.old
+        (record reader.old { place = r.1 }) r.0) }
+    ensures within { IfSome result (λ r. r.1 ≤ length reader.old.bits) }
+    ensures goes { IfNone result (WentOn part.old part.new ctx.old ctx.new reader.old reader.new) }
+    ensures shorter { IfNone result (length (here reader.new) < length (here reader.old)) }
+{
+    let run_start = reader.offset();
+    match read_next_run(ctx, reader, part, color) {
+        Word::GoesOn => None,
+        Word::Missing => Some((true, run_start)),
+        Word::Ends => Some((false, run_start)),
+    }
+}
+
+/// Reads runs from a part of a one-dimensional line on, as `continue_line` does, as long as one word ends each within the row. Returns
+/// `None` where the line goes on otherwise. Each colour has code of its own.
 #[inline(always)]
 fn continue_runs(
     ctx: &mut DecoderContext,
@@ -366,23 +417,25 @@ fn continue_runs(
 {
     // An offset is known to be within the data once it is read.
     let _start = reader.offset();
-    if !is_at_run(part) {
-        return None;
-    }
     // A part of its own, so that its fields are values of this call.
     let mut now = *part;
-    'runs: while is_at_run(&now) {
-        let run_start = reader.offset();
-        match read_next_run(ctx, reader, &mut now) {
-            Word::GoesOn => {}
-            Word::Missing => {
-                *part = now;
-                return Some((true, run_start));
-            }
-            Word::Ends => {
-                *part = now;
-                return Some((false, run_start));
-            }
+    if is_at_run(&now, Color::Black) {
+        if let Some(stopped) = continue_run(ctx, reader, &mut now, Color::Black) {
+            *part = now;
+            return Some(stopped);
+        }
+    }
+    'runs: while is_at_run(&now, Color::White) {
+        if let Some(stopped) = continue_run(ctx, reader, &mut now, Color::White) {
+            *part = now;
+            return Some(stopped);
+        }
+        if !is_at_run(&now, Color::Black) {
+            break 'runs;
+        }
+        if let Some(stopped) = continue_run(ctx, reader, &mut now, Color::Black) {
+            *part = now;
+            return Some(stopped);
         }
     }
     *part = now;
@@ -406,9 +459,6 @@ pub(crate) fn continue_line(
 {
     // An offset is known to be within the data once it is read.
     let _start = reader.offset();
-    if let Some(stopped) = continue_runs(ctx, reader, part) {
-        return stopped;
-    }
     'steps: loop {
         'run: while part.in_run {
             let word_start = reader.offset();
@@ -425,4 +475,40 @@ pub(crate) fn continue_line(
             Word::Ends => return (false, step_start),
         }
     }
+}
+
+/// Reads words from a part of a line on, as `continue_line` does, by a call.
+#[cold]
+#[inline(never)]
+fn continue_by_call(
+    ctx: &mut DecoderContext,
+    reader: BitScanner<'_>,
+    part: &mut KeptPart,
+) -> (bool, usize)
+    requires { IsLawfulPart ctx.old.held.settings ctx.old.held.reference part.old }
+    ensures goes_on { ContinuesLine part.old part.new ctx.old ctx.new reader.entry (record reader.entry { place = result.1 }) result.0 }
+    ensures within { result.1 ≤ length reader.entry.bits }
+{
+    let mut reader = reader;
+    continue_line(ctx, &mut reader, part)
+}
+
+/// Reads words from a part of a line on, as `continue_line` does, where the line is mostly one-dimensional.
+#[inline(always)]
+pub(crate) fn continue_1d_line(
+    ctx: &mut DecoderContext,
+    reader: BitScanner<'_>,
+    part: &mut KeptPart,
+) -> (bool, usize)
+    requires { IsLawfulPart ctx.old.held.settings ctx.old.held.reference part.old }
+    ensures goes_on { ContinuesLine part.old part.new ctx.old ctx.new reader.entry (record reader.entry { place = result.1 }) result.0 }
+    ensures within { result.1 ≤ length reader.entry.bits }
+{
+    let mut reader = reader;
+    // An offset is known to be within the data once it is read.
+    let _start = reader.offset();
+    if let Some(stopped) = continue_runs(ctx, &mut reader, part) {
+        return stopped;
+    }
+    continue_by_call(ctx, reader, part)
 }

@@ -379,20 +379,25 @@ pub put_back : (old part : KeptPart) (ctx now : Context) (before at : BitsAt) (p
 put_back old part ctx now before at place went is =
     ap (λ (n : ℕ). record before { place = n }) is ∙ ap (λ (b : Bits). record at { bits = b }) (sym went.same_bits)
 
+-- none was read yet
+pub went_none : (part : KeptPart) (ctx : Context) (at : BitsAt) → IsLawfulPart ctx.held.settings ctx.held.reference part
+    → WentOn part part ctx ctx at at
+went_none part ctx at lawful = record {
+  part = λ start is. is;
+  lawful = lawful;
+  frame = refl;
+  same_bits = refl;
+  onward = omega arith;
+  counts = omega arith;
+  work = omega arith;
+}
+
 -- one word was read
 pub went_by_word : (old new : KeptPart) (ctx now : Context) (before after : BitsAt)
     → IsLawfulPart ctx.held.settings ctx.held.reference old → ReadsWord old new ctx now before after Word.GoesOn
     → WentOn old new ctx now before after
 went_by_word old new ctx now before after lawful reads =
-    went_on old old new ctx ctx.ticks now before before after (record {
-      part = λ start is. is;
-      lawful = lawful;
-      frame = refl;
-      same_bits = refl;
-      onward = omega arith;
-      counts = omega arith;
-      work = omega arith;
-    }) reads
+    went_on old old new ctx ctx.ticks now before before after (went_none old ctx before lawful) reads
 
 -- ---- A run that one word ends
 

@@ -1,5 +1,5 @@
 use Rattle.hayro_ccitt.proofs.Names.{◌≡◌, ◌∙◌, ap, sym, subst, arith, here, codes_of, Bool, DecodeSettings, Context}
-use Rattle.hayro_ccitt.proofs.Names.{ℕ, ◌+◌}
+use Rattle.hayro_ccitt.proofs.Names.{ℕ, ◌+◌, Color, Bits, Ok, opposite, read_code}
 use Rattle.hayro_ccitt.specs.LineParts.{Leads, ReadsWord, part_by, pen_of_part, run_of_part}
 use Rattle.hayro_ccitt.specs.LinesGoOn.{read_on, word_added}
 use Rattle.fax_bits.proofs.CodeWords.ReadRuns.{read_code_shorter, words_not_empty}
@@ -7,13 +7,20 @@ use Rattle.hayro_ccitt.proofs.DrawingLines.PartsOfLines.{lawful_behind, went_beh
 use Rattle.hayro_ccitt.proofs.line_parts.read_next_run.Goals.{After-add_word}
 use Rattle.hayro_ccitt.proofs.line_parts.read_next_run.Goals as goal
 
+-- a word of the part's colour is read
+reads_own : (own color : Color) (before : Bits) (n : ℕ) (after : Bits) → own ≡ color
+    → read_code (codes_of color) before ≡ Ok (n, after) → read_code (codes_of own) before ≡ Ok (n, after)
+reads_own own color before n after same reads =
+    subst (λ (k : Color). read_code (codes_of k) before ≡ Ok (n, after)) (sym same) reads
+
 pub returns-then-end-from-clause-goes : goal.returns-then-end-from-clause-goes
 returns-then-end-from-clause-goes c = λ e.
     let part = c.args.part.now in
     let n = c.in-Ok.n in
     let columns = ap (λ (x : Context). x.held.settings.columns) c.read_word.ensures.frame in
     went_behind_run part c.args.ctx.now c.read_word.new.self c.args.reader.now c.read_word.new.reader n
-    (c.from.result + c.from-in-Ok.result) c.opposite-part.result c.requires.start c.requires.lawful c.in-Ok.ensures.word
+    (c.from.result + c.from-in-Ok.result) c.opposite-part.result c.requires.start c.requires.lawful (reads_own c.args.part.now.color c.args.color (here c.args.reader.now) n
+    (here c.read_word.new.reader) c.requires.color c.in-Ok.ensures.word)
     (omega (arith, c.if-n-lt64.true)) (omega (
       arith,
       c.if-end-from.true,
@@ -22,7 +29,7 @@ returns-then-end-from-clause-goes c = λ e.
       c.from-in-Ok.ensures,
       c.from-then-n-lt64.ensures,
       ap (λ (s : DecodeSettings). s.columns) c.settings.ensures.value,
-    )) (omega (arith, c.from.ensures, c.from-in-Ok.ensures)) c.opposite-part.ensures c.read_word.ensures.frame
+    )) (omega (arith, c.from.ensures, c.from-in-Ok.ensures)) (c.opposite-part.ensures ∙ ap opposite (sym c.requires.color)) c.read_word.ensures.frame
     c.read_word.ensures.same_bits
 
 pub returns-else-n-lt64-clause-goes : goal.returns-else-n-lt64-clause-goes
@@ -33,7 +40,7 @@ returns-else-n-lt64-clause-goes c = λ e.
     let before = here c.args.reader.now in
     let after = here c.read_word.new.reader in
     let n = c.in-Ok.n in
-    let reads = c.in-Ok.ensures.word in
+    let reads = reads_own part.color c.args.color before n after c.requires.color c.in-Ok.ensures.word in
     let same : c.settings-in-Ok.result ≡ held.settings
     = c.settings-in-Ok.ensures.value ∙ ap (λ (x : Context). x.held.settings) c.read_word.ensures.frame in
     let shorter = read_code_shorter (codes_of part.color) before n after (words_not_empty part.color) reads in
@@ -67,9 +74,11 @@ returns-else-n-lt64-clause-goes c = λ e.
 pub returns-then-end-from-clause-shorter : goal.returns-then-end-from-clause-shorter
 returns-then-end-from-clause-shorter c = λ e.
     read_code_shorter (codes_of c.args.part.now.color) (here c.args.reader.now) c.in-Ok.n (here c.read_word.new.reader)
-    (words_not_empty c.args.part.now.color) c.in-Ok.ensures.word
+    (words_not_empty c.args.part.now.color) (reads_own c.args.part.now.color c.args.color (here c.args.reader.now) c.in-Ok.n
+    (here c.read_word.new.reader) c.requires.color c.in-Ok.ensures.word)
 
 pub returns-else-n-lt64-clause-shorter : goal.returns-else-n-lt64-clause-shorter
 returns-else-n-lt64-clause-shorter c = λ e.
     read_code_shorter (codes_of c.args.part.now.color) (here c.args.reader.now) c.in-Ok.n (here c.read_word.new.reader)
-    (words_not_empty c.args.part.now.color) c.in-Ok.ensures.word
+    (words_not_empty c.args.part.now.color) (reads_own c.args.part.now.color c.args.color (here c.args.reader.now) c.in-Ok.n
+    (here c.read_word.new.reader) c.requires.color c.in-Ok.ensures.word)
