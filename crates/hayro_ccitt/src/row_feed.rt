@@ -515,7 +515,7 @@ impl RowFeed {
 
     /// Reads on from the part of the line here that is kept, mostly of a one-dimensional line, and returns whether the line is still
     /// short.
-    #[inline(never)]
+    #[inline(always)]
     fn stays_short_1d(&mut self) -> bool
         requires more { self.old.finished ≡ false }
         ensures { StaysShort self.old self.new result }
@@ -524,13 +524,14 @@ impl RowFeed {
             return false;
         }
         let place = self.place + self.line_read;
-        let Some(reader) = scanner_near_end(&self.data, self.order, place) else {
+        let Some(mut reader) = scanner_near_end(&self.data, self.order, place) else {
             return self.go_on_by_call();
         };
         let Some(part) = &mut self.part else {
             return false;
         };
-        let (is_short, reached) = continue_1d_line(&mut self.ctx, reader, part);
+        let (is_short, reached) = 
+            continue_1d_line(&mut self.ctx, &mut reader, &self.data, self.order, part);
         if is_short {
             self.line_read = reached - self.place;
             return true;
