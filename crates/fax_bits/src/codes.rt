@@ -803,6 +803,10 @@ impl<'a> BitScanner<'a> {
         // If the data ends inside a word these bits aren't there.
         self.consume(usize::from(entry >> 12))?;
         let run = entry & LOOKUP_INVALID;
+        // A terminating word is known by one comparison.
+        if run < 64 {
+            return Ok(run);
+        }
         if run == LOOKUP_INVALID {
             return Err(DecodeError::InvalidCode);
         }

@@ -111,3 +111,21 @@ pub record ContinuesLine (old new : KeptPart) (ctx now : Context) (before after 
   pub onward : before.place ≤ after.place
   pub counts : ctx.ticks ≤ now.ticks
   pub work : now.ticks + old.passed + 2 * length (here after) ≤ ctx.ticks + new.passed + 2 * length (here before) + 2
+
+-- a run of a one-dimensional line begins, of which no word is read (T.4, 4.1.1)
+pub record IsAtRun (part : KeptPart) : Type 0 where
+  pub line : part.is_2d ≡ false
+  pub run : part.in_run ≡ true
+  pub last : part.another ≡ false
+  pub none : part.total ≡ 0
+
+-- What a call leaves that reads some words of a part of a line, which goes on.
+pub record WentOn (old new : KeptPart) (ctx now : Context) (before after : BitsAt) : Type 0 where
+  pub part : (start : Bits) → IsPartOf ctx.held.settings ctx.held.reference start old (here before)
+      → IsPartOf ctx.held.settings ctx.held.reference start new (here after)
+  pub lawful : IsLawfulPart ctx.held.settings ctx.held.reference new
+  pub frame : now ≡ record ctx { ticks = now.ticks }
+  pub same_bits : after.bits ≡ before.bits
+  pub onward : length (here after) ≤ length (here before)
+  pub counts : ctx.ticks ≤ now.ticks
+  pub work : now.ticks + old.passed + 2 * length (here after) ≤ ctx.ticks + new.passed + 2 * length (here before)

@@ -1,24 +1,24 @@
 //! A line that is read a word at a time and not drawn: whether the data ends within it.
 
 ghost use Rattle.std.specs.Prelude.{◌≡◌, ◌≢◌, ◌≤◌, ◌<◌, ◌+◌, ◌*◌, ◌+ℤ◌, true, false, length, pos, IfSome, IfNone, Err};
-ghost use Rattle.std.specs.Prelude.{Ok, None, Some, [], suc};
-ghost use Rattle.hayro_ccitt.specs.Bits.{Bits, here};
+ghost use Rattle.std.specs.Prelude.{Ok, None, Some, [], suc, not};
+ghost use Rattle.hayro_ccitt.specs.Bits.{Bits, BitsFit, bits_in, here};
 ghost use Rattle.hayro_ccitt.specs.Context.{right_of_painted};
 ghost use Rattle.hayro_ccitt.specs.Continuations.{is_short};
 ghost use Rattle.hayro_ccitt.specs.Faults.{misses_end};
-ghost use Rattle.hayro_ccitt.specs.LineParts.{ContinuesLine, GoesOnBy, IsLawfulPart, IsPartOf, Leads, PaintsTo};
-ghost use Rattle.hayro_ccitt.specs.LineParts.{ReadsWord, first_kept, is_missing, left_to_read, pen_of_part};
+ghost use Rattle.hayro_ccitt.specs.LineParts.{ContinuesLine, GoesOnBy, IsAtRun, IsLawfulPart, IsPartOf, Leads, PaintsTo};
+ghost use Rattle.hayro_ccitt.specs.LineParts.{ReadsWord, WentOn, first_kept, is_missing, left_to_read, pen_of_part};
 ghost use Rattle.hayro_ccitt.specs.LineParts.{run_of_part};
 ghost use Rattle.hayro_ccitt.specs.Lines.{place_from};
 ghost use Rattle.hayro_ccitt.specs.LinesGoOn.{OpenRun, mode_added, word_added};
 ghost use Rattle.hayro_ccitt.specs.PlainReading.{line_here};
-ghost use Rattle.hayro_ccitt.specs.Rows.{Row, paint, too_many_pixels};
+ghost use Rattle.hayro_ccitt.specs.Rows.{Row, opposite, paint, too_many_pixels};
 
 use crate::changes::vertical_place;
 use crate::context::DecoderContext;
 use crate::{DecodeError, EncodingMode};
 use fax_bits::DecodeSettings;
-use fax_bits::bit_reader::{BitReader, BitScanner};
+use fax_bits::bit_reader::{BitOrder, BitReader, BitScanner, scanner_at};
 use fax_bits::codes::{Color, Mode};
 
 /// Where in a line its next word begins. Of its front only the number of pixels is kept.
@@ -304,6 +304,158 @@ pub(crate) fn begin_part(ctx: &mut DecoderContext, reader: &mut BitReader<'_>) -
     }
 }
 
+/// Returns whether a part is one of a one-dimensional line.
+#[inline(always)]
+pub(crate) fn is_1d(part: &KeptPart) -> bool
+    ensures { result ≡ not part.now.is_2d }
+{
+    !part.is_2d
+}
+
+/// Returns whether the next pixels of a part are black.
+#[inline(always)]
+fn is_black(part: &KeptPart) -> bool
+    ensures black { result ≡ true → part.now.color ≡ Color.Black }
+    ensures white { result ≡ false → part.now.color ≡ Color.White }
+{
+    match part.color {
+        Color::White => false,
+        Color::Black => true,
+    }
+}
+
+/// Returns whether a run of a one-dimensional line begins, of which no word is read.
+#[inline(always)]
+fn is_at_run(part: &KeptPart) -> bool
+    ensures { result ≡ true → IsAtRun part.now }
+{
+    if part.is_2d {
+        return false;
+    }
+    if !part.in_run {
+        return false;
+    }
+    if part.another {
+        return false;
+    }
+    part.total == 0
+}
+
+/// Goes on behind a word of a run of a one-dimensional line that is read here. Mostly the run ends with it within the row, and then
+/// the next one begins: so it is where the second value is true.
+#[inline(always)]
+fn read_next_run(
+    ctx: &mut DecoderContext,
+    reader: &mut BitScanner<'_>,
+    part: &mut KeptPart,
+    color: Color,
+) -> (Word, bool)
+    requires lawful { IsLawfulPart ctx.old.held.settings ctx.old.held.reference part.old }
+    requires start { IsAtRun part.old }
+    requires color { part.old.color ≡ color }
+    ensures goes { result.0 ≡ Word.GoesOn → WentOn part.old part.new ctx.old ctx.new reader.old reader.new }
+    ensures stops { result.0 ≢ Word.GoesOn → ReadsWord part.old part.new ctx.old ctx.new reader.old reader.new result.0 }
+    ensures shorter { result.0 ≡ Word.GoesOn → length (here reader.new) < length (here reader.old) }
+    ensures next { result.1 ≡ true → IsAtRun part.new }
+    ensures turned { result.1 ≡ true → part.new.color ≡ opposite color }
+{
+    match ctx.read_word(color, reader) {
+        Ok(n) => {
+            let end = u64::from(part.painted) + u64::from(n);
+            if n < 64 && end < u64::from(ctx.settings().columns) {
+                part.painted = end as u32;
+                part.color = color.opposite();
+                return (Word::GoesOn, true);
+            }
+            (add_word(part, ctx.settings(), u32::from(n)), false)
+        }
+        Err(error) => (word_of_fault(error), false),
+    }
+}
+
+/// Reads a word of a run of a one-dimensional line on, as `continue_line` does. The first value is `None` where the line goes on
+/// behind it, and the second is true where the next run begins there.
+#[inline(always)]
+fn continue_run(
+    ctx: &mut DecoderContext,
+    reader: &mut BitScanner<'_>,
+    part: &mut KeptPart,
+    color: Color,
+) -> (Option<(bool, usize)>, bool)
+    requires lawful { IsLawfulPart ctx.old.held.settings ctx.old.held.reference part.old }
+    requires start { IsAtRun part.old }
+    requires color { part.old.color ≡ color }
+    ensures stops { IfSome result.0 (λ r. ContinuesLine part.old part.new ctx.old ctx.new reader.old
+        (record reader.old { place = r.1 }) r.0) }
+    ensures within { IfSome result.0 (λ r. r.1 ≤ length reader.old.bits) }
+    ensures goes { IfNone result.0 (WentOn part.old part.new ctx.old ctx.new reader.old reader.new) }
+    ensures shorter { IfNone result.0 (length (here reader.new) < length (here reader.old)) }
+    ensures next { result.1 ≡ true → IsAtRun part.new }
+    ensures turned { result.1 ≡ true → part.new.color ≡ opposite color }
+{
+    let run_start = reader.offset();
+    let (word, is_next) = read_next_run(ctx, reader, part, color);
+    match word {
+        Word::GoesOn => (None, is_next),
+        Word::Missing => (Some((true, run_start)), false),
+        Word::Ends => (Some((false, run_start)), false),
+    }
+}
+
+/// Reads runs from a part of a one-dimensional line on, as `continue_line` does, as long as one word ends each within the row. Returns
+/// `None` where the line goes on otherwise. Each colour has code of its own.
+#[inline(always)]
+fn continue_runs(
+    ctx: &mut DecoderContext,
+    reader: &mut BitScanner<'_>,
+    part: &mut KeptPart,
+) -> Option<(bool, usize)>
+    requires { IsLawfulPart ctx.old.held.settings ctx.old.held.reference part.old }
+    ensures stops { IfSome result (λ r. ContinuesLine part.old part.new ctx.old ctx.new reader.old
+        (record reader.old { place = r.1 }) r.0) }
+    ensures within { IfSome result (λ r. r.1 ≤ length reader.old.bits) }
+    ensures goes { IfNone result (WentOn part.old part.new ctx.old ctx.new reader.old reader.new) }
+{
+    // An offset is known to be within the data once it is read.
+    let _start = reader.offset();
+    if !is_at_run(part) {
+        return None;
+    }
+    // A part of its own, so that its fields are values of this call.
+    let mut now = *part;
+    if is_black(&now) {
+        let (stopped, is_next) = continue_run(ctx, reader, &mut now, Color::Black);
+        if let Some(stopped) = stopped {
+            *part = now;
+            return Some(stopped);
+        }
+        if !is_next {
+            *part = now;
+            return None;
+        }
+    }
+    'runs: loop {
+        let (stopped, is_next) = continue_run(ctx, reader, &mut now, Color::White);
+        if let Some(stopped) = stopped {
+            *part = now;
+            return Some(stopped);
+        }
+        if !is_next {
+            *part = now;
+            return None;
+        }
+        let (stopped, is_next) = continue_run(ctx, reader, &mut now, Color::Black);
+        if let Some(stopped) = stopped {
+            *part = now;
+            return Some(stopped);
+        }
+        if !is_next {
+            *part = now;
+            return None;
+        }
+    }
+}
+
 /// Reads words from a part of a line on, and returns whether the data ends within the line. If it does, the part is then that
 /// from which the line goes on, and the second number is the offset there. Otherwise it is the offset of the word with which the
 /// line ends. The reader's offset is then unspecified. Each word that is looked for is a tick, and so is each change of the
@@ -340,4 +492,51 @@ pub(crate) fn continue_line(
             }
         }
     }
+}
+
+/// Reads words from a part of a line on that is here in these bytes, as `continue_line` does, by a call.
+#[cold]
+#[inline(never)]
+fn continue_by_call(
+    ctx: &mut DecoderContext,
+    bytes: &[u8],
+    order: BitOrder,
+    place: usize,
+    part: &mut KeptPart,
+) -> (bool, usize)
+    requires lawful { IsLawfulPart ctx.old.held.settings ctx.old.held.reference part.old }
+    requires fit { BitsFit bytes.now }
+    requires within { place ≤ 8 * length bytes.now }
+    ensures goes_on { ContinuesLine part.old part.new ctx.old ctx.new (record { bits = bits_in order bytes.now; place = place })
+        (record { bits = bits_in order bytes.now; place = result.1 }) result.0 }
+    ensures within { result.1 ≤ length (bits_in order bytes.now) }
+{
+    let mut reader = scanner_at(bytes, order, place);
+    continue_line(ctx, &mut reader, part)
+}
+
+/// Reads words from a part of a line on, as `continue_line` does, where the line is mostly one-dimensional. The reader is over these
+/// bytes.
+#[inline(always)]
+pub(crate) fn continue_1d_line(
+    ctx: &mut DecoderContext,
+    reader: &mut BitScanner<'_>,
+    bytes: &[u8],
+    order: BitOrder,
+    part: &mut KeptPart,
+) -> (bool, usize)
+    requires lawful { IsLawfulPart ctx.old.held.settings ctx.old.held.reference part.old }
+    requires fit { BitsFit bytes.now }
+    requires over { reader.old.bits ≡ bits_in order bytes.now }
+    ensures goes_on { ContinuesLine part.old part.new ctx.old ctx.new reader.old
+        (record reader.old { place = result.1 }) result.0 }
+    ensures within { result.1 ≤ length reader.old.bits }
+{
+    // An offset is known to be within the data once it is read.
+    let _start = reader.offset();
+    if let Some(stopped) = continue_runs(ctx, reader, part) {
+        return stopped;
+    }
+    let place = reader.offset();
+    continue_by_call(ctx, bytes, order, place, part)
 }

@@ -20,7 +20,7 @@ use crate::context::DecoderContext;
 use crate::gap_look::{
     GapLook, GapRules, GapStage, first_rules, is_settled_at_once, rules_behind_row,
 };
-use crate::line_parts::{KeptPart, begin_part, continue_line};
+use crate::line_parts::{KeptPart, begin_part, continue_1d_line, continue_line, is_1d};
 use crate::push_rows::push_white_rows;
 use crate::row_reader::{RowState, Stand, first_stand, has_ended, is_at_line};
 use crate::rows::try_row;
@@ -501,6 +501,51 @@ impl RowFeed {
         self.go_on_from(part, read)
     }
 
+    /// Returns whether the part of the line here that is kept is of a one-dimensional line. What it returns decides nothing but
+    /// which code reads on.
+    #[inline(always)]
+    fn is_within_1d_line(&self) -> bool
+        ensures { result ≡ true → self.now.part ≢ None }
+    {
+        match &self.part {
+            Some(part) => is_1d(part),
+            None => false,
+        }
+    }
+
+    /// Reads on from the part of the line here that is kept, mostly of a one-dimensional line, and returns whether the line is still
+    /// short. By a call, so that its callers stay small.
+    #[inline(never)]
+    fn stays_short_1d(&mut self) -> bool
+        requires more { self.old.finished ≡ false }
+        ensures { StaysShort self.old self.new result }
+    {
+        if self.part.is_none() {
+            return false;
+        }
+        let place = self.place + self.line_read;
+        let Some(mut reader) = scanner_near_end(&self.data, self.order, place) else {
+            return self.go_on_by_call();
+        };
+        let Some(part) = &mut self.part else {
+            return false;
+        };
+        let (is_short, reached) = continue_1d_line(
+            &mut self.ctx,
+            &mut reader,
+            &self.data,
+            self.order,
+            part,
+        );
+        if is_short {
+            self.line_read = reached - self.place;
+            return true;
+        }
+        self.line_read = 0;
+        self.part = None;
+        false
+    }
+
     /// Returns whether the line here is known to be short: whether it goes on from a part that was kept, and still is short.
     #[inline(always)]
     fn is_still_short(&mut self) -> bool
@@ -513,6 +558,9 @@ impl RowFeed {
             self.line_read = 0;
             self.part = None;
             return false;
+        }
+        if self.is_within_1d_line() {
+            return self.stays_short_1d();
         }
         let place = self.place + self.line_read;
         let Some(mut reader) = scanner_near_end(&self.data, self.order, place) else {

@@ -1,5 +1,5 @@
 -- Parts of lines, of whose fronts only the number of pixels is known.
-use Rattle.hayro_ccitt.proofs.Names.{◌≡◌, ◌∙◌, ◌+◌, ◌-◌, ◌*◌, ◌<◌, ◌≤◌, ℕ, Bool, true, false, [], ◌++◌, length}
+use Rattle.hayro_ccitt.proofs.Names.{◌≡◌, ◌∙◌, ◌+◌, ◌-◌, ◌<◌, ◌≤◌, ℕ, Bool, true, false, [], ◌++◌, length}
 use Rattle.hayro_ccitt.proofs.Names.{min, Ok, Err}
 use Rattle.hayro_ccitt.proofs.Names.{replicate, length-append, length-replicate, append-nil, ltb, ◌&&◌, refl, sym}
 use Rattle.hayro_ccitt.proofs.Names.{ap, subst, arith}
@@ -9,16 +9,18 @@ use Rattle.hayro_ccitt.proofs.Names.{lt-ltb, le-leb, common_steps, Mode, read_co
 use Rattle.hayro_ccitt.proofs.Names.{List, changes}
 use Rattle.hayro_ccitt.proofs.Names.{line_1d, line_2d, line_by, start, not, EncodingMode, Group3_2D, BitsAt, Context}
 use Rattle.hayro_ccitt.proofs.Names.{here, length-drop}
+use Rattle.std.specs.Prelude.{if◌then◌else◌}
+use Rattle.fax_bits.proofs.CodeWords.ReadRuns.{read_code_shorter, words_not_empty}
 use Rattle.hayro_ccitt.proofs.Names.{Pass, Vertical, b1, b2, right_of, right_of_painted, opposite, ℤ, pos, ◌+ℤ◌, ◌∷◌}
 use Rattle.fax_bits.specs.declared.error.DecodeError.TheVariants.{Overflow}
 use Rattle.hayro_ccitt.specs.declared.line_parts.KeptPart.{KeptPart}
 use Rattle.hayro_ccitt.specs.declared.line_parts.Word.{Word}
 use Rattle.hayro_ccitt.specs.Continuations.{is_short}
 use Rattle.hayro_ccitt.specs.Lines.{Pen, place_from}
-use Rattle.hayro_ccitt.specs.LinesGoOn.{LinePart, OpenRun, left_of, line_from_part, mode_added, part_before}
+use Rattle.hayro_ccitt.specs.LinesGoOn.{LinePart, OpenRun, behind_run, left_of, line_from_part, mode_added, part_before}
 use Rattle.hayro_ccitt.specs.LinesGoOn.{read_on, word_added}
 use Rattle.hayro_ccitt.specs.LineParts.{GoesOnBy, ContinuesLine, IsLawfulPart, IsPartOf, Leads, ReadsWord, EndsLine}
-use Rattle.hayro_ccitt.specs.LineParts.{LeadsToPart, PaintsTo, part_at, part_by}
+use Rattle.hayro_ccitt.specs.LineParts.{IsAtRun, LeadsToPart, PaintsTo, WentOn, part_at, part_by}
 use Rattle.hayro_ccitt.specs.LineParts.{first_kept, left_to_read, pen_of_part, run_of_part}
 use Rattle.fax_reading.proofs.Continuations.LinesGoOn.{LeadsOn, line_from_is, part_leads_on, part_size, word_leads}
 use Rattle.hayro_ccitt.proofs.Names.{too_many_pixels}
@@ -196,6 +198,11 @@ module _ (settings : DecodeSettings) (reference : Row) (front : Row) (color : Co
   run_ends run n le last fails =
       (Line.broken front too_many_pixels, rw (fits_32 (run.total + n) le, lt-ltb n 64 last, fails) refl, refl)
 
+  pub run_turns : (run : OpenRun) (n : ℕ) (row : Row) → run.total + n ≤ 4294967295 → n < 64
+      → paint settings.strict settings.columns front color (run.total + n) ≡ Ok row
+      → by_word run n ≡ Turn.next (behind_run run (record { front = row; color = opposite color; rest = rest }))
+  run_turns run n row le last paints = rw (fits_32 (run.total + n) le, lt-ltb n 64 last, paints) refl
+
   -- ---- One word more
 
   -- a mode is read, unless the row is full
@@ -207,6 +214,10 @@ module _ (settings : DecodeSettings) (reference : Row) (front : Row) (color : Co
   pub full_ends : (is_2d : Bool) → settings.columns ≤ length front
       → EndsLine false (read_on settings reference (LinePart.at_step is_2d pen)).turn
   full_ends is_2d full = (Line.whole front rest, rw (le-leb settings.columns (length front) full) refl, refl)
+
+  pub run_begins : length front < settings.columns → (read_on settings reference (LinePart.at_step false pen)).turn
+      ≡ Turn.next (LinePart.in_run (record { is_2d = false; another = false; total = 0 }) pen)
+  run_begins narrow = grind (arith, common_steps)
 
   pub word_is_read : (run : OpenRun) (n : ℕ) (after : Bits) → read_code (codes_of color) rest ≡ Ok (n, after)
       → (read_on settings reference (LinePart.in_run run pen)).turn
@@ -264,17 +275,6 @@ module _ (settings : DecodeSettings) (reference : Row) (bits : Bits) where
       by_tag false more = refl
 
 -- ---- Words that are read one after another
-
--- some words were read of a part
-pub record WentOn (old new : KeptPart) (ctx now : Context) (before after : BitsAt) : Type 0 where
-  pub part : (start : Bits) → IsPartOf ctx.held.settings ctx.held.reference start old (here before)
-      → IsPartOf ctx.held.settings ctx.held.reference start new (here after)
-  pub lawful : IsLawfulPart ctx.held.settings ctx.held.reference new
-  pub frame : now ≡ record ctx { ticks = now.ticks }
-  pub same_bits : after.bits ≡ before.bits
-  pub onward : length (here after) ≤ length (here before)
-  pub counts : ctx.ticks ≤ now.ticks
-  pub work : now.ticks + old.passed + 2 * length (here after) ≤ ctx.ticks + new.passed + 2 * length (here before)
 
 -- what is left of a part are the pen's bits
 bits_left_are : (in_run : Bool) (run : OpenRun) (pen : Pen) → left_of (part_by in_run run pen) ≡ pen.rest
@@ -360,3 +360,111 @@ module _ (old part new : KeptPart) (ctx : Context) (ticks : ℕ) (now : Context)
       counts = omega (arith, so_far.counts, reads.counts);
       work = omega (arith, so_far.work, reads.work, ap (λ (b : BitsAt). length (here b)) put_back);
     }
+
+-- ---- Words of a line that was read so far
+
+-- what was read before a word, in a context with other ticks
+pub went_to_word : (old part : KeptPart) (ctx now : Context) (before at : BitsAt) → WentOn old part ctx now before at
+    → WentOn old part ctx (record ctx { ticks = now.ticks }) before at
+went_to_word old part ctx now before at went = subst (λ (x : Context). WentOn old part ctx x before at) went.frame went
+
+-- and the word, in the same context
+pub word_read : (part new : KeptPart) (ctx now next : Context) (at after : BitsAt) (found word : Word)
+    → now ≡ record ctx { ticks = now.ticks } → found ≡ word → ReadsWord part new now next at after found
+    → ReadsWord part new (record ctx { ticks = now.ticks }) next at after word
+word_read part new ctx now next at after found word same is reads = grind (arith, common_steps)
+
+pub put_back : (old part : KeptPart) (ctx now : Context) (before at : BitsAt) (place : ℕ) → WentOn old part ctx now before at
+    → place ≡ at.place → record before { place = place } ≡ at
+put_back old part ctx now before at place went is =
+    ap (λ (n : ℕ). record before { place = n }) is ∙ ap (λ (b : Bits). record at { bits = b }) (sym went.same_bits)
+
+-- none was read yet
+pub went_none : (part : KeptPart) (ctx : Context) (at : BitsAt) → IsLawfulPart ctx.held.settings ctx.held.reference part
+    → WentOn part part ctx ctx at at
+went_none part ctx at lawful = record {
+  part = λ start is. is;
+  lawful = lawful;
+  frame = refl;
+  same_bits = refl;
+  onward = omega arith;
+  counts = omega arith;
+  work = omega arith;
+}
+
+-- one word was read
+pub went_by_word : (old new : KeptPart) (ctx now : Context) (before after : BitsAt)
+    → IsLawfulPart ctx.held.settings ctx.held.reference old → ReadsWord old new ctx now before after Word.GoesOn
+    → WentOn old new ctx now before after
+went_by_word old new ctx now before after lawful reads =
+    went_on old old new ctx ctx.ticks now before before after (went_none old ctx before lawful) reads
+
+-- ---- A run that one word ends
+
+module _ (settings : DecodeSettings) (reference : Row) (part : KeptPart) (at : IsAtRun part) (n : ℕ) (rest after : Bits)
+    (reads : read_code (codes_of part.color) rest ≡ Ok (n, after)) (last : n < 64)
+    (within : part.painted + n < settings.columns) where
+  -- where the next run begins
+  abbrev pub next_run : KeptPart
+  next_run = record part { painted = part.painted + n; color = opposite part.color }
+
+  -- before it
+  abbrev behind : KeptPart
+  behind = record next_run { in_run = false }
+
+  run_leads : (front : Row) → length front ≡ part.painted
+      → LeadsToPart behind after (read_on settings reference (part_at part front rest)).turn
+  run_leads front is =
+      let sum : part.total + n ≡ n = omega (arith, at.none) in
+      let paints = paints_all settings front part.color n part.painted is (omega (arith, within)) (omega (arith, within)) in
+      let leads = word_is_read settings reference front part.color rest (run_of_part part) n after reads
+      ∙ run_turns settings reference front part.color after (run_of_part part) n paints.0 (omega (arith, sum, last)) last
+      (ap (λ (m : ℕ). paint settings.strict settings.columns front part.color m) sum ∙ paints.2) in (
+        paints.0,
+        paints.1,
+        rw at.run (leads ∙ ap (λ (b : Bool). Turn.next (if b then LinePart.in_run (record {
+          is_2d = part.is_2d;
+          another = false;
+          total = 0;
+        }) (record { front = paints.0; color = opposite part.color; rest = after }) else LinePart.at_step part.is_2d (record {
+          front = paints.0;
+          color = opposite part.color;
+          rest = after;
+        }))) at.last),
+      )
+
+  begins : (front : Row) → length front ≡ part.painted + n
+      → LeadsToPart next_run after (read_on settings reference (part_at behind front after)).turn
+  begins front is = (
+    front,
+    is,
+    rw (at.line, at.run, at.last, at.none)
+        (run_begins settings reference front (opposite part.color) after (omega (arith, is, within))),
+  )
+
+  pub part_behind_run : (start : Bits) → IsPartOf settings reference start part rest
+      → IsPartOf settings reference start next_run after
+  part_behind_run start is =
+      let there = goes_on_behind settings reference part behind rest after is (run_leads is.front is.painted) in
+      goes_on_behind settings reference behind next_run after after there (begins there.front there.painted)
+
+pub went_behind_run : (part : KeptPart) (ctx now : Context) (before after : BitsAt) (n painted : ℕ) (color : Color) → IsAtRun part
+    → IsLawfulPart ctx.held.settings ctx.held.reference part
+    → read_code (codes_of part.color) (here before) ≡ Ok (n, here after) → n < 64
+    → part.painted + n < ctx.held.settings.columns → painted ≡ part.painted + n → color ≡ opposite part.color
+    → now ≡ record ctx { ticks = ctx.ticks + 1 } → after.bits ≡ before.bits
+    → WentOn part (record part { painted = painted; color = color }) ctx now before after
+went_behind_run part ctx now before after n painted color at lawful reads last within is turned frame same =
+    let held = ctx.held in
+    let shorter = read_code_shorter (codes_of part.color) (here before) n (here after) (words_not_empty part.color) reads in
+    let ticks = ap (λ (x : Context). x.ticks) frame in
+    rw (is, turned) (record {
+      part = part_behind_run held.settings held.reference part at n (here before) (here after) reads last within;
+      lawful = lawful_behind held.settings held.reference (next_run held.settings held.reference part at n (here before)
+          (here after) reads last within) part.painted part.passed lawful.passed refl (omega arith) (omega (arith, within));
+      frame = frame ∙ ap (λ (m : ℕ). record ctx { ticks = m }) (sym ticks);
+      same_bits = same;
+      onward = omega (arith, shorter);
+      counts = omega (arith, ticks);
+      work = omega (arith, ticks, shorter);
+    })

@@ -1,28 +1,11 @@
-use Rattle.hayro_ccitt.proofs.Names.{common_steps}
-use Rattle.hayro_ccitt.specs.declared.line_parts.KeptPart.{KeptPart}
-use Rattle.hayro_ccitt.proofs.Names.{◌≡◌, ◌∙◌, ◌<◌, ap, sym, subst, arith, here, Context, Bits, BitsAt, ℕ}
+use Rattle.hayro_ccitt.proofs.Names.{◌≡◌, ◌<◌, subst, arith, here}
 use Rattle.hayro_ccitt.specs.declared.line_parts.Word.{Word}
 use Rattle.hayro_ccitt.specs.LineParts.{GoesOnBy, ReadsWord, left_to_read, part_at}
 use Rattle.hayro_ccitt.specs.LinesGoOn.{read_on}
-use Rattle.hayro_ccitt.proofs.DrawingLines.PartsOfLines.{WentOn, ends_with_word, lacks_word, reads_some, went_on}
+use Rattle.hayro_ccitt.proofs.DrawingLines.PartsOfLines.{ends_with_word, lacks_word, put_back, reads_some, went_on}
+use Rattle.hayro_ccitt.proofs.DrawingLines.PartsOfLines.{went_to_word, word_read}
 use Rattle.hayro_ccitt.proofs.line_parts.continue_line.Goals.{After-read_run, After-read_step}
 use Rattle.hayro_ccitt.proofs.line_parts.continue_line.Goals as goal
-
--- what was read before a word, in a context with other ticks
-went_to_word : (old part : KeptPart) (ctx now : Context) (before at : BitsAt) → WentOn old part ctx now before at
-    → WentOn old part ctx (record ctx { ticks = now.ticks }) before at
-went_to_word old part ctx now before at went = subst (λ (x : Context). WentOn old part ctx x before at) went.frame went
-
--- and the word, in the same context
-word_read : (part new : KeptPart) (ctx now next : Context) (at after : BitsAt) (found word : Word)
-    → now ≡ record ctx { ticks = now.ticks } → found ≡ word → ReadsWord part new now next at after found
-    → ReadsWord part new (record ctx { ticks = now.ticks }) next at after word
-word_read part new ctx now next at after found word same is reads = grind (arith, common_steps)
-
-put_back : (old part : KeptPart) (ctx now : Context) (before at : BitsAt) (place : ℕ) → WentOn old part ctx now before at
-    → place ≡ at.place → record before { place = place } ≡ at
-put_back old part ctx now before at place went is =
-    ap (λ (n : ℕ). record before { place = n }) is ∙ ap (λ (b : Bits). record at { bits = b }) (sym went.same_bits)
 
 run_read : (c : After-read_run) (word : Word) → c.read_run.result ≡ word → ReadsWord c.run.part c.read_run.new.part
     (record c.args.ctx.now { ticks = c.run.ctx.ticks }) c.read_run.new.ctx c.run.reader c.read_run.new.reader word

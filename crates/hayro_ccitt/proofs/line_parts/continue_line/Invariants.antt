@@ -1,6 +1,5 @@
 use Rattle.hayro_ccitt.proofs.Names.{◌≤◌, here}
-use Rattle.hayro_ccitt.specs.LineParts.{left_to_read}
-use Rattle.hayro_ccitt.proofs.DrawingLines.PartsOfLines.{WentOn}
+use Rattle.hayro_ccitt.specs.LineParts.{WentOn, left_to_read}
 use Rattle.hayro_ccitt.proofs.line_parts.continue_line.Given as goal
 
 -- the line goes on from the part that is reached
