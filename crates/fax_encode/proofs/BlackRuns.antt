@@ -164,7 +164,8 @@ module _ (from to last zeros : ℕ) (row row1 row2 row3 : List ℕ) (front : Bit
       ∙ take-append-add first_black (replicate whites false) (8 * k)
       ∙ ap (λ (b : Bits). first_black ++ b) (take-replicate (8 * k) whites false (omega (arith, first_long, le, end, within))) in
       let r : ℕ = whites - (8 * k + 64) in
-      let behind : bits_of (drop (last + 8) row1) ≡ replicate r false = bits_of-drop (last + 8) row1 ∙ ap (drop (8 * (last + 8))) one
+      let behind : bits_of (drop (last + 8) row1) ≡ replicate r false =
+      bits_of-drop (last + 8) row1 ∙ ap (drop (8 * (last + 8))) one
       ∙ ap (λ (m : ℕ). drop m (first_black ++ replicate whites false)) (omega (arith, first_long, le))
       ∙ drop-append-add first_black (replicate whites false) (8 * k + 64) ∙ drop-replicate (8 * k + 64) whites false in
       let front_bits : Bits = first_black ++ replicate (8 * k) false in

@@ -106,7 +106,8 @@ packed_behind layout columns start written bytes list memory row changes more na
     ∙ ap (λ (n : ℕ). with_packed n before list) wide
 
 -- a row with 1 for black
-pub plain_row : (black_is_0 : Bool) (bits row : Bits) → black_is_0 ≡ false → bits ≡ filled_up row → bits ≡ packed_row black_is_0 row
+pub plain_row : (black_is_0 : Bool) (bits row : Bits) → black_is_0 ≡ false → bits ≡ filled_up row
+    → bits ≡ packed_row black_is_0 row
 plain_row false bits row plain is = is
 plain_row true bits row plain is = cc
 

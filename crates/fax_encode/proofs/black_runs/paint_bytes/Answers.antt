@@ -1,5 +1,5 @@
-use Rattle.fax_encode.proofs.Names.{◌≡◌, ◌+◌, ◌-◌, ◌*◌, ◌++◌, ℕ, List, true, length, take, drop, replicate, ap, ◌∙◌, arith, put_mid}
-use Rattle.fax_encode.proofs.Names.{bits_of, length-drop, length-take-le, sym}
+use Rattle.fax_encode.proofs.Names.{◌≡◌, ◌+◌, ◌-◌, ◌*◌, ◌++◌, ℕ, List, true, length, take, drop, replicate, ap, ◌∙◌, arith}
+use Rattle.fax_encode.proofs.Names.{put_mid, bits_of, length-drop, length-take-le, sym}
 use Rattle.fax_encode.proofs.BlackRuns.{bytes_painted}
 use Rattle.fax_encode.proofs.ScannedRows.{bits_of-parts}
 use Rattle.fax_encode.proofs.black_runs.paint_bytes.Goals as goal

@@ -1,5 +1,5 @@
-use Rattle.fax_encode.proofs.Names.{◌≡◌, ℕ, ◌+◌, ◌-◌, ◌*◌, ◌/◌, ◌<◌, ◌≤◌, ◌++◌, List, true, get_or, length, replicate, ap, ◌∙◌, arith}
-use Rattle.fax_encode.proofs.Names.{then_white}
+use Rattle.fax_encode.proofs.Names.{◌≡◌, ℕ, ◌+◌, ◌-◌, ◌*◌, ◌/◌, ◌<◌, ◌≤◌, ◌++◌, List, true, get_or, length, replicate, ap, ◌∙◌}
+use Rattle.fax_encode.proofs.Names.{arith, then_white}
 use Rattle.std.proofs.Common.{inl, inr}
 use Rattle.std.proofs.lemmas.Bool.{cases_lt}
 use Rattle.fax_encode.proofs.BlackRuns.{AreBlack, all_painted_is_filled, last_painted, no_run_left, none_painted, run_painted}
@@ -22,7 +22,8 @@ returns-else-changes-gt2 c =
         | inl two ↦
             let run : AreBlack columns changes 2 row' = run_painted columns changes 0 row row' some room none two same
             (λ front long white. c.paint_black.ensures.painted front long white
-            ∙ ap (λ (n : ℕ). then_white (front ++ replicate (n - first) true) (length row)) (c.end_of_first.ensures.change two)) in
+            ∙ ap (λ (n : ℕ). then_white (front ++ replicate (n - first) true) (length row))
+            (c.end_of_first.ensures.change two)) in
             all_painted_is_filled columns changes row' row' c.requires.changes bytes
             (no_run_left columns changes 2 row' (omega (arith, c.if-changes-gt2.false)) (omega (arith, bytes)) run)
         | inr one ↦

@@ -12,7 +12,8 @@ paint_cleared-requires-clause-white c =
     let s = c.fill_many.new.self in
     let same = c.fill_many.ensures in
     let n : ℕ = s.start + s.bytes - s.written in
-    let room : s.start + s.bytes ≤ length s.bitmap.now = omega (arith, s.whole, c.requires.room, same.columns, same.start, same.size) in
+    let room : s.start + s.bytes ≤ length s.bitmap.now =
+    omega (arith, s.whole, c.requires.room, same.columns, same.start, same.size) in
     let long : length (take n (drop s.written s.bitmap.now)) ≡ n =
     omega (arith, length-take n (drop s.written s.bitmap.now), length-drop s.written s.bitmap.now, s.in_order, room) in
     row_cleared s.written s.start s.bytes s.bitmap.now c.fill_bytes.new.bytes s.in_order room
@@ -24,7 +25,8 @@ returns-clause-meaning c =
     let same = c.fill_many.ensures in
     let on = c.go_on.ensures in
     let n : ℕ = s.start + s.bytes - s.written in
-    let room : s.start + s.bytes ≤ length s.bitmap.now = omega (arith, s.whole, c.requires.room, same.columns, same.start, same.size) in
+    let room : s.start + s.bytes ≤ length s.bitmap.now =
+    omega (arith, s.whole, c.requires.room, same.columns, same.start, same.size) in
     let long : length (take n (drop s.written s.bitmap.now)) ≡ n =
     omega (arith, length-take n (drop s.written s.bitmap.now), length-drop s.written s.bitmap.now, s.in_order, room) in
     let bytes : s.bytes ≡ bytes_of_row s.columns = omega (arith, s.whole) in
@@ -37,6 +39,7 @@ returns-clause-meaning c =
     ∙ packed_cleared s.written s.start s.bytes s.bitmap.now c.fill_bytes.new.bytes s.in_order room
     (c.fill_bytes.ensures ∙ ap (λ (k : ℕ). replicate k 0) long) s.layout s.columns c.args.changes.now c.paint_cleared.new.row
     s.changes _ s.bitmap.ghost_name plain bytes s.reaches c.paint_cleared.auto.row
-    (plain_row s.layout.black_is_0 (bits_of c.paint_cleared.new.row) (pixels s.columns c.args.changes.now) plain c.paint_cleared.ensures.painted) refl
+    (plain_row s.layout.black_is_0 (bits_of c.paint_cleared.new.row) (pixels s.columns c.args.changes.now) plain
+    c.paint_cleared.ensures.painted) refl
     ∙ ap (λ (p : Packing). with_packed s.columns p c.args.changes.now) same.meaning
     ∙ ap (λ (n : ℕ). with_packed n before c.args.changes.now) same.columns

@@ -21,5 +21,6 @@ returns-clause-taken c =
     on.same_reference
     ∙ packed_behind s.layout s.columns s.start s.written s.bytes [] s.bitmap.now row s.changes _
     s.bitmap.ghost_name same.written bytes s.reaches (omega (arith, room)) (omega (arith, room)) c.fill_all.auto.bytes
-    (white_bytes s.layout.black_is_0 s.columns [] old row c.white_byte-white.result refl long c.white_byte-white.ensures c.fill_all.ensures)
+    (white_bytes s.layout.black_is_0 s.columns [] old row c.white_byte-white.result refl long c.white_byte-white.ensures
+    c.fill_all.ensures)
     refl _ _ same.meaning same.columns
