@@ -1,7 +1,8 @@
 use Rattle.hayro_ccitt.specs.Lines.{place_from}
 use Rattle.hayro_ccitt.proofs.Names.{common_steps}
 use Rattle.hayro_ccitt.proofs.Names.{◌≡◌, ℕ, ℤ, ◌-◌, ◌≤◌, ◌+ℤ◌, ◌∙◌, pos, negsuc, length, ap, Ok, w8, SFits, arith, rules}
-use Rattle.hayro_ccitt.proofs.Names.{to_z-of_z, err_from_is_err_and, on_err_weaker, on_ok_weaker, Context, DecodeError, Held, b1, here, right_of}
+use Rattle.hayro_ccitt.proofs.Names.{to_z-of_z, err_from_is_err_and, on_err_weaker, on_ok_weaker, Context, DecodeError, Held}
+use Rattle.hayro_ccitt.proofs.Names.{b1, here, right_of}
 use Rattle.hayro_ccitt.proofs.DrawingLines.CutRuns.{pass_cuts}
 use Rattle.hayro_ccitt.proofs.DrawingLines.Drawings.{try}
 use Rattle.hayro_ccitt.proofs.DrawingLines.DrawnLines.{IsUnpainted, paint_draws, pass_draws, unpainted, vertical_unpainted}
