@@ -1326,7 +1326,7 @@ pub(crate) fn draw_modes(
         index: 0,
         color: Color::White,
     };
-    // Each time the room doubles.
+    // Each time the room doubles, or the last bits come into the window.
     'rooms: for _ in 0..32 {
         let reached = draw_own_row(hand, row, line, now, ticks);
         if reached.painted == line.columns {
