@@ -530,13 +530,7 @@ impl RowFeed {
         let Some(part) = &mut self.part else {
             return false;
         };
-        let (is_short, reached) = continue_1d_line(
-            &mut self.ctx,
-            &mut reader,
-            &self.data,
-            self.order,
-            part,
-        );
+        let (is_short, reached) = continue_1d_line(&mut self.ctx, &mut reader, part);
         if is_short {
             self.line_read = reached - self.place;
             return true;
