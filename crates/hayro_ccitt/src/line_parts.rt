@@ -355,8 +355,8 @@ fn is_at_run(part: &KeptPart) -> bool
     part.total == 0
 }
 
-/// Goes on behind a word of a run of a one-dimensional line that is read here. Mostly the run ends with it within the row, and then
-/// the next one begins: so it is where the second value is true.
+/// Goes on behind a word of a run of a one-dimensional line that is read here. Mostly the run ends with it within the row, and
+/// then the next one begins: so it is where the second value is true.
 #[inline(always)]
 fn read_next_run(
     ctx: &mut DecoderContext,
@@ -416,8 +416,8 @@ fn continue_run(
     }
 }
 
-/// Reads runs from a part of a one-dimensional line on, as `continue_line` does, as long as one word ends each within the row. Returns
-/// `None` where the line goes on otherwise. Each colour has code of its own.
+/// Reads runs from a part of a one-dimensional line on, as `continue_line` does, as long as one word ends each within the row.
+/// Returns `None` where the line goes on otherwise. Each colour has code of its own.
 #[inline(always)]
 fn continue_runs(
     ctx: &mut DecoderContext,

@@ -513,8 +513,8 @@ impl RowFeed {
         }
     }
 
-    /// Reads on from the part of the line here that is kept, mostly of a one-dimensional line, and returns whether the line is still
-    /// short. By a call, so that its callers stay small.
+    /// Reads on from the part of the line here that is kept, mostly of a one-dimensional line, and returns whether the line is
+    /// still short. By a call, so that its callers stay small.
     #[inline(never)]
     fn stays_short_1d(&mut self) -> bool
         requires more { self.old.finished ≡ false }
