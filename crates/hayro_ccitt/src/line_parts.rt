@@ -2,7 +2,7 @@
 
 ghost use Rattle.std.specs.Prelude.{◌≡◌, ◌≢◌, ◌≤◌, ◌<◌, ◌+◌, ◌*◌, ◌+ℤ◌, true, false, length, pos, IfSome, IfNone, Err};
 ghost use Rattle.std.specs.Prelude.{Ok, None, Some, [], suc, not};
-ghost use Rattle.hayro_ccitt.specs.Bits.{Bits, BitsFit, bits_in, here};
+ghost use Rattle.hayro_ccitt.specs.Bits.{Bits, here};
 ghost use Rattle.hayro_ccitt.specs.Context.{right_of_painted};
 ghost use Rattle.hayro_ccitt.specs.Continuations.{is_short};
 ghost use Rattle.hayro_ccitt.specs.Faults.{misses_end};
@@ -18,7 +18,7 @@ use crate::changes::vertical_place;
 use crate::context::DecoderContext;
 use crate::{DecodeError, EncodingMode};
 use fax_bits::DecodeSettings;
-use fax_bits::bit_reader::{BitOrder, BitReader, BitScanner, scanner_at};
+use fax_bits::bit_reader::{BitReader, BitScanner};
 use fax_bits::codes::{Color, Mode};
 
 /// Where in a line its next word begins. Of its front only the number of pixels is kept.
@@ -341,8 +341,8 @@ fn is_at_run(part: &KeptPart) -> bool
     part.total == 0
 }
 
-/// Goes on behind a word of a run of a one-dimensional line that is read here. Mostly the run ends with it within the row, and then
-/// the next one begins: so it is where the second value is true.
+/// Goes on behind a word of a run of a one-dimensional line that is read here. Mostly the run ends with it within the row, and
+/// then the next one begins: so it is where the second value is true.
 #[inline(always)]
 fn read_next_run(
     ctx: &mut DecoderContext,
@@ -402,8 +402,8 @@ fn continue_run(
     }
 }
 
-/// Reads runs from a part of a one-dimensional line on, as `continue_line` does, as long as one word ends each within the row. Returns
-/// `None` where the line goes on otherwise. Each colour has code of its own.
+/// Reads runs from a part of a one-dimensional line on, as `continue_line` does, as long as one word ends each within the row.
+/// Returns `None` where the line goes on otherwise. Each colour has code of its own.
 #[inline(always)]
 fn continue_runs(
     ctx: &mut DecoderContext,
@@ -494,40 +494,14 @@ pub(crate) fn continue_line(
     }
 }
 
-/// Reads words from a part of a line on that is here in these bytes, as `continue_line` does, by a call.
-#[cold]
-#[inline(never)]
-fn continue_by_call(
-    ctx: &mut DecoderContext,
-    bytes: &[u8],
-    order: BitOrder,
-    place: usize,
-    part: &mut KeptPart,
-) -> (bool, usize)
-    requires lawful { IsLawfulPart ctx.old.held.settings ctx.old.held.reference part.old }
-    requires fit { BitsFit bytes.now }
-    requires within { place ≤ 8 * length bytes.now }
-    ensures goes_on { ContinuesLine part.old part.new ctx.old ctx.new (record { bits = bits_in order bytes.now; place = place })
-        (record { bits = bits_in order bytes.now; place = result.1 }) result.0 }
-    ensures within { result.1 ≤ length (bits_in order bytes.now) }
-{
-    let mut reader = scanner_at(bytes, order, place);
-    continue_line(ctx, &mut reader, part)
-}
-
-/// Reads words from a part of a line on, as `continue_line` does, where the line is mostly one-dimensional. The reader is over these
-/// bytes.
+/// Reads words from a part of a line on, as `continue_line` does, where the line is mostly one-dimensional.
 #[inline(always)]
 pub(crate) fn continue_1d_line(
     ctx: &mut DecoderContext,
     reader: &mut BitScanner<'_>,
-    bytes: &[u8],
-    order: BitOrder,
     part: &mut KeptPart,
 ) -> (bool, usize)
-    requires lawful { IsLawfulPart ctx.old.held.settings ctx.old.held.reference part.old }
-    requires fit { BitsFit bytes.now }
-    requires over { reader.old.bits ≡ bits_in order bytes.now }
+    requires { IsLawfulPart ctx.old.held.settings ctx.old.held.reference part.old }
     ensures goes_on { ContinuesLine part.old part.new ctx.old ctx.new reader.old
         (record reader.old { place = result.1 }) result.0 }
     ensures within { result.1 ≤ length reader.old.bits }
@@ -537,6 +511,5 @@ pub(crate) fn continue_1d_line(
     if let Some(stopped) = continue_runs(ctx, reader, part) {
         return stopped;
     }
-    let place = reader.offset();
-    continue_by_call(ctx, bytes, order, place, part)
+    continue_line(ctx, reader, part)
 }

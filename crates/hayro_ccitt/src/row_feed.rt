@@ -513,8 +513,8 @@ impl RowFeed {
         }
     }
 
-    /// Reads on from the part of the line here that is kept, mostly of a one-dimensional line, and returns whether the line is still
-    /// short. By a call, so that its callers stay small.
+    /// Reads on from the part of the line here that is kept, mostly of a one-dimensional line, and returns whether the line is
+    /// still short. By a call, so that its callers stay small.
     #[inline(never)]
     fn stays_short_1d(&mut self) -> bool
         requires more { self.old.finished ≡ false }
@@ -530,13 +530,7 @@ impl RowFeed {
         let Some(part) = &mut self.part else {
             return false;
         };
-        let (is_short, reached) = continue_1d_line(
-            &mut self.ctx,
-            &mut reader,
-            &self.data,
-            self.order,
-            part,
-        );
+        let (is_short, reached) = continue_1d_line(&mut self.ctx, &mut reader, part);
         if is_short {
             self.line_read = reached - self.place;
             return true;

@@ -15,7 +15,8 @@ returns-in-Missing-clause-stops c =
     let ctx = c.args.ctx.now in
     let part = c.args.part.now in
     let at = c.args.reader.now in
-    lacks_word part part c.read_next_run-word.new.part ctx ctx.ticks c.read_next_run-word.new.ctx at at c.read_next_run-word.new.reader
+    lacks_word part part c.read_next_run-word.new.part ctx ctx.ticks c.read_next_run-word.new.ctx at at
+    c.read_next_run-word.new.reader
     (went_none part ctx at c.requires.lawful)
     (record at { place = c.offset-run_start.result })
     (ap (λ (n : ℕ). record at { place = n }) c.offset-run_start.ensures.place)
@@ -29,7 +30,8 @@ returns-in-Ends-clause-stops c =
     let ctx = c.args.ctx.now in
     let part = c.args.part.now in
     let at = c.args.reader.now in
-    ends_with_word part part c.read_next_run-word.new.part ctx ctx.ticks c.read_next_run-word.new.ctx at at c.read_next_run-word.new.reader
+    ends_with_word part part c.read_next_run-word.new.part ctx ctx.ticks c.read_next_run-word.new.ctx at at
+    c.read_next_run-word.new.reader
     (went_none part ctx at c.requires.lawful)
     (record at { place = c.offset-run_start.result })
     (ap (λ (n : ℕ). record at { place = n }) c.offset-run_start.ensures.place)

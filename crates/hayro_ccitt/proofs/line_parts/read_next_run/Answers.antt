@@ -19,7 +19,8 @@ returns-then-end-from-clause-goes c = λ e.
     let n = c.in-Ok.n in
     let columns = ap (λ (x : Context). x.held.settings.columns) c.read_word.ensures.frame in
     went_behind_run part c.args.ctx.now c.read_word.new.self c.args.reader.now c.read_word.new.reader n
-    (c.from.result + c.from-in-Ok.result) c.opposite-part.result c.requires.start c.requires.lawful (reads_own c.args.part.now.color c.args.color (here c.args.reader.now) n
+    (c.from.result + c.from-in-Ok.result) c.opposite-part.result c.requires.start c.requires.lawful
+    (reads_own c.args.part.now.color c.args.color (here c.args.reader.now) n
     (here c.read_word.new.reader) c.requires.color c.in-Ok.ensures.word)
     (omega (arith, c.if-n-lt64.true)) (omega (
       arith,
@@ -29,7 +30,8 @@ returns-then-end-from-clause-goes c = λ e.
       c.from-in-Ok.ensures,
       c.from-then-n-lt64.ensures,
       ap (λ (s : DecodeSettings). s.columns) c.settings.ensures.value,
-    )) (omega (arith, c.from.ensures, c.from-in-Ok.ensures)) (c.opposite-part.ensures ∙ ap opposite (sym c.requires.color)) c.read_word.ensures.frame
+    )) (omega (arith, c.from.ensures, c.from-in-Ok.ensures)) (c.opposite-part.ensures ∙ ap opposite (sym c.requires.color))
+    c.read_word.ensures.frame
     c.read_word.ensures.same_bits
 
 pub returns-else-n-lt64-clause-goes : goal.returns-else-n-lt64-clause-goes

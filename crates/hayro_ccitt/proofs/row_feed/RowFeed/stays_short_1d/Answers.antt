@@ -82,7 +82,8 @@ returns-then-is_short c =
     let at = (goal.at.returns-then-is_short c).After-continue_1d_line-is_short in
     let was = kept at in
     let on = c.continue_1d_line-is_short in
-    rw (← c.self.view_is) (stays_by (old at) _ c.in-Some-part.part true c.in-Some-part.is (ap (λ (f : Feeding). f.finished) c.self.view_is ∙ c.requires.more) was.none_drawn
+    rw (← c.self.view_is) (stays_by (old at) _ c.in-Some-part.part true c.in-Some-part.is
+    (ap (λ (f : Feeding). f.finished) c.self.view_is ∙ c.requires.more) was.none_drawn
     (scans_short (old at) (scanned at) c.in-Some-part.part on.new.part c.self.inside.line_read c.in-Some.reader (reached at)
     on.result.0 (starts_at at) (within at) on.ensures.goes_on was on.ensures.within c.if-is_short.true))
 
