@@ -1,13 +1,12 @@
 -- The strict reading of a line that isn't short.
-use Rattle.fax_reading.proofs.Names.{arith, common_steps, ◌≡◌, ℕ, zero, suc, ◌-◌, Bool, true, false, [], ◌∷◌, length, refl}
-use Rattle.fax_reading.proofs.Names.{◌⊎◌, inl, inr, Color, Mode, Pass, Horizontal, Vertical, DecodeSettings, EncodingMode, Group4}
-use Rattle.fax_reading.proofs.Names.{Group3_1D, Group3_2D, UnexpectedEof, Bits, Turn, repeated, Row, opposite}
-use Rattle.fax_reading.proofs.Names.{paint, Line, Pen, Drawing, start, draw_1d, draw_2d, draw_mode, draw_run, go_on}
-use Rattle.fax_reading.proofs.Names.{mode_here, run_here, painted, painted_to, place_by, unless_fault, unless_full, turn_behind}
-use Rattle.fax_reading.proofs.Names.{◌>>=◌, line_by, line_here, line_1d, line_2d, LineIsSettled, is_short}
+use Rattle.fax_reading.proofs.Names.{arith, common_steps, ◌≡◌, ℕ, zero, suc, ◌-◌, Bool, true, false, [], ◌∷◌, length, refl, ◌⊎◌}
+use Rattle.fax_reading.proofs.Names.{inl, inr, Color, Mode, Pass, Horizontal, Vertical, DecodeSettings, EncodingMode, Group4}
+use Rattle.fax_reading.proofs.Names.{Group3_1D, Group3_2D, UnexpectedEof, Bits, Turn, repeated, Row, opposite, paint, Line, Pen}
+use Rattle.fax_reading.proofs.Names.{Drawing, start, draw_1d, draw_2d, draw_mode, draw_run, go_on, mode_here, run_here, painted}
+use Rattle.fax_reading.proofs.Names.{painted_to, place_by, unless_fault, unless_full, turn_behind, ◌>>=◌, line_by, line_here}
+use Rattle.fax_reading.proofs.Names.{line_1d, line_2d, LineIsSettled, is_short, too_many_pixels}
 use Rattle.fax_reading.specs.Laws.{strictly}
 use Rattle.fax_reading.proofs.Continuations.LinesContinued.{line_settled}
-use Rattle.fax_reading.proofs.Names.{too_many_pixels}
 
 -- a turn of the strict reading is the same, or a run that is too long ends its line
 abbrev pub IsStricter : {A : Type 0} → Turn A Line → Turn A Line → Type 0
@@ -27,9 +26,8 @@ strict_paint strict columns front color n = grind arith
 module _ (strict : Bool) (columns : ℕ) where
   strict_run : (pen : Pen) → IsStricter (draw_run true columns pen).turn (draw_run strict columns pen).turn
   strict_run pen = strict_behind (run_here pen).turn (run_here pen).turn (λ run. (drew true run).turn)
-      (λ run. (drew strict run).turn) (inl refl) (λ run. strict_behind (painted true columns pen run.0).turn
-      (painted strict columns pen run.0).turn
-      (λ front. Turn.next (record { front = front; color = opposite pen.color; rest = run.1 }))
+      (λ run. (drew strict run).turn) (inl refl) (λ run. strict_behind (painted true columns pen run.0).turn (painted strict
+      columns pen run.0).turn (λ front. Turn.next (record { front = front; color = opposite pen.color; rest = run.1 }))
       (λ front. Turn.next (record { front = front; color = opposite pen.color; rest = run.1 }))
       (strict_paint strict columns pen.front pen.color run.0) (λ front. inl refl))
     where

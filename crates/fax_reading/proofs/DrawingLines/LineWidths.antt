@@ -70,9 +70,8 @@ module _ (strict : Bool) (columns : ℕ) where
 drawn_within : (columns : ℕ) (draw : Pen → Drawing Pen) → ((pen : Pen) → PenWithin columns pen
     → KeepsWidth columns (PenWithin columns)
     (draw pen).turn) → (pen : Pen) → PenWithin columns pen → length (front_of (drawn draw pen)) ≤ columns
-drawn_within columns draw holds pen within =
-    repeated_keeps (λ p. (draw p).turn) (Line.broken [] UnexpectedEof) (PenWithin columns)
-    (λ line. length (front_of line) ≤ columns) (omega arith)
+drawn_within columns draw holds pen within = repeated_keeps (λ p. (draw p).turn) (Line.broken [] UnexpectedEof)
+    (PenWithin columns) (λ line. length (front_of line) ≤ columns) (omega arith)
     (λ s t p e. subst (KeepsWidth columns (PenWithin columns)) e (holds s p))
     (λ s l p e. subst (KeepsWidth columns (PenWithin columns)) e (holds s p)) (suc (length pen.rest)) pen within
 

@@ -1,18 +1,17 @@
 -- Lines without EOLs are read as their rows, in every encoding: bodies of T.6 data, and of T.4 data that the limit ends.
 use Rattle.fax_reading.proofs.Names.{◌≡◌, ◌≢◌, ◌+◌, ◌%◌, ◌<◌, ◌≤◌, Bool, true, false, ◌&&◌, List, [], ◌∷◌, ◌++◌, length}
-use Rattle.fax_reading.proofs.Names.{replicate, Ok, sym, ap, subst, ◌∙◌, append_assoc, arith, inr, All, and_from}
-use Rattle.fax_reading.proofs.Names.{not_from_false, eq-eqb, ne_eqb, length-append, length-replicate, append-nil, All-head}
-use Rattle.fax_reading.proofs.Names.{All-tail, White, DecodeSettings, EncodingMode, Group4, Group3_1D, Group3_2D, Bits, Turn}
-use Rattle.fax_reading.proofs.Names.{Reaches, Row, Line, cond-true, eols, eols_here, Progress, row_before, limit_met}
-use Rattle.fax_reading.proofs.Names.{ends_with, line_here, pass_gap, ending_behind, end_of, EncodesLine, IsPicture, EncodesRows}
-use Rattle.fax_reading.proofs.Names.{Allows, gap_and_row, row_behind, ReadsLimitedRowsT4, common_steps}
-use Rattle.fax_reading.proofs.EncodedPictures.EncodedLines.{line_2d_again}
+use Rattle.fax_reading.proofs.Names.{replicate, Ok, sym, ap, subst, ◌∙◌, append_assoc, arith, inr, All, and_from, not_from_false}
+use Rattle.fax_reading.proofs.Names.{eq-eqb, ne_eqb, length-append, length-replicate, append-nil, All-head, All-tail, White}
+use Rattle.fax_reading.proofs.Names.{DecodeSettings, EncodingMode, Group4, Group3_1D, Group3_2D, Bits, Turn, Reaches, Row, Line}
+use Rattle.fax_reading.proofs.Names.{cond-true, eols, eols_here, Progress, row_before, limit_met, ends_with, line_here, pass_gap}
+use Rattle.fax_reading.proofs.Names.{ending_behind, end_of, EncodesLine, IsPicture, EncodesRows, Allows, gap_and_row, row_behind}
+use Rattle.fax_reading.proofs.Names.{ReadsLimitedRowsT4, common_steps}
 use Rattle.fax_bits.proofs.BitReading.ConsecutiveEols.{eols-none}
 use Rattle.fax_reading.proofs.EncodedPictures.PictureLines.{IsLineStart, line_2d_starts, allows_sum, not_met, row_before_push}
 use Rattle.fax_reading.proofs.EncodedPictures.PictureLines.{plain_ends, fill, aligned_on, between, ended_with}
-use Rattle.fax_reading.proofs.EncodedPictures.PicturesT4.{line_t4_again, line_t4_starts}
-use Rattle.fax_reading.proofs.{Readings.TurnsMoveOn.eols_end}
+use Rattle.fax_reading.proofs.Readings.TurnsMoveOn.{eols_end}
 use Rattle.fax_reading.proofs.Readings.GapsAndRows.{gap_unsought, first_gap_t4, reaches_end}
+use Rattle.fax_reading.proofs.EncodedPictures.{EncodedLines.line_2d_again, PicturesT4.line_t4_again, PicturesT4.line_t4_starts}
 
 -- ---- No EOL is counted where there is none.
 
@@ -110,12 +109,11 @@ module _ (settings : DecodeSettings) (wide : 0 < settings.columns) (small : sett
       -- a limit of as many rows ends the lines
       pub body_end : ending_behind settings (pass_gap settings (between [] (body ++ more)))
           ≡ ended_with rows (eols_here settings more).1
-      body_end =
-          let met : limit_met settings (length rows) ≡ true
-          = grind (arith, common_steps, and_from, eq-eqb, ne_eqb, not_from_false) in
-          reaches_end settings wide (between [] (body ++ more)) (between rows more)
-          (ended_with rows (eols_here settings more).1) (body_again [] rows body more (allows_sum settings (length rows) allows)
-          (length-replicate settings.columns false) is.1 whole lines) (gap_at_limit settings rows more met)
+      body_end = let met : limit_met settings (length rows) ≡ true = grind
+          (arith, common_steps, and_from, eq-eqb, ne_eqb, not_from_false) in
+          reaches_end settings wide (between [] (body ++ more)) (between rows more) (ended_with rows (eols_here settings more).1)
+          (body_again [] rows body more (allows_sum settings (length rows) allows) (length-replicate settings.columns false) is.1
+          whole lines) (gap_at_limit settings rows more met)
 
       -- they begin where there is no EOL
       pub body_starts : IsLineStart (body ++ more)

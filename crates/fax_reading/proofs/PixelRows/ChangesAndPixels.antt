@@ -110,24 +110,22 @@ pub pixels_from-wider : (place : ℕ)
     (color : Bool) (width more : ℕ) (places : List ℕ) → place ≤ width → AscendFrom place width places → pixels_from place color
     (width + more) places ≡ pixels_from place color width places ++ replicate more (turned_at color places)
 pixels_from-wider place color width more [] le ascend = grind (arith, common_steps, replicate-append-replicate)
-pixels_from-wider place color width more (change ∷ places) le ascend =
-    grind (
-      arith,
-      append_assoc,
-      pixels_from-wider change (not color) width more places (omega arith) (AscendFrom-here change width places ascend.2),
-    )
+pixels_from-wider place color width more (change ∷ places) le ascend = grind (
+  arith,
+  append_assoc,
+  pixels_from-wider change (not color) width more places (omega arith) (AscendFrom-here change width places ascend.2),
+)
 
 -- the same if the last change may equal the width
 pub pixels_from-on : (place : ℕ) (color : Bool)
     (width more : ℕ) (places : List ℕ) → place ≤ width → AscendFrom place (suc width) places → pixels_from place color
     (width + more) places ≡ pixels_from place color width places ++ replicate more (turned_at color places)
 pixels_from-on place color width more [] le ascend = grind (arith, common_steps, replicate-append-replicate)
-pixels_from-on place color width more (change ∷ places) le ascend =
-    grind (
-      arith,
-      append_assoc,
-      pixels_from-on change (not color) width more places (omega arith) (AscendFrom-here change (suc width) places ascend.2),
-    )
+pixels_from-on place color width more (change ∷ places) le ascend = grind (
+  arith,
+  append_assoc,
+  pixels_from-on change (not color) width more places (omega arith) (AscendFrom-here change (suc width) places ascend.2),
+)
 
 -- so painting pixels of the last colour adds no change
 pub pixels-same : (width more : ℕ) (places : List ℕ) → AreChanges width places
@@ -177,8 +175,7 @@ listed differs x y place places others e same = grind (arith, common_steps)
 changes-rest : (front row : Row) → filter (is_change (front ++ row)) (range_with_len (length front) (length row))
     ≡ changes_from (length front) (last_pixel false front) row
 changes-rest front [] = refl
-changes-rest front (here ∷ row) =
-    let step = changes-rest (front ++ here ∷ []) row in
+changes-rest front (here ∷ row) = let step = changes-rest (front ++ here ∷ []) row in
     grind (arith, common_steps, add-one, append_assoc, is_change-next, last_pixel-append, length-append, listed, step)
 
 -- the changes of a row, by recursion
@@ -191,16 +188,15 @@ changes-recursive row = changes-rest [] row
 pub changes_from-pixels_from : (place : ℕ) (color : Bool) (width : ℕ) (places : List ℕ) → AscendFrom place width places
     → changes_from place color (pixels_from place color width places) ≡ places
 changes_from-pixels_from place color width [] ascend = changes_from-same place (width - place) color
-changes_from-pixels_from place color width (change ∷ places) ascend =
-    grind (
-      arith,
-      length-replicate,
-      pixels_from-first,
-      changes_from-append,
-      changes_from-same,
-      last_pixel-same,
-      changes_from-pixels_from (suc change) (not color) width places ascend.2,
-    )
+changes_from-pixels_from place color width (change ∷ places) ascend = grind (
+  arith,
+  length-replicate,
+  pixels_from-first,
+  changes_from-append,
+  changes_from-same,
+  last_pixel-same,
+  changes_from-pixels_from (suc change) (not color) width places ascend.2,
+)
 
 -- the changes of a row of lawful changes are these
 pub changes-pixels : (width : ℕ) (places : List ℕ) → AreChanges width places → changes (pixels width places) ≡ places

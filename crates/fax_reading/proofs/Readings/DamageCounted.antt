@@ -117,9 +117,8 @@ last_with : (line strict : Line) (taken : ℕ) (before : Repairs) → before.las
 last_with line strict taken before within = grind (arith, cuts_keep)
 
 module _ (settings : DecodeSettings) (bits : Bits) (so_far : Progress) (line strict : Line) (row : Row) (rest : Bits)
-    (before : Repairs)
-    (is : row_of_line settings so_far.has_eols so_far.rest line ≡ Ok (row, rest)) (last : before.last ≤ length so_far.rows)
-    (few : before.missed ≤ length so_far.rows) where
+    (before : Repairs) (is : row_of_line settings so_far.has_eols so_far.rest line ≡ Ok (row, rest))
+    (last : before.last ≤ length so_far.rows) (few : before.missed ≤ length so_far.rows) where
   -- what is counted behind one more row
   abbrev then : Repairs
   then = repairs_behind (context_at settings (with_row so_far row rest) (repairs_with line strict
@@ -134,10 +133,9 @@ module _ (settings : DecodeSettings) (bits : Bits) (so_far : Progress) (line str
   )
 
   pub last_behind : then.last ≤ length so_far.rows + 1
-  last_behind =
-      omega (
-        arith,
-        (repaired_behind
-            (context_at settings (with_row so_far row rest) (repairs_with line strict (length so_far.rows) before)) rest).1,
-        last_with line strict (length so_far.rows) before last,
-      )
+  last_behind = omega (
+    arith,
+    (repaired_behind (context_at settings (with_row so_far row rest) (repairs_with line strict (length so_far.rows) before))
+        rest).1,
+    last_with line strict (length so_far.rows) before last,
+  )

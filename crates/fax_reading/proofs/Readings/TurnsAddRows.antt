@@ -47,16 +47,14 @@ pub keeps_adds : (rows more : List Row) (m : Move) → Keeps (rows ++ more) m �
 keeps_adds rows more m k = grind arith
 
 after_line_adds : (settings : DecodeSettings) (run : Progress) (line : Line) → Adds run.rows (after_line settings run line)
-after_line_adds settings run (Line.whole row rest) =
-    subst (Adds run.rows)
-    (sym (after_whole-is settings run row rest)) (keeps_adds run.rows (row ∷ []) _ (after_row_keeps settings (record run
+after_line_adds settings run (Line.whole row rest) = subst (Adds run.rows) (sym (after_whole-is settings run row rest))
+    (keeps_adds run.rows (row ∷ []) _ (after_row_keeps settings (record run
     { rows = run.rows ++ row ∷ []; rest = cond (settings.rows_are_byte_aligned && not run.has_eols) (aligned rest) rest })))
 after_line_adds settings run (Line.broken front fault) =
     let row : Row = front ++ replicate (settings.columns - length front) false in
     subst (Adds run.rows) (sym (after_damage-is settings run front fault))
-    (either_has (Adds run.rows) (settings.strict || not run.has_eols) (ends_with run (Err fault))
-    (row_added settings run row run.rest) ([], sym (append-nil run.rows))
-    (keeps_adds run.rows (row ∷ []) _ (after_row_keeps settings (record run {
+    (either_has (Adds run.rows) (settings.strict || not run.has_eols) (ends_with run (Err fault)) (row_added settings run row
+    run.rest) ([], sym (append-nil run.rows)) (keeps_adds run.rows (row ∷ []) _ (after_row_keeps settings (record run {
       rows = run.rows ++ row ∷ [];
       rest = cond (settings.rows_are_byte_aligned && not run.has_eols) (aligned run.rest) run.rest;
     }))))

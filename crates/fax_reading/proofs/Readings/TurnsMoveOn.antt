@@ -1,18 +1,17 @@
 -- Each line of a run moves the offset on.
 use Rattle.fax_reading.proofs.Names.{common_steps, ◌≡◌, ℕ, suc, ◌-◌, ◌%◌, ◌<◌, ◌≤◌, Bool, true, false, cond, not, ◌&&◌, ◌||◌, eqb}
 use Rattle.fax_reading.proofs.Names.{[], ◌∷◌, ◌++◌, length, replicate, Option, Some, None, Result, refl, sym, subst, ◌∙◌, arith}
-use Rattle.fax_reading.proofs.Names.{◌⊎◌, inl, inr, length-drop, not-false, or_parts, le-leb, lt-leb, eqb-false}
-use Rattle.fax_reading.proofs.Names.{DecodeError, DecodeSettings, Bits, Turn, Row, EncodingMode, Group4, Group3_1D, Group3_2D}
-use Rattle.fax_reading.proofs.Names.{Line, after_eol, next_eol, is_end_of_block, is_over, misses_eol, Progress, Move, aligned}
-use Rattle.fax_reading.proofs.Names.{ends_with, limit_met, at_end, line_by, eols_by, eols_here, after_line, move_on}
-use Rattle.fax_bits.proofs.CodeWords.ReadRuns.{chosen}
-use Rattle.fax_bits.proofs.Repetition.Repeated.{Shrinks, not_next}
+use Rattle.fax_reading.proofs.Names.{◌⊎◌, inl, inr, length-drop, not-false, or_parts, le-leb, lt-leb, eqb-false, DecodeError}
+use Rattle.fax_reading.proofs.Names.{DecodeSettings, Bits, Turn, Row, EncodingMode, Group4, Group3_1D, Group3_2D, Line, after_eol}
+use Rattle.fax_reading.proofs.Names.{next_eol, is_end_of_block, is_over, misses_eol, Progress, Move, aligned, ends_with}
+use Rattle.fax_reading.proofs.Names.{limit_met, at_end, line_by, eols_by, eols_here, after_line, move_on}
 use Rattle.fax_reading.proofs.DrawingLines.ReadLines.{TookBits, line_1d_took_bits, line_2d_took_bits}
 use Rattle.fax_reading.proofs.Readings.RowsAndGaps.{missed_sought, unless_over, seek_from, after_row, after_whole-is}
 use Rattle.fax_reading.proofs.Readings.RowsAndGaps.{after_damage-is}
 use Rattle.fax_bits.proofs.BitReading.ConsecutiveEols.{Counted, all_counted, cond_le, count_moves, count_shorter, count_some}
 use Rattle.fax_bits.proofs.BitReading.ConsecutiveEols.{counts_plain, counts_tagged, eols-some, last_tag_count, next_eol_found}
 use Rattle.fax_bits.proofs.BitReading.ConsecutiveEols.{one_more-count, tagged_eols_counted}
+use Rattle.fax_bits.proofs.{CodeWords.ReadRuns.chosen, Repetition.Repeated.Shrinks, Repetition.Repeated.not_next}
 
 unless_next : (b : Bool) (run : Progress) (outcome : Result Bits DecodeError) (on : Move) (t : Progress)
     → cond b (ends_with run outcome) on ≡ Turn.next t → on ≡ Turn.next t
@@ -76,19 +75,16 @@ went_on settings run found counted open_limit open_end e = grind (arith, common_
 -- the EOLs after a row leave less than there was before its line: it consumed bits, or EOLs are sought
 pub after_row_next : (settings : DecodeSettings) (run t : Progress) (n : ℕ) → after_row settings run ≡ Turn.next t
     → length run.rest < n → left_to_read t < n
-after_row_next settings run t n e small =
-    elim (chosen (misses_eol settings (length run.rows) run.has_eols run.rest) _ _ _ e) [
-      | inl a ↦
-          grind (arith, missed_sought, seek_left)
-      | inr a ↦
-          let open_run = unless_over_open settings run t (eols_here settings run.rest) a.1 in
-          let counted = eols_here_counted settings run.rest in
-          subst (λ (r : Progress). left_to_read r < n) (unless_over_next settings run t (eols_here settings run.rest) a.1)
-          (elim (went_on settings run (eols_here settings run.rest) counted open_run.0 open_run.1 a.0) [
-            | inl some ↦ either run.has_eols (length (eols_here settings run.rest).1) (omega (arith, counted.1 some, small))
-            | inr gave_up ↦ rw gave_up (omega (arith, counted.0, small))
-          ])
-    ]
+after_row_next settings run t n e small = elim (chosen (misses_eol settings (length run.rows) run.has_eols run.rest) _ _ _ e) [
+  | inl a ↦ grind (arith, missed_sought, seek_left)
+  | inr a ↦ let open_run = unless_over_open settings run t (eols_here settings run.rest) a.1 in
+      let counted = eols_here_counted settings run.rest in
+      subst (λ (r : Progress). left_to_read r < n) (unless_over_next settings run t (eols_here settings run.rest) a.1)
+      (elim (went_on settings run (eols_here settings run.rest) counted open_run.0 open_run.1 a.0) [
+        | inl some ↦ either run.has_eols (length (eols_here settings run.rest).1) (omega (arith, counted.1 some, small))
+        | inr gave_up ↦ rw gave_up (omega (arith, counted.0, small))
+      ])
+]
   where
     either : (b : Bool) (k : ℕ) → suc k < n → cond b (suc k) k < n
     either b k lt = grind arith
@@ -113,13 +109,11 @@ after_line_next settings run t (Line.whole row rest) took e =
 after_line_next settings run t (Line.broken front fault) took e =
     elim (chosen (settings.strict || not run.has_eols) _ _ _ (sym (after_damage-is settings run front fault) ∙ e)) [
       | inl a ↦ absurd (not_next _ t a.1)
-      | inr a ↦
-          let sought : run.has_eols ≡ true = not-false run.has_eols (or_parts settings.strict (not run.has_eols) a.0).1 in
+      | inr a ↦ let sought : run.has_eols ≡ true = not-false run.has_eols (or_parts settings.strict (not run.has_eols) a.0).1 in
           let al : Bool = settings.rows_are_byte_aligned && not run.has_eols in
           let more : Progress = record run {
             rows = run.rows ++ (front ++ replicate (settings.columns - length front) false) ∷ [];
-            rest =
-                cond al (aligned run.rest) run.rest;
+            rest = cond al (aligned run.rest) run.rest;
           } in
           let shorter : length (cond al (aligned run.rest) run.rest) ≤ length run.rest = cond_le al (aligned run.rest) run.rest
           (length run.rest) (omega (arith, length-drop (length run.rest % 8) run.rest)) (omega arith) in
