@@ -1,11 +1,11 @@
 -- Lines where more bits follow.
 use Rattle.fax_reading.proofs.Names.{common_steps, ◌≡◌, ℕ, suc, Bool, false, List, [], ◌++◌, length, Result, ap, ◌∙◌, arith}
-use Rattle.fax_reading.proofs.Names.{false≢true, length-append, Mode, Pass, Horizontal, Vertical, DecodeError, DecodeSettings}
+use Rattle.fax_reading.proofs.Names.{false≢true, Mode, Pass, Horizontal, Vertical, DecodeError, DecodeSettings}
 use Rattle.fax_reading.proofs.Names.{EncodingMode, UnexpectedEof, Bits, AreWholeBytes, mode_codes, read_code, Turn, Row, opposite}
 use Rattle.fax_reading.proofs.Names.{run_from, run_found, word_found, Line, Pen, Drawing, start, draw_1d, draw_2d, draw_mode}
 use Rattle.fax_reading.proofs.Names.{draw_run, go_on, mode_here, run_here, painted, unless_fault, unless_full, turn_behind, ◌>>=◌}
 use Rattle.fax_reading.proofs.Names.{words_behind, line_by, line_here, line_found, found_here, line_1d, line_2d, found_1d}
-use Rattle.fax_reading.proofs.Names.{found_2d, behind_row, row_of_line, LineIsSettled, is_short, line_before, row_continued}
+use Rattle.fax_reading.proofs.Names.{found_2d, row_of_line, LineIsSettled, is_short, line_before, row_continued}
 use Rattle.fax_bits.proofs.BitReading.ZerosInWords.{modes_free}
 use Rattle.fax_reading.proofs.Continuations.WordsContinued.{turn_on, turn_waits, repeated_on, rest_on, result_on, result_waits}
 use Rattle.fax_reading.proofs.Continuations.WordsContinued.{code_continues, run_continues}
@@ -141,11 +141,6 @@ pub found_settled : (settings : DecodeSettings) (reference : Row) (here more : B
 found_settled settings reference here more known =
     (line_on more settings.encoding settings.strict settings.columns reference here known).1
 
--- The bits after a row, where whole bytes follow, are followed by them.
-pub behind_continues : (settings : DecodeSettings) (has_eols : Bool) (rest more : Bits) → AreWholeBytes more
-    → behind_row settings has_eols (rest ++ more) ≡ behind_row settings has_eols rest ++ more
-behind_continues settings has_eols rest more bytes = grind (arith, common_steps, length-append)
-
 -- What it yields is the same, where whole bytes follow.
 pub row_continues : (settings : DecodeSettings) (reference : Row) (has_eols : Bool) (here more : Bits) → AreWholeBytes more
     → is_short (line_here settings reference here) ≡ false
@@ -156,4 +151,4 @@ row_continues settings reference has_eols here more bytes known = ap (row_of_lin
   where
     by_line : (line : Line) → row_of_line settings has_eols (here ++ more) (line_before more line)
         ≡ row_continued more (row_of_line settings has_eols here line)
-    by_line line = grind (arith, behind_continues)
+    by_line line = grind (arith, common_steps)

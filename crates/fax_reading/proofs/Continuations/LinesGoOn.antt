@@ -215,10 +215,6 @@ behind_leads part P turn behind first second = grind arith
 paint_leads : {A : Type 0} (part : LinePart) (turn : Turn A Line) → GoesOrEnds Anything turn → GoesOrLacks part Anything turn
 paint_leads part turn known = grind (arith, false≢true)
 
-fault_lacks : {V : Type 0} (list : List (Code V)) (here : Bits) (front : Row) (fault : DecodeError)
-    → read_code list here ≡ Err fault → is_short (Line.broken front fault) ≡ true → read_code list here ≡ Err UnexpectedEof
-fault_lacks list here front fault e short = e ∙ ap Err (missing_end fault short)
-
 -- the bits after a word are fewer
 abbrev WordIsRead : {V : Type 0} → Bits → V × Bits → Type 0
 WordIsRead here found = Precedes here found.1 × (length found.1 < length here)
@@ -231,7 +227,7 @@ word_leads_on {V} part list here front full lacks = by_read_code (read_code list
     by_read_code : (r : Result (V × Bits) DecodeError) → read_code list here ≡ r
         → GoesOrLacks part (WordIsRead here) (unless_fault front r)
     by_read_code (Ok (v, rest)) e = grind (arith, common_steps, read_code_found, read_code_shorter)
-    by_read_code (Err fault) e = λ short. lacks (fault_lacks list here front fault e short)
+    by_read_code (Err fault) e = λ short. lacks (grind (arith, common_steps, missing_end))
 
 module _ (settings : DecodeSettings) (reference : Row) (part : LinePart) (pen : Pen) (is : left_of part ≡ pen.rest) where
   -- a pen behind a word

@@ -6,16 +6,15 @@ use Rattle.fax_reading.proofs.Names.{Group3_2D, UnexpectedEof, Overflow, Bits, C
 use Rattle.fax_reading.proofs.Names.{IsWord, Turn, Row, opposite, paint, codes_of, run_turn, run_from, Line, Pen, Drawing, start}
 use Rattle.fax_reading.proofs.Names.{draw_1d, draw_2d, draw_mode, draw_run, go_on, mode_here, run_here, painted, place_from}
 use Rattle.fax_reading.proofs.Names.{unless_fault, unless_full, turn_behind, ◌>>=◌, line_by, line_here, line_1d, line_2d}
-use Rattle.fax_reading.proofs.Names.{LineIsSettled, LinesSettle, StaysAsRead, is_short, append_assoc, line_before, misses_end}
+use Rattle.fax_reading.proofs.Names.{LineIsSettled, LinesSettle, StaysAsRead, is_short, append_assoc, misses_end}
 use Rattle.fax_bits.specs.CodeReading.{IsCut}
 use Rattle.fax_bits.proofs.BitReading.ZerosInWords.{scan, scan-append, scan_holds, quiet_is, word_quiet, codes_free, modes_free}
-use Rattle.fax_bits.proofs.Repetition.Repeated.{repeated_induct}
 use Rattle.fax_reading.proofs.Continuations.LinesContinued.{found_settled, line_settled, row_continues}
 use Rattle.fax_reading.proofs.Continuations.StrictLines.{strict_settled}
 use Rattle.fax_reading.proofs.DamagedLines.LinesBeforeEol.{scan_above, scan_stays}
 use Rattle.fax_reading.proofs.DrawingLines.ReadLines.{pen_left, step_1d_shrinks, step_2d_shrinks}
-use Rattle.fax_bits.proofs.ErrorKinds.{not_missing_end}
-use Rattle.fax_bits.proofs.CodeWords.{CodeReadings.reads_codes, ReadCodes.read_code_found, ReadRuns.run_shrinks, ReadRuns.size}
+use Rattle.fax_bits.proofs.{Repetition.Repeated.repeated_induct, ErrorKinds.not_missing_end, CodeWords.CodeReadings.reads_codes}
+use Rattle.fax_bits.proofs.{CodeWords.ReadCodes.read_code_found, CodeWords.ReadRuns.run_shrinks, CodeWords.ReadRuns.size}
 
 -- eleven zeros are here, of which three may be before
 abbrev HasZeros : Bits → Type 0
@@ -181,13 +180,10 @@ eol_ends_line settings reference fill behind = by_encoding settings.encoding fil
     by_encoding Group3_2D (false ∷ fill) = grind (arith, common_steps, line_2d_known, append_assoc, scan_holds)
     by_encoding Group4 fill = grind (arith, common_steps, line_2d_known, append_assoc, scan_holds)
 
-same_shortness : (more : Bits) (line : Line) → is_short (line_before more line) ≡ is_short line
-same_shortness more line = grind arith
-
 -- A line that is settled isn't short.
 pub settled_not_short : (settings : DecodeSettings) (reference : Row) (here : Bits) → LineIsSettled settings reference here
     → is_short (line_here settings reference here) ≡ false
-settled_not_short settings reference here settled = sym (same_shortness (replicate 16 false) (line_here settings reference here))
+settled_not_short settings reference here settled = sym (grind (arith, common_steps))
     ∙ sym (ap is_short (settled (replicate 16 false))) ∙ zeros_end_line settings reference here
 
 -- Exactly the lines that aren't short are settled.

@@ -1,14 +1,13 @@
 -- A two-dimensional line, read against any reference row: it ends behind one of its modes or is broken, so that the next
 -- EOL is the one behind it.
 use Rattle.fax_reading.proofs.PixelRows.ReferencePlaces.{opposite_twice}
-use Rattle.fax_reading.proofs.Names.{◌≡◌, ℕ, suc, ◌+◌, ◌-◌, ◌≤◌, Bool, true, false, [], ◌∷◌, ◌++◌, length, replicate, Option}
-use Rattle.fax_reading.proofs.Names.{Some, None, Ok, Err, refl, sym, ap, subst, ◌∙◌, append_assoc, arith, ◌⊎◌, inl, inr, cases_lt}
-use Rattle.fax_reading.proofs.Names.{lt-ltb, le-ltb, lt-leb, length-append, replicate-append-replicate, Color, White, Mode, Pass}
-use Rattle.fax_reading.proofs.Names.{Horizontal, Vertical, DecodeError, UnexpectedEof, InvalidCode, Overflow, Bits, mode_codes}
-use Rattle.fax_reading.proofs.Names.{Has, read_code, Turn, Row, opposite, paint, codes_of, run_from, read_run, Line, Pen, start}
-use Rattle.fax_reading.proofs.Names.{line_2d, line_by, line_here, EncodingMode, Group3_2D, DecodeSettings, Step, Spells}
-use Rattle.fax_reading.proofs.Names.{EncodesLine2D, after_eol, ReadsModes, behind_mode, behind_read, behind_first_run}
-use Rattle.fax_reading.proofs.Names.{behind_second_run, common_steps}
+use Rattle.fax_reading.proofs.Names.{◌≡◌, ℕ, suc, ◌+◌, ◌-◌, ◌≤◌, Bool, true, false, [], ◌∷◌, ◌++◌, length, Option, Some, None, Ok}
+use Rattle.fax_reading.proofs.Names.{Err, refl, sym, ap, subst, ◌∙◌, append_assoc, arith, ◌⊎◌, inl, inr, cases_lt, lt-ltb, le-ltb}
+use Rattle.fax_reading.proofs.Names.{lt-leb, length-append, replicate-append-replicate, Color, White, Mode, Pass, Horizontal, Has}
+use Rattle.fax_reading.proofs.Names.{Vertical, DecodeError, UnexpectedEof, InvalidCode, Overflow, Bits, mode_codes, read_code}
+use Rattle.fax_reading.proofs.Names.{Turn, Row, opposite, paint, codes_of, run_from, read_run, Line, Pen, start, line_2d, line_by}
+use Rattle.fax_reading.proofs.Names.{line_here, EncodingMode, Group3_2D, DecodeSettings, Step, Spells, EncodesLine2D, after_eol}
+use Rattle.fax_reading.proofs.Names.{ReadsModes, behind_mode, behind_read, behind_first_run, common_steps}
 use Rattle.fax_bits.proofs.Repetition.Repeated.{repeated_keeps, next_is}
 use Rattle.fax_bits.proofs.BitReading.ZerosInWords.{scan, is_quiet, scan_below, scan-append, quiet_is, word_quiet, codes_free}
 use Rattle.fax_bits.proofs.BitReading.ZerosInWords.{modes_free}
@@ -68,8 +67,7 @@ spelled_is_read color n bits total more (Spells.terminating m word has small) =
     ]
 spelled_is_read color n bits total more (Spells.makeup m word {n = k} {bits = next} has large rest) =
     let here : (word ++ next) ++ more ≡ word ++ (next ++ more) = append_assoc word next more in
-    let read : read_code (codes_of color) ((word ++ next) ++ more) ≡ Ok (m, next ++ more) = ap (read_code (codes_of color)) here
-    ∙ read_code_again (codes_of color) m word (next ++ more) (codes_free color) has in
+    let read : read_code (codes_of color) ((word ++ next) ++ more) ≡ Ok (m, next ++ more) = grind (arith, common_steps, read_code_again, codes_free) in
     elim (cases_lt 4294967295 (total + m)) [
       | inl big ↦ inr (Overflow, run_passes color total m ((word ++ next) ++ more) (next ++ more) read big)
       | inr fits ↦ grind (arith, spelled_is_read color k next (total + m) more rest, run_goes_on)
@@ -124,9 +122,7 @@ module _ (strict : Bool) (columns : ℕ) (other : Row) where
   mode_on front color here last Horizontal rest t read e reads = let one = run_was_read strict columns (pen_with front color rest)
       (λ p. run_then strict columns p Turn.next) t (horizontal_is strict columns other (pen_with front color rest) ∙ e) in
       let two = run_was_read strict columns (pen_with one.1 (opposite color) one.2) Turn.next t one.4 in
-      ReadsModes.mode color two.2 (ap (behind_read color) read ∙ ap (behind_first_run color) one.3
-      ∙ ap (behind_second_run color) two.3) (subst (λ (c : Color). ReadsModes c two.2 last) (opposite_twice color) (subst
-      (λ (p : Pen). reads_at p last) {y = pen_with two.1 (opposite (opposite color)) two.2} (sym (next_is _ t two.4)) reads))
+      ReadsModes.mode color two.2 (grind (arith, common_steps)) (subst (λ (c : Color). ReadsModes c two.2 last) (opposite_twice color) (grind (arith, common_steps)))
 
   abbrev Keeps : Bits → Pen → Type 0
   Keeps here pen = (last : Bits) → reads_at pen last → ReadsModes White here last
@@ -148,11 +144,9 @@ module _ (strict : Bool) (columns : ℕ) (other : Row) where
   ends : (here : Bits) (s : Pen) (line : Line) → Keeps here s → step_2d strict columns other s ≡ Turn.done line
       → EndsBehind here line
   ends here s (Line.broken front fault) kept e = tt
-  ends here s (Line.whole row rest) kept e = let f = full_by columns s (mode_here s) row rest (try_goes_on s.front
-      (read_code mode_codes s.rest) _ (λ mode. draw_mode_goes_on strict columns other (pen_with s.front s.color mode.1) mode.0))
+  ends here s (Line.whole row rest) kept e = let f = full_by columns s (mode_here s) row rest (grind (arith, common_steps, try_goes_on, draw_mode_goes_on))
       (sym (step_2d_is strict columns other s) ∙ e) in
-      let there : s.rest ≡ rest = let w = f.1 in
-      cc in
+      let there : s.rest ≡ rest = grind (arith, common_steps) in
       subst (ReadsModes White here) there (kept s.rest ReadsModes.over)
 
   -- Whatever row it is read against, its modes were read up to where it ends.
@@ -194,19 +188,11 @@ encoded_from reference row from color bits tail rest (EncodesLine2D.horizontal f
     {bits = next} inside has spells1 spells2 steps) none reads = grind
     (arith, encoded_from reference row _ color next tail rest steps none, append_assoc, mode_is, left_behind, runs_are, long)
 
--- an EOL begins with eleven zeros, which are no mode
-no_mode_at_eol : (next after : Bits) → after_eol 0 next ≡ Some after → read_code mode_codes next ≡ Err InvalidCode
-no_mode_at_eol next after e = let eol = after_eol_is 0 next after e in
-    let sum : 11 + (eol.0 - 11) ≡ eol.0 = omega (arith, eol.2) in
-    ap (read_code mode_codes) (eol.1 ∙ ap (λ (n : ℕ). replicate n false ++ true ∷ after) (sym sum)
-    ∙ ap (λ (b : Bits). b ++ true ∷ after) (sym (replicate-append-replicate 11 (eol.0 - 11) false))
-    ∙ append_assoc (replicate 11 false) (replicate (eol.0 - 11) false) (true ∷ after))
-
 -- its modes end before the EOL behind it
 pub encoded_ends : (reference row : Row) (line next after rest : Bits) → EncodesLine2D reference row 0 White line
     → after_eol 0 next ≡ Some after → ReadsModes White (line ++ next) rest → length next ≤ length rest
 encoded_ends reference row line next after rest encodes eol reads =
-    encoded_from reference row 0 White line next rest encodes (no_mode_at_eol next after eol) reads
+    encoded_from reference row 0 White line next rest encodes (grind (arith, common_steps, after_eol_is, replicate-append-replicate, append_assoc)) reads
 
 -- a whole line leaves that EOL, whatever row it is read against
 pub leaves_next : (settings : DecodeSettings) → settings.encoding ≡ Group3_2D → (other reference row : Row)

@@ -5,7 +5,7 @@ use Rattle.fax_reading.proofs.Names.{arith, ◌⊎◌, inl, inr, cases_lt, cases
 use Rattle.fax_reading.proofs.Names.{take-append-drop, append-nil, append_cancel_right, set_at, DecodeError, UnexpectedEof}
 use Rattle.fax_reading.proofs.Names.{Group3_2D, DecodeSettings, Bits, AreWholeBytes, AreSettings, repeated, Reaches, Row}
 use Rattle.fax_reading.proofs.Names.{after_eol, all_eols, line_of_turn, row_before, Progress, Ending, first_line, move_on, end_of}
-use Rattle.fax_reading.proofs.Names.{bytes_before, plain, Reading, IsEol, IsLocal, ComesToLine, OneRowDiffers, EndsAt, EndAlike}
+use Rattle.fax_reading.proofs.Names.{bytes_before, plain, Reading, IsEol, IsLocal, OneRowDiffers, EndsAt, EndAlike}
 use Rattle.fax_reading.proofs.Names.{DamageStaysInRow, Locality, IsTagOfLine, common_steps}
 use Rattle.fax_reading.proofs.Readings.GapsAndRows.{end_t4, plain_is}
 use Rattle.fax_bits.proofs.Repetition.Repeated.{reached_follows}
@@ -45,12 +45,6 @@ module _ (settings : DecodeSettings) (wide : 0 < settings.columns) (one two : Bi
   Begins rows = Reaches (move_on settings) (first_line settings one) (sought rows x)
       × Reaches (move_on settings) (first_line settings two) (sought rows y)
 
-  pub comes_one : (rows : List Row) → Begins rows → ComesToLine settings one from (length rows)
-  comes_one rows begins = (sought rows x, begins.0, x_is, refl)
-
-  pub comes_two : (rows : List Row) → Begins rows → ComesToLine settings two from (length rows)
-  comes_two rows begins = (sought rows y, begins.1, y_is, refl)
-
   -- what is said of both results
   abbrev Differ : Type 0
   Differ = RowsAlike differ Begins (plain settings one).rows (plain settings two).rows
@@ -73,10 +67,8 @@ module _ (settings : DecodeSettings) (wide : 0 < settings.columns) (one two : Bi
       (rows_differ rows, EndAlike.faults fault (outcome_of one (Err fault) e) (outcome_of two (Err fault) f))
   answers_alike (EndsAlike.early bits short e f rows) =
       let place : ℕ = from - (length bits + 1) in
-      let at_one : place + length (bits ++ true ∷ x) ≡ length one =
-      omega (arith, short, length-append bits (true ∷ x), length_one) in
-      let at_two : place + length (bits ++ true ∷ y) ≡ length two =
-      omega (arith, short, length-append bits (true ∷ y), length_two) in (
+      let at_one : place + length (bits ++ true ∷ x) ≡ length one = grind (arith, common_steps, length-append) in
+      let at_two : place + length (bits ++ true ∷ y) ≡ length two = grind (arith, common_steps, length-append) in (
         rows_differ (inl rows),
         EndAlike.before place ((place + 7) / 8) (omega arith) (ends_at one (bits ++ true ∷ x) place e at_one)
             (ends_at two (bits ++ true ∷ y) place f at_two),
@@ -90,8 +82,7 @@ module _ (settings : DecodeSettings) (wide : 0 < settings.columns) (one two : Bi
       let place2 : ℕ = length two - length rest in
       let at_one : place + length rest ≡ length one = omega (arith, short, past_shorter, length_one) in
       let at_two : place2 + length rest ≡ length two = omega (arith, short, shorter_y, length_two) in
-      let counts : 8 * ((place + 7) / 8) + length two ≡ 8 * ((place2 + 7) / 8) + length one = omega
-      (arith, at_one, at_two, whole_one, whole_two) in (
+      let counts : 8 * ((place + 7) / 8) + length two ≡ 8 * ((place2 + 7) / 8) + length one = grind (arith, common_steps) in (
         rows_differ rows,
         EndAlike.past place place2 ((place + 7) / 8) ((place2 + 7) / 8) (omega (arith, short, past_shorter, length_one)) (omega
             (arith, short, shorter_y, length_two)) (ends_at one rest place e at_one) (ends_at two rest place2 f at_two) counts,
@@ -103,19 +94,9 @@ module _ (settings : DecodeSettings) (wide : 0 < settings.columns) (one two : Bi
       let at_two : place2 + length v ≡ length two = omega (arith, le2, length_two) in
       let many : length (plain settings one).rows ≡ settings.rows
       = ap length (rows_of one ∙ r) ∙ length-append before these ∙ sym is in (
-        rows_differ (inr (
-          before,
-          these,
-          those,
-          [],
-          same,
-          few,
-          r ∙ ap (λ (rows : List Row). before ++ rows) (sym (append-nil these)),
-          q ∙ ap (λ (rows : List Row). before ++ rows) (sym (append-nil those)),
-          begins,
-        )),
-        EndAlike.at_limit (length before) place place2 ((place + 7) / 8) ((place2 + 7) / 8) (comes_one before begins)
-            (comes_two before begins) (omega (arith, is, some)) (omega (arith, is, few)) many (omega (arith, le, length_one))
+        rows_differ (inr (grind (arith, common_steps, append-nil))),
+        EndAlike.at_limit (length before) place place2 ((place + 7) / 8) ((place2 + 7) / 8) (grind (arith, common_steps))
+            (grind (arith, common_steps)) (omega (arith, is, some)) (omega (arith, is, few)) many (omega (arith, le, length_one))
             (omega (arith, le2, length_two)) (ends_at one u place e at_one) (ends_at two v place2 f at_two),
       )
 
@@ -264,10 +245,7 @@ module _ (settings : DecodeSettings) (one two : Bits) (from : ℕ) (after : Bits
         (leaves_trans one (bits ++ true ∷ drop from one) found within.0 leaves)) (λ bits found count e within leaves. few_from two
         found from count (given.few_two e) (leaves_trans two (bits ++ true ∷ drop from two) found within.1 leaves)) lines
         (omega arith) given.settles (λ rows begun. given.stays_one rows begun.0) (λ rows begun. given.stays_two rows begun.1)
-        (λ t. repeated (move_on settings) (late (first two)) (suc (left_to_read t)) t) s t (λ rows e f. (
-          subst (Reaches (move_on settings) (first one)) e reached,
-          subst (Reaches (move_on settings) (first two)) f other_reached,
-        )) (omega (arith, past_shorter 0 (drop from one) after given.tail_one.next))
+        (λ t. repeated (move_on settings) (late (first two)) (suc (left_to_read t)) t) s t (λ rows e f. (grind (arith, common_steps))) (omega (arith, past_shorter 0 (drop from one) after given.tail_one.next))
         (omega (arith, past_shorter 0 (drop from two) after given.tail_two.next))) (suc (suc (length (first one).rest)))
         (suc (suc (length (first two).rest))) (left_below (first one)) (left_below (first two)) alike)
 

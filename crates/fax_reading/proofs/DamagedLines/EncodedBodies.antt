@@ -47,10 +47,6 @@ tag_leaves (true ∷ here) = by_after_eol (after_eol 0 here) refl
     by_after_eol None e = rw (e, past_tag) ([], refl)
     by_after_eol (Some rest) e = rw (e, past_tag) (true ∷ [], refl)
 
--- one bit at most
-tag_short : (here : Bits) → length here ≤ suc (length (past_tag here))
-tag_short here = grind arith
-
 -- where there is an EOL some are counted
 not_none : (here rest last : Bits) → after_eol 0 here ≡ Some rest → all_tagged here ≡ (0, last) → ⊥
 not_none here rest last f e = grind (arith, common_steps, all_tagged-some)
@@ -133,12 +129,11 @@ module _ (front words next : Bits) (tag : Bool) (fill : ℕ) (quiet : Quiet word
           ) in
           let after_found : LeavesBits found rest =
           (replicate zeros.0 false ++ true ∷ [], zeros.1 ∙ sym (append_assoc (replicate zeros.0 false) (true ∷ []) rest)) in
-          let in_both : LeavesBits ((more ++ true ∷ tag ∷ []) ++ behind) rest =
-          (after_found.0, append_assoc more (true ∷ tag ∷ []) behind ∙ sym split ∙ after_found.1) in
+          let in_both : LeavesBits ((more ++ true ∷ tag ∷ []) ++ behind) rest = grind (arith, common_steps, append_assoc) in
           let tagged : LeavesBits ((more ++ true ∷ tag ∷ []) ++ behind)
           (past_tag rest) = leaves_trans _ rest (past_tag rest) in_both (tag_leaves rest) in
           let covered = suffix_ends_with (more ++ true ∷ tag ∷ []) behind (past_tag rest) tagged
-          (omega (arith, sizes, first, tag_short rest)) in
+          (grind (arith, common_steps, sizes, first)) in
           let others = after_eol_is 0 (past_tag rest) next f in
           grind (
             arith,

@@ -225,8 +225,7 @@ module _ (x y : Bits) where
       last_tag_alike bits (n, here) (m, there) (same, inl ([], le, keeps, e, f)) few_x few_y = grind (arith, common_steps)
       last_tag_alike bits (n, here) (m, there) (same, inl (false ∷ rest, le, keeps, e, f)) few_x few_y =
           rw (← same, e, f) (refl, inl (false ∷ rest, le, keeps, refl, refl))
-      last_tag_alike bits (n, here) (m, there) (same, inl (true ∷ rest, le, keeps, e, f)) few_x few_y = rw (← same, e, f)
-          (either_way (leb 6 n))
+      last_tag_alike bits (n, here) (m, there) (same, inl (true ∷ rest, le, keeps, e, f)) few_x few_y = rw (← same, e, f) grind (arith, common_steps, either_way)
         where
           either_way : (b : Bool) → CountAlike bits (cond b (n, rest ++ true ∷ x) (n, true ∷ rest ++ true ∷ x))
               (cond b (n, rest ++ true ∷ y) (n, true ∷ rest ++ true ∷ y))

@@ -33,9 +33,6 @@ zeros_along : (seen : ℕ) (here : Bits) → replicate (suc seen) false ++ here 
 zeros_along zero here = refl
 zeros_along (suc seen) here = ap (λ (b : Bits). false ∷ b) (zeros_along seen here)
 
-contains_one : (here other : Bits) → Contains (here ∷ []) other → here ≡ other
-contains_one here other given = grind (arith, common_steps)
-
 contains_none : (other : Bits) → Contains {X = Bits} [] other → ⊥
 contains_none other (k, lt, e) = absurd (omega arith)
 
@@ -50,7 +47,7 @@ from_later seen (true ∷ here) end c = by_leb (leb 11 seen && begins_line here)
         × (begins_line end ≡ true)) → Contains (cond b (here ∷ []) []) end ⊎ Contains (later_starts 0 here) end
         → EndsLater seen (true ∷ here) end × (begins_line end ≡ true)
     by_leb true e on (inl found) = let step = and_parts (leb 11 seen) (begins_line here) e in
-        grind (arith, common_steps, step, contains_one here end found, eol_of 0 seen here, leb-true 11 seen)
+        grind (arith, common_steps, step, eol_of 0 seen here, leb-true 11 seen)
     by_leb false e on (inl found) = absurd (contains_none end found)
     by_leb b e on (inr found) =
         let f = on found in
@@ -154,8 +151,7 @@ module _ (bits : Bits) where
         let both = and_parts (not (at_end (drop place bits))) (not (is_some (after_eol 0 (drop place bits)))) f.1 in
         let begins = at_end_length (drop place bits) (not-true (at_end (drop place bits)) both.0) in
         let front : Bits = leaves_first.0 ++ f.0.1.0 in
-        let cut : bits ≡ front ++ f.0.0 = leaves_first.1 ∙ ap (λ (b : Bits). leaves_first.0 ++ b) f.0.1.1
-        ∙ sym (append_assoc leaves_first.0 f.0.1.0 f.0.0) in
+        let cut : bits ≡ front ++ f.0.0 = grind (arith, common_steps, leaves_first, append_assoc) in
         grind (
           arith,
           common_steps,
@@ -190,8 +186,7 @@ module _ (bits : Bits) where
           before : (leaves_first.0 ≡ []) ⊎ ((more : Bits) × (leaves_first.0 ≡ more ++ true ∷ []))
               → length (all_eols bits).1 < length (drop at bits) → ⊥
           before (inl none_before) longer = omega (arith, longer, ap length none_before, first_length, length-drop at bits)
-          before (inr (more, is)) longer = let split : more ++ true ∷ (all_eols bits).1 ≡ take at bits ++ drop at bits = sym
-              (append_assoc more (true ∷ []) (all_eols bits).1) ∙ ap (λ (b : Bits). b ++ (all_eols bits).1) (sym is) ∙ whole in
+          before (inr (more, is)) longer = let split : more ++ true ∷ (all_eols bits).1 ≡ take at bits ++ drop at bits = grind (arith, common_steps, append_assoc) in
               let f = shorter_end (take at bits) (drop at bits) more (true ∷ (all_eols bits).1) (sym split)
               (omega (arith, longer)) in
               grind (arith, after_eol_is, first_one, length-append, length-replicate, length-drop, first_length)

@@ -201,11 +201,6 @@ body_2d : (settings : DecodeSettings) (bits : Bits) (from to : ℕ) (local : IsT
     → IsBody bits from to local.closes.0
 body_2d settings bits from to local = grind (arith, common_steps)
 
--- the body alone
-body_behind_tag : (settings : DecodeSettings) (bits : Bits) (from to : ℕ) (local : IsTaggedBody settings bits from to)
-    → IsBody bits (suc from) to local.closes.0
-body_behind_tag settings bits from to local = grind (arith, common_steps)
-
 -- it begins such a tail
 pub is_tagged_tail : (settings : DecodeSettings) (bits : Bits) (from to : ℕ) (local : IsTaggedBody settings bits from to)
     → IsTail settings local.closes.0 (drop from bits)
@@ -216,7 +211,7 @@ is_tagged_tail settings bits from to local = let body = body_2d settings bits fr
 }
   where
     none : after_eol 0 (drop (suc from) bits) ≡ None
-    none = no_eol_here bits (suc from) to local.closes.0 (body_behind_tag settings bits from to local)
+    none = no_eol_here bits (suc from) to local.closes.0 (grind (arith, common_steps))
 
     by_drop : (here : Bits) → drop from bits ≡ here → past_tag here ≡ here
     by_drop [] e = refl

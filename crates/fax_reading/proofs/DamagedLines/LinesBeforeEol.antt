@@ -79,10 +79,6 @@ module _ {V : Type 0} (list : List (Code V)) (free : is_prefix_free list ≡ tru
   words_in_front : (x y here there : Bits) → InFront x y here there → FoundAlike x y (read_code list here) (read_code list there)
   words_in_front x y here there (bits, inside, e, f) = rw (e, f) (words_alike bits x y inside)
 
-read_code_alike : (color : Color) (bits x y : Bits) → Inside bits
-    → FoundAlike x y (read_code (codes_of color) (bits ++ x)) (read_code (codes_of color) (bits ++ y))
-read_code_alike color bits x y inside = grind (arith, common_steps, words_alike, codes_free)
-
 read_mode_alike : (x y here there : Bits) → InFront x y here there
     → FoundAlike x y (read_code mode_codes here) (read_code mode_codes there)
 read_mode_alike x y here there front = words_in_front mode_codes modes_free
@@ -97,20 +93,17 @@ module _ (x y : Bits) where
     turn_alike : (total : ℕ) (bits : Bits) → Inside bits
         → Follows Runs (FoundAlike x y) rest (run_turn color (total, bits ++ x)) (run_turn color (total, bits ++ y))
     turn_alike total bits inside = by_read_code (read_code (codes_of color) (bits ++ x))
-        (read_code (codes_of color) (bits ++ y)) refl refl (read_code_alike color bits x y inside)
+        (read_code (codes_of color) (bits ++ y)) refl refl (grind (arith, common_steps, words_alike, codes_free))
       where
         by_read_code : (r q : Result (ℕ × Bits) DecodeError)
             → read_code (codes_of color) (bits ++ x) ≡ r → read_code (codes_of color) (bits ++ y) ≡ q → FoundAlike x y r q
             → Follows Runs (FoundAlike x y) rest (run_turn color (total, bits ++ x)) (run_turn color (total, bits ++ y))
         by_read_code r q e f g = grind (arith, common_steps)
 
-    states_alike : (s t : ℕ × Bits) → Runs s t → Follows Runs (FoundAlike x y) rest (run_turn color s) (run_turn color t)
-    states_alike (total, here) (other, there) p = grind (arith, common_steps, turn_alike)
-
   run_alike : (color : Color) (total : ℕ) (here there : Bits) → InFront x y here there
       → FoundAlike x y (run_from color (total, here)) (run_from color (total, there))
   run_alike color total here there front = repeated_follows (run_turn color) (Err UnexpectedEof) size (run_shrinks color)
-      (run_turn color) (Err UnexpectedEof) size (run_shrinks color) Runs (FoundAlike x y) (states_alike color _)
+      (run_turn color) (Err UnexpectedEof) size (run_shrinks color) Runs (FoundAlike x y) (grind (arith, common_steps, turn_alike))
       (suc (length here)) (suc (length there)) (total, here) (total, there) (omega arith) (omega arith) (refl, front)
 
   -- ---- Lines
@@ -145,15 +138,12 @@ module _ (x y : Bits) where
             (run_from color (0, here)))) (cond b (Turn.done (Line.whole front there)) (drawn_by (run_from color (0, there))))
         full b = grind (arith, common_steps, drew, run_alike)
 
-    pens_alike : (s t : Pen) → Pens s t → Follows Pens LineAlike rest (step_1d false columns s) (step_1d false columns t)
-    pens_alike s t (front, color, here, there, a, b, infront) = rw (a, b) (drew_alike front color here there infront)
-
   -- a line of two data at one position, inside, is the same, and ends inside
   pub line_1d_alike : (columns : ℕ) (here there : Bits) → InFront x y here there
       → LineAlike (line_1d false columns here) (line_1d false columns there)
   line_1d_alike columns here there front = repeated_follows (step_1d false columns) (Line.broken [] UnexpectedEof) pen_left
       (step_1d_shrinks false columns) (step_1d false columns) (Line.broken [] UnexpectedEof) pen_left
-      (step_1d_shrinks false columns) Pens LineAlike (pens_alike columns _) (suc (length here)) (suc (length there))
+      (step_1d_shrinks false columns) Pens LineAlike (grind (arith, common_steps, drew_alike)) (suc (length here)) (suc (length there))
       (start here) (start there) (omega arith) (omega arith) ([], Color.White, here, there, refl, refl, front)
 
   -- the same of a two-dimensional line, against one reference row

@@ -149,8 +149,7 @@ seeks bits end_of_line given = grind (arith, common_steps)
 pub lines_by_eols : LinesByEols
 lines_by_eols settings bits are encoding lenient no_block unlimited wide sought_by stay = let first : Progress =
     record { rows = []; has_eols = ltb 0 (all_eols bits).0 || settings.end_of_line; rest = (all_eols bits).1 } in
-    let first_is : first ≡ sought [] (all_eols bits).1 = ap
-    (λ (b : Bool). record { rows = []; has_eols = b; rest = (all_eols bits).1 }) (seeks bits settings.end_of_line sought_by) in
+    let first_is : first ≡ sought [] (all_eols bits).1 = grind (arith, common_steps, seeks) in
     let ends : IsPrefix (map (row_at settings.columns) (starts bits))
     (ending_t4 settings bits).rows = by_run settings encoding lenient no_block unlimited wide
     (record { rows = []; has_eols = ltb 0 (all_eols bits).0 || settings.end_of_line; outcome = Err UnexpectedEof }) first

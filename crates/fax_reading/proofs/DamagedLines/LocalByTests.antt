@@ -81,8 +81,7 @@ module _ (settings : DecodeSettings) (bits : Bits) (from to : ℕ) where
       no_eol place end le le2 (lt, inside, eol) = let is = after_eol_is 0 (drop place bits) (drop end bits) eol in
           let j : ℕ = place - from in
           let sum : from + j ≡ place = omega (arith, le) in
-          let there : drop j (drop from bits) ≡ replicate is.0 false ++ true ∷ drop end bits = drop-drop j from bits
-          ∙ ap (λ (n : ℕ). drop n bits) sum ∙ is.1 in
+          let there : drop j (drop from bits) ≡ replicate is.0 false ++ true ∷ drop end bits = grind (arith, common_steps, drop-drop) in
           let lengths = eol_lengths bits place end is.0 is.1 in
           let fits : is.0 < (to - from) - j = omega (arith, lengths, le, le2, lt, tests.order, tests.within) in
           let split : body ≡ take j (drop from bits)
@@ -123,8 +122,7 @@ module _ (settings : DecodeSettings) (bits : Bits) (from to : ℕ) where
           let m : ℕ = ((to - from) - j) - 1 in
           let sum : from + j ≡ local.one.0 = omega (arith, local.one.1) in
           let left : (to - from) - j ≡ suc m = omega (arith, local.one.1, local.one.2) in
-          let there : drop j (drop from bits) ≡ true ∷ local.one.3.0 = drop-drop j from bits ∙ ap (λ (n : ℕ). drop n bits) sum
-          ∙ local.one.3.1 in
+          let there : drop j (drop from bits) ≡ true ∷ local.one.3.0 = grind (arith, common_steps, drop-drop) in
           let split : take (to - from) (drop from bits) ≡ take j (drop from bits) ++ true ∷ take m local.one.3.0 = take-split j
           (to - from) (drop from bits) (omega (arith, local.one.1, local.one.2)) ∙ ap (λ (n : ℕ). take j (drop from bits) ++ take
           n (drop j (drop from bits))) left ∙ ap (λ (b : Bits). take j (drop from bits) ++ take (suc m) b) there in

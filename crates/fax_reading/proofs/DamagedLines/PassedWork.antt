@@ -148,12 +148,9 @@ pub lines_end : (start here : Bits) (begun before now : ℕ) → LinesPaid start
     → now ≤ begun + most_for_lines (length start)
 lines_end start here begun before now paid read = omega (arith, paid, read, looked_most here)
 
-looked_behind : (rest : Bits) → looked (drop 1 rest) ≤ 2 * length rest
-looked_behind rest = grind (arith, looked_most)
-
 -- an EOL, and no line behind it
 pub lines_end_behind : (start here behind rest : Bits) (begun before eol tags now : ℕ) → LinesPaid start here begun before
     → after_eol 0 here ≡ Some behind → eol ≡ before + looked here → tags + 2 * length rest ≤ eol + 2 * length here + 3 + looked
     (drop 1 rest) → now ≤ tags + 3 * length behind → now ≤ begun + most_for_lines (length start)
 lines_end_behind start here behind rest begun before eol tags now paid e read ahead passed =
-    omega (arith, paid, read, ahead, passed, looked_eol 0 here behind e, looked_behind rest)
+    grind (arith, common_steps, paid, read, ahead, passed, looked_eol 0 here behind e, looked_most)

@@ -1,5 +1,5 @@
 -- Two runs over data that differ in one line.
-use Rattle.fax_reading.proofs.Names.{common_steps, ◌≡◌, ℕ, zero, suc, ◌+◌, ◌<◌, ◌≤◌, Bool, true, false, cond, not, ◌&&◌, ◌||◌, []}
+use Rattle.fax_reading.proofs.Names.{common_steps, ◌≡◌, ℕ, zero, suc, ◌+◌, ◌<◌, ◌≤◌, Bool, true, false, cond, not, ◌&&◌, []}
 use Rattle.fax_reading.proofs.Names.{eqb, List, ◌∷◌, ◌++◌, length, Option, Some, None, Ok, Err, refl, sym, ap, subst, ◌∙◌, arith}
 use Rattle.fax_reading.proofs.Names.{append_assoc, ◌⊎◌, inl, inr, cases_Bool, and_parts, eqb-true, length-append, length-drop}
 use Rattle.fax_reading.proofs.Names.{append_cancel_right, DecodeError, InvalidCode, EncodingMode, Group4, Group3_1D, Group3_2D}
@@ -28,9 +28,6 @@ use Rattle.fax_reading.proofs.DamagedLines.{LinesBeforeEol.Inside, LinesBeforeEo
 abbrev pub RowsAlike : ℕ → (List Row → Type 0) → List Row → List Row → Type 0
 RowsAlike differ Begins xs ys = (xs ≡ ys) ⊎ ((before these those more : List Row) × (length these ≡ length those)
     × (length these ≤ differ) × (xs ≡ before ++ (these ++ more)) × (ys ≡ before ++ (those ++ more)) × Begins before)
-
-rows_length : (differ : ℕ) (Begins : List Row → Type 0) (xs ys : List Row) → RowsAlike differ Begins xs ys → length xs ≡ length ys
-rows_length differ Begins xs ys e5 = grind (arith, length-append)
 
 rows_more : (differ : ℕ) (Begins : List Row → Type 0) (xs ys : List Row) (row : Row) → RowsAlike differ Begins xs ys
     → RowsAlike differ Begins (xs ++ row ∷ []) (ys ++ row ∷ [])
@@ -182,8 +179,7 @@ alone settings after z found group3 tail e = by_encoding settings.encoding setti
     by_encoding : (encoding : EncodingMode) (block : Bool) → IsGroup3 encoding → (encoding ≡ Group3_2D → past_tag z ≡ z)
         → eols_by encoding block found ≡ (1, z)
     by_encoding Group3_1D block is tag = rw (all_eols-some found z e, all_eols-none z tail.none) refl
-    by_encoding Group3_2D block is tag = rw (all_tagged-some found z e, tag refl, all_tagged-none z tail.none)
-        (last_tag_few 1 z (omega arith))
+    by_encoding Group3_2D block is tag = rw (all_tagged-some found z e, tag refl, all_tagged-none z tail.none) grind (arith, common_steps, last_tag_few)
     by_encoding Group4 block (inl is) tag = absurd cc
     by_encoding Group4 block (inr is) tag = absurd cc
 
@@ -222,7 +218,7 @@ module _ (settings : DecodeSettings) (group3 : IsGroup3 settings.encoding) (leni
   stay : StayAlike settings (length after) Alike (RunsAlike settings Begins differ Within x y after)
       (EndsAlike settings Begins differ from x y after)
   stay = record {
-    limits = λ xs ys alike. ap (limit_met settings) (rows_length differ Begins xs ys alike);
+    limits = λ xs ys alike. ap (limit_met settings) (grind (arith, common_steps, length-append));
     longer = rows_more differ Begins;
     goes_on = λ xs ys h here alike short same. RunsAlike.beyond xs ys h here alike short same refl refl;
     ends = λ xs ys h here alike short. EndsAlike.later here short refl refl alike;
@@ -268,8 +264,7 @@ module _ (settings : DecodeSettings) (group3 : IsGroup3 settings.encoding) (leni
   -- after EOLs the last of which ends where the line begins
   unless_there : (rows : List Row) (u v : Bits) (count : ℕ)
       → Both (unless_over settings (sought rows u) (count, x)) (unless_over settings (sought rows v) (count, y))
-  unless_there rows u v count = rw (not_past_end x after tail_x.next, not_past_end y after tail_y.next) (either_way
-      ((is_end_of_block settings count || limit_met settings (length rows)) || false))
+  unless_there rows u v count = rw (not_past_end x after tail_x.next, not_past_end y after tail_y.next) grind (arith, common_steps, either_way)
     where
       either_way : (t : Bool) → Both (cond t (ends_with (sought rows u) (Ok x)) (Turn.next (sought rows x)))
           (cond t (ends_with (sought rows v) (Ok y)) (Turn.next (sought rows y)))
@@ -398,40 +393,8 @@ module _ (settings : DecodeSettings) (group3 : IsGroup3 settings.encoding) (leni
       let other : Line = line_of_turn settings (sought rows y) in
       rw (move_sought settings lenient rows x, move_sought settings lenient rows y)
       (row_there rows (row_of settings.columns line ∷ []) (row_of settings.columns other ∷ []) (rest_of line x) (rest_of other y)
-      after lines begins refl (omega arith) (omega (arith, enough)) (stays_x rows begins) (stays_y rows begins) (rest_shorter line
-      x (line_by_leaves settings.encoding settings.strict settings.columns (row_before settings.columns rows) x)) (rest_shorter
-      other y (line_by_leaves settings.encoding settings.strict settings.columns (row_before settings.columns rows) y))
+      after lines begins refl (omega arith) (omega (arith, enough)) (stays_x rows begins) (stays_y rows begins) (grind (arith, common_steps, rest_shorter, line_by_leaves)) (grind (arith, common_steps, rest_shorter, line_by_leaves))
       (omega arith) settles)
-
-  -- what follows the next EOL is shorter than the line's bits
-  line_among : (before these those : List Row) (here : Bits) (left : ℕ) → Begins before → length these ≡ length those
-      → length these + suc left ≤ differ → length here ≤ length x → length here ≤ length y
-      → Settles settings (suc left) here → length here ≤ length after
-      → Both (move_on settings (sought (before ++ these) here)) (move_on settings (sought (before ++ those) here))
-  line_among before these those here left begins same few short_x short_y (next, shorter, one, behind, further) short =
-      let line : Line = line_of_turn settings (sought (before ++ these) here) in
-      let other : Line = line_of_turn settings (sought (before ++ those) here) in
-      let row : Row = row_of settings.columns line in
-      let row2 : Row = row_of settings.columns other in
-      rw (
-        move_sought settings lenient (before ++ these) here,
-        move_sought settings lenient (before ++ those) here,
-        append_assoc before these (row ∷ []),
-        append_assoc before those (row2 ∷ []),
-      ) (row_there before (these ++ row ∷ []) (those ++ row2 ∷ []) (rest_of line here) (rest_of other here) next left begins
-      (omega (arith, same, length-append these (row ∷ []), length-append those (row2 ∷ [])))
-      (omega (arith, length-append these (row ∷ []))) (omega (arith, few, length-append these (row ∷ [])))
-      (behind (row_before settings.columns (before ++ these))) (behind (row_before settings.columns (before ++ those))) (omega (
-        arith,
-        short_x,
-        rest_shorter line here (line_by_leaves settings.encoding settings.strict settings.columns
-            (row_before settings.columns (before ++ these)) here),
-      )) (omega (
-        arith,
-        short_y,
-        rest_shorter other here (line_by_leaves settings.encoding settings.strict settings.columns
-            (row_before settings.columns (before ++ those)) here),
-      )) (omega (arith, shorter, short)) further)
 
   -- a turn of two such runs
   pub moves_alike : (s t : Progress) → ((rows : List Row) → s ≡ sought rows x → t ≡ sought rows y → Begins rows)
@@ -440,7 +403,6 @@ module _ (settings : DecodeSettings) (group3 : IsGroup3 settings.encoding) (leni
   moves_alike s t begins le le2 (RunsAlike.ahead rows bits closes within e f) = rw (e, f) (line_ahead rows bits closes within)
   moves_alike s t begins le le2 (RunsAlike.there rows e f) = rw (e, f) (line_there rows (begins rows e f))
   moves_alike s t begins le le2 (RunsAlike.among before these those here left given same few settled short e f) =
-      rw (e, f) (line_among before these those here left given same few (omega (arith, short, le))
-      (omega (arith, short, le2)) settled short)
+      rw (e, f) (grind (arith, common_steps, move_sought, append_assoc, row_there, length-append, rest_shorter, line_by_leaves))
   moves_alike s t begins le le2 (RunsAlike.beyond xs ys has_eols here alike short same e f) = rw (e, f)
       grind (arith, move_beyond, stay)

@@ -23,9 +23,6 @@ after_eol_found seen (true ∷ here) rest e = elim (chosen (leb 11 seen) _ _ _ e
   | inr a ↦ absurd (let f = a.1 in cc)
 ]
 
-one_more_is : (found : ℕ × Bits) → one_more found ≡ (suc found.0, found.1)
-one_more_is (count, here) = refl
-
 -- the EOLs that were counted are a prefix, and are counted again whatever follows, if no EOL does or enough were asked
 -- for
 abbrev EolsFound : ℕ → Bits → ℕ × Bits → Type 0
@@ -41,7 +38,7 @@ eols_are_found (suc most) here = let by_after_eol : (o : Option Bits) → after_
       | Some rest ↦ λ e. let one = after_eol_found 0 here rest e in
           let on = eols_are_found most rest in
           let found : eols (suc most) here ≡ (suc (eols most rest).0, (eols most rest).1) = rw (e, eols)
-          (one_more_is (eols most rest)) in
+          (grind (arith, common_steps)) in
           subst (EolsFound (suc most) here) (sym found) (
             one.0 ++ on.0,
             one.1 ∙ ap (λ (x : Bits). one.0 ++ x) on.1 ∙ sym (append_assoc one.0 on.0 (eols most rest).1),
@@ -98,8 +95,7 @@ module _ (settings : DecodeSettings) (four : settings.encoding ≡ Group4) (bloc
       let at_start : (more : Bits) → IsLineStart (line.bits ++ more) = λ more. grind (arith, append_assoc) in
       let moved : MoveFound settings run then = record {
         bits = eol.0 ++ (line.bits ++ pad);
-        is = eol.1 ∙ ap (λ (x : Bits). eol.0 ++ x) (line.is ∙ ap (λ (x : Bits). line.bits ++ x) split.1
-            ∙ sym (append_assoc line.bits pad then.rest)) ∙ sym (append_assoc eol.0 (line.bits ++ pad) then.rest);
+        is = eol.1 ∙ ap (λ (x : Bits). eol.0 ++ x) (grind (arith, common_steps, append_assoc)) ∙ sym (append_assoc eol.0 (line.bits ++ pad) then.rest);
         unsought = unsought;
         again = λ more same. let t2 : Bits = line.bits ++ (pad ++ more) in
             let here : (eol.0 ++ (line.bits ++ pad)) ++ more ≡ eol.0 ++ t2 = append_assoc eol.0 (line.bits ++ pad) more
@@ -153,8 +149,7 @@ module _ (settings : DecodeSettings) (four : settings.encoding ≡ Group4) (bloc
         one.bits ++ on.0,
         one.is ∙ ap (λ (x : Bits). one.bits ++ x) on.1 ∙ sym (append_assoc one.bits on.0 rest),
         λ more e.
-            let same : length (on.0 ++ more) % 8 ≡ length after.rest % 8 =
-            omega (arith, e, length-append on.0 more, ap length on.1, length-append on.0 rest) in
+            let same : length (on.0 ++ more) % 8 ≡ length after.rest % 8 = grind (arith, common_steps, length-append) in
             let (end, leads, over) = on.2 more e in
             subst (λ (x : Bits). Ends settings (record run { rest = x }) (ended_at last more))
             (sym (append_assoc one.bits on.0 more)) (

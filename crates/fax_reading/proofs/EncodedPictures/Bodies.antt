@@ -1,5 +1,5 @@
 -- Lines without EOLs are read as their rows, in every encoding: bodies of T.6 data, and of T.4 data that the limit ends.
-use Rattle.fax_reading.proofs.Names.{◌≡◌, ◌≢◌, ◌+◌, ◌%◌, ◌<◌, ◌≤◌, Bool, true, false, ◌&&◌, List, [], ◌∷◌, ◌++◌, length}
+use Rattle.fax_reading.proofs.Names.{◌≡◌, ◌≢◌, ◌+◌, ◌%◌, ◌<◌, ◌≤◌, Bool, true, false, List, [], ◌∷◌, ◌++◌, length}
 use Rattle.fax_reading.proofs.Names.{replicate, Ok, sym, ap, subst, ◌∙◌, append_assoc, arith, inr, All, and_from, not_from_false}
 use Rattle.fax_reading.proofs.Names.{eq-eqb, ne_eqb, length-append, length-replicate, append-nil, All-head, All-tail, White}
 use Rattle.fax_reading.proofs.Names.{DecodeSettings, EncodingMode, Group4, Group3_1D, Group3_2D, Bits, Turn, Reaches, Row, Line}
@@ -15,9 +15,6 @@ use Rattle.fax_reading.proofs.EncodedPictures.{EncodedLines.line_2d_again, Pictu
 
 -- ---- No EOL is counted where there is none.
 
-with_true : (b : Bool) → (b && true) ≡ b
-with_true b = grind (arith, common_steps)
-
 -- ---- Gaps
 
 module _ (settings : DecodeSettings) where
@@ -25,11 +22,6 @@ module _ (settings : DecodeSettings) where
   gap_at_line : (rows : List Row) (here : Bits) → IsLineStart here → limit_met settings (length rows) ≡ false
       → pass_gap settings (between rows here) ≡ Turn.next (between rows here)
   gap_at_line rows here start open_limit = grind (arith, common_steps)
-
-  -- the limit ends the reading
-  pub gap_at_limit : (rows : List Row) (here : Bits) → limit_met settings (length rows) ≡ true
-      → pass_gap settings (between rows here) ≡ Turn.done (ended_with rows (eols_here settings here).1)
-  gap_at_limit rows here met = grind (arith, common_steps)
 
   -- so does EOFB
   pub gap_at_eofb : (run : Progress) (rest : Bits) → run.has_eols ≡ false → settings.encoding ≡ Group4
@@ -66,7 +58,7 @@ module _ (settings : DecodeSettings) (wide : 0 < settings.columns) (small : sett
       → line_here settings (row_before settings.columns rows) here ≡ Line.whole row (fill b line ++ tail)
       → gap_and_row settings (between rows here) ≡ Turn.next (between (rows ++ row ∷ []) tail)
   row_read rows here row line tail start open_limit whole read = ap (row_behind settings)
-      (gap_at_line settings rows here start open_limit) ∙ grind (arith, common_steps, between, fill, with_true)
+      (gap_at_line settings rows here start open_limit) ∙ grind (arith, common_steps, between, fill)
 
   module _ (encoding : EncodingMode) (same : settings.encoding ≡ encoding) where
     -- from a line's start, at a whole byte if lines are aligned, the lines are read and what follows is left
@@ -113,7 +105,7 @@ module _ (settings : DecodeSettings) (wide : 0 < settings.columns) (small : sett
           (arith, common_steps, and_from, eq-eqb, ne_eqb, not_from_false) in
           reaches_end settings wide (between [] (body ++ more)) (between rows more) (ended_with rows (eols_here settings more).1)
           (body_again [] rows body more (allows_sum settings (length rows) allows) (length-replicate settings.columns false) is.1
-          whole lines) (gap_at_limit settings rows more met)
+          whole lines) (grind (arith, common_steps))
 
       -- they begin where there is no EOL
       pub body_starts : IsLineStart (body ++ more)

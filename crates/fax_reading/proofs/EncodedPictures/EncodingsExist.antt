@@ -208,8 +208,7 @@ bytes_of order (suc n) bits e =
     let f = cut_front 8 bits (omega (arith, e)) in
     let on = bytes_of order n f.1 (omega (arith, e, ap length f.2, length-append f.0 f.1, f.3)) in
     let first : Bits = highest_first order f.0 in
-    let small : value first < 256 =
-    subst (λ (k : ℕ). value first < 2 ^ k) (length-highest_first order f.0 ∙ f.3) (value_below first) in (
+    let small : value first < 256 = grind (arith, common_steps, length-highest_first, value_below) in (
       value first ∷ on.0,
       All-cons (λ byte. byte < 256) (value first) on.0 small on.1,
       bits_more order f.0 f.1 bits (value first) on.0 (byte_of order f.0 f.3) on.2 f.2,

@@ -160,27 +160,11 @@ module _ (settings : DecodeSettings) (wide : 0 < settings.columns) (small : sett
   line_t4_starts Group3_2D reference row line more matches (rest, inl is) row_len = grind (arith, common_steps)
   line_t4_starts Group3_2D reference row line more matches (rest, inr is) row_len = grind (arith, common_steps, line_2d_after_tag)
 
-  tag_starts : (reference row : Row) (line more : Bits) → EncodesLine Group3_2D reference row line → length row ≡ settings.columns
-      → past_tag (line ++ more) ≡ line ++ more
-  tag_starts reference row line more given row_len = grind (arith, common_steps, common_steps, line_1d_starts)
-
   -- one EOL is counted before a line
   pub eol_before : (encoding : EncodingMode) (reference row : Row) (fill : ℕ) (line more : Bits) → Matches encoding settings
       → EncodesLine encoding reference row line
       → length row ≡ settings.columns → eols_here settings (eol fill ++ (line ++ more)) ≡ (1, line ++ more)
-  eol_before encoding reference row fill line more matches is row_len = grind (
-    arith,
-    common_steps,
-    eols_here_one,
-    eols_here_two,
-    line_t4_starts,
-    one_eol,
-    eols_with_tags-none,
-    length-eol,
-    few_keep_the_tag,
-    tagged_eols_more,
-    tag_starts,
-  )
+  eol_before encoding reference row fill line more matches is row_len = grind (arith, common_steps, eols_here_one, eols_here_two, line_t4_starts, one_eol, eols_with_tags-none, length-eol, few_keep_the_tag, tagged_eols_more, line_1d_starts)
 
   -- ---- The lines of a picture.
   abbrev with_eols : List Row → Bits → Progress
@@ -231,11 +215,6 @@ module _ (settings : DecodeSettings) (wide : 0 < settings.columns) (small : sett
       → after_row settings (with_eols rows here) ≡ Turn.done (ended_with_eols rows (eols_here settings here).1)
   six_stop rows here block six = grind (arith, common_steps, cond-false, ne_eqb, cond-true, eols_end)
 
-  -- and so does the limit
-  limit_stops : (rows : List Row) (here : Bits) → limit_met settings (length rows) ≡ true
-      → after_row settings (with_eols rows here) ≡ Turn.done (ended_with_eols rows (eols_here settings here).1)
-  limit_stops rows here met = grind (arith, common_steps)
-
   -- data of Group 3 are read as such
   pub end_of_three : (encoding : EncodingMode) (bits : Bits) → Matches encoding settings
       → end_of settings bits ≡ ending_t4 settings bits
@@ -282,7 +261,7 @@ module _ (settings : DecodeSettings) (wide : 0 < settings.columns) (small : sett
   limited_t4_end encoding rows lines more matches limit some is_picture are =
       let met : limit_met settings (length rows) ≡ true = grind (arith, common_steps, and_from, eq-eqb, ne_eqb, not_from_false) in
       lines_t4_end encoding rows lines more (eols_here settings more).1 matches some is_picture are (inr (omega arith))
-      (limit_stops rows more met)
+      (grind (arith, common_steps))
 
 -- ---- Over whole data.
 pub closed_picture_t4 : ReadsPictureT4

@@ -31,10 +31,6 @@ one_behind_past here one = grind (arith, eol_holds_one)
 one_in_eol : (here rest : Bits) → after_eol 0 (past_tag here) ≡ Some rest → holds_one (behind_one here) ≡ true
 one_in_eol here rest f = grind (arith, eol_holds_one)
 
--- where no one is left behind the tag, an EOL may come
-tag_may_come : (here : Bits) → holds_one (behind_one here) ≡ false → after_eol 0 (past_tag (here ++ bytes_of_eol)) ≡ Some []
-tag_may_come here none = grind (arith, eol_may_come)
-
 -- ---- The EOLs after an EOL
 -- the EOLs behind a tag
 abbrev tagged_past : ℕ → Bits → ℕ × Bits
@@ -69,7 +65,7 @@ tagged_past_may_come (suc most) here few none = by_after_eol (λ rest. tagged_pa
     by_after_eol : ((rest : Bits) → (tagged_past most rest).0 < most → holds_one (behind_one (tagged_past most rest).1) ≡ false
         → tagged_past most (rest ++ bytes_of_eol) ≡ (suc (tagged_past most rest).0, [])) → (o : Option Bits) → after_eol 0
         (past_tag here) ≡ o → tagged_past (suc most) (here ++ bytes_of_eol) ≡ (suc (tagged_past (suc most) here).0, [])
-    by_after_eol on None e = grind (arith, common_steps, eols_with_tags-none, eols_with_tags-some, tag_may_come)
+    by_after_eol on None e = grind (arith, common_steps, eols_with_tags-none, eols_with_tags-some, eol_may_come)
     by_after_eol on (Some rest) e = grind (arith, common_steps, eols_with_tags-some, past_tag-more, one_in_eol, eol-more)
 
 -- ---- The EOLs here

@@ -177,8 +177,7 @@ module _ (x y : Bits) where
             past_tag_shorter rest,
           ) in
           let left = after_eol_front 0 bits rest f le in
-          let counted : all_tagged (past_tag (left.0 ++ x)) ≡ (fewer.0, more ++ x) = ap (λ (b : Bits). all_tagged (past_tag b))
-          (sym left.2) ∙ fewer.2 in
+          let counted : all_tagged (past_tag (left.0 ++ x)) ≡ (fewer.0, more ++ x) = grind (arith, common_steps) in
           let tag = tag_front left.0 more fewer.0 counted one in
           all_tagged-some (bits ++ y) (left.0 ++ y) left.3 ∙ ap (λ (b : Bits). one_more (all_tagged b)) tag.3
           ∙ ap one_more (on tag.0 fewer.0 (omega (arith, left.1, tag.1, lt)) (ap all_tagged (sym tag.2) ∙ counted))
@@ -206,8 +205,7 @@ module _ (x y : Bits) where
       either_way : (b : Bool) → leb 6 n ≡ b → IsPair (cond b (n, here) (n, true ∷ here)) count (more ++ x)
           → IsPair (pass_last_tag other) count (more ++ y)
       either_way true six f = let same : n ≡ count = ap (λ (f : ℕ × Bits). f.0) f in
-          let raw : IsPair (n, true ∷ here) count (true ∷ more ++ x) = ap {B = ℕ × Bits}
-          (λ (f : ℕ × Bits). (f.0, true ∷ f.1)) f in
+          let raw : IsPair (n, true ∷ here) count (true ∷ more ++ x) = grind (arith, common_steps) in
           ap pass_last_tag (alike (true ∷ more) count (one_from_tag more one) raw) ∙ rw (← same, six) refl
       either_way false few f = let same : n ≡ count = ap (λ (f : ℕ × Bits). f.0) f in
           ap pass_last_tag (alike more count one f) ∙ few_stay count more one (ap (leb 6) (sym same) ∙ few)

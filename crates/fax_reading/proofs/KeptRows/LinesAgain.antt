@@ -2,7 +2,7 @@
 use Rattle.fax_reading.proofs.Names.{common_steps, ◌≡◌, ℕ, zero, suc, ◌<◌, Bool, true, false, leb, List, [], ◌∷◌, ◌++◌, length}
 use Rattle.fax_reading.proofs.Names.{refl, sym, ap, ◌∙◌, append_assoc, arith, inl, inr, le-leb, cond-false, length-append}
 use Rattle.fax_reading.proofs.Names.{false≢true, append_cancel_right, EncodingMode, Group4, Group3_1D, Group3_2D, Bits, Turn, Row}
-use Rattle.fax_reading.proofs.Names.{Line, Pen, Step, start, line_1d, line_2d, line_by, line_found, AreWords, joined}
+use Rattle.fax_reading.proofs.Names.{Line, Pen, Step, start, line_1d, line_by, line_found, AreWords, joined}
 use Rattle.fax_bits.proofs.BitReading.ZerosInWords.{holds_a_one, word_one}
 use Rattle.fax_reading.proofs.DrawingLines.Drawings.{run_then, drawn_by, step_1d, step_1d_is}
 use Rattle.fax_reading.proofs.DrawingLines.ReadLines.{pen_left, drawn1, step_1d_shrinks, full_by, draw_run_goes_on, TookBits}
@@ -112,12 +112,10 @@ pub one_in_whole : (encoding : EncodingMode) (strict : Bool) (columns : ℕ) (re
     < columns → line_by encoding strict columns reference (bits ++ rest) ≡ Line.whole row rest → one_in_line encoding bits ≡ true
 one_in_whole Group3_1D strict columns reference bits rest row wide e = words_consumed (line_found Group3_1D strict columns
     reference (bits ++ rest)) bits rest (words_synchronised.before_eol Group3_1D strict columns reference (bits ++ rest)).are
-    (words_synchronised.to_the_end Group3_1D strict columns reference row (bits ++ rest) rest e) (took_bits (line_1d strict
-    columns (bits ++ rest)) (length (bits ++ rest)) row rest (line_1d_took_bits strict columns (bits ++ rest) wide) e)
+    (words_synchronised.to_the_end Group3_1D strict columns reference row (bits ++ rest) rest e) (grind (arith, common_steps, took_bits, line_1d_took_bits))
 one_in_whole Group4 strict columns reference bits rest row wide e = words_consumed (line_found Group4 strict columns reference
     (bits ++ rest)) bits rest (words_synchronised.before_eol Group4 strict columns reference (bits ++ rest)).are
-    (words_synchronised.to_the_end Group4 strict columns reference row (bits ++ rest) rest e) (took_bits (line_2d strict columns
-    reference (bits ++ rest)) (length (bits ++ rest)) row rest (line_2d_took_bits strict columns reference (bits ++ rest) wide) e)
+    (words_synchronised.to_the_end Group4 strict columns reference row (bits ++ rest) rest e) (grind (arith, common_steps, took_bits, line_2d_took_bits))
 one_in_whole Group3_2D strict columns reference [] [] row wide e = absurd cc
 one_in_whole Group3_2D strict columns reference [] (true ∷ rest) row wide e =
     grind (arith, common_steps, took_bits, line_1d_took_bits)

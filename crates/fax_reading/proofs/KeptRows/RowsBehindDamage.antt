@@ -205,14 +205,9 @@ module _ (settings : DecodeSettings) (here line behind : Bits) (step : PutsInSte
       by_encoding : (encoding : EncodingMode) (block : Bool) → IsGroup3 encoding → eols_by encoding block here ≡ (1, line)
           → (after_eol 0 line ≡ None) × (encoding ≡ Group3_2D → past_tag line ≡ line)
       by_encoding Group3_1D block is e =
-          let more : one_more (all_eols line) ≡ (1, line) = sym (all_eols-some here line step.eol) ∙ e in (
-            none_counted (after_eol 0 line) line (all_eols line).0 refl (λ rest f. count_some counts_plain line rest f)
-                (omega (arith, one_more-count (all_eols line), ap (λ (f : ℕ × Bits). f.0) more)),
-            λ other. absurd cc,
-          )
+          let more : one_more (all_eols line) ≡ (1, line) = sym (all_eols-some here line step.eol) ∙ e in (grind (arith, common_steps, none_counted, count_some, counts_plain, one_more-count))
       by_encoding Group3_2D block is e = let tagged : ℕ × Bits = all_tagged (past_tag line) in
-          let more : pass_last_tag (one_more tagged) ≡ (1, line) = ap pass_last_tag (sym (all_tagged-some here line step.eol))
-          ∙ e in
+          let more : pass_last_tag (one_more tagged) ≡ (1, line) = grind (arith, common_steps, all_tagged-some) in
           let zero : tagged.0 ≡ 0 = grind (arith, last_tag_count, one_more-count) in
           grind (arith, all_tagged-none, last_tag_few, none_counted, count_some, counts_tagged)
       by_encoding Group4 block (inl is) e = absurd cc
@@ -374,8 +369,7 @@ rows_behind settings one whole_one two line behind to to2 whole_two alike = by_o
             )
         either_way false open_end a b u v ends ends2 reaches reaches2 = let end : end_of settings one ≡ goes settings alike.wide
             (sought a behind) = ends ∙ ap (after_turn (goes settings alike.wide)) (line_next a u open_end) in
-            let end2 : end_of settings two ≡ goes settings alike.wide (sought b behind) = ends2
-            ∙ ap (after_turn (goes settings alike.wide)) (line_next b v open_end) in
+            let end2 : end_of settings two ≡ goes settings alike.wide (sought b behind) = grind (arith, common_steps, line_next) in
             let both = repeated_follows (move_on settings) (late settings alike.wide) left_to_read
             (move_shrinks settings alike.wide) (move_on settings) (late settings alike.wide) left_to_read
             (move_shrinks settings alike.wide) (InStep settings alike.unlimited a b (length behind) (goes settings alike.wide))

@@ -3,10 +3,10 @@ use Rattle.fax_reading.proofs.Names.{common_steps, ◌≡◌, ℕ, ◌+◌, ◌-
 use Rattle.fax_reading.proofs.Names.{length, Option, Some, None, Result, Err, refl, sym, ap, subst, ◌∙◌, arith, inl, inr, IsTrue}
 use Rattle.fax_reading.proofs.Names.{min, cond-true, cond-false, lt-leb, le-leb, leb-true, length-append, length-replicate, Color}
 use Rattle.fax_reading.proofs.Names.{DecodeError, EncodingMode, Group4, Group3_1D, Group3_2D, DecodeSettings, Bits, after_eol}
-use Rattle.fax_reading.proofs.Names.{next_eol, all_eols, one_more, past_tag, pass_last_tag, eols_by, eols_here, is_end_of_block}
+use Rattle.fax_reading.proofs.Names.{next_eol, all_eols, one_more, past_tag, eols_by, eols_here, is_end_of_block}
 use Rattle.fax_reading.proofs.Names.{read_run, opposite, run_found, Turn, Row, Line, Pen, line_1d, line_by, line_here, EndsBefore}
 use Rattle.fax_reading.proofs.Names.{ModesEndBefore, ComesBefore1D, EndsByWords, TellsStep, IsInStepFrom, AreWholeBytes, drop}
-use Rattle.fax_reading.proofs.Names.{MakesNoRtc, RowsFollow, length-drop, looked, looked_ahead, tag_tests, most_for_lines}
+use Rattle.fax_reading.proofs.Names.{RowsFollow, length-drop, looked, looked_ahead, tag_tests, most_for_lines}
 use Rattle.fax_reading.proofs.Work.EolsPassed.{few_tag_tests, looked_ahead_most}
 use Rattle.fax_bits.proofs.BitReading.ConsecutiveEols.{after_eol_shorter, next_eol_found, all_eols-some, all_eols-none}
 use Rattle.fax_bits.proofs.BitReading.ConsecutiveEols.{all_tagged, all_tagged-some, all_tagged-none, last_tag_count}
@@ -72,14 +72,11 @@ no_run_work color here =
 
 -- ---- Where a line ends
 
-same_rest : (row other : Row) (rest end : Bits) → Line.whole row rest ≡ Line.whole other end → rest ≡ end
-same_rest row other rest end e = cc
-
 -- a whole line that ends here
 pub whole_before : (columns : ℕ) (after here rest : Bits) (row : Row) (before : Bool) → line_1d false columns here
     ≡ Line.whole row rest → (IsTrue before ↔ (length after + 12 ≤ length rest)) → IsTrue before ↔ EndsBefore columns after here
 whole_before columns after here rest row before whole is = (
-  λ t other end e. subst (λ (b : Bits). length after + 12 ≤ length b) (same_rest row other rest end (sym whole ∙ e)) (is.0 t),
+  λ t other end e. subst (λ (b : Bits). length after + 12 ≤ length b) (grind (arith, common_steps)) (is.0 t),
   λ ends. is.1 (ends row rest whole),
 )
 
@@ -159,9 +156,6 @@ one_raw here line e = by_after_eol (after_eol 0 here) refl
         (one_is_none line (all_tagged (past_tag rest)) (sym (all_tagged-some here rest f) ∙ e)) in
         grind (arith)
 
-raw_is : (line : Bits) (found : ℕ × Bits) → pass_last_tag found ≡ (1, line) → found ≡ (1, line)
-raw_is line (count, rest) e = grind (arith, common_steps, last_tag_count, last_tag_few)
-
 pub one_alone : (settings : DecodeSettings) (here line : Bits) → IsGroup3 settings.encoding
     → eols_here settings here ≡ (1, line) → IsAlone here line
 one_alone settings here line group3 e = by_encoding settings.encoding settings.end_of_block group3 e
@@ -169,7 +163,7 @@ one_alone settings here line group3 e = by_encoding settings.encoding settings.e
     by_encoding : (encoding : EncodingMode) (block : Bool) → IsGroup3 encoding → eols_by encoding block here ≡ (1, line)
         → IsAlone here line
     by_encoding Group3_1D block is f = one_plain here line f
-    by_encoding Group3_2D block is f = one_raw here line (raw_is line (all_tagged here) f)
+    by_encoding Group3_2D block is f = one_raw here line (grind (arith, common_steps, last_tag_count, last_tag_few))
     by_encoding Group4 block (inl is) f = absurd cc
     by_encoding Group4 block (inr is) f = absurd cc
 
@@ -195,8 +189,7 @@ pub unreferred_by : (settings : DecodeSettings) (next behind : Bits) (count : �
     → NeedsNoReference settings count behind
 unreferred_by settings next behind count (inl one) counted tag = one_dimensional settings count behind one
 unreferred_by settings next behind count (inr two) counted tag =
-    before_tag settings count behind two (subst (λ (c : ℕ × Bits). ((settings.end_of_block ≡ true) × (6 ≤ c.0))
-    ⊎ (((line : Bits) × (c.1 ≡ true ∷ line)) ⊎ (c.1 ≡ []))) (sym (eols_here_two settings next two) ∙ counted) (tag two).1)
+    before_tag settings count behind two (grind (arith, common_steps, eols_here_two))
 
 -- ---- The tests together
 
@@ -216,13 +209,6 @@ told_by settings here line next after behind count group3 lenient alone next_is 
   tag = tag;
 }
 
--- a step ends its line as the words tell
-step_ends : (settings : DecodeSettings) (here line behind : Bits) → IsGroup3 settings.encoding → settings.strict ≡ false
-    → (told : TellsStep settings here line behind) → EndsByWords settings.encoding settings.columns told.step.after line
-step_ends settings here line behind group3 lenient told = words_end settings.encoding settings.columns told.step.after line group3
-    (subst (λ (s : Bool). (reference row : Row) (rest : Bits) → line_by settings.encoding s settings.columns reference line
-    ≡ Line.whole row rest → length told.step.after + 12 ≤ length rest) lenient told.step.ends) told.modes
-
 same_bits : (o : Option Bits) (one two : Bits) → o ≡ Some one → o ≡ Some two → one ≡ two
 same_bits o one two e f = let both : ◌≡◌ {A = Option Bits} (Some one) (Some two) = sym e ∙ f in cc
 
@@ -237,7 +223,7 @@ pub no_step_beyond : (settings : DecodeSettings) (here line next after : Bits) �
     → (EndsByWords settings.encoding settings.columns after line → ⊥) → (other behind : Bits)
     → TellsStep settings here other behind → ⊥
 no_step_beyond settings here line next after group3 lenient alone next_is after_is beyond other behind told =
-    grind (arith, step_ends settings here other behind group3 lenient told)
+    grind (arith, common_steps, words_end)
 
 -- ---- What the tests count
 
@@ -282,15 +268,4 @@ pub rows_follow : (settings : DecodeSettings) (bits : Bits) (to place : ℕ) →
     → IsInStepFrom settings bits to place → RowsFollow settings bits to place
 rows_follow settings bits to place whole given two line to2 whole_two same eol sought sought_too no_rtc no_rtc_too =
     let line_is : line ≡ given.line = same_bits (after_eol 0 (drop to bits)) line given.line eol given.told.step.eol in
-    rows_behind settings bits whole two given.line (drop place bits) to to2 whole_two (record {
-      encoding = given.encoding;
-      lenient = given.lenient;
-      unlimited = given.unlimited;
-      wide = given.wide;
-      same = same;
-      step = given.told.step;
-      sought = sought;
-      sought_too = sought_too;
-      no_rtc = subst (MakesNoRtc settings bits) line_is no_rtc;
-      no_rtc_too = subst (MakesNoRtc settings two) line_is no_rtc_too;
-    })
+    rows_behind settings bits whole two given.line (drop place bits) to to2 whole_two (grind (arith, common_steps))

@@ -75,15 +75,11 @@ abbrev pub turned_at : Bool → List ℕ → Bool
 turned_at color [] = color
 turned_at color (place ∷ places) = turned_at (not color) places
 
--- comparing the other colour is the other comparison
-beq-not : (a b color : Bool) → b ≡ not a → beq a (not color) ≡ beq b color
-beq-not a b color e = grind (arith, common_steps)
-
 -- after an even number of changes the colour is the same, and else the other one
 pub turned_at-even : (color : Bool) (places : List ℕ) → turned_at color places ≡ beq (eqb (length places % 2) 0) color
 turned_at-even true [] = refl
 turned_at-even false [] = refl
-turned_at-even color (place ∷ places) = grind (arith, common_steps, beq-not, turned_at-even (not color) places)
+turned_at-even color (place ∷ places) = grind (arith, common_steps, turned_at-even (not color) places)
 
 -- each lawful change is followed by a pixel, so the last pixel has the colour after all of them
 pub last_pixel-pixels_from : (place : ℕ) (color : Bool) (width : ℕ) (places : List ℕ) → AscendFrom place width places
@@ -161,11 +157,6 @@ pixel_before-next before (x ∷ front) row place e = rw e (pixel_before-next x f
 pixel_before-shift : (row : Row) (place : ℕ) → pixel_before row place ≡ get_or (false ∷ row) place false
 pixel_before-shift row place = grind (arith, common_steps)
 
--- the pixel after a front is a change where it differs from the front's last
-is_change-next : (front : Row) (here : Bool) (row : Row)
-    → is_change (front ++ here ∷ row) (length front) ≡ not (beq (last_pixel false front) here)
-is_change-next front here row = grind (arith, common_steps, pixel_before-next, pixel_before-shift)
-
 -- a position is listed where the pixel differs
 listed : (differs : Bool) (x y : Bool) (place : ℕ) (places others : List ℕ) → differs ≡ not (beq x y) → places ≡ others
     → cond differs (place ∷ places) places ≡ cond (beq x y) others (place ∷ others)
@@ -176,7 +167,7 @@ changes-rest : (front row : Row) → filter (is_change (front ++ row)) (range_wi
     ≡ changes_from (length front) (last_pixel false front) row
 changes-rest front [] = refl
 changes-rest front (here ∷ row) = let step = changes-rest (front ++ here ∷ []) row in
-    grind (arith, common_steps, add-one, append_assoc, is_change-next, last_pixel-append, length-append, listed, step)
+    grind (arith, common_steps, add-one, append_assoc, last_pixel-append, length-append, listed, step)
 
 -- the changes of a row, by recursion
 pub changes-recursive : (row : Row) → changes row ≡ changes_from 0 false row

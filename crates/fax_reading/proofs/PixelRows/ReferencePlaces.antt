@@ -251,14 +251,12 @@ module _ (columns : ℕ) (places : List ℕ) (from first : ℕ) (color : Color) 
     (whiteness : IsTrue white ↔ (color ≡ White)) where
   -- the first change right of a0 is b1, where it turns the colour to the other one
   pub b1_first : not (beq even white) ≡ false → b1 (pixels columns places) from color ≡ get_or places first columns
-  b1_first same = let turns : turned first false ≡ is_black color = turned_from_even first even parity ∙ same_from even white same
-      ∙ sym (black_from_white color white whiteness) in
+  b1_first same = let turns : turned first false ≡ is_black color = grind (arith, common_steps, turned_from_even, same_from, black_from_white) in
       b1_is columns places ascend from first first color split turns (inl refl)
 
   -- and else the next one is
   pub b1_second : not (beq even white) ≡ true → b1 (pixels columns places) from color ≡ get_or places (first + 1) columns
-  b1_second other = let stays : turned first false ≡ not (is_black color) = turned_from_even first even parity
-      ∙ other_from even white other ∙ ap not (sym (black_from_white color white whiteness)) in
+  b1_second other = let stays : turned first false ≡ not (is_black color) = grind (arith, common_steps, turned_from_even, other_from, black_from_white) in
       let turns : turned (suc first) false ≡ is_black color = turned-not first false ∙ ap not stays ∙ not_not (is_black color) in
       let next : first + 1 ≡ suc first = omega arith in
       rw next (b1_is columns places ascend from first (suc first) color split turns (inr (refl, stays)))
@@ -274,8 +272,7 @@ split_count : (first width : ℕ) (places : List ℕ) (p j : ℕ) → AscendFrom
 split_count first width [] p j ascend split = omega (arith, split.within)
 split_count first width (place ∷ places) p zero ascend split = let right : p < place = split.here (omega arith) in
     let rest : IsSplit places (suc p) 0 = grind (arith, ascend_bounds) in
-    split_count (suc place) width places p 0 ascend.2 rest ∙ ap length (sym (cond-false (leb place p)
-    (place ∷ filter (λ place. leb place p) places) (filter (λ place. leb place p) places) (lt-leb place p right)))
+    split_count (suc place) width places p 0 ascend.2 rest ∙ ap length (sym (grind (arith, common_steps, cond-false, lt-leb)))
 split_count first width (place ∷ places) p (suc j) ascend split = let left : place < suc p = split.before 0 (omega arith) in
     let within : suc j ≤ suc (length places) = split.within in
     let rest : IsSplit places (suc p) j =

@@ -58,11 +58,6 @@ module _ (rest : Pen → Line) where
       (λ pen. run_then false columns pen Turn.next) (λ p. draw_run_follows columns p Turn.next Turn.next (λ q. refl)))
   draw_mode_follows columns reference pen (Vertical k) = grind (arith, common_steps)
 
-  step_2d_follows : (columns : ℕ) (reference : Row) (s t : Pen) → SamePen s t
-      → StepFollows (step_2d true columns reference s) (step_2d false columns reference t)
-  step_2d_follows columns reference s t same =
-      grind (arith, common_steps, draw_mode_follows, follows_as, mode_step, step_2d, step_2d_is, try_follows, unless_full_follows)
-
 line_1d_agrees : (columns : ℕ) (here : Bits) → Agrees (line_1d true columns here) (line_1d false columns here)
 line_1d_agrees columns here = repeated_follows (step_1d true columns) (Line.broken [] UnexpectedEof) pen_left (step_1d_shrinks
     true columns) (step_1d false columns) (Line.broken [] UnexpectedEof) pen_left (step_1d_shrinks false columns) SamePen Agrees
@@ -72,7 +67,7 @@ line_2d_agrees : (columns : ℕ) (reference : Row) (here : Bits)
     → Agrees (line_2d true columns reference here) (line_2d false columns reference here)
 line_2d_agrees columns reference here = repeated_follows (step_2d true columns reference) (Line.broken [] UnexpectedEof) pen_left
     (step_2d_shrinks true columns reference) (step_2d false columns reference) (Line.broken [] UnexpectedEof) pen_left
-    (step_2d_shrinks false columns reference) SamePen Agrees (step_2d_follows _ columns reference)
+    (step_2d_shrinks false columns reference) SamePen Agrees (grind (arith, common_steps, draw_mode_follows, follows_as, step_2d_is, try_follows, unless_full_follows))
     (suc (length here)) (suc (length here)) (start here) (start here) (omega arith) (omega arith) refl
 
 pub line_by_agrees : (encoding : EncodingMode) (columns : ℕ) (reference : Row) (here : Bits)

@@ -1,9 +1,9 @@
 -- Each line of a run moves the offset on.
 use Rattle.fax_reading.proofs.Names.{common_steps, ◌≡◌, ℕ, suc, ◌-◌, ◌%◌, ◌<◌, ◌≤◌, Bool, true, false, cond, not, ◌&&◌, ◌||◌, eqb}
-use Rattle.fax_reading.proofs.Names.{[], ◌∷◌, ◌++◌, length, replicate, Option, Some, None, Result, refl, sym, subst, ◌∙◌, arith}
-use Rattle.fax_reading.proofs.Names.{◌⊎◌, inl, inr, length-drop, not-false, or_parts, le-leb, lt-leb, eqb-false, DecodeError}
+use Rattle.fax_reading.proofs.Names.{[], ◌∷◌, ◌++◌, length, replicate, Option, Some, None, refl, sym, subst, ◌∙◌, arith}
+use Rattle.fax_reading.proofs.Names.{◌⊎◌, inl, inr, length-drop, not-false, or_parts, le-leb, lt-leb, eqb-false}
 use Rattle.fax_reading.proofs.Names.{DecodeSettings, Bits, Turn, Row, EncodingMode, Group4, Group3_1D, Group3_2D, Line, after_eol}
-use Rattle.fax_reading.proofs.Names.{next_eol, is_end_of_block, is_over, misses_eol, Progress, Move, aligned, ends_with}
+use Rattle.fax_reading.proofs.Names.{next_eol, is_end_of_block, is_over, misses_eol, Progress, aligned}
 use Rattle.fax_reading.proofs.Names.{limit_met, at_end, line_by, eols_by, eols_here, after_line, move_on}
 use Rattle.fax_reading.proofs.DrawingLines.ReadLines.{TookBits, line_1d_took_bits, line_2d_took_bits}
 use Rattle.fax_reading.proofs.Readings.RowsAndGaps.{missed_sought, unless_over, seek_from, after_row, after_whole-is}
@@ -12,10 +12,6 @@ use Rattle.fax_bits.proofs.BitReading.ConsecutiveEols.{Counted, all_counted, con
 use Rattle.fax_bits.proofs.BitReading.ConsecutiveEols.{counts_plain, counts_tagged, eols-some, last_tag_count, next_eol_found}
 use Rattle.fax_bits.proofs.BitReading.ConsecutiveEols.{one_more-count, tagged_eols_counted}
 use Rattle.fax_bits.proofs.{CodeWords.ReadRuns.chosen, Repetition.Repeated.Shrinks, Repetition.Repeated.not_next}
-
-unless_next : (b : Bool) (run : Progress) (outcome : Result Bits DecodeError) (on : Move) (t : Progress)
-    → cond b (ends_with run outcome) on ≡ Turn.next t → on ≡ Turn.next t
-unless_next b run outcome on t e = grind (arith, not_next)
 
 -- that many EOLs consumed bits
 pub eols_here_counted : (settings : DecodeSettings) (here : Bits) → Counted here (eols_here settings here)
@@ -40,7 +36,7 @@ left_to_read run = cond run.has_eols (suc (length run.rest)) (length run.rest)
 -- if the reading continues, it does so after the EOLs
 pub unless_over_next : (settings : DecodeSettings) (run t : Progress) (found : ℕ × Bits)
     → unless_over settings run found ≡ Turn.next t → ◌≡◌ {A = Progress} (record run { rest = found.1 }) t
-unless_over_next settings run t (count, rest) e = grind (arith, common_steps, unless_next)
+unless_over_next settings run t (count, rest) e = grind (arith, common_steps)
 
 -- if a reading isn't over, its limit isn't met, and bits are left
 pub none_met : (settings : DecodeSettings) (taken : ℕ) (found : ℕ × Bits) → is_over settings taken found ≡ false
@@ -59,9 +55,6 @@ seek_left settings run t (Some found) h e k = grind (arith, next_eol_found, eols
 
 pub at_end_length : (rest : Bits) → at_end rest ≡ false → 0 < length rest
 at_end_length rest e = grind (arith, common_steps)
-
-left_least : (run : Progress) → length run.rest ≤ left_to_read run
-left_least run = grind (arith, common_steps)
 
 took_more : (line : Line) (n : ℕ) → TookBits n line → TookBits (suc n) line
 took_more line n took = grind arith
@@ -105,7 +98,7 @@ after_line_next settings run t (Line.whole row rest) took e =
     let shorter : length (cond al (aligned rest) rest) ≤ length rest
     = cond_le al (aligned rest) rest (length rest) (omega (arith, length-drop (length rest % 8) rest)) (omega arith) in
     after_row_next settings (record run { rows = run.rows ++ row ∷ []; rest = cond al (aligned rest) rest }) t (left_to_read run)
-    (sym (after_whole-is settings run row rest) ∙ e) (omega (arith, shorter, took, left_least run))
+    (sym (after_whole-is settings run row rest) ∙ e) (grind (arith, common_steps, shorter, took))
 after_line_next settings run t (Line.broken front fault) took e =
     elim (chosen (settings.strict || not run.has_eols) _ _ _ (sym (after_damage-is settings run front fault) ∙ e)) [
       | inl a ↦ absurd (not_next _ t a.1)

@@ -192,14 +192,9 @@ module _ (settings : DecodeSettings) (bits : Bits) where
       (λ ok. false≢true ok) (suc (suc (length s.rest))) s ok none
   same_behind (Turn.done end) ok none = ok
 
-  same_first : (encoding : EncodingMode) → IsOk (ending_behind leniently (first_gap encoding leniently bits)).outcome
-      → AreEmpty (passed (turns_behind leniently (first_gap encoding leniently bits)))
-      → IsOk (ending_behind strictly (first_gap encoding strictly bits)).outcome
-  same_first encoding ok none = grind (arith, same_behind, gap_same, unmissed)
-
   strict_ok : IsOk (plain leniently bits).outcome → AreEmpty (passed (turns_of leniently bits))
       → IsOk (plain strictly bits).outcome
-  strict_ok = grind (arith, common_steps, same_first, ok_outcome)
+  strict_ok = grind (arith, common_steps, ok_outcome, same_behind, gap_same, unmissed)
 
   -- ---- Strict readings pass no damage
 
