@@ -67,7 +67,8 @@ spelled_is_read color n bits total more (Spells.terminating m word has small) =
     ]
 spelled_is_read color n bits total more (Spells.makeup m word {n = k} {bits = next} has large rest) =
     let here : (word ++ next) ++ more ≡ word ++ (next ++ more) = append_assoc word next more in
-    let read : read_code (codes_of color) ((word ++ next) ++ more) ≡ Ok (m, next ++ more) = grind (arith, common_steps, read_code_again, codes_free) in
+    let read : read_code (codes_of color)
+    ((word ++ next) ++ more) ≡ Ok (m, next ++ more) = grind (arith, common_steps, read_code_again, codes_free) in
     elim (cases_lt 4294967295 (total + m)) [
       | inl big ↦ inr (Overflow, run_passes color total m ((word ++ next) ++ more) (next ++ more) read big)
       | inr fits ↦ grind (arith, spelled_is_read color k next (total + m) more rest, run_goes_on)
@@ -122,7 +123,8 @@ module _ (strict : Bool) (columns : ℕ) (other : Row) where
   mode_on front color here last Horizontal rest t read e reads = let one = run_was_read strict columns (pen_with front color rest)
       (λ p. run_then strict columns p Turn.next) t (horizontal_is strict columns other (pen_with front color rest) ∙ e) in
       let two = run_was_read strict columns (pen_with one.1 (opposite color) one.2) Turn.next t one.4 in
-      ReadsModes.mode color two.2 (grind (arith, common_steps)) (subst (λ (c : Color). ReadsModes c two.2 last) (opposite_twice color) (grind (arith, common_steps)))
+      ReadsModes.mode color two.2 (grind (arith, common_steps))
+      (subst (λ (c : Color). ReadsModes c two.2 last) (opposite_twice color) (grind (arith, common_steps)))
 
   abbrev Keeps : Bits → Pen → Type 0
   Keeps here pen = (last : Bits) → reads_at pen last → ReadsModes White here last
@@ -144,8 +146,8 @@ module _ (strict : Bool) (columns : ℕ) (other : Row) where
   ends : (here : Bits) (s : Pen) (line : Line) → Keeps here s → step_2d strict columns other s ≡ Turn.done line
       → EndsBehind here line
   ends here s (Line.broken front fault) kept e = tt
-  ends here s (Line.whole row rest) kept e = let f = full_by columns s (mode_here s) row rest (grind (arith, common_steps, try_goes_on, draw_mode_goes_on))
-      (sym (step_2d_is strict columns other s) ∙ e) in
+  ends here s (Line.whole row rest) kept e = let f = full_by columns s (mode_here s) row rest
+      (grind (arith, common_steps, try_goes_on, draw_mode_goes_on)) (sym (step_2d_is strict columns other s) ∙ e) in
       let there : s.rest ≡ rest = grind (arith, common_steps) in
       subst (ReadsModes White here) there (kept s.rest ReadsModes.over)
 
@@ -191,8 +193,8 @@ encoded_from reference row from color bits tail rest (EncodesLine2D.horizontal f
 -- its modes end before the EOL behind it
 pub encoded_ends : (reference row : Row) (line next after rest : Bits) → EncodesLine2D reference row 0 White line
     → after_eol 0 next ≡ Some after → ReadsModes White (line ++ next) rest → length next ≤ length rest
-encoded_ends reference row line next after rest encodes eol reads =
-    encoded_from reference row 0 White line next rest encodes (grind (arith, common_steps, after_eol_is, replicate-append-replicate, append_assoc)) reads
+encoded_ends reference row line next after rest encodes eol reads = encoded_from reference row 0 White line next rest encodes
+    (grind (arith, common_steps, after_eol_is, replicate-append-replicate, append_assoc)) reads
 
 -- a whole line leaves that EOL, whatever row it is read against
 pub leaves_next : (settings : DecodeSettings) → settings.encoding ≡ Group3_2D → (other reference row : Row)

@@ -245,7 +245,8 @@ module _ (settings : DecodeSettings) (one two : Bits) (from : ℕ) (after : Bits
         (leaves_trans one (bits ++ true ∷ drop from one) found within.0 leaves)) (λ bits found count e within leaves. few_from two
         found from count (given.few_two e) (leaves_trans two (bits ++ true ∷ drop from two) found within.1 leaves)) lines
         (omega arith) given.settles (λ rows begun. given.stays_one rows begun.0) (λ rows begun. given.stays_two rows begun.1)
-        (λ t. repeated (move_on settings) (late (first two)) (suc (left_to_read t)) t) s t (λ rows e f. (grind (arith, common_steps))) (omega (arith, past_shorter 0 (drop from one) after given.tail_one.next))
+        (λ t. repeated (move_on settings) (late (first two)) (suc (left_to_read t)) t) s t
+        (λ rows e f. (grind (arith, common_steps))) (omega (arith, past_shorter 0 (drop from one) after given.tail_one.next))
         (omega (arith, past_shorter 0 (drop from two) after given.tail_two.next))) (suc (suc (length (first one).rest)))
         (suc (suc (length (first two).rest))) (left_below (first one)) (left_below (first two)) alike)
 

@@ -1,5 +1,5 @@
 -- Damage to a line of two-dimensional data ends at the next one-dimensional line.
-use Rattle.fax_reading.proofs.Names.{common_steps, ◌≡◌, ℕ, zero, suc, ◌-◌, ◌<◌, ◌≤◌, true, false, List, [], ◌∷◌, ◌++◌, length}
+use Rattle.fax_reading.proofs.Names.{common_steps, ◌≡◌, ℕ, zero, suc, ◌-◌, ◌<◌, ◌≤◌, false, List, [], ◌∷◌, ◌++◌, length}
 use Rattle.fax_reading.proofs.Names.{take, drop, Some, None, Result, refl, sym, ap, subst, ◌∙◌, append_assoc, arith, ◌⊎◌, inl}
 use Rattle.fax_reading.proofs.Names.{inr, cases_lt, cases_eq, cond-true, eq-eqb, length-append, length-replicate, White}
 use Rattle.fax_reading.proofs.Names.{DecodeError, EncodingMode, Group3_2D, DecodeSettings, Bits, AreWholeBytes, AreSettings}
@@ -24,23 +24,7 @@ module _ (settings : DecodeSettings) (encoding : settings.encoding ≡ Group3_2D
 
   -- a one-dimensional line has no reference row
   unreferred : (here : Bits) → ComesBefore1D settings here → Unreferred settings (eols_here settings here)
-  unreferred here (eol, ends) = rw is_2d (in_each_case ends)
-    where
-      is_2d : eols_here settings here ≡ eols_by Group3_2D settings.end_of_block here
-      is_2d = ap (λ (e : EncodingMode). eols_by e settings.end_of_block here) encoding
-
-      same : (tagged : Bits) → ((reference other : Row) → line_by Group3_2D settings.strict settings.columns reference tagged
-          ≡ line_by Group3_2D settings.strict settings.columns other tagged) → (reference other : Row)
-          → line_here settings reference tagged ≡ line_here settings other tagged
-      same tagged f reference other = rw encoding (f reference other)
-
-      in_each_case : ((settings.end_of_block ≡ true) × (6 ≤ (eols_by Group3_2D settings.end_of_block here).0))
-          ⊎ (((line : Bits) × ((eols_by Group3_2D settings.end_of_block here).1 ≡ true ∷ line))
-          ⊎ ((eols_by Group3_2D settings.end_of_block here).1 ≡ []))
-          → Unreferred settings (eols_by Group3_2D settings.end_of_block here)
-      in_each_case (inl (block, six)) = inl ((eols_end settings (eols_by Group3_2D settings.end_of_block here).0).2 block six)
-      in_each_case (inr (inl (line, e))) = inr (rw e (same (true ∷ line) (λ reference other. refl)))
-      in_each_case (inr (inr e)) = inr (rw e (same [] (λ reference other. refl)))
+  unreferred here (eol, ends) = grind (arith, common_steps, eols_end)
 
   -- one EOL is counted before a two-dimensional line
   one_before : (line found : Bits) → after_eol 0 (false ∷ line) ≡ None → after_eol 0 found ≡ Some (false ∷ line)

@@ -174,7 +174,7 @@ module _ (x y : Bits) where
           → after_eol 0 other ≡ Some (bits ++ true ∷ y) → CountAlike bits (all found) (all other)
       count_found bits found other e f = let past = passed bits in
           let more = count_alike past.0 in
-          rw (count_all-some counts found (bits ++ true ∷ x) e, count_all-some counts other (bits ++ true ∷ y) f, past.3, past.4) (
+          rw (count_all-some counts found _ e, count_all-some counts other _ f, past.3, past.4) (
             ap suc more.0,
             elim more.1 [
               | inl b ↦ inl (b.0, leaves_trans bits past.0 b.0 past.1 b.1, λ closes. b.2 (past.2 closes), b.3, b.4)
@@ -225,7 +225,8 @@ module _ (x y : Bits) where
       last_tag_alike bits (n, here) (m, there) (same, inl ([], le, keeps, e, f)) few_x few_y = grind (arith, common_steps)
       last_tag_alike bits (n, here) (m, there) (same, inl (false ∷ rest, le, keeps, e, f)) few_x few_y =
           rw (← same, e, f) (refl, inl (false ∷ rest, le, keeps, refl, refl))
-      last_tag_alike bits (n, here) (m, there) (same, inl (true ∷ rest, le, keeps, e, f)) few_x few_y = rw (← same, e, f) grind (arith, common_steps, either_way)
+      last_tag_alike bits (n, here) (m, there) (same, inl (true ∷ rest, le, keeps, e, f)) few_x few_y =
+          rw (← same, e, f) grind (arith, common_steps, either_way)
         where
           either_way : (b : Bool) → CountAlike bits (cond b (n, rest ++ true ∷ x) (n, true ∷ rest ++ true ∷ x))
               (cond b (n, rest ++ true ∷ y) (n, true ∷ rest ++ true ∷ y))

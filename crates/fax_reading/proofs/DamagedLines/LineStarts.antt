@@ -71,7 +71,7 @@ to_later seen (false ∷ here) end (at, leaves, eol, lt) b = let is = after_eol_
   append_assoc leaves.0 (replicate is.0 false) (true ∷ end),
   zeros_along seen here,
   cases_lt (length end) (length here),
-  same_end (replicate seen false) (false ∷ here) (leaves.0 ++ replicate is.0 false) (true ∷ end),
+  same_end,
 )
 to_later seen (true ∷ here) end (at, leaves, eol, lt) b = elim (cases_lt (length end) (length here)) [
   | inl less ↦ Contains-append_right (cond (leb 11 seen && begins_line here) (here ∷ []) [])
@@ -152,17 +152,7 @@ module _ (bits : Bits) where
         let begins = at_end_length (drop place bits) (not-true (at_end (drop place bits)) both.0) in
         let front : Bits = leaves_first.0 ++ f.0.1.0 in
         let cut : bits ≡ front ++ f.0.0 = grind (arith, common_steps, leaves_first, append_assoc) in
-        grind (
-          arith,
-          common_steps,
-          after_eol_shorter 0 f.0.0 (drop place bits) f.0.2,
-          length-append front f.0.0,
-          length-drop place bits,
-          first_length,
-          drop_at bits front f.0.0 (length front) cut refl,
-          not_some (after_eol 0 (drop place bits)) (not-true (is_some (after_eol 0 (drop place bits))) both.1),
-          not-true (is_some (after_eol 0 (drop place bits))) both.1,
-        )
+        grind (arith, common_steps, after_eol_shorter, drop_at bits front f.0.0 (length front) cut refl)
   ]
 
   has_start : (place : ℕ) → place ≤ length bits → IsStart bits place → Contains (starts bits) (drop place bits)
@@ -186,7 +176,8 @@ module _ (bits : Bits) where
           before : (leaves_first.0 ≡ []) ⊎ ((more : Bits) × (leaves_first.0 ≡ more ++ true ∷ []))
               → length (all_eols bits).1 < length (drop at bits) → ⊥
           before (inl none_before) longer = omega (arith, longer, ap length none_before, first_length, length-drop at bits)
-          before (inr (more, is)) longer = let split : more ++ true ∷ (all_eols bits).1 ≡ take at bits ++ drop at bits = grind (arith, common_steps, append_assoc) in
+          before (inr (more, is)) longer = let split : more ++ true ∷ (all_eols bits).1 ≡ take at bits ++ drop at bits = grind
+              (arith, common_steps, append_assoc) in
               let f = shorter_end (take at bits) (drop at bits) more (true ∷ (all_eols bits).1) (sym split)
               (omega (arith, longer)) in
               grind (arith, after_eol_is, first_one, length-append, length-replicate, length-drop, first_length)

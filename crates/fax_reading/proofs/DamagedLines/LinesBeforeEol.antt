@@ -103,8 +103,9 @@ module _ (x y : Bits) where
   run_alike : (color : Color) (total : ℕ) (here there : Bits) → InFront x y here there
       → FoundAlike x y (run_from color (total, here)) (run_from color (total, there))
   run_alike color total here there front = repeated_follows (run_turn color) (Err UnexpectedEof) size (run_shrinks color)
-      (run_turn color) (Err UnexpectedEof) size (run_shrinks color) Runs (FoundAlike x y) (grind (arith, common_steps, turn_alike))
-      (suc (length here)) (suc (length there)) (total, here) (total, there) (omega arith) (omega arith) (refl, front)
+      (run_turn color) (Err UnexpectedEof) size (run_shrinks color) Runs (FoundAlike x y)
+      (grind (arith, common_steps, turn_alike)) (suc (length here)) (suc (length there)) (total, here) (total, there)
+      (omega arith) (omega arith) (refl, front)
 
   -- ---- Lines
   abbrev pub LineAlike : Line → Line → Type 0
@@ -142,9 +143,9 @@ module _ (x y : Bits) where
   pub line_1d_alike : (columns : ℕ) (here there : Bits) → InFront x y here there
       → LineAlike (line_1d false columns here) (line_1d false columns there)
   line_1d_alike columns here there front = repeated_follows (step_1d false columns) (Line.broken [] UnexpectedEof) pen_left
-      (step_1d_shrinks false columns) (step_1d false columns) (Line.broken [] UnexpectedEof) pen_left
-      (step_1d_shrinks false columns) Pens LineAlike (grind (arith, common_steps, drew_alike)) (suc (length here)) (suc (length there))
-      (start here) (start there) (omega arith) (omega arith) ([], Color.White, here, there, refl, refl, front)
+      (step_1d_shrinks false columns) (step_1d false columns) (Line.broken [] UnexpectedEof) pen_left (step_1d_shrinks false
+      columns) Pens LineAlike (grind (arith, common_steps, drew_alike)) (suc (length here)) (suc (length there)) (start here)
+      (start there) (omega arith) (omega arith) ([], Color.White, here, there, refl, refl, front)
 
   -- the same of a two-dimensional line, against one reference row
   module _ (columns : ℕ) (reference : Row) (rest : Pen → Line) where

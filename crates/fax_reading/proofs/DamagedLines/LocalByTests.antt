@@ -81,7 +81,8 @@ module _ (settings : DecodeSettings) (bits : Bits) (from to : ℕ) where
       no_eol place end le le2 (lt, inside, eol) = let is = after_eol_is 0 (drop place bits) (drop end bits) eol in
           let j : ℕ = place - from in
           let sum : from + j ≡ place = omega (arith, le) in
-          let there : drop j (drop from bits) ≡ replicate is.0 false ++ true ∷ drop end bits = grind (arith, common_steps, drop-drop) in
+          let there : drop j (drop from bits) ≡ replicate is.0 false ++ true ∷ drop end bits = grind
+          (arith, common_steps, drop-drop) in
           let lengths = eol_lengths bits place end is.0 is.1 in
           let fits : is.0 < (to - from) - j = omega (arith, lengths, le, le2, lt, tests.order, tests.within) in
           let split : body ≡ take j (drop from bits)

@@ -79,12 +79,8 @@ passed_mode start color here next rest begun before now (found, stands, most) e 
 -- consecutive words are fewer than the bits before the end of the next EOL
 words_before_eol : (here next after rest : Bits) (found : List Bits) → WordsStand here found rest → next_eol here ≡ Some next
     → after_eol 0 next ≡ Some after → length found + length after < length here
-words_before_eol here next after rest found stands sought eol = let within = next_eol_within here next sought in grind (
-  arith,
-  common_steps,
-  stands_count here found rest stands,
-  stands_before_eol true here found rest (true ∷ within.2.fill) within.0 stands,
-)
+words_before_eol here next after rest found stands sought eol = let within = next_eol_within here next sought in
+    grind (arith, stands_count, stands_before_eol true here found rest (true ∷ within.2.fill) within.0 stands)
 
 -- the mode that isn't read, and those before it
 pub all_passed : (start : Bits) (color : Color) (here : Bits) (begun before now : ℕ) → WordsPassed start here begun before
@@ -94,8 +90,6 @@ all_passed start color here begun before now (found, stands, most) work next aft
     let mode = mode_words_stand color here in
     omega (
       arith,
-      most,
-      work,
       length-append found (mode_found color here),
       words_before_eol start next after mode.0 (found ++ mode_found color here)
           (stands_append start here mode.0 found (mode_found color here) stands mode.1) sought eol,
@@ -136,12 +130,8 @@ pub line_paid : (start here line next rest : Bits) (count begun before eol tags 
     → after_eol 0 here ≡ Some (false ∷ line) → IsLine2D line next → tagged_eols here ≡ (count, rest) → eol ≡ before + looked here
     → tags + 2 * length rest ≤ eol + 2 * length here + 3 + looked (drop 1 rest)
     → now + 3 * length next ≤ tags + 3 * length (false ∷ line) + 3 * looked next → LinesPaid start next begun now
-line_paid start here line next rest count begun before eol tags now paid e is counted read ahead passed = grind (
-  arith,
-  all_tagged-some here (false ∷ line) e,
-  looked_eol 0 here (false ∷ line) e,
-  looked_before_eol 0 (false ∷ line) next is.no_eol is.next_is,
-)
+line_paid start here line next rest count begun before eol tags now paid e is counted read ahead passed =
+    grind (arith, all_tagged-some here (false ∷ line) e, looked_eol, looked_before_eol)
 
 -- no EOL
 pub lines_end : (start here : Bits) (begun before now : ℕ) → LinesPaid start here begun before → now ≡ before + looked here

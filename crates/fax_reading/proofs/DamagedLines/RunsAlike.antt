@@ -179,7 +179,8 @@ alone settings after z found group3 tail e = by_encoding settings.encoding setti
     by_encoding : (encoding : EncodingMode) (block : Bool) → IsGroup3 encoding → (encoding ≡ Group3_2D → past_tag z ≡ z)
         → eols_by encoding block found ≡ (1, z)
     by_encoding Group3_1D block is tag = rw (all_eols-some found z e, all_eols-none z tail.none) refl
-    by_encoding Group3_2D block is tag = rw (all_tagged-some found z e, tag refl, all_tagged-none z tail.none) grind (arith, common_steps, last_tag_few)
+    by_encoding Group3_2D block is tag =
+        rw (all_tagged-some found z e, tag refl, all_tagged-none z tail.none) grind (arith, common_steps, last_tag_few)
     by_encoding Group4 block (inl is) tag = absurd cc
     by_encoding Group4 block (inr is) tag = absurd cc
 
@@ -264,7 +265,8 @@ module _ (settings : DecodeSettings) (group3 : IsGroup3 settings.encoding) (leni
   -- after EOLs the last of which ends where the line begins
   unless_there : (rows : List Row) (u v : Bits) (count : ℕ)
       → Both (unless_over settings (sought rows u) (count, x)) (unless_over settings (sought rows v) (count, y))
-  unless_there rows u v count = rw (not_past_end x after tail_x.next, not_past_end y after tail_y.next) grind (arith, common_steps, either_way)
+  unless_there rows u v count =
+      rw (not_past_end x after tail_x.next, not_past_end y after tail_y.next) grind (arith, common_steps, either_way)
     where
       either_way : (t : Bool) → Both (cond t (ends_with (sought rows u) (Ok x)) (Turn.next (sought rows x)))
           (cond t (ends_with (sought rows v) (Ok y)) (Turn.next (sought rows y)))
@@ -391,10 +393,10 @@ module _ (settings : DecodeSettings) (group3 : IsGroup3 settings.encoding) (leni
   line_there : (rows : List Row) → Begins rows → Both (move_on settings (sought rows x)) (move_on settings (sought rows y))
   line_there rows begins = let line : Line = line_of_turn settings (sought rows x) in
       let other : Line = line_of_turn settings (sought rows y) in
-      rw (move_sought settings lenient rows x, move_sought settings lenient rows y)
-      (row_there rows (row_of settings.columns line ∷ []) (row_of settings.columns other ∷ []) (rest_of line x) (rest_of other y)
-      after lines begins refl (omega arith) (omega (arith, enough)) (stays_x rows begins) (stays_y rows begins) (grind (arith, common_steps, rest_shorter, line_by_leaves)) (grind (arith, common_steps, rest_shorter, line_by_leaves))
-      (omega arith) settles)
+      rw (move_sought settings lenient rows x, move_sought settings lenient rows y) (row_there rows (row_of settings.columns line
+      ∷ []) (row_of settings.columns other ∷ []) (rest_of line x) (rest_of other y) after lines begins refl (omega arith) (omega
+      (arith, enough)) (stays_x rows begins) (stays_y rows begins) (grind (arith, common_steps, rest_shorter, line_by_leaves))
+      (grind (arith, common_steps, rest_shorter, line_by_leaves)) (omega arith) settles)
 
   -- a turn of two such runs
   pub moves_alike : (s t : Progress) → ((rows : List Row) → s ≡ sought rows x → t ≡ sought rows y → Begins rows)

@@ -3,7 +3,7 @@ use Rattle.fax_reading.proofs.Names.{◌≡◌, ℕ, zero, suc, ◌+◌, ◌*◌
 use Rattle.fax_reading.proofs.Names.{◌++◌, length, take, Option, Some, None, Ok, refl, sym, ap, subst, ◌∙◌, append_assoc, arith}
 use Rattle.fax_reading.proofs.Names.{◌⊎◌, inl, inr, or_parts, or_from, cond-false, cases_lt, length-append, length-take-le}
 use Rattle.fax_reading.proofs.Names.{take-append-drop, drop_at, EncodingMode, Group4, DecodeSettings, Bits, AreWholeBytes, Turn}
-use Rattle.fax_reading.proofs.Names.{Reaches, Line, line_2d, after_eol, one_more, eols, eols_here, is_over, Progress, Ending}
+use Rattle.fax_reading.proofs.Names.{Reaches, Line, line_2d, after_eol, eols, eols_here, is_over, Progress, Ending}
 use Rattle.fax_reading.proofs.Names.{row_before, aligned, line_of_turn, row_of_line, ends_with, pass_gap, at_front, nothing_read}
 use Rattle.fax_reading.proofs.Names.{end_of, plain, AfterEofb, add_row_alone, row_behind, gap_and_row, for_t6, common_steps}
 use Rattle.fax_reading.proofs.EncodedPictures.PictureLines.{IsLineStart, between, plain_ends}
@@ -42,10 +42,7 @@ eols_are_found (suc most) here = let by_after_eol : (o : Option Bits) → after_
           subst (EolsFound (suc most) here) (sym found) (
             one.0 ++ on.0,
             one.1 ∙ ap (λ (x : Bits). one.0 ++ x) on.1 ∙ sym (append_assoc one.0 on.0 (eols most rest).1),
-            λ more or. let less : ((eols most rest).0 ≡ most)
-                ⊎ (after_eol 0 more ≡ None) = elim or [ inl same ↦ inl (omega arith) | inr none ↦ inr none ] in
-                let stands : after_eol 0 (one.0 ++ (on.0 ++ more)) ≡ Some (on.0 ++ more) = one.2 (on.0 ++ more) in
-                ap (eols (suc most)) (append_assoc one.0 on.0 more) ∙ rw (stands, eols) (ap one_more (on.2 more less)),
+            λ more or. grind (arith, common_steps, append_assoc one.0 on.0 more),
           )
     ] in by_after_eol (after_eol 0 here) refl
 
@@ -95,7 +92,8 @@ module _ (settings : DecodeSettings) (four : settings.encoding ≡ Group4) (bloc
       let at_start : (more : Bits) → IsLineStart (line.bits ++ more) = λ more. grind (arith, append_assoc) in
       let moved : MoveFound settings run then = record {
         bits = eol.0 ++ (line.bits ++ pad);
-        is = eol.1 ∙ ap (λ (x : Bits). eol.0 ++ x) (grind (arith, common_steps, append_assoc)) ∙ sym (append_assoc eol.0 (line.bits ++ pad) then.rest);
+        is = eol.1 ∙ ap (λ (x : Bits). eol.0 ++ x) (grind (arith, common_steps, append_assoc))
+            ∙ sym (append_assoc eol.0 (line.bits ++ pad) then.rest);
         unsought = unsought;
         again = λ more same. let t2 : Bits = line.bits ++ (pad ++ more) in
             let here : (eol.0 ++ (line.bits ++ pad)) ++ more ≡ eol.0 ++ t2 = append_assoc eol.0 (line.bits ++ pad) more
@@ -105,12 +103,7 @@ module _ (settings : DecodeSettings) (four : settings.encoding ≡ Group4) (bloc
             let begins = at_start (pad ++ more) in
             let counted2 : eols_here settings run2.rest ≡ (count, t2) = counts_two run2.rest ∙ ap (eols 2) here
             ∙ eol.2 t2 (inr begins.no_eol) in
-            let over2 : is_over settings (length run.rows)
-            (count, t2) ≡ false = or_from _ _ (or_parts _ _ over).0 begins.open_end in
-            ap (row_behind settings) (gap_unsought settings run2 unsought ∙ ap (unless_over settings run2) counted2
-            ∙ cond-false (is_over settings (length run.rows) (count, t2)) (ends_with run2 (Ok t2)) (Turn.next at) over2) ∙ ap
-            (λ (l : Line). add_row_alone at (row_of_line settings run.has_eols t2 l)) (line_is run t2 ∙ line.again (pad ++ more))
-            ∙ ap (λ (x : Bits). Turn.next (record then { rest = x })) (split.2 more same);
+            grind (arith, common_steps, gap_unsought settings run2 unsought, line_is run t2, or_from, or_parts, cond-false);
       } in subst (MoveFound settings run) (next_is then after e) moved
 
   by_eols : (run after : Progress) (found : ℕ × Bits) → run.has_eols ≡ false → eols 2 run.rest ≡ found

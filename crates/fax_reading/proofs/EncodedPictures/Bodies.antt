@@ -76,21 +76,19 @@ module _ (settings : DecodeSettings) (wide : 0 < settings.columns) (small : sett
         let row_len : length row ≡ settings.columns = All-head (λ row. length row ≡ settings.columns) row rows widths in
         let here : body ++ more ≡ line ++ (fill b line ++ tail) = grind (arith, common_steps, append_assoc, fill) in
         let here2 : (line ++ fill b line) ++ tail ≡ body ++ more = append_assoc line (fill b line) tail ∙ sym here in
-        let whole2 : b ≡ true → length ((line ++ fill b line) ++ tail) % 8 ≡ 0 =
-        λ e. ap (λ (x : Bits). length x % 8) here2 ∙ whole e in
+        let whole2 : b ≡ true → length ((line ++ fill b line) ++ tail) % 8 ≡ 0 = grind (arith, common_steps) in
         let moved = row_read before (body ++ more) row line tail
         (subst IsLineStart (sym here) (line_starts encoding reference row line (fill b line ++ tail) same is row_len))
-        (not_met settings (length before + length (row ∷ rows)) (length before) limit (omega arith)) whole2 (ap (line_here
-        settings reference) here ∙ line_again encoding reference row line (fill b line ++ tail) same is ref_len row_len) in
+        (not_met settings (length before + length (row ∷ rows)) (length before) limit (omega arith)) whole2
+        (grind (arith, common_steps, line_again)) in
         let pushed : row_before settings.columns rows1 ≡ row = row_before_push settings.columns before row in
-        let count : length rows1 + length rows ≡ length before + length (row ∷ rows) =
-        omega (arith, length-append before (row ∷ [])) in
+        let count : length rows1 + length rows ≡ length before + length (row ∷ rows) = grind
+        (arith, common_steps, length-append) in
         let on = body_again rows1 rows next more (subst (Allows settings) (sym count) limit) (ap length pushed ∙ row_len)
         (All-tail (λ row. length row ≡ settings.columns) row rows widths) (aligned_on b line tail whole2)
         (subst (λ (r : Row). EncodesRows encoding b r rows next) (sym pushed) lines) in
-        Reaches.moves (between before (body ++ more)) (between rows1 tail) (between (before ++ row ∷ rows) more) moved
-        (subst (λ (rs : List Row). Reaches (gap_and_row settings) (between rows1 tail) (between rs more))
-        (append_assoc before (row ∷ []) rows) on)
+        Reaches.moves (between before (body ++ more)) (between rows1 tail)
+        (between (before ++ row ∷ rows) more) moved (grind (arith, common_steps, append_assoc))
 
     module _ (rows : List Row) (body more : Bits) (some : 0 < length rows) (limit : settings.rows ≡ length rows)
         (is : IsPicture settings.columns rows) (whole : b ≡ true → length (body ++ more) % 8 ≡ 0)

@@ -1,11 +1,11 @@
 -- A two-dimensional line is read as the row that was encoded.
 use Rattle.fax_reading.proofs.Names.{◌≡◌, ℕ, suc, ◌+◌, ◌-◌, ◌<◌, ◌≤◌, Bool, false, [], ◌++◌, length, take, replicate, Ok, refl}
-use Rattle.fax_reading.proofs.Names.{ap, subst, ◌∙◌, append_assoc, arith, inl, inr, pos, ◌+ℤ◌, ℤ, cases_lt, length-take-le}
-use Rattle.fax_reading.proofs.Names.{append-nil, Color, White, Black, Mode, Pass, Vertical, Bits, mode_codes, Has}
+use Rattle.fax_reading.proofs.Names.{sym, ap, subst, ◌∙◌, append_assoc, arith, inl, inr, pos, ◌+ℤ◌, ℤ, cases_lt, length-take-le}
+use Rattle.fax_reading.proofs.Names.{append-nil, Color, White, Black, Mode, Pass, Horizontal, Vertical, Bits, mode_codes, Has}
 use Rattle.fax_reading.proofs.Names.{Turn, Row, is_black, opposite, pixel, pixel_before, is_change, right_of, b1, b2, a1, a2}
 use Rattle.fax_reading.proofs.Names.{run_from, Line, Pen, line_2d, Step, Spells, EncodesLine2D, common_steps}
 use Rattle.fax_bits.proofs.Repetition.Repeated.{after_turn}
-use Rattle.fax_reading.proofs.DrawingLines.Drawings.{mode_step, drawn_by, step_2d, horizontal_is}
+use Rattle.fax_reading.proofs.DrawingLines.Drawings.{run_then, mode_step, drawn_by, step_2d, horizontal_is}
 use Rattle.fax_reading.proofs.EncodedPictures.EncodedRuns.{run_spelled, read_as, whole_run_painted, draws}
 use Rattle.fax_reading.proofs.PixelRows.ChangePlaces.{a1_next, a2_next, a2_least, b2_above, b1_right, b2_right, before_same}
 use Rattle.fax_reading.proofs.PixelRows.ChangePlaces.{pixels_same, at_change, take_painted}
@@ -93,20 +93,30 @@ module _ (strict : Bool) (columns : ℕ) (reference row : Row) (wide : 0 < colum
       (λ q ge lt. one.before q ge (omega arith)) in
       let same : pixel row p ≡ is_black color = pixels_same row from (a1 row from) (is_black color)
       (at.inside inside) one.before p (omega (arith, above.0, above.1)) left_of in
-      reads_on _ _ more (grind (arith, common_steps, mode_drawn, append_assoc, pass_drawn, b2_right))
-      (line_2d_from (front ++ replicate (p - length front) (is_black color)) (suc p) color next more steps (grind (arith, common_steps, painted_at)))
+      reads_on _ _ more (mode_drawn strict columns reference front color Pass word (next ++ more) _ (omega (arith, len)) has
+      (append_assoc word next more) ∙ pass_drawn strict columns reference front color (next ++ more) p
+      (b2_right reference front from color len at.first) (omega (arith, len, above.0, above.1)) (omega arith))
+      (line_2d_from (front ++ replicate (p - length front) (is_black color)) (suc p) color next more steps (record
+      { painted = painted_at row _ p painted; inside = λ le. same; first = λ e. absurd (omega (arith, above.0, above.1)) }))
   line_2d_from front from color bits more (EncodesLine2D.vertical from2 word k {bits = next} inside has exact steps) at =
       let len = length_at row front from color (omega arith) at in
       let one = a1_next row from in
       let p : ℕ = a1 row from in
       let within : p ≤ length row = one.within in
       let above : from ≤ p = one.above inside in
-      let place : pos (b1 reference (right_of front) color) +ℤ k ≡ pos p = grind (arith, common_steps, b1_right) in
+      let place : pos (b1 reference (right_of front) color) +ℤ k ≡ pos p =
+      ap (λ (b : ℕ). pos b +ℤ k) (b1_right reference front from color len at.first) ∙ sym exact in
       let painted = painted_to_place row front from p color at inside above within one.before in
       let before : pixel_before row p ≡ is_black color =
       before_same row from p (is_black color) (at.inside inside) one.before p above (omega arith) in
-      reads_on _ _ more (grind (arith, common_steps, mode_drawn, append_assoc, vertical_drawn))
-      (line_2d_from (front ++ replicate (p - length front) (is_black color)) (suc p) (opposite color) next more steps (grind (arith, common_steps, painted_at, at_change, white_first)))
+      reads_on _ _ more (mode_drawn strict columns reference front color (Vertical k) word (next ++ more) _
+      (omega (arith, len)) has (append_assoc word next more)
+      ∙ vertical_drawn strict columns reference front color (next ++ more) k p place (omega (arith, len)) (omega arith) small)
+      (line_2d_from (front ++ replicate (p - length front) (is_black color)) (suc p) (opposite color) next more steps (record {
+        painted = painted_at row _ p painted;
+        inside = λ le. at_change row p color (one.change (omega arith)) before;
+        first = λ e. white_first color (let z : p ≡ 0 = omega arith in rw z at before);
+      }))
   line_2d_from front from color bits more (EncodesLine2D.horizontal from2 word {first = run1} {second = run2} {bits = next} inside
       has spells1 spells2 steps) at = let len = length_at row front from color (omega arith) at in
       let one = a1_next row from in
@@ -130,9 +140,16 @@ module _ (strict : Bool) (columns : ℕ) (reference row : Row) (wide : 0 < colum
       let turned : p < length row → pixel row p ≡ is_black (opposite color) = λ lt. at_change row p color (one.change lt)
       (before_same row from p (is_black color) (at.inside inside) one.before p p_above (omega arith)) in
       let at1 : IsAt row front1 (suc p) (opposite color) = grind (arith, painted_at, white_first) in
-      let painted2 : front2 ≡ take r row = grind (arith, common_steps, second_painted) in
+      let painted2 : front2 ≡ take r row = second_painted row front1 p r
+      (opposite color) at1 len1 p_within r_above r_within two.before in
       reads_on _ (record { front = front2; color = color; rest = next ++ more }) more
-      (grind (arith, common_steps, mode_drawn, horizontal_is, draws, whole_run_painted, opposite_twice))
+      (mode_drawn strict columns reference front color Horizontal word (run1 ++ rest2) _ (omega (arith, len)) has here
+      ∙ sym (horizontal_is strict columns reference (record { front = front; color = color; rest = run1 ++ rest2 })) ∙ draws
+      strict columns front color (run1 ++ rest2) (p - length front) rest2 front1 (λ pen. run_then strict columns pen Turn.next)
+      read1 (whole_run_painted strict columns front color (p - length front) (omega (arith, len)))
+      ∙ draws strict columns front1 (opposite color) rest2 (r - p) (next ++ more) front2 Turn.next read2
+      (whole_run_painted strict columns front1 (opposite color) (r - p) (omega (arith, len1)))
+      ∙ ap (λ (c : Color). Turn.next (record { front = front2; color = c; rest = next ++ more })) (opposite_twice color))
       (line_2d_from front2 (suc r) color next more steps (record {
         painted = painted_at row front2 r painted2;
         inside = λ le. let r_over : suc p ≤ r = two.above (omega arith) in

@@ -164,7 +164,19 @@ module _ (settings : DecodeSettings) (wide : 0 < settings.columns) (small : sett
   pub eol_before : (encoding : EncodingMode) (reference row : Row) (fill : ℕ) (line more : Bits) → Matches encoding settings
       → EncodesLine encoding reference row line
       → length row ≡ settings.columns → eols_here settings (eol fill ++ (line ++ more)) ≡ (1, line ++ more)
-  eol_before encoding reference row fill line more matches is row_len = grind (arith, common_steps, eols_here_one, eols_here_two, line_t4_starts, one_eol, eols_with_tags-none, length-eol, few_keep_the_tag, tagged_eols_more, line_1d_starts)
+  eol_before encoding reference row fill line more matches is row_len = grind (
+    arith,
+    common_steps,
+    eols_here_one,
+    eols_here_two,
+    line_t4_starts,
+    one_eol,
+    eols_with_tags-none,
+    length-eol,
+    few_keep_the_tag,
+    tagged_eols_more,
+    line_1d_starts,
+  )
 
   -- ---- The lines of a picture.
   abbrev with_eols : List Row → Bits → Progress

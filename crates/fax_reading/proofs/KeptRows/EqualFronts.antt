@@ -5,7 +5,7 @@ use Rattle.fax_reading.proofs.Names.{false≢true, Bits, after_eol, all_eols, eo
 use Rattle.fax_reading.proofs.Names.{EncodingMode, Group4, Group3_1D, Group3_2D, eols_by}
 use Rattle.fax_bits.proofs.BitReading.ZerosInWords.{holds_a_one}
 use Rattle.fax_bits.proofs.BitReading.ConsecutiveEols.{all_eols-some, all_eols-none, all_tagged, all_tagged-some, all_tagged-none}
-use Rattle.fax_bits.proofs.BitReading.ConsecutiveEols.{after_eol_shorter, length-one_more, count_shorter, counts_plain}
+use Rattle.fax_bits.proofs.BitReading.ConsecutiveEols.{after_eol_shorter, count_shorter, counts_plain}
 use Rattle.fax_bits.proofs.BitReading.ConsecutiveEols.{counts_tagged, eols-some, eols-none, past_tag_shorter}
 use Rattle.fax_reading.proofs.DamagedLines.{LinesByEols.past_shorter, PastEol.past}
 
@@ -131,11 +131,11 @@ module _ (x y : Bits) where
       → one_behind_tag more ≡ true → TagAlike here
   tag_front [] more count e one = absurd (omega (
     arith,
-    past_tag_shorter x,
+    past_tag_shorter,
     count_shorter counts_tagged (length (past_tag x)) (past_tag x),
     ap (λ (f : ℕ × Bits). length f.1) e,
     length-append more x,
-    one_is_a_bit more one,
+    one_is_a_bit,
   ))
     where
       one_is_a_bit : (bits : Bits) → one_behind_tag bits ≡ true → 0 < length bits
@@ -153,9 +153,8 @@ module _ (x y : Bits) where
           let long : length (more ++ x) ≤ length rest = omega (
             arith,
             ap (λ (f : ℕ × Bits). length f.1) (sym counted ∙ ap all_tagged (sym tagged) ∙ e),
-            length-one_more (all_tagged (past_tag rest)),
             count_shorter counts_tagged (length (past_tag rest)) (past_tag rest),
-            past_tag_shorter rest,
+            past_tag_shorter,
           ) in grind (arith, after_eol_front, length-append)
 
   tagged_front_for : (n : ℕ) (bits more : Bits) (count : ℕ) → length bits < n → all_tagged (bits ++ x) ≡ (count, more ++ x)
@@ -170,12 +169,8 @@ module _ (x y : Bits) where
           grind (arith, all_tagged-none, no_eol_front, one_from_tag)
       by_after_eol on (Some rest) f = let fewer = one_fewer count (more ++ x) (all_tagged (past_tag rest))
           (sym (all_tagged-some (bits ++ x) rest f) ∙ e) in
-          let le : length x ≤ length rest = omega (
-            arith,
-            not_shorter fewer.0 more (all_tagged (past_tag rest)) fewer.2,
-            count_shorter counts_tagged (length (past_tag rest)) (past_tag rest),
-            past_tag_shorter rest,
-          ) in
+          let le : length x ≤ length rest = omega
+          (arith, not_shorter, count_shorter counts_tagged (length (past_tag rest)) (past_tag rest), past_tag_shorter) in
           let left = after_eol_front 0 bits rest f le in
           let counted : all_tagged (past_tag (left.0 ++ x)) ≡ (fewer.0, more ++ x) = grind (arith, common_steps) in
           let tag = tag_front left.0 more fewer.0 counted one in

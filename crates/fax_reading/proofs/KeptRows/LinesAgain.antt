@@ -112,10 +112,12 @@ pub one_in_whole : (encoding : EncodingMode) (strict : Bool) (columns : ℕ) (re
     < columns → line_by encoding strict columns reference (bits ++ rest) ≡ Line.whole row rest → one_in_line encoding bits ≡ true
 one_in_whole Group3_1D strict columns reference bits rest row wide e = words_consumed (line_found Group3_1D strict columns
     reference (bits ++ rest)) bits rest (words_synchronised.before_eol Group3_1D strict columns reference (bits ++ rest)).are
-    (words_synchronised.to_the_end Group3_1D strict columns reference row (bits ++ rest) rest e) (grind (arith, common_steps, took_bits, line_1d_took_bits))
+    (words_synchronised.to_the_end Group3_1D strict columns reference row (bits ++ rest) rest e)
+    (grind (arith, common_steps, took_bits, line_1d_took_bits))
 one_in_whole Group4 strict columns reference bits rest row wide e = words_consumed (line_found Group4 strict columns reference
     (bits ++ rest)) bits rest (words_synchronised.before_eol Group4 strict columns reference (bits ++ rest)).are
-    (words_synchronised.to_the_end Group4 strict columns reference row (bits ++ rest) rest e) (grind (arith, common_steps, took_bits, line_2d_took_bits))
+    (words_synchronised.to_the_end Group4 strict columns reference row (bits ++ rest) rest e)
+    (grind (arith, common_steps, took_bits, line_2d_took_bits))
 one_in_whole Group3_2D strict columns reference [] [] row wide e = absurd cc
 one_in_whole Group3_2D strict columns reference [] (true ∷ rest) row wide e =
     grind (arith, common_steps, took_bits, line_1d_took_bits)

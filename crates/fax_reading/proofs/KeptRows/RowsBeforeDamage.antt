@@ -59,6 +59,11 @@ past_there settings lenient rows here t e seeks = by_limit (cases_Bool (limit_me
     by_limit (inl met) = absurd (not_next _ t (sym (sought_done settings rows here met) ∙ e))
     by_limit (inr short) = (short, by_past short (past 0 here) refl)
 
+-- EOLs that aren't missed were counted
+not_missed : (none met ends : Bool) → met ≡ false → ends ≡ false → (((none && true) && not met) && not ends) ≡ false
+    → none ≡ false
+not_missed none met ends e f missed = grind (arith, common_steps)
+
 module _ (settings : DecodeSettings) (x y : Bits) where
   -- a line follows the EOLs in both
   unless_front : (rows : List Row) (has_eols : Bool) (u v more : Bits) (count : ℕ) (t : Progress) → 0 < length more
@@ -93,14 +98,26 @@ module _ (settings : DecodeSettings) (x y : Bits) where
       → t.rest ≡ more ++ x → one_in_line settings.encoding more ≡ true → after_row settings (run_at rows has_eols (bits ++ x))
       ≡ Turn.next t → after_row settings (run_at rows has_eols (bits ++ y)) ≡ Turn.next (run_at rows has_eols (more ++ y))
   gap_front rows false bits more t seeks rest_is one e = cond-false (misses_eol settings (length rows) false (bits ++ y))
-      _ _ (unmissed settings (length rows) (bits ++ y)) ∙ (counted_front rows false bits more t rest_is one (grind (arith, common_steps, cond-false, unmissed))).1
+      _ _ (unmissed settings (length rows) (bits ++ y)) ∙ (counted_front rows false bits more t rest_is one (sym
+      (cond-false (misses_eol settings (length rows) false (bits ++ x)) _ _ (unmissed settings (length rows) (bits ++ x))) ∙ e)).1
   gap_front rows true bits more t seeks rest_is one e = by_strict (cases_Bool settings.strict)
     where
       by_strict : (settings.strict ≡ true) ⊎ (settings.strict ≡ false)
           → after_row settings (run_at rows true (bits ++ y)) ≡ Turn.next (run_at rows true (more ++ y))
       by_strict (inl strict) = elim (chosen (misses_eol settings (length rows) true (bits ++ x)) _ _ _ e) [
         | inl missed ↦ absurd (not_next _ t (sym (cond-true settings.strict _ _ strict) ∙ missed.1))
-        | inr counted ↦ let other = counted_front rows true bits more t rest_is one counted.1 in grind (arith, common_steps, unless_over_open, eols_here_counted, unless_over_next, length-append, some_bits, one_in_bits, open_bits, cond-false)
+        | inr counted ↦ let other = counted_front rows true bits more t rest_is one counted.1 in grind (
+          arith,
+          unless_over_open,
+          eols_here_counted,
+          unless_over_next,
+          length-append,
+          some_bits,
+          one_in_bits,
+          not_missed,
+          open_bits,
+          cond-false,
+        )
       ]
       by_strict (inr lenient) = let there = past_there settings lenient rows (bits ++ x) t e seeks in
           let left = past_front x y 0 bits there.1.0 there.1.1
@@ -127,7 +144,8 @@ module _ (settings : DecodeSettings) (x y : Bits) where
     behind_front has_eols bits le = let al : Bool = settings.rows_are_byte_aligned && not has_eols in
         let behind : Bits = behind_row settings has_eols (bits ++ x) in
         let split = aligned_split al (bits ++ x) in
-        let long : length split.0 ≤ length bits = grind (arith, common_steps, length-append) in
+        let long : length split.0 ≤ length bits = omega
+        (arith, le, ap length split.1, length-append split.0 behind, length-append bits x) in
         let left = prefix_of_prefix split.0 behind bits x split.1 long in
         let is : behind ≡ left.0 ++ x = grind (arith, append_cancel_left, append_assoc) in
         let other : bits ++ y ≡ split.0 ++ (left.0 ++ y) = ap (λ (b : Bits). b ++ y) left.1 ∙ append_assoc split.0 left.0 y in
@@ -191,7 +209,8 @@ module _ (settings : DecodeSettings) (x y : Bits) where
         let left = past_front x y 0 bits next.1.0 next.1.1 (omega (arith, le, next.1.2)) in
         let closes = closes_front bits left.0 (next.1.1 ∙ ap (λ (b : Bits). Some b) left.2) in
         let line : Bool → Bits → Line = λ strict here. line_by settings.encoding strict settings.columns above here in
-        let shape : (z : Bits) → bits ++ z ≡ closes.0 ++ (true ∷ left.0 ++ z) = grind (arith, common_steps, append_assoc) in
+        let shape : (z : Bits) → bits ++ z ≡ closes.0 ++ (true ∷ left.0 ++ z) = λ z. ap (λ (b : Bits). b ++ z) closes.2
+        ∙ append_assoc closes.0 (true ∷ left.0) z in
         let read : (z : Bits)
         → line false (closes.0 ++ (true ∷ left.0 ++ z)) ≡ line_here settings above (bits ++ z) = grind arith in
         let alike = subst (λ (l : Line). LineAlike (true ∷ left.0 ++ x) (true ∷ left.0 ++ y) l
@@ -238,7 +257,8 @@ module _ (settings : DecodeSettings) (x y : Bits) where
             (arith, long, shorter, ap length again.1, length-append again.0 rest, length-append bits x) in
             let kept = prefix_of_prefix again.0 rest bits x again.1 read in
             let rest_is : rest ≡ kept.0 ++ x = grind (arith, append_cancel_left, append_assoc) in
-            let long_so : length x ≤ length (behind_row settings has_eols (kept.0 ++ x)) = grind (arith, common_steps) in
+            let long_so : length x ≤ length (behind_row settings has_eols (kept.0 ++ x)) = subst
+            (λ (b : Bits). length x ≤ length (behind_row settings has_eols b)) rest_is long in
             let left = behind_front has_eols kept.0 long_so in
             let other : line_here settings above (bits ++ y) ≡ Line.whole row (kept.0 ++ y) = grind (arith, append_assoc) in
             record {
@@ -287,11 +307,13 @@ module _ (settings : DecodeSettings) (x y : Bits) where
           ≡ from.has_eols = still_sought from.has_eols after.has_eols end.has_eols seeks first.1 leaves.1 in
           let left_is : after.rest ≡ leaves.0.0 ++ x = leaves.0.1 ∙ ap (λ (b : Bits). leaves.0.0 ++ b) at in
           let on = rows_stay after end leaves.0.0 reaches (seeks ∙ sym has) at left_is in
-          let moved : move_on settings (run_at from.rows from.has_eols (bits ++ x)) ≡ Turn.next after = grind (arith, common_steps) in
+          let moved : move_on settings (run_at from.rows from.has_eols (bits ++ x)) ≡ Turn.next after = ap
+          (λ (b : Bits). move_on settings (run_at from.rows from.has_eols b)) (sym rest_is) ∙ e in
           let found = turn_found from.rows from.has_eols bits after has
           (omega (arith, ap length left_is, length-append leaves.0.0 x)) moved in
           let rows : List Row = from.rows ++ found.row ∷ [] in
-          let added : after_row settings (run_at rows from.has_eols (found.left ++ x)) ≡ Turn.next after = grind (arith, common_steps) in
+          let added : after_row settings (run_at rows from.has_eols (found.left ++ x)) ≡ Turn.next after = sym found.here
+          ∙ moved in
           let rows_are : after.rows ≡ rows = rows_added (run_at rows from.has_eols (found.left ++ x)) after added in
           let turned : rest_end (run_at from.rows from.has_eols (bits ++ y)) ≡ after_turn rest_end
           (after_row settings (run_at rows from.has_eols (found.left ++ y))) = turn_is
@@ -329,7 +351,8 @@ first_front settings x y front bits first rest_is one begins = by_encoding setti
         ≡ Turn.next first → first_gap encoding settings (front ++ y) ≡ Turn.next (run_at first.rows first.has_eols (bits ++ y))
     by_encoding Group3_1D same e = ap {B = Move} (λ (p : Progress). Turn.next p) (group3 (next_is _ first e))
     by_encoding Group3_2D same e = ap {B = Move} (λ (p : Progress). Turn.next p) (group3 (next_is _ first e))
-    by_encoding Group4 same e = let gap : after_row settings (at_front (front ++ x)) ≡ Turn.next first = grind (arith, common_steps, pass_gap-is) in
+    by_encoding Group4 same e = let gap : after_row settings (at_front (front ++ x)) ≡ Turn.next first = sym
+        (pass_gap-is settings (at_front (front ++ x))) ∙ e in
         let unsought : first.has_eols
         ≡ false = elim (after_row_leaves settings (at_front (front ++ x)) first gap).1 [ inl f ↦ f | inr f ↦ f ] in
         let none : first.rows ≡ [] = subst (Keeps []) gap (after_row_keeps settings (at_front (front ++ x))) in
@@ -385,7 +408,8 @@ rows_before settings one whole_one two place index whole_two same reads =
         let late : Ending = record { rows = first.rows; has_eols = first.has_eols; outcome = Err UnexpectedEof } in
         let on = rows_stay settings x z as_many reads.wide late first last leaves.0.0 reads.reaches reads.sought reads.place_is
         rest_is in
-        let begins : first_gap settings.encoding settings (front ++ x) ≡ Turn.next first = grind (arith, common_steps, one_is) in
+        let begins : first_gap settings.encoding settings (front ++ x) ≡ Turn.next first = ap
+        (first_gap settings.encoding settings) (sym one_is) ∙ reads.begins in
         let s : Progress = run_at first.rows first.has_eols (leaves.0.0 ++ z) in
         elim on.0 [
           | inl none ↦ let empty : last.rows ≡ [] = grind (arith, first_gap_keeps) in

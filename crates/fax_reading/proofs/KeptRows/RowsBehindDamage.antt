@@ -3,8 +3,8 @@ use Rattle.fax_reading.proofs.Names.{common_steps, ◌≡◌, ℕ, zero, suc, �
 use Rattle.fax_reading.proofs.Names.{take, drop, Option, Some, None, Ok, Err, refl, sym, ap, subst, ◌∙◌, append_assoc}
 use Rattle.fax_reading.proofs.Names.{append_cancel_right, append-nil, arith, ◌⊎◌, inl, inr, cond-true, cond-false, length-append}
 use Rattle.fax_reading.proofs.Names.{length-drop, take-append-drop, DecodeError, EncodingMode, Group4, Group3_1D, Group3_2D}
-use Rattle.fax_reading.proofs.Names.{DecodeSettings, Bits, AreWholeBytes, Turn, Reaches, Row, Line, after_eol, all_eols, one_more}
-use Rattle.fax_reading.proofs.Names.{past_tag, pass_last_tag, eols_by, eols_here, is_over, limit_met, at_end, Progress, Ending}
+use Rattle.fax_reading.proofs.Names.{DecodeSettings, Bits, AreWholeBytes, Turn, Reaches, Row, Line, after_eol, all_eols}
+use Rattle.fax_reading.proofs.Names.{past_tag, eols_by, eols_here, is_over, limit_met, at_end, Progress, Ending}
 use Rattle.fax_reading.proofs.Names.{Move, row_before, row_of, line_by, line_here, move_on, first_line, end_of, plain, MakesNoRtc}
 use Rattle.fax_reading.proofs.Names.{PutsInStep, ComesTo, AreInStep, RowsBehind, IsEolAt, or_parts, false≢true}
 use Rattle.fax_reading.proofs.Readings.GapsAndRows.{late, goes, ending_goes, end_t4, plain_is}
@@ -196,22 +196,19 @@ module _ (settings : DecodeSettings) (here line behind : Bits) (step : PutsInSte
     (group3 : IsGroup3 settings.encoding) where
   -- the EOLs behind the first are none
   line_alone : (after_eol 0 line ≡ None) × (settings.encoding ≡ Group3_2D → past_tag line ≡ line)
-  line_alone = by_encoding settings.encoding settings.end_of_block group3 step.alone
-    where
-      none_counted : (o : Option Bits) (bits : Bits) (count : ℕ) → after_eol 0 bits ≡ o
-          → ((rest : Bits) → after_eol 0 bits ≡ Some rest → 0 < count) → count ≡ 0 → after_eol 0 bits ≡ None
-      none_counted o bits count e some zeros = grind arith
-
-      by_encoding : (encoding : EncodingMode) (block : Bool) → IsGroup3 encoding → eols_by encoding block here ≡ (1, line)
-          → (after_eol 0 line ≡ None) × (encoding ≡ Group3_2D → past_tag line ≡ line)
-      by_encoding Group3_1D block is e =
-          let more : one_more (all_eols line) ≡ (1, line) = sym (all_eols-some here line step.eol) ∙ e in (grind (arith, common_steps, none_counted, count_some, counts_plain, one_more-count))
-      by_encoding Group3_2D block is e = let tagged : ℕ × Bits = all_tagged (past_tag line) in
-          let more : pass_last_tag (one_more tagged) ≡ (1, line) = grind (arith, common_steps, all_tagged-some) in
-          let zero : tagged.0 ≡ 0 = grind (arith, last_tag_count, one_more-count) in
-          grind (arith, all_tagged-none, last_tag_few, none_counted, count_some, counts_tagged)
-      by_encoding Group4 block (inl is) e = absurd cc
-      by_encoding Group4 block (inr is) e = absurd cc
+  line_alone = grind (
+    arith,
+    common_steps,
+    all_eols-some,
+    count_some,
+    counts_plain,
+    one_more-count,
+    all_tagged-some,
+    last_tag_count,
+    all_tagged-none,
+    last_tag_few,
+    counts_tagged,
+  )
 
   next_behind_line : past 0 line ≡ Some step.after
   next_behind_line = past_is line ∙ ap then_after step.next_is ∙ step.after_is
@@ -369,7 +366,8 @@ rows_behind settings one whole_one two line behind to to2 whole_two alike = by_o
             )
         either_way false open_end a b u v ends ends2 reaches reaches2 = let end : end_of settings one ≡ goes settings alike.wide
             (sought a behind) = ends ∙ ap (after_turn (goes settings alike.wide)) (line_next a u open_end) in
-            let end2 : end_of settings two ≡ goes settings alike.wide (sought b behind) = grind (arith, common_steps, line_next) in
+            let end2 : end_of settings two ≡ goes settings alike.wide (sought b behind) = ends2
+            ∙ ap (after_turn (goes settings alike.wide)) (line_next b v open_end) in
             let both = repeated_follows (move_on settings) (late settings alike.wide) left_to_read
             (move_shrinks settings alike.wide) (move_on settings) (late settings alike.wide) left_to_read
             (move_shrinks settings alike.wide) (InStep settings alike.unlimited a b (length behind) (goes settings alike.wide))

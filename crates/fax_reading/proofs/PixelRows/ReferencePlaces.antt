@@ -251,12 +251,14 @@ module _ (columns : ℕ) (places : List ℕ) (from first : ℕ) (color : Color) 
     (whiteness : IsTrue white ↔ (color ≡ White)) where
   -- the first change right of a0 is b1, where it turns the colour to the other one
   pub b1_first : not (beq even white) ≡ false → b1 (pixels columns places) from color ≡ get_or places first columns
-  b1_first same = let turns : turned first false ≡ is_black color = grind (arith, common_steps, turned_from_even, same_from, black_from_white) in
+  b1_first same = let turns : turned first false ≡ is_black color = grind
+      (arith, common_steps, turned_from_even, same_from, black_from_white) in
       b1_is columns places ascend from first first color split turns (inl refl)
 
   -- and else the next one is
   pub b1_second : not (beq even white) ≡ true → b1 (pixels columns places) from color ≡ get_or places (first + 1) columns
-  b1_second other = let stays : turned first false ≡ not (is_black color) = grind (arith, common_steps, turned_from_even, other_from, black_from_white) in
+  b1_second other = let stays : turned first false ≡ not (is_black color) = grind
+      (arith, common_steps, turned_from_even, other_from, black_from_white) in
       let turns : turned (suc first) false ≡ is_black color = turned-not first false ∙ ap not stays ∙ not_not (is_black color) in
       let next : first + 1 ≡ suc first = omega arith in
       rw next (b1_is columns places ascend from first (suc first) color split turns (inr (refl, stays)))

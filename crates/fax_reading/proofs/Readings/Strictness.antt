@@ -65,10 +65,11 @@ line_1d_agrees columns here = repeated_follows (step_1d true columns) (Line.brok
 
 line_2d_agrees : (columns : ℕ) (reference : Row) (here : Bits)
     → Agrees (line_2d true columns reference here) (line_2d false columns reference here)
-line_2d_agrees columns reference here = repeated_follows (step_2d true columns reference) (Line.broken [] UnexpectedEof) pen_left
-    (step_2d_shrinks true columns reference) (step_2d false columns reference) (Line.broken [] UnexpectedEof) pen_left
-    (step_2d_shrinks false columns reference) SamePen Agrees (grind (arith, common_steps, draw_mode_follows, follows_as, step_2d_is, try_follows, unless_full_follows))
-    (suc (length here)) (suc (length here)) (start here) (start here) (omega arith) (omega arith) refl
+line_2d_agrees columns reference here = repeated_follows (step_2d true columns reference)
+    (Line.broken [] UnexpectedEof) pen_left (step_2d_shrinks true columns reference) (step_2d false columns reference)
+    (Line.broken [] UnexpectedEof) pen_left (step_2d_shrinks false columns reference) SamePen Agrees
+    (grind (arith, common_steps, draw_mode_follows, follows_as, step_2d_is, try_follows, unless_full_follows)) (suc (length here))
+    (suc (length here)) (start here) (start here) (omega arith) (omega arith) refl
 
 pub line_by_agrees : (encoding : EncodingMode) (columns : ℕ) (reference : Row) (here : Bits)
     → Agrees (line_by encoding true columns reference here) (line_by encoding false columns reference here)

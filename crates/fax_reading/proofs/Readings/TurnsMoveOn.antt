@@ -73,10 +73,7 @@ after_row_next settings run t n e small = elim (chosen (misses_eol settings (len
   | inr a ↦ let open_run = unless_over_open settings run t (eols_here settings run.rest) a.1 in
       let counted = eols_here_counted settings run.rest in
       subst (λ (r : Progress). left_to_read r < n) (unless_over_next settings run t (eols_here settings run.rest) a.1)
-      (elim (went_on settings run (eols_here settings run.rest) counted open_run.0 open_run.1 a.0) [
-        | inl some ↦ either run.has_eols (length (eols_here settings run.rest).1) (omega (arith, counted.1 some, small))
-        | inr gave_up ↦ rw gave_up (omega (arith, counted.0, small))
-      ])
+      (grind (arith, common_steps, went_on, either))
 ]
   where
     either : (b : Bool) (k : ℕ) → suc k < n → cond b (suc k) k < n
@@ -108,8 +105,8 @@ after_line_next settings run t (Line.broken front fault) took e =
             rows = run.rows ++ (front ++ replicate (settings.columns - length front) false) ∷ [];
             rest = cond al (aligned run.rest) run.rest;
           } in
-          let shorter : length (cond al (aligned run.rest) run.rest) ≤ length run.rest = cond_le al (aligned run.rest) run.rest
-          (length run.rest) (omega (arith, length-drop (length run.rest % 8) run.rest)) (omega arith) in
+          let shorter : length (cond al (aligned run.rest) run.rest) ≤ length run.rest = grind
+          (arith, common_steps, cond_le, length-drop) in
           let left_is : left_to_read run ≡ suc (length run.rest) = rw sought refl in
           rw left_is (after_row_next settings more t (suc (length run.rest)) a.1 (omega (arith, shorter)))
     ]
