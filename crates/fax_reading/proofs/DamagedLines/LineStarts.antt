@@ -3,13 +3,13 @@ use Rattle.fax_bits.proofs.BitReading.ConsecutiveEols.{after_eol_shorter, eol_of
 use Rattle.fax_reading.proofs.Names.{◌≡◌, ℕ, zero, suc, ◌+◌, ◌<◌, ◌≤◌, Bool, true, false, cond, not, ◌&&◌, leb, List, [], ◌∷◌}
 use Rattle.fax_reading.proofs.Names.{◌++◌, length, take, drop, replicate, Option, Some, None, refl, sym, ap, ◌∙◌, append_assoc}
 use Rattle.fax_reading.proofs.Names.{arith, ◌⊎◌, inl, inr, Contains, All, is_some, cases_lt, le-leb, leb-true, and_parts}
-use Rattle.fax_reading.proofs.Names.{and_from, not-true, not_from_false, length-append, length-drop, take-append-drop}
+use Rattle.fax_reading.proofs.Names.{and_from, not_from_false, length-append, length-drop, take-append-drop}
 use Rattle.fax_reading.proofs.Names.{length-replicate, append_cancel_left, Contains-append_right, Contains-append_cases, All-nil}
 use Rattle.fax_reading.proofs.Names.{All-append, All-weaker, Bits, after_eol, all_eols, at_end, begins_line, later_starts, starts}
 use Rattle.fax_reading.proofs.Names.{IsStart, Descends, StartsAre, common_steps}
 use Rattle.fax_bits.proofs.BitReading.ZerosInWords.{prefix_of_prefix}
 use Rattle.fax_reading.proofs.DamagedLines.LineTails.{after_eol_is, first_one, drop_at}
-use Rattle.fax_reading.proofs.{Readings.TurnsMoveOn.at_end_length, DrawingLines.LinesLeaveBits.LeavesBits}
+use Rattle.fax_reading.proofs.{DrawingLines.LinesLeaveBits.LeavesBits}
 
 -- ---- Later starts come in order
 later_below : (seen : ℕ) (here : Bits) → All (λ other. length other < length here) (later_starts seen here)
@@ -78,7 +78,6 @@ to_later seen (true ∷ here) end (at, leaves, eol, lt) b = elim (cases_lt (leng
       (later_starts 0 here) end (to_later 0 here end (at, inside less, eol, less) b)
   | inr ge ↦ let same : true ∷ here ≡ true ∷ end = same_end (replicate seen false) (true ∷ here)
       (leaves.0 ++ replicate is.0 false) (true ∷ end) whole (omega arith) in
-      let here_is : here ≡ end = cc in
       let lengths : length (replicate seen false) + length (true ∷ here) ≡ length (leaves.0 ++ replicate is.0 false) + length
       (true ∷ end) = sym (length-append (replicate seen false) (true ∷ here)) ∙ ap length whole
       ∙ length-append (leaves.0 ++ replicate is.0 false) (true ∷ end) in
@@ -149,7 +148,6 @@ module _ (bits : Bits) where
     | inl same ↦ inl (omega (arith, ap length same, length-drop place bits, le))
     | inr found ↦ let f = from_later 0 (all_eols bits).1 (drop place bits) found in
         let both = and_parts (not (at_end (drop place bits))) (not (is_some (after_eol 0 (drop place bits)))) f.1 in
-        let begins = at_end_length (drop place bits) (not-true (at_end (drop place bits)) both.0) in
         let front : Bits = leaves_first.0 ++ f.0.1.0 in
         let cut : bits ≡ front ++ f.0.0 = grind (arith, common_steps, leaves_first, append_assoc) in
         grind (arith, common_steps, after_eol_shorter, drop_at bits front f.0.0 (length front) cut refl)

@@ -184,7 +184,7 @@ pub is_tail : (settings : DecodeSettings) (bits : Bits) (from to : ℕ) (local :
 is_tail settings bits from to local = let body = body_1d settings bits from to local in record {
   none = no_eol_here bits from to local.closes.0 body;
   next = next_line_is bits from to local.closes.0 body;
-  tag = λ e. absurd (let f = local.encoding in cc);
+  tag = λ e. absurd (cc);
 }
 
 -- the next EOL behind its line is the one behind it

@@ -80,7 +80,6 @@ module _ (settings : DecodeSettings) (bits : Bits) (from to : ℕ) where
       no_eol : (place end : ℕ) → from ≤ place → end ≤ to → IsEol bits place end → ⊥
       no_eol place end le le2 (lt, inside, eol) = let is = after_eol_is 0 (drop place bits) (drop end bits) eol in
           let j : ℕ = place - from in
-          let sum : from + j ≡ place = omega (arith, le) in
           let there : drop j (drop from bits) ≡ replicate is.0 false ++ true ∷ drop end bits = grind
           (arith, common_steps, drop-drop) in
           let lengths = eol_lengths bits place end is.0 is.1 in
@@ -106,7 +105,6 @@ module _ (settings : DecodeSettings) (bits : Bits) (from to : ℕ) where
     where
       twelve : (place : ℕ) → IsEol bits place from → (12 ≤ from) × (after_eol 0 (drop (from - 12) bits) ≡ Some (drop from bits))
       twelve place (lt, inside, eol) = let is = after_eol_is 0 (drop place bits) (drop from bits) eol in
-          let lengths = eol_lengths bits place from is.0 is.1 in
           let more : ℕ = is.0 - 11 in
           grind (
             arith,
@@ -121,7 +119,6 @@ module _ (settings : DecodeSettings) (bits : Bits) (from to : ℕ) where
       one : take (to - from) (drop from bits) ≢ replicate (to - from) false
       one e = let j : ℕ = local.one.0 - from in
           let m : ℕ = ((to - from) - j) - 1 in
-          let sum : from + j ≡ local.one.0 = omega (arith, local.one.1) in
           let left : (to - from) - j ≡ suc m = omega (arith, local.one.1, local.one.2) in
           let there : drop j (drop from bits) ≡ true ∷ local.one.3.0 = grind (arith, common_steps, drop-drop) in
           let split : take (to - from) (drop from bits) ≡ take j (drop from bits) ++ true ∷ take m local.one.3.0 = take-split j

@@ -19,8 +19,8 @@ after_eol_found seen [] rest e = absurd cc
 after_eol_found seen (false ∷ here) rest e = let f = after_eol_found (suc seen) here rest e in
     (false ∷ f.0, ap (λ (x : Bits). false ∷ x) f.1, f.2)
 after_eol_found seen (true ∷ here) rest e = elim (chosen (leb 11 seen) _ _ _ e) [
-  | inl a ↦ let same : here ≡ rest = let f = a.1 in cc in (true ∷ [], ap (λ (x : Bits). true ∷ x) same, λ more. rw a.0 refl)
-  | inr a ↦ absurd (let f = a.1 in cc)
+  | inl a ↦ let same : here ≡ rest = cc in (true ∷ [], ap (λ (x : Bits). true ∷ x) same, λ more. rw a.0 refl)
+  | inr a ↦ absurd (cc)
 ]
 
 -- the EOLs that were counted are a prefix, and are counted again whatever follows, if no EOL does or enough were asked
@@ -99,7 +99,6 @@ module _ (settings : DecodeSettings) (four : settings.encoding ≡ Group4) (bloc
             let here : (eol.0 ++ (line.bits ++ pad)) ++ more ≡ eol.0 ++ t2 = append_assoc eol.0 (line.bits ++ pad) more
             ∙ ap (λ (x : Bits). eol.0 ++ x) (append_assoc line.bits pad more) in
             let run2 : Progress = record run { rest = (eol.0 ++ (line.bits ++ pad)) ++ more } in
-            let at : Progress = record run { rest = t2 } in
             let begins = at_start (pad ++ more) in
             let counted2 : eols_here settings run2.rest ≡ (count, t2) = counts_two run2.rest ∙ ap (eols 2) here
             ∙ eol.2 t2 (inr begins.no_eol) in

@@ -1,11 +1,10 @@
 -- Lines without EOLs are read as their rows, in every encoding: bodies of T.6 data, and of T.4 data that the limit ends.
-use Rattle.fax_reading.proofs.Names.{◌≡◌, ◌≢◌, ◌+◌, ◌%◌, ◌<◌, ◌≤◌, Bool, true, false, List, [], ◌∷◌, ◌++◌, length}
-use Rattle.fax_reading.proofs.Names.{replicate, Ok, sym, ap, subst, ◌∙◌, append_assoc, arith, inr, All, and_from, not_from_false}
-use Rattle.fax_reading.proofs.Names.{eq-eqb, ne_eqb, length-append, length-replicate, append-nil, All-head, All-tail, White}
-use Rattle.fax_reading.proofs.Names.{DecodeSettings, EncodingMode, Group4, Group3_1D, Group3_2D, Bits, Turn, Reaches, Row, Line}
-use Rattle.fax_reading.proofs.Names.{cond-true, eols, eols_here, Progress, row_before, limit_met, ends_with, line_here, pass_gap}
-use Rattle.fax_reading.proofs.Names.{ending_behind, end_of, EncodesLine, IsPicture, EncodesRows, Allows, gap_and_row, row_behind}
-use Rattle.fax_reading.proofs.Names.{ReadsLimitedRowsT4, common_steps}
+use Rattle.fax_reading.proofs.Names.{◌≡◌, ◌≢◌, ◌+◌, ◌%◌, ◌<◌, ◌≤◌, Bool, true, false, List, [], ◌∷◌, ◌++◌, length, replicate, Ok}
+use Rattle.fax_reading.proofs.Names.{sym, ap, subst, ◌∙◌, append_assoc, arith, inr, All, length-append, length-replicate}
+use Rattle.fax_reading.proofs.Names.{append-nil, All-head, All-tail, White, DecodeSettings, EncodingMode, Group4, Group3_1D}
+use Rattle.fax_reading.proofs.Names.{Group3_2D, Bits, Turn, Reaches, Row, Line, cond-true, eols, eols_here, Progress, row_before}
+use Rattle.fax_reading.proofs.Names.{limit_met, ends_with, line_here, pass_gap, ending_behind, end_of, EncodesLine, IsPicture}
+use Rattle.fax_reading.proofs.Names.{EncodesRows, Allows, gap_and_row, row_behind, ReadsLimitedRowsT4, common_steps}
 use Rattle.fax_bits.proofs.BitReading.ConsecutiveEols.{eols-none}
 use Rattle.fax_reading.proofs.EncodedPictures.PictureLines.{IsLineStart, line_2d_starts, allows_sum, not_met, row_before_push}
 use Rattle.fax_reading.proofs.EncodedPictures.PictureLines.{plain_ends, fill, aligned_on, between, ended_with}
@@ -75,7 +74,6 @@ module _ (settings : DecodeSettings) (wide : 0 < settings.columns) (small : sett
         let rows1 : List Row = before ++ row ∷ [] in
         let row_len : length row ≡ settings.columns = All-head (λ row. length row ≡ settings.columns) row rows widths in
         let here : body ++ more ≡ line ++ (fill b line ++ tail) = grind (arith, common_steps, append_assoc, fill) in
-        let here2 : (line ++ fill b line) ++ tail ≡ body ++ more = append_assoc line (fill b line) tail ∙ sym here in
         let whole2 : b ≡ true → length ((line ++ fill b line) ++ tail) % 8 ≡ 0 = grind (arith, common_steps) in
         let moved = row_read before (body ++ more) row line tail
         (subst IsLineStart (sym here) (line_starts encoding reference row line (fill b line ++ tail) same is row_len))
@@ -99,11 +97,9 @@ module _ (settings : DecodeSettings) (wide : 0 < settings.columns) (small : sett
       -- a limit of as many rows ends the lines
       pub body_end : ending_behind settings (pass_gap settings (between [] (body ++ more)))
           ≡ ended_with rows (eols_here settings more).1
-      body_end = let met : limit_met settings (length rows) ≡ true = grind
-          (arith, common_steps, and_from, eq-eqb, ne_eqb, not_from_false) in
-          reaches_end settings wide (between [] (body ++ more)) (between rows more) (ended_with rows (eols_here settings more).1)
-          (body_again [] rows body more (allows_sum settings (length rows) allows) (length-replicate settings.columns false) is.1
-          whole lines) (grind (arith, common_steps))
+      body_end = reaches_end settings wide (between [] (body ++ more)) (between rows more)
+          (ended_with rows (eols_here settings more).1) (body_again [] rows body more (allows_sum settings (length rows) allows)
+          (length-replicate settings.columns false) is.1 whole lines) (grind (arith, common_steps))
 
       -- they begin where there is no EOL
       pub body_starts : IsLineStart (body ++ more)

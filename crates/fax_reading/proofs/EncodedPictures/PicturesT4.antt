@@ -1,11 +1,11 @@
 -- A T.4 picture is read again.
 use Rattle.fax_reading.proofs.Names.{◌≡◌, ◌≢◌, ℕ, zero, suc, ◌+◌, ◌<◌, ◌≤◌, Bool, true, false, cond, ◌&&◌, List, [], ◌∷◌, ◌++◌}
 use Rattle.fax_reading.proofs.Names.{length, replicate, Some, None, Ok, Err, refl, sym, ap, subst, ◌∙◌, append_assoc, arith, inl}
-use Rattle.fax_reading.proofs.Names.{inr, All, and_right, and_from, not_from_false, or_from, cond-false, eq-eqb, ne_eqb, All-head}
+use Rattle.fax_reading.proofs.Names.{inr, All, and_right, or_from, cond-false, ne_eqb, All-head}
 use Rattle.fax_reading.proofs.Names.{length-append, length-replicate, append-nil, All-tail, Color, White, UnexpectedEof, Group4}
 use Rattle.fax_reading.proofs.Names.{EncodingMode, Group3_1D, Group3_2D, DecodeSettings, Bits, Turn, repeated, Row, codes_of, eol}
 use Rattle.fax_reading.proofs.Names.{Line, line_1d, line_2d, after_eol, one_more, eols, all_eols, past_tag, eols_with_tags}
-use Rattle.fax_reading.proofs.Names.{tagged_eols, is_over, cond-true, Progress, Ending, row_before, aligned, at_end, limit_met}
+use Rattle.fax_reading.proofs.Names.{tagged_eols, is_over, cond-true, Progress, Ending, row_before, aligned, at_end}
 use Rattle.fax_reading.proofs.Names.{line_here, eols_here, after_line, move_on, end_of, Spells, EncodesLine1D, EncodesLine2D}
 use Rattle.fax_reading.proofs.Names.{EncodesLine, tag_of, IsPicture, EncodesRowsWithEols, ClosesWithEols, PictureT4, each_word}
 use Rattle.fax_reading.proofs.Names.{ReadsPictureT4, ReadsLimitedPictureT4, OnePictureT4, Allows, common_steps}
@@ -208,7 +208,6 @@ module _ (settings : DecodeSettings) (wide : 0 < settings.columns) (small : sett
         let row2_len : length row2 ≡ settings.columns = All-head (λ row. length row ≡ settings.columns) row2 rows widths2 in
         let rest : Bits = line_2d ++ (next2 ++ tail) in
         let after : Bits = eol fill ++ rest in
-        let here : line ++ (next ++ tail) ≡ line ++ after = grind (arith, common_steps, append_assoc) in
         let read : line_here settings (row_before settings.columns before) (line ++ (next ++ tail)) ≡ Line.whole row after
         = grind (arith, common_steps, line_t4_again) in
         let rows1 : List Row = before ++ row ∷ [] in
@@ -270,10 +269,8 @@ module _ (settings : DecodeSettings) (wide : 0 < settings.columns) (small : sett
   pub limited_t4_end : (encoding : EncodingMode) (rows : List Row) (lines more : Bits) → Matches encoding settings
       → settings.rows ≡ length rows → 0 < length rows → IsPicture settings.columns rows → EncodesRowsWithEols encoding (replicate
       settings.columns false) rows lines → end_of settings (lines ++ more) ≡ ended_with_eols rows (eols_here settings more).1
-  limited_t4_end encoding rows lines more matches limit some is_picture are =
-      let met : limit_met settings (length rows) ≡ true = grind (arith, common_steps, and_from, eq-eqb, ne_eqb, not_from_false) in
-      lines_t4_end encoding rows lines more (eols_here settings more).1 matches some is_picture are (inr (omega arith))
-      (grind (arith, common_steps))
+  limited_t4_end encoding rows lines more matches limit some is_picture are = lines_t4_end encoding rows lines more
+      (eols_here settings more).1 matches some is_picture are (inr (omega arith)) (grind (arith, common_steps))
 
 -- ---- Over whole data.
 pub closed_picture_t4 : ReadsPictureT4

@@ -210,7 +210,7 @@ told_by settings here line next after behind count group3 lenient alone next_is 
 }
 
 same_bits : (o : Option Bits) (one two : Bits) → o ≡ Some one → o ≡ Some two → one ≡ two
-same_bits o one two e f = let both : ◌≡◌ {A = Option Bits} (Some one) (Some two) = sym e ∙ f in cc
+same_bits o one two e f = cc
 
 -- the EOL behind the line is the next one
 pub step_next : (settings : DecodeSettings) (here line next other behind : Bits) → eols_here settings here ≡ (1, line)
@@ -267,5 +267,4 @@ no_step_found settings bits to none place = (λ e. absurd cc, λ given. absurd (
 pub rows_follow : (settings : DecodeSettings) (bits : Bits) (to place : ℕ) → AreWholeBytes bits
     → IsInStepFrom settings bits to place → RowsFollow settings bits to place
 rows_follow settings bits to place whole given two line to2 whole_two same eol sought sought_too no_rtc no_rtc_too =
-    let line_is : line ≡ given.line = same_bits (after_eol 0 (drop to bits)) line given.line eol given.told.step.eol in
     rows_behind settings bits whole two given.line (drop place bits) to to2 whole_two (grind (arith, common_steps))

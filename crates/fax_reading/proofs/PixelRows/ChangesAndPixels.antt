@@ -1,9 +1,8 @@
 -- Lawful lists of changes and rows of pixels correspond one to one, and what painting does to both.
 use Rattle.fax_reading.proofs.Names.{◌≡◌, ℕ, zero, suc, ◌+◌, ◌-◌, ◌%◌, ◌<◌, ◌≤◌, eqb, Bool, true, false, cond, not, List, [], ◌∷◌}
-use Rattle.fax_reading.proofs.Names.{◌++◌, length, get_or, replicate, refl, sym, arith, append_assoc, length-append}
-use Rattle.fax_reading.proofs.Names.{add-one, beq, range_with_len, filter, length-replicate, replicate-append-replicate, Row}
-use Rattle.fax_reading.proofs.Names.{pixel, pixel_before, is_change, changes, AscendFrom, AreChanges, pixels_from, pixels}
-use Rattle.fax_reading.proofs.Names.{last_pixel, continued, common_steps}
+use Rattle.fax_reading.proofs.Names.{◌++◌, length, replicate, refl, sym, arith, append_assoc, length-append, add-one, beq}
+use Rattle.fax_reading.proofs.Names.{range_with_len, filter, length-replicate, replicate-append-replicate, Row, pixel, is_change}
+use Rattle.fax_reading.proofs.Names.{changes, AscendFrom, AreChanges, pixels_from, pixels, last_pixel, continued, common_steps}
 use Rattle.fax_reading.proofs.PixelRows.RowChanges.{changes_from, changes_from-append, changes_from-same}
 
 -- ---- Ascending positions.
@@ -146,16 +145,6 @@ pub AreChanges-push : (width more : ℕ) (places : List ℕ) → 0 < more → Ar
 AreChanges-push width more places some ascend = AscendFrom-push 0 width more places (omega arith) some ascend
 
 -- ---- The changes of a row by recursion are its changes.
-
--- what is left of the pixel after a front
-pixel_before-next : (before : Bool) (front row : Row) (place : ℕ) → place ≡ length front
-    → get_or (before ∷ front ++ row) place false ≡ last_pixel before front
-pixel_before-next before [] row place e = rw e refl
-pixel_before-next before (x ∷ front) row place e = rw e (pixel_before-next x front row (length front) refl)
-
--- the pixel to the left, with a white one put before the row
-pixel_before-shift : (row : Row) (place : ℕ) → pixel_before row place ≡ get_or (false ∷ row) place false
-pixel_before-shift row place = grind (arith, common_steps)
 
 -- a position is listed where the pixel differs
 listed : (differs : Bool) (x y : Bool) (place : ℕ) (places others : List ℕ) → differs ≡ not (beq x y) → places ≡ others

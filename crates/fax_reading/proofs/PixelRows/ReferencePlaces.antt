@@ -272,7 +272,7 @@ b2_from_front reference front color within = grind (arith, common_steps, b2_abov
 split_count : (first width : ℕ) (places : List ℕ) (p j : ℕ) → AscendFrom first width places → IsSplit places (suc p) j
     → j ≡ length (filter (λ place. leb place p) places)
 split_count first width [] p j ascend split = omega (arith, split.within)
-split_count first width (place ∷ places) p zero ascend split = let right : p < place = split.here (omega arith) in
+split_count first width (place ∷ places) p zero ascend split =
     let rest : IsSplit places (suc p) 0 = grind (arith, ascend_bounds) in
     split_count (suc place) width places p 0 ascend.2 rest ∙ ap length (sym (grind (arith, common_steps, cond-false, lt-leb)))
 split_count first width (place ∷ places) p (suc j) ascend split = let left : place < suc p = split.before 0 (omega arith) in

@@ -144,8 +144,8 @@ module _ (settings : DecodeSettings) (bits : Bits) where
   -- a lenient turn without damage fails, or it is the strict one
   turn_same : (s : Progress) → damaged_by_turn leniently bits s ≡ []
       → Fails (move_on leniently s) ⊎ (move_on strictly s ≡ move_on leniently s)
-  turn_same s none = by_lines (line_of_turn leniently s) (line_of_turn strictly s) refl refl
-      (grind (arith, common_steps, line_by_agrees)) (front_empty (repaired_by_turn leniently bits s) _ none)
+  turn_same s none = by_lines (line_of_turn leniently s) (line_of_turn strictly s) refl refl (line_by_agrees settings.encoding
+      settings.columns (row_before settings.columns s.rows) s.rest) (front_empty (repaired_by_turn leniently bits s) _ none)
       (front_empty (cut_by_turn leniently bits s) _ (back_empty (repaired_by_turn leniently bits s) _ none))
       (back_empty (cut_by_turn leniently bits s) _ (back_empty (repaired_by_turn leniently bits s) _ none))
     where
@@ -221,8 +221,9 @@ undamaged_turns settings bits ok = by_strict settings.strict refl
 
     by_strict : (strict : Bool) → settings.strict ≡ strict
         → AreEmpty (map (damaged_by_turn settings bits) (turns_of settings bits))
-    by_strict true is = subst (λ (given : DecodeSettings). AreEmpty (map (damaged_by_turn given bits) (turns_of given bits)))
-        (same true is) (grind (arith, common_steps, none_empty, strict_turn))
+    by_strict true is = subst
+        (λ (given : DecodeSettings). AreEmpty (map (damaged_by_turn given bits) (turns_of given bits))) (same true is) (none_empty
+        (damaged_by_turn (strictly settings bits) bits) (strict_turn settings bits) (turns_of (strictly settings bits) bits))
     by_strict false is = grind (arith, common_steps, map, same false is, first, ok_outcome)
 
 -- where the strict reading ends without a fault, a reading does
