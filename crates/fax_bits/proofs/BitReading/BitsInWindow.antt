@@ -13,15 +13,13 @@ module _ (r : Inside) (filled : IsFilled r) (count bits : ℕ) (few : count ≤ 
   at = record { bits = bits_in r.order r.«data».now; place = r.place }
 
   next : low_bits count bits ≡ padded count (here at)
-  next =
-      ap (low_bits count) (sym is)
-      ∙ highest_bits 64 at r.window count (omega arith) (λ k lt. filled.held k (omega (arith, filled.within)))
+  next = ap (low_bits count) (sym is) ∙ highest_bits 64 at r.window count (omega arith)
+      (λ k lt. filled.held k (omega (arith, filled.within)))
 
   pub there : here at ≡ low_bits count bits ++ here (moved count at)
-  there =
-      let word : Bits = padded count (here at) in
+  there = let word : Bits = padded count (here at) in
       let long : length word ≡ count = length-padded count (here at) in
       let left = length-drop r.place at.bits in
-      let stands : here at ≡ word ++ drop (length word) (here at) = stands_in_padded count (here at) word []
-      (sym (append-nil word)) (omega (arith, long, left)) in
+      let stands : here at ≡ word ++ drop (length word)
+      (here at) = stands_in_padded count (here at) word [] (sym (append-nil word)) (omega (arith, long, left)) in
       grind (arith, drop-drop, next)

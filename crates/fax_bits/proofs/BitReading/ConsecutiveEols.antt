@@ -1,11 +1,7 @@
 -- EOLs that follow each other.
-use Rattle.fax_bits.proofs.Names.{common_steps}
-use Rattle.fax_bits.proofs.Names.{◌≡◌, ℕ, zero, suc, ◌+◌, ◌<◌, ◌≤◌, Bool, true, false, cond}
-use Rattle.fax_bits.proofs.Names.{[], ◌∷◌, ◌++◌, length, replicate, Option, Some, None, refl}
-use Rattle.fax_bits.proofs.Names.{sym, ap, subst, ◌∙◌, arith}
-use Rattle.fax_bits.proofs.Names.{le-leb, Bits}
-use Rattle.fax_bits.proofs.Names.{after_eol, one_more, eols}
-use Rattle.fax_bits.proofs.Names.{all_eols, next_eol, past_tag, eols_with_tags, pass_last_tag, tagged_eols}
+use Rattle.fax_bits.proofs.Names.{common_steps, ◌≡◌, ℕ, zero, suc, ◌+◌, ◌<◌, ◌≤◌, Bool, true, false, cond, [], ◌∷◌, ◌++◌, length}
+use Rattle.fax_bits.proofs.Names.{replicate, Option, Some, None, refl, sym, ap, subst, ◌∙◌, arith, le-leb, Bits, after_eol}
+use Rattle.fax_bits.proofs.Names.{one_more, eols, all_eols, next_eol, past_tag, eols_with_tags, pass_last_tag, tagged_eols}
 
 -- enough zeros and a one are an EOL
 pub eol_of : (seen k : ℕ) (rest : Bits) → 11 ≤ seen + k → after_eol seen (replicate k false ++ true ∷ rest) ≡ Some rest
@@ -55,8 +51,7 @@ module _ {pass : Bits → Bits} {count : ℕ → Bits → ℕ × Bits} (counts :
       by_after_eol : ((rest : Bits) → length (count most rest).1 ≤ length rest) → (o : Option Bits) → after_eol 0 here ≡ o
           → length (count (suc most) here).1 ≤ length here
       by_after_eol on None e = rw (counts.none (suc most) here e) (omega arith)
-      by_after_eol on (Some rest) e =
-          grind (arith, length-one_more (count most (pass rest)), after_eol_shorter 0 here rest e)
+      by_after_eol on (Some rest) e = grind (arith, length-one_more (count most (pass rest)), after_eol_shorter 0 here rest e)
 
   -- each of them moves the offset on
   pub count_moves : (most : ℕ) (here : Bits) → 0 < (count most here).0 → length (count most here).1 < length here
@@ -95,10 +90,9 @@ module _ {pass : Bits → Bits} {count : ℕ → Bits → ℕ × Bits} (counts :
   pub count_all-some : (here rest : Bits) → after_eol 0 here ≡ Some rest
       → count (length here) here ≡ one_more (count (length (pass rest)) (pass rest))
   count_all-some [] rest e = absurd cc
-  count_all-some (b ∷ here) rest e =
-      let shorter = after_eol_shorter 0 (b ∷ here) rest e in
-      counts.some (length here) (b ∷ here) rest e ∙ ap one_more (count_same (length here) (length (pass rest)) (pass rest)
-      (omega (arith, shorter, counts.passes rest)) (omega arith))
+  count_all-some (b ∷ here) rest e = let shorter = after_eol_shorter 0 (b ∷ here) rest e in
+      counts.some (length here) (b ∷ here) rest e ∙ ap one_more
+      (count_same (length here) (length (pass rest)) (pass rest) (omega (arith, shorter, counts.passes rest)) (omega arith))
 
 -- if the next EOL was found, there is one
 pub next_eol_found : (here found : Bits) → next_eol here ≡ Some found → (length found ≤ length here)
@@ -110,8 +104,7 @@ next_eol_found (bit ∷ here) found e = by_after_eol (next_eol_found here found)
         × ((after : Bits) × (after_eol 0 found ≡ Some after))) → (o : Option Bits) → after_eol 0 (bit ∷ here) ≡ o
         → (length found ≤ length (bit ∷ here)) × ((after : Bits) × (after_eol 0 found ≡ Some after))
     by_after_eol on None f = grind arith
-    by_after_eol on (Some rest) f =
-        let g : ◌≡◌ {A = Option Bits} (Some (bit ∷ here)) (Some found) = rw (f, next_eol) at e in
+    by_after_eol on (Some rest) f = let g : ◌≡◌ {A = Option Bits} (Some (bit ∷ here)) (Some found) = rw (f, next_eol) at e in
         let same : (bit ∷ here) ≡ found = cc in
         subst (λ (x : Bits). (length x ≤ length (bit ∷ here)) × ((after : Bits) × (after_eol 0 x ≡ Some after))) same
         (omega arith, (rest, f))
@@ -150,12 +143,11 @@ pub all_counted : (here : Bits) → Counted here (all_eols here)
 all_counted here = (count_shorter counts_plain (length here) here, count_moves counts_plain (length here) here)
 
 pub tagged_eols_counted : (here : Bits) → Counted here (tagged_eols here)
-tagged_eols_counted here =
-    let found : ℕ × Bits = eols_with_tags (length here) here in (
-      omega (arith, last_tag_shorter found, count_shorter counts_tagged (length here) here),
-      λ some. let counts : 0 < found.0 = omega (arith, last_tag_count found, some) in
-          omega (arith, last_tag_shorter found, count_moves counts_tagged (length here) here counts),
-    )
+tagged_eols_counted here = let found : ℕ × Bits = eols_with_tags (length here) here in (
+  omega (arith, last_tag_shorter found, count_shorter counts_tagged (length here) here),
+  λ some. let counts : 0 < found.0 = omega (arith, last_tag_count found, some) in
+      omega (arith, last_tag_shorter found, count_moves counts_tagged (length here) here counts),
+)
 
 -- if there is an EOL, it is counted, and those after it
 pub all_eols-some : (here rest : Bits) → after_eol 0 here ≡ Some rest → all_eols here ≡ one_more (all_eols rest)

@@ -1,9 +1,8 @@
 -- What the row of ten bits says of their modes.
-use Rattle.fax_bits.proofs.Names.{common_steps}
-use Rattle.fax_bits.proofs.Names.{◌≡◌, ℕ, suc, zero, ◌+◌, ◌*◌, ◌^◌, ◌-◌, ◌/◌, ◌%◌, ◌<◌, ◌≤◌, get_or, length, ap, refl, arith}
-use Rattle.fax_bits.proofs.Names.{take, take_all, pow_pos, eqb, true}
+use Rattle.fax_bits.proofs.Names.{common_steps, ◌≡◌, ℕ, suc, zero, ◌+◌, ◌*◌, ◌^◌, ◌-◌, ◌/◌, ◌%◌, ◌<◌, ◌≤◌, get_or, length, ap}
+use Rattle.fax_bits.proofs.Names.{refl, arith, take, take_all, pow_pos, eqb, true, Some, Horizontal, Pass, Vertical, Mode, Option}
+use Rattle.fax_bits.proofs.Names.{None}
 use Rattle.std.proofs.lemmas.Bool.{agree_below_at}
-use Rattle.fax_bits.proofs.Names.{Some, Horizontal, Pass, Vertical, Mode, Option, None}
 use Rattle.fax_bits.proofs.BitReading.BitLists.{length-low_bits}
 use Rattle.fax_bits.proofs.CodeWords.VerticalWords.{words_few, words_within, words_have_bits, words_near, words_part}
 use Rattle.fax_bits.specs.ModeGroups.{first_mode, group_row, offset_at, ten_bits, width_of, words_of}
@@ -41,11 +40,8 @@ pub few_in_part : (number count : ℕ) → width_of (take count (words_of number
 few_in_part number count = omega (arith, part_within number count, within_ten number)
 
 pub bits_for_all : (number : ℕ) → length (words_of number) ≤ width_of (words_of number)
-bits_for_all number = omega (
-  arith,
-  bits_for_each number (length (words_of number)) (omega arith),
-  part_within number (length (words_of number)),
-)
+bits_for_all number =
+    omega (arith, bits_for_each number (length (words_of number)) (omega arith), part_within number (length (words_of number)))
 
 pub offset_near : (number k : ℕ) → offset_at (words_of number) k ≤ 6
 unfolding words_of

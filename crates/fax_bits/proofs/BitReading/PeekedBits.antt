@@ -9,17 +9,15 @@ use Rattle.fax_bits.specs.ModeGroups.{ten_bits}
 pub low_bits-padded : (n x : ℕ) (here : Bits) → ((k : ℕ) → k < n → bit_of x (n - 1 - k) ≡ get_or here k false)
     → low_bits n x ≡ padded n here
 low_bits-padded zero x here h = refl
-low_bits-padded (suc n) x [] h =
-    let first : suc n - 1 - 0 ≡ n = omega arith in
+low_bits-padded (suc n) x [] h = let first : suc n - 1 - 0 ≡ n = omega arith in
     let bit : bit_of x n ≡ false = ap (bit_of x) (sym first) ∙ h 0 (omega arith) in
-    let on = low_bits-padded n x []
-    (λ k lt. let e : n - 1 - k ≡ suc n - 1 - suc k = omega arith in ap (bit_of x) e ∙ h (suc k) (omega arith)) in
+    let on = low_bits-padded n x [] (λ k lt. let e : n - 1 - k ≡ suc n - 1 - suc k = omega arith in
+    ap (bit_of x) e ∙ h (suc k) (omega arith)) in
     cc
-low_bits-padded (suc n) x (b ∷ here) h =
-    let first : suc n - 1 - 0 ≡ n = omega arith in
+low_bits-padded (suc n) x (b ∷ here) h = let first : suc n - 1 - 0 ≡ n = omega arith in
     let bit : bit_of x n ≡ b = ap (bit_of x) (sym first) ∙ h 0 (omega arith) in
-    let on = low_bits-padded n x here
-    (λ k lt. let e : n - 1 - k ≡ suc n - 1 - suc k = omega arith in ap (bit_of x) e ∙ h (suc k) (omega arith)) in
+    let on = low_bits-padded n x here (λ k lt. let e : n - 1 - k ≡ suc n - 1 - suc k = omega arith in
+    ap (bit_of x) e ∙ h (suc k) (omega arith)) in
     cc
 
 -- the highest n bits of a word that contains the next ones
@@ -28,9 +26,8 @@ pub highest_bits : (wide : ℕ) (at : BitsAt) (word n : ℕ) → n ≤ wide → 
 highest_bits wide at word n le h = grind (arith, low_bits-padded, get_or-drop, shr-shr)
 
 -- of what is peeked
-pub peeked_index : (at : BitsAt) (word n : ℕ) → n ≤ 32
-    → ((k : ℕ) → k < 32 → bit_of word (31 - k) ≡ get_or at.bits (at.place + k) false)
-    → index_bits n (word / 2 ^ (32 - n)) ≡ padded n (here at)
+pub peeked_index : (at : BitsAt) (word n : ℕ) → n ≤ 32 → ((k : ℕ) → k < 32
+    → bit_of word (31 - k) ≡ get_or at.bits (at.place + k) false) → index_bits n (word / 2 ^ (32 - n)) ≡ padded n (here at)
 unfolding index_bits
 peeked_index at word n le h = highest_bits 32 at word n le (λ k lt. h k (omega (arith, le, lt)))
 
@@ -40,15 +37,13 @@ unfolding seven_bits
 peeked_seven at word h = highest_bits 32 at word 7 (omega arith) (λ k lt. h k (omega arith))
 
 -- of a window that contains them
-pub first_index : (at : BitsAt) (word n : ℕ) → n ≤ 64
-    → ((k : ℕ) → k < n → bit_of word (63 - k) ≡ get_or at.bits (at.place + k) false)
-    → index_bits n (word / 2 ^ (64 - n)) ≡ padded n (here at)
+pub first_index : (at : BitsAt) (word n : ℕ) → n ≤ 64 → ((k : ℕ) → k < n
+    → bit_of word (63 - k) ≡ get_or at.bits (at.place + k) false) → index_bits n (word / 2 ^ (64 - n)) ≡ padded n (here at)
 unfolding index_bits
 first_index at word n le h = highest_bits 64 at word n le h
 
 pub index_below : (wide n word : ℕ) → n ≤ wide → word < 2 ^ wide → word / 2 ^ (wide - n) < 2 ^ n
-index_below wide n word le lt =
-    let e : n + (wide - n) ≡ wide = omega (arith, le) in
+index_below wide n word le lt = let e : n + (wide - n) ≡ wide = omega (arith, le) in
     div_below word (2 ^ (wide - n)) (2 ^ n) (pow_pos (wide - n)) (rw (sym (pow-add 2 n (wide - n)), e) lt)
 
 pub first_seven : (at : BitsAt) (word : ℕ) → ((k : ℕ) → k < 7 → bit_of word (63 - k) ≡ get_or at.bits (at.place + k) false)

@@ -1,8 +1,7 @@
 -- EOLs with tags between them, read one after another, and what is examined.
-use Rattle.fax_bits.proofs.Names.{◌≡◌, ℕ, suc, ◌+◌, ◌-◌, ◌*◌, ◌<◌, ◌≤◌, length, Some, None, arith}
-use Rattle.fax_bits.proofs.Names.{Bits, after_eol, eols, past_tag, eols_with_tags, looked}
-use Rattle.fax_bits.proofs.Names.{looked_at_tag, common_steps}
-use Rattle.fax_bits.proofs.{BitReading.ZeroRuns.looked_eol, BitReading.ConsecutiveEols.eols_with_tags-some}
+use Rattle.fax_bits.proofs.Names.{◌≡◌, ℕ, suc, ◌+◌, ◌-◌, ◌*◌, ◌<◌, ◌≤◌, length, Some, None, arith, Bits, after_eol, eols}
+use Rattle.fax_bits.proofs.Names.{past_tag, eols_with_tags, looked, looked_at_tag, common_steps}
+use Rattle.fax_bits.proofs.BitReading.{ZeroRuns.looked_eol, ConsecutiveEols.eols_with_tags-some}
 
 -- one EOL is read if there is one
 pub one_eol_read : (here after : Bits) (count : ℕ) → eols 1 here ≡ (count, after)
@@ -14,8 +13,7 @@ pub tagged_stepped : (max count : ℕ) (start now after rest : Bits)
     → eols_with_tags max start ≡ (count + (eols_with_tags (max - count) now).0, (eols_with_tags (max - count) now).1)
     → after_eol 0 now ≡ Some after → rest ≡ past_tag after → count < max → eols_with_tags max start
     ≡ (count + 1 + (eols_with_tags (max - (count + 1)) rest).0, (eols_with_tags (max - (count + 1)) rest).1)
-tagged_stepped max count start now after rest e h is lt =
-    let more : ℕ × Bits = eols_with_tags (max - (count + 1)) rest in
+tagged_stepped max count start now after rest e h is lt = let more : ℕ × Bits = eols_with_tags (max - (count + 1)) rest in
     let n : max - count ≡ suc (max - (count + 1)) = omega arith in
     grind (arith, common_steps, eols_with_tags-some)
 

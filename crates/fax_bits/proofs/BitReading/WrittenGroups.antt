@@ -1,7 +1,6 @@
 -- When the rows of groups of modes that are written out are those of the code list.
-use Rattle.fax_bits.proofs.Names.{common_steps}
-use Rattle.fax_bits.proofs.Names.{◌≡◌, ℕ, suc, zero, ◌+◌, ◌<◌, Bool, true, false, ◌&&◌, eqb, List, [], ◌∷◌, length, get_or, refl}
-use Rattle.fax_bits.proofs.Names.{arith, and_parts, false≢true}
+use Rattle.fax_bits.proofs.Names.{common_steps, ◌≡◌, ℕ, suc, zero, ◌+◌, ◌<◌, Bool, true, false, ◌&&◌, eqb, List, [], ◌∷◌, length}
+use Rattle.fax_bits.proofs.Names.{get_or, refl, arith, and_parts, false≢true}
 use Rattle.fax_bits.specs.ModeGroups.{group_row, AreRows}
 
 -- whether two lists are the same

@@ -29,10 +29,9 @@ pairs_agree : (color : Color) (entries : List ℕ) → length entries ≡ 4096 �
     → ArePairs color entries
 pairs_agree color entries count all = record {
   count = count;
-  each = λ index below.
-      let same : 0 + index ≡ index = omega arith in
-      rw same at (pairs_agree_at color entries 0 index all (omega (arith, count, below)))
-      ∙ ap (λ here. pair_entry color here) (twelve index);
+  each = λ index below. let same : 0 + index ≡ index = omega arith in
+      rw same at (pairs_agree_at color entries 0 index all (omega (arith, count, below))) ∙ ap (λ here. pair_entry color here)
+      (twelve index);
 }
 
 white_pairs_agree : are_pairs White WHITE_PAIRS 0 ≡ true

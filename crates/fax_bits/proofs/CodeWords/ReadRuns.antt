@@ -1,9 +1,8 @@
 -- Runs, a word at a time.
 use Rattle.fax_bits.proofs.Names.{suc, ◌≡◌, ℕ, ◌+◌, ◌<◌, ◌≤◌, Bool, true, false, cond, not, List, [], ◌∷◌, length, Result, Ok}
-use Rattle.fax_bits.proofs.Names.{Err, Option, Some, None, SomeIff, refl, sym, subst, ◌∙◌}
-use Rattle.fax_bits.proofs.Names.{arith, ◌⊎◌, inl, inr, list_all, and_parts, lt-ltb, le-ltb}
-use Rattle.fax_bits.proofs.Names.{length-append, DecodeError, UnexpectedEof, Overflow, Color, Bits, Code, read_code, Has, Turn}
-use Rattle.fax_bits.proofs.Names.{codes_of, run_of_word, run_turn, run_from, common_steps}
+use Rattle.fax_bits.proofs.Names.{Err, Option, Some, None, SomeIff, refl, sym, subst, ◌∙◌, arith, ◌⊎◌, inl, inr, list_all}
+use Rattle.fax_bits.proofs.Names.{and_parts, lt-ltb, le-ltb, length-append, DecodeError, UnexpectedEof, Overflow, Color, Bits}
+use Rattle.fax_bits.proofs.Names.{Code, read_code, Has, Turn, codes_of, run_of_word, run_turn, run_from, common_steps}
 use Rattle.fax_bits.proofs.CodeWords.ReadCodes.{read_code_found}
 use Rattle.fax_bits.proofs.Repetition.Repeated.{Shrinks, after_turn, repeated_turn, repeated_keeps}
 
@@ -52,8 +51,7 @@ word_next total found t e = grind (arith, common_steps)
 shrinks_by : (color : Color) (total : ℕ) (here : Bits) (t : ℕ × Bits) (r : Result (ℕ × Bits) DecodeError)
     → read_code (codes_of color) here ≡ r → run_turn color (total, here) ≡ Turn.next t → length t.1 < length here
 shrinks_by color total here t (Err e) h k = grind (arith, common_steps)
-shrinks_by color total here t (Ok found) h k =
-    let g : run_of_word total found ≡ Turn.next t = rw (h, run_turn) at k in
+shrinks_by color total here t (Ok found) h k = let g : run_of_word total found ≡ Turn.next t = rw (h, run_turn) at k in
     subst (λ (s : ℕ × Bits). length s.1 < length here) (word_next total found t g)
     (read_code_shorter (codes_of color) here found.0 found.1 (words_not_empty color) h)
 
@@ -93,9 +91,8 @@ word_done total n found r h e = grind (arith, common_steps)
 turn_done : (color : Color) (total n : ℕ) (here : Bits) (r : Result (ℕ × Bits) DecodeError) (q : Result (ℕ × Bits) DecodeError)
     → length here ≤ n → read_code (codes_of color) here ≡ q → run_turn color (total, here) ≡ Turn.done r → leaves_below n r
 turn_done color total n here r (Err fault) h e k = subst (leaves_below n) (done_is _ r (rw (e, run_turn) at k)) tt
-turn_done color total n here r (Ok found) h e k =
-    word_done total n found r (omega (arith, read_code_shorter (codes_of color) here found.0 found.1 (words_not_empty color) e))
-    (rw (e, run_turn) at k)
+turn_done color total n here r (Ok found) h e k = word_done total n found r
+    (omega (arith, read_code_shorter (codes_of color) here found.0 found.1 (words_not_empty color) e)) (rw (e, run_turn) at k)
 
 pub run_shorter : (color : Color) (total : ℕ) (here : Bits) (n : ℕ) (rest : Bits) → run_from color (total, here) ≡ Ok (n, rest)
     → length rest < length here

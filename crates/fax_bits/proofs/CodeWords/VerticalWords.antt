@@ -62,8 +62,7 @@ record BeginWithWord (most : ℕ) (seen : Bits) : Type 0 where
 
 begin_with_word : (most : ℕ) (seen : Bits) (found : Mode × Bits) (offset : ℕ) → word_at mode_codes seen ≡ Some found
     → offset_of found.0 ≡ Some offset → BeginWithWord most seen
-begin_with_word most seen found offset e o =
-    let (word, has, there) = word_at_found mode_codes seen found e in
+begin_with_word most seen found offset e o = let (word, has, there) = word_at_found mode_codes seen found e in
     grind (arith, length-append word found.1, is_vertical found.0 word offset has o, words_on most seen found offset e o)
 
 -- none is first, or one is
@@ -83,16 +82,14 @@ one_or_none most seen = by_word (word_at mode_codes seen) refl
 -- what is behind a word
 behind_word : (at : BitsAt) (seen more word rest : Bits) → here at ≡ seen ++ more → seen ≡ word ++ rest
     → here (moved (length word) at) ≡ rest ++ more
-behind_word at seen more word rest is there =
-    sym (drop-drop (length word) at.place at.bits)
+behind_word at seen more word rest is there = sym (drop-drop (length word) at.place at.bits)
     ∙ ap (λ (x : Bits). drop (length word) x) (is ∙ ap (λ (x : Bits). x ++ more) there ∙ append_assoc word rest more)
     ∙ drop_at word (rest ++ more) (length word) refl
 
 -- a mode in the first bits here is next
 pub read_on : (at : BitsAt) (seen more word rest : Bits) (mode : Mode) → here at ≡ seen ++ more → Has mode_codes mode word
     → seen ≡ word ++ rest → read_code mode_codes (here at) ≡ Ok (mode, here (moved (length word) at))
-read_on at seen more word rest mode is has there =
-    grind (arith, append_assoc, read_code_again, modes_free, behind_word)
+read_on at seen more word rest mode is has there = grind (arith, append_assoc, read_code_again, modes_free, behind_word)
 
 pub next_words : (most : ℕ) (at : BitsAt) (seen more : Bits) → here at ≡ seen ++ more → AreNextWords (vertical_words most seen) at
 next_words zero at seen more is = rw (words_zero seen) tt
@@ -152,8 +149,7 @@ module _ (at : BitsAt) (number : ℕ) (is : ten_bits number ≡ padded 10 (here 
 
   pub first_next : (mode : Mode) (width : ℕ) → ((word : Bits) → Has mode_codes mode word → length word ≡ width)
       → first_mode number ≡ Some mode → read_code mode_codes (here at) ≡ Ok (mode, here (moved width at))
-  first_next mode width wide e =
-      let (word, rest, has, there) = first_found mode e in
+  first_next mode width wide e = let (word, rest, has, there) = first_found mode e in
       rw (← wide word has) (read_on at (ten_bits number) (drop 10 (here at)) word rest mode ten_here has there)
 
 pub horizontal_wide : (word : Bits) → Has mode_codes Horizontal word → length word ≡ 3

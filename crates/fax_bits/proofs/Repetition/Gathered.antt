@@ -12,8 +12,7 @@ pub gathered_same : {S R A : Type 0} (step : S → Turn S R) (gives : S → List
     → (n m : ℕ) (s : S) → size s < n → size s < m → gathered step gives n s ≡ gathered step gives m s
 gathered_same step gives size shrinks zero m s h k = absurd (omega arith)
 gathered_same step gives size shrinks (suc n) zero s h k = absurd (omega arith)
-gathered_same {S} {R} {A} step gives size shrinks (suc n) (suc m) s h k =
-    grind (arith, gathered_same step gives size shrinks n m)
+gathered_same {S} {R} {A} step gives size shrinks (suc n) (suc m) s h k = grind (arith, gathered_same step gives size shrinks n m)
 
 -- a turn of a repetition that is allowed more turns than the size of its state
 pub gathered_turn : {S R A : Type 0} (step : S → Turn S R) (gives : S → List A) (size : S → ℕ) → Shrinks step size → (s : S)

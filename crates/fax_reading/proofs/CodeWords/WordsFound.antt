@@ -1,20 +1,18 @@
 -- The words that a line finds are consecutive from where it begins, and end before each EOL's one.
-use Rattle.fax_bits.proofs.Repetition.Gathered.{gathered_after}
-use Rattle.fax_reading.proofs.Names.{◌≡◌, Result, Ok, Err, subst, append_assoc, ℕ, zero, suc, ◌+◌, ◌<◌, Bool, true, false}
-use Rattle.fax_reading.proofs.Names.{List, [], ◌∷◌, ◌++◌, length, replicate, refl, sym, ap, ◌∙◌, arith, inl, inr, false≢true}
-use Rattle.fax_reading.proofs.Names.{cases_lt, length-append, length-replicate, append-nil, DecodeError, UnexpectedEof, Color}
-use Rattle.fax_reading.proofs.Names.{Mode, Pass, Horizontal, Vertical, EncodingMode, Group4, Group3_1D, Group3_2D, Bits, Code}
-use Rattle.fax_reading.proofs.Names.{mode_codes, read_code, Has, Turn, repeated, gathered, Row, opposite, b2, right_of, codes_of}
-use Rattle.fax_reading.proofs.Names.{run_turn, run_from, Line, Pen, Drawing, ◌>>=◌, go_on, unless_fault, finds}
-use Rattle.fax_reading.proofs.Names.{run_here, mode_here, painted, painted_to, place_by, unless_full, draw_run, draw_mode}
-use Rattle.fax_reading.proofs.Names.{draw_1d, draw_2d, start, line_1d, line_2d, found_1d, found_2d, tag_at, line_found}
-use Rattle.fax_reading.proofs.Names.{word_found, run_gives, run_found, line_by, IsWord, AreWords, joined, HoldsZeros}
-use Rattle.fax_reading.proofs.Names.{EndBeforeEol, Synchronised, common_steps}
+use Rattle.fax_reading.proofs.Names.{◌≡◌, Result, Ok, Err, subst, append_assoc, ℕ, zero, suc, ◌+◌, ◌<◌, Bool, true, false, List}
+use Rattle.fax_reading.proofs.Names.{[], ◌∷◌, ◌++◌, length, replicate, refl, sym, ap, ◌∙◌, arith, inl, inr, false≢true, cases_lt}
+use Rattle.fax_reading.proofs.Names.{length-append, length-replicate, append-nil, DecodeError, UnexpectedEof, Color, Mode, Pass}
+use Rattle.fax_reading.proofs.Names.{Horizontal, Vertical, EncodingMode, Group4, Group3_1D, Group3_2D, Bits, Code, mode_codes}
+use Rattle.fax_reading.proofs.Names.{read_code, Has, Turn, repeated, gathered, Row, opposite, b2, right_of, codes_of, run_turn}
+use Rattle.fax_reading.proofs.Names.{run_from, Line, Pen, Drawing, ◌>>=◌, go_on, unless_fault, finds, run_here, mode_here}
+use Rattle.fax_reading.proofs.Names.{painted, painted_to, place_by, unless_full, draw_run, draw_mode, draw_1d, draw_2d, start}
+use Rattle.fax_reading.proofs.Names.{line_1d, line_2d, found_1d, found_2d, tag_at, line_found, word_found, run_gives, run_found}
+use Rattle.fax_reading.proofs.Names.{line_by, IsWord, AreWords, joined, HoldsZeros, EndBeforeEol, Synchronised, common_steps}
 use Rattle.fax_bits.proofs.CodeWords.ReadCodes.{read_code_found}
-use Rattle.fax_bits.proofs.Repetition.Repeated.{after_turn}
-use Rattle.fax_bits.proofs.BitReading.ZerosInWords.{codes_free, modes_free, free_by, no_one, holds_a_one, word_one}
-use Rattle.fax_bits.proofs.BitReading.ZerosInWords.{no_eleven_in, prefix_of_prefix}
+use Rattle.fax_bits.proofs.BitReading.ZerosInWords.{codes_free, modes_free, free_by, no_one, holds_a_one, word_one, no_eleven_in}
+use Rattle.fax_bits.proofs.BitReading.ZerosInWords.{prefix_of_prefix}
 use Rattle.fax_bits.proofs.CodeWords.ReadRuns.{chosen, word_next, not_done, done_is}
+use Rattle.fax_bits.proofs.Repetition.{Gathered.gathered_after, Repeated.after_turn}
 
 -- ---- Consecutive words here.
 pub record WordsStand (here : Bits) (found : List Bits) (rest : Bits) : Type 0 where
@@ -47,22 +45,19 @@ pub gathered_stands : {S R : Type 0} (step : S → Turn S R) (late : R) (gives :
     × WordsStand (here_of s) (gives s) rest × Ends r rest) → (n : ℕ) (s : S) → (rest : Bits)
     × WordsStand (here_of s) (gathered step gives n s) rest × Ends (repeated step late n s) rest
 gathered_stands step late gives here_of Ends l goes ends zero s = (here_of s, stands_none (here_of s), l (here_of s))
-gathered_stands {S} {R} step late gives here_of Ends l goes ends (suc n) s =
-    let by_turn : (turn : Turn S R) → step s ≡ turn → (rest : Bits) × WordsStand (here_of s)
-    (gives s ++ gathered_after (gathered step gives n) turn) rest × Ends (after_turn (repeated step late n) turn) rest =
-    λ turn. elim turn as (λ (t : Turn S R). step s ≡ t → (rest : Bits) × WordsStand (here_of s)
-    (gives s ++ gathered_after (gathered step gives n) t) rest × Ends (after_turn (repeated step late n) t) rest) [
+gathered_stands {S} {R} step late gives here_of Ends l goes ends (suc n) s = let by_turn : (turn : Turn S R) → step s ≡ turn
+    → (rest : Bits) × WordsStand (here_of s) (gives s ++ gathered_after (gathered step gives n) turn) rest × Ends (after_turn
+    (repeated step late n) turn) rest = λ turn. elim turn as (λ (t : Turn S R). step s ≡ t → (rest : Bits) × WordsStand
+    (here_of s) (gives s ++ gathered_after (gathered step gives n) t) rest × Ends (after_turn (repeated step late n) t) rest) [
       | Turn.next t ↦ λ e. let more = gathered_stands step late gives here_of Ends l goes ends n t in
           (more.0, stands_append (here_of s) (here_of t) more.0 (gives s) (gathered step gives n t) (goes s t e) more.1, more.2)
       | Turn.done r ↦ grind (arith, common_steps, stands_append, stands_none)
-    ] in
-    by_turn (step s) refl
+    ] in by_turn (step s) refl
 
 -- a word that a reading found is here
 pub word_stands : {V : Type 0} (list : List (Code V)) (here : Bits) (v : V) (rest : Bits) → ((w : Bits) → Has list v w → IsWord w)
     → read_code list here ≡ Ok (v, rest) → WordsStand here (word_found list here) rest
-word_stands {V} list here v rest is e =
-    grind (arith, common_steps, append-nil, length-append, read_code_found list here v rest e)
+word_stands {V} list here v rest is e = grind (arith, common_steps, append-nil, length-append, read_code_found list here v rest e)
 
 -- a reading that found no word
 pub no_word_stands : {V : Type 0} (list : List (Code V)) (here : Bits) (fault : DecodeError) → read_code list here ≡ Err fault
@@ -180,12 +175,11 @@ mode_word_stands strict columns reference pen Pass = behind_stands pen.rest
     (λ front. go_on (record pen { front = front })) (wordless_stands pen.rest pen _) (λ front. stands_none pen.rest)
 mode_word_stands strict columns reference pen Horizontal = behind_stands pen.rest rest_of_pen rest_of_pen
     (draw_run strict columns pen) (draw_run strict columns) (draw_run_stands strict columns pen) (draw_run_stands strict columns)
-mode_word_stands strict columns reference pen (Vertical k) =
-    let paints : ℕ → Drawing Row = painted_to strict columns pen in
+mode_word_stands strict columns reference pen (Vertical k) = let paints : ℕ → Drawing Row = painted_to strict columns pen in
     let turns : Row → Drawing Pen = λ front. go_on (record { front = front; color = opposite pen.color; rest = pen.rest }) in
-    behind_stands pen.rest (λ (place : ℕ). pen.rest) rest_of_pen
-    (place_by reference pen k) (λ place. paints place >>= turns) (wordless_stands pen.rest pen _) (λ place. behind_stands pen.rest
-    (λ (front : Row). pen.rest) rest_of_pen (paints place) turns (wordless_stands pen.rest pen _) (λ front. stands_none pen.rest))
+    behind_stands pen.rest (λ (place : ℕ). pen.rest) rest_of_pen (place_by reference pen k) (λ place. paints place >>= turns)
+    (wordless_stands pen.rest pen _) (λ place. behind_stands pen.rest (λ (front : Row). pen.rest) rest_of_pen (paints place) turns
+    (wordless_stands pen.rest pen _) (λ front. stands_none pen.rest))
 
 -- a step of a one-dimensional line
 pub draw_1d_stands : (strict : Bool) (columns : ℕ) (pen : Pen) → DrawingStands pen.rest rest_of_pen (draw_1d strict columns pen)
@@ -195,9 +189,8 @@ draw_1d_stands strict columns pen = behind_stands pen.rest rest_of_pen rest_of_p
 -- a step of a two-dimensional line
 pub draw_2d_stands : (strict : Bool) (columns : ℕ) (reference : Row) (pen : Pen)
     → DrawingStands pen.rest rest_of_pen (draw_2d strict columns reference pen)
-draw_2d_stands strict columns reference pen =
-    let draws : Pen → Mode × Bits → Drawing Pen =
-    λ p mode. draw_mode strict columns reference (record p { rest = mode.1 }) mode.0 in
+draw_2d_stands strict columns reference pen = let draws : Pen → Mode × Bits
+    → Drawing Pen = λ p mode. draw_mode strict columns reference (record p { rest = mode.1 }) mode.0 in
     behind_stands pen.rest rest_of_pen rest_of_pen (unless_full columns pen) (λ p. mode_here p >>= draws p)
     (unless_full_stands columns pen) (λ p. behind_stands p.rest (λ (mode : Mode × Bits). mode.1) rest_of_pen (mode_here p)
     (draws p) (mode_read_stands p) (λ mode. mode_word_stands strict columns reference (record p { rest = mode.1 }) mode.0))
@@ -230,11 +223,10 @@ ends_before : (tag : Bits) (words : List Bits) (here rest : Bits) → (HoldsZero
 ends_before tag words here rest free stand before after eol =
     elim (cases_lt (length (tag ++ joined words)) (length before + 11)) [
       | inl lt ↦ lt
-      | inr ge ↦
-          let zeros : Bits = before ++ replicate 11 false in
+      | inr ge ↦ let zeros : Bits = before ++ replicate 11 false in
           let cut : (tag ++ joined words) ++ rest ≡ zeros ++ (true ∷ after) = sym stand ∙ eol in
-          let f = prefix_of_prefix zeros (true ∷ after) (tag ++ joined words) rest cut
-          (omega (arith, length-append before (replicate 11 false), length-replicate 11 false)) in
+          let f = prefix_of_prefix zeros (true ∷ after)
+          (tag ++ joined words) rest cut (omega (arith, length-append before (replicate 11 false), length-replicate 11 false)) in
           absurd (free (before, f.0, f.1))
     ]
 

@@ -1,12 +1,11 @@
 -- Lines where more bits follow.
-use Rattle.fax_reading.proofs.Names.{common_steps, ◌≡◌, ℕ, suc, Bool, false, List, [], ◌++◌, length}
-use Rattle.fax_reading.proofs.Names.{Result, ap, ◌∙◌, arith, false≢true, length-append, Mode, Pass}
-use Rattle.fax_reading.proofs.Names.{Horizontal, Vertical, DecodeError, DecodeSettings, EncodingMode}
-use Rattle.fax_reading.proofs.Names.{UnexpectedEof, Bits, AreWholeBytes, mode_codes, read_code, Turn, Row, opposite}
+use Rattle.fax_reading.proofs.Names.{common_steps, ◌≡◌, ℕ, suc, Bool, false, List, [], ◌++◌, length, Result, ap, ◌∙◌, arith}
+use Rattle.fax_reading.proofs.Names.{false≢true, Mode, Pass, Horizontal, Vertical, DecodeError, DecodeSettings}
+use Rattle.fax_reading.proofs.Names.{EncodingMode, UnexpectedEof, Bits, AreWholeBytes, mode_codes, read_code, Turn, Row, opposite}
 use Rattle.fax_reading.proofs.Names.{run_from, run_found, word_found, Line, Pen, Drawing, start, draw_1d, draw_2d, draw_mode}
 use Rattle.fax_reading.proofs.Names.{draw_run, go_on, mode_here, run_here, painted, unless_fault, unless_full, turn_behind, ◌>>=◌}
 use Rattle.fax_reading.proofs.Names.{words_behind, line_by, line_here, line_found, found_here, line_1d, line_2d, found_1d}
-use Rattle.fax_reading.proofs.Names.{found_2d, behind_row, row_of_line, LineIsSettled, is_short, line_before, row_continued}
+use Rattle.fax_reading.proofs.Names.{found_2d, row_of_line, LineIsSettled, is_short, line_before, row_continued}
 use Rattle.fax_bits.proofs.BitReading.ZerosInWords.{modes_free}
 use Rattle.fax_reading.proofs.Continuations.WordsContinued.{turn_on, turn_waits, repeated_on, rest_on, result_on, result_waits}
 use Rattle.fax_reading.proofs.Continuations.WordsContinued.{code_continues, run_continues}
@@ -100,9 +99,8 @@ module _ (more : Bits) where
       behind p = mode_here p >>= drew p
 
       second : (p : Pen) → Continues more pen_on (behind p) (behind (pen_on p))
-      second p = then_continues (rest_on more) pen_on (drew p) (drew (pen_on p))
-          (λ mode. draw_mode_on strict columns reference (record p { rest = mode.1 }) mode.0) (mode_here p) (mode_here (pen_on p))
-          (mode_goes_on p)
+      second p = then_continues (rest_on more) pen_on (drew p) (drew (pen_on p)) (λ mode. draw_mode_on strict columns reference
+          (record p { rest = mode.1 }) mode.0) (mode_here p) (mode_here (pen_on p)) (mode_goes_on p)
 
   -- ---- Lines
 
@@ -116,9 +114,8 @@ module _ (more : Bits) where
       (draw_1d_on strict columns) (suc (length here)) (suc (length (here ++ more))) (start here) (omega arith) (omega arith) known
 
   -- and a two-dimensional one
-  line_2d_on : (strict : Bool) (columns : ℕ) (reference : Row) (here : Bits)
-      → is_short (line_2d strict columns reference here) ≡ false
-      → (line_2d strict columns reference (here ++ more) ≡ line_before more (line_2d strict columns reference here))
+  line_2d_on : (strict : Bool) (columns : ℕ) (reference : Row) (here : Bits) → is_short (line_2d strict columns reference here)
+      ≡ false → (line_2d strict columns reference (here ++ more) ≡ line_before more (line_2d strict columns reference here))
       × (found_2d strict columns reference (here ++ more) ≡ found_2d strict columns reference here)
   line_2d_on strict columns reference here known = repeated_on (λ pen. (draw_2d strict columns reference pen).turn)
       (λ pen. (draw_2d strict columns reference pen).words) (Line.broken [] UnexpectedEof) pen_left
@@ -126,9 +123,8 @@ module _ (more : Bits) where
       (suc (length here)) (suc (length (here ++ more))) (start here) (omega arith) (omega arith) known
 
   -- a line of any kind
-  line_on : (encoding : EncodingMode) (strict : Bool) (columns : ℕ) (reference : Row) (here : Bits)
-      → is_short (line_by encoding strict columns reference here) ≡ false
-      → (line_by encoding strict columns reference (here ++ more)
+  line_on : (encoding : EncodingMode) (strict : Bool) (columns : ℕ) (reference : Row) (here : Bits) → is_short
+      (line_by encoding strict columns reference here) ≡ false → (line_by encoding strict columns reference (here ++ more)
       ≡ line_before more (line_by encoding strict columns reference here))
       × (line_found encoding strict columns reference (here ++ more) ≡ line_found encoding strict columns reference here)
   line_on encoding strict columns reference here known = grind (arith, line_1d_on, false≢true, line_2d_on)
@@ -145,11 +141,6 @@ pub found_settled : (settings : DecodeSettings) (reference : Row) (here more : B
 found_settled settings reference here more known =
     (line_on more settings.encoding settings.strict settings.columns reference here known).1
 
--- The bits after a row, where whole bytes follow, are followed by them.
-pub behind_continues : (settings : DecodeSettings) (has_eols : Bool) (rest more : Bits) → AreWholeBytes more
-    → behind_row settings has_eols (rest ++ more) ≡ behind_row settings has_eols rest ++ more
-behind_continues settings has_eols rest more bytes = grind (arith, common_steps, length-append)
-
 -- What it yields is the same, where whole bytes follow.
 pub row_continues : (settings : DecodeSettings) (reference : Row) (has_eols : Bool) (here more : Bits) → AreWholeBytes more
     → is_short (line_here settings reference here) ≡ false
@@ -160,4 +151,4 @@ row_continues settings reference has_eols here more bytes known = ap (row_of_lin
   where
     by_line : (line : Line) → row_of_line settings has_eols (here ++ more) (line_before more line)
         ≡ row_continued more (row_of_line settings has_eols here line)
-    by_line line = grind (arith, behind_continues)
+    by_line line = grind (arith, common_steps)

@@ -1,20 +1,16 @@
 -- Lines that go on from a part of them.
-use Rattle.fax_reading.proofs.Names.{◌≡◌, ℕ, zero, suc, ◌+◌, ◌*◌, ◌<◌, ◌≤◌, Bool, true, false, cond, leb, List, [], ◌∷◌}
-use Rattle.fax_reading.proofs.Names.{◌++◌, length, Result, Ok, Err, refl, sym, ap, ◌∙◌, arith, false≢true, length-append}
-use Rattle.fax_reading.proofs.Names.{append_assoc, append-nil, and_parts, leb-true, inl, inr, Color, Mode, Pass, Horizontal}
-use Rattle.fax_reading.proofs.Names.{Vertical, DecodeError, DecodeSettings, EncodingMode, Group4, Group3_1D, Group3_2D}
-use Rattle.fax_reading.proofs.Names.{UnexpectedEof, Overflow, Bits, Code, Has, mode_codes}
-use Rattle.fax_reading.proofs.Names.{read_code, codes_of, Turn, run_turn, run_from, run_of_word, word_found, Row, opposite, paint}
-use Rattle.fax_reading.proofs.Names.{Line, Pen, Drawing, Step, drawn, draw_run, go_on, mode_here, painted, unless_fault}
-use Rattle.fax_reading.proofs.Names.{turn_behind, ◌>>=◌, line_here, is_short, common_steps, is_prefix_free, OpenRun}
-use Rattle.fax_reading.proofs.Names.{LinePart, left_of, part_before, draw_step, line_after_turn, line_from_part, word_here}
-use Rattle.fax_reading.proofs.Names.{behind_run, word_added, mode_added, begin_step, begin_line, read_on, LacksWord}
-use Rattle.fax_reading.proofs.Names.{GoesOnFrom, LinesGoOn}
+use Rattle.fax_reading.proofs.Names.{◌≡◌, Result, arith, Color, Group4, paint, Drawing, drawn, painted, OpenRun, left_of, read_on}
+use Rattle.fax_reading.proofs.Names.{ℕ, suc, ◌+◌, ◌*◌, ◌<◌, ◌≤◌, leb, ◌∷◌, Ok, Err, sym, ap, ◌∙◌, inl, inr, Has, Row, Pen, Step}
+use Rattle.fax_reading.proofs.Names.{zero, Bool, true, cond, List, ◌++◌, refl, Mode, Pass, Bits, Code, Turn, Line, go_on, ◌>>=◌}
+use Rattle.fax_reading.proofs.Names.{false, leb-true, read_code, mode_here, line_here, draw_step, word_here, LacksWord, LinesGoOn}
+use Rattle.fax_reading.proofs.Names.{[], Vertical, Overflow, codes_of, run_turn, run_from, opposite, draw_run, is_short, LinePart}
+use Rattle.fax_reading.proofs.Names.{length, false≢true, append-nil, Horizontal, mode_codes, word_found, turn_behind, part_before}
+use Rattle.fax_reading.proofs.Names.{length-append, append_assoc, DecodeSettings, is_prefix_free, line_after_turn, line_from_part}
+use Rattle.fax_reading.proofs.Names.{and_parts, DecodeError, EncodingMode, UnexpectedEof, run_of_word, unless_fault, common_steps}
+use Rattle.fax_reading.proofs.Names.{Group3_1D, Group3_2D, behind_run, word_added, mode_added, begin_step, begin_line, GoesOnFrom}
 use Rattle.std.specs.List.{list_all}
 use Rattle.fax_bits.specs.CodeReading.{NoneStands}
 use Rattle.fax_bits.proofs.BitReading.ZerosInWords.{codes_free, modes_free}
-use Rattle.fax_bits.proofs.CodeWords.CodeReadings.{reads_codes}
-use Rattle.fax_bits.proofs.CodeWords.ReadCodes.{read_code_found}
 use Rattle.fax_bits.proofs.CodeWords.ReadRuns.{read_code_shorter, words_not_empty, has_no_empty_word, run_shrinks, size}
 use Rattle.fax_bits.proofs.Repetition.Repeated.{after_turn, repeated_turn}
 use Rattle.fax_reading.proofs.Continuations.LinesContinued.{Continues, then_continues, finds_continue, same_continues}
@@ -23,7 +19,7 @@ use Rattle.fax_reading.proofs.Continuations.ShortLines.{GoesOrEnds, Anything, pa
 use Rattle.fax_reading.proofs.Continuations.WordsContinued.{code_continues, rest_on}
 use Rattle.fax_reading.proofs.DrawingLines.Drawings.{run_then, mode_step, step_1d_is, step_2d_is}
 use Rattle.fax_reading.proofs.DrawingLines.ReadLines.{drawn1, drawn2, modes_not_empty}
-use Rattle.fax_bits.proofs.ErrorKinds.{missing_end}
+use Rattle.fax_bits.proofs.{CodeWords.CodeReadings.reads_codes, CodeWords.ReadCodes.read_code_found, ErrorKinds.missing_end}
 
 -- ---- A line from a part of it on is what one word more leads to
 
@@ -56,12 +52,10 @@ module _ (settings : DecodeSettings) (reference : Row) where
   painted_run_is run front (Err fault) pen_with = refl
   painted_run_is run front (Ok row) pen_with = either_way run.another
     where
-      either_way : (another : Bool)
-          → line_after_turn (steps_from run.is_2d)
+      either_way : (another : Bool) → line_after_turn (steps_from run.is_2d)
           (cond another (draw_run settings.strict settings.columns (pen_with row)) (go_on (pen_with row))).turn
-          ≡ line_from_part settings reference (cond another
-          (LinePart.in_run (record { is_2d = run.is_2d; another = false; total = 0 }) (pen_with row))
-          (LinePart.at_step run.is_2d (pen_with row)))
+          ≡ line_from_part settings reference (cond another (LinePart.in_run
+          (record { is_2d = run.is_2d; another = false; total = 0 }) (pen_with row)) (LinePart.at_step run.is_2d (pen_with row)))
       either_way true = same_turn (steps_from run.is_2d) (draw_run settings.strict settings.columns (pen_with row)).turn
       either_way false = refl
 
@@ -85,17 +79,15 @@ module _ (settings : DecodeSettings) (reference : Row) where
       added : ℕ × Bits → Turn LinePart Line
       added found = (word_added settings.strict settings.columns run (record pen { rest = found.1 }) found.0).turn
 
-      either_way : (n : ℕ) (rest : Bits) (b c : Bool)
-          → behind (after_turn (run_from pen.color) (cond b (Turn.done (Err Overflow))
-          (cond c (Turn.done (Ok (run.total + n, rest))) (Turn.next (run.total + n, rest)))))
-          ≡ line_then (if_read pen.front (cond b (Err Overflow) (Ok (run.total + n))) (λ total. (cond c
-          (painted settings.strict settings.columns (record pen { rest = rest }) total >>= (λ row.
-          go_on (behind_run run (record { front = row; color = opposite pen.color; rest = rest }))))
+      either_way : (n : ℕ) (rest : Bits) (b c : Bool) → behind (after_turn (run_from pen.color)
+          (cond b (Turn.done (Err Overflow)) (cond c (Turn.done (Ok (run.total + n, rest))) (Turn.next (run.total + n, rest)))))
+          ≡ line_then (if_read pen.front (cond b (Err Overflow) (Ok (run.total + n)))
+          (λ total. (cond c (painted settings.strict settings.columns (record pen { rest = rest }) total >>=
+          (λ row. go_on (behind_run run (record { front = row; color = opposite pen.color; rest = rest }))))
           (go_on (LinePart.in_run (record run { total = total }) (record pen { rest = rest })))).turn))
       either_way n rest true c = refl
-      either_way n rest false true =
-          painted_run_is run pen.front (paint settings.strict settings.columns pen.front pen.color (run.total + n))
-          (λ row. record { front = row; color = opposite pen.color; rest = rest })
+      either_way n rest false true = painted_run_is run pen.front (paint settings.strict settings.columns pen.front pen.color
+          (run.total + n)) (λ row. record { front = row; color = opposite pen.color; rest = rest })
       either_way n rest false false = refl
 
       by_read_code : (r : Result (ℕ × Bits) DecodeError)
@@ -122,8 +114,7 @@ module _ (settings : DecodeSettings) (reference : Row) where
           (λ p. Turn.next (LinePart.in_run (record { is_2d = false; another = false; total = 0 }) p)))
       either_way true = refl
       either_way false = same_turn (steps_from false) (run_then settings.strict settings.columns pen Turn.next)
-  line_from_is (LinePart.at_step true pen) =
-      drawn2 settings.strict settings.columns reference pen
+  line_from_is (LinePart.at_step true pen) = drawn2 settings.strict settings.columns reference pen
       ∙ ap (after_turn (steps_from true)) (step_2d_is settings.strict settings.columns reference pen)
       ∙ either_way (leb settings.columns (length pen.front))
     where
@@ -148,11 +139,9 @@ module _ (settings : DecodeSettings) (reference : Row) where
 
 word_goes_on : (more : Bits) (pen : Pen)
     → Continues more (rest_on more) (word_here pen) (word_here (record pen { rest = pen.rest ++ more }))
-word_goes_on more pen =
-    finds_continue more (rest_on more) pen.front (read_code (codes_of pen.color) pen.rest)
-    (read_code (codes_of pen.color) (pen.rest ++ more)) (word_found (codes_of pen.color) pen.rest)
-    (word_found (codes_of pen.color) (pen.rest ++ more))
-    (code_continues (codes_of pen.color) (codes_free pen.color) pen.rest more)
+word_goes_on more pen = finds_continue more (rest_on more) pen.front (read_code (codes_of pen.color) pen.rest)
+    (read_code (codes_of pen.color) (pen.rest ++ more)) (word_found (codes_of pen.color) pen.rest) (word_found
+    (codes_of pen.color) (pen.rest ++ more)) (code_continues (codes_of pen.color) (codes_free pen.color) pen.rest more)
 
 module _ (settings : DecodeSettings) (reference : Row) (more : Bits) where
   -- a pen, where more bits follow
@@ -171,10 +160,8 @@ module _ (settings : DecodeSettings) (reference : Row) (more : Bits) where
   begin_step_on : (is_2d : Bool) (pen : Pen)
       → Continues more (part_before more) (begin_step is_2d settings.strict settings.columns reference pen)
       (begin_step is_2d settings.strict settings.columns reference (longer pen))
-  begin_step_on true pen =
-      then_continues more (rest_on more) (part_before more) (added pen) (added (longer pen))
-      (λ mode. mode_added_on (record pen { rest = mode.1 }) mode.0) (mode_here pen) (mode_here (longer pen))
-      (mode_goes_on more pen)
+  begin_step_on true pen = then_continues more (rest_on more) (part_before more) (added pen) (added (longer pen)) (λ
+      mode. mode_added_on (record pen { rest = mode.1 }) mode.0) (mode_here pen) (mode_here (longer pen)) (mode_goes_on more pen)
     where
       added : Pen → Mode × Bits → Drawing LinePart
       added p mode = mode_added settings.strict settings.columns reference (record p { rest = mode.1 }) mode.0
@@ -185,10 +172,9 @@ module _ (settings : DecodeSettings) (reference : Row) (more : Bits) where
       → Continues more (part_before more) (read_on settings reference part) (read_on settings reference (part_before more part))
   read_on_continues (LinePart.begins here) = grind (arith, common_steps, false≢true)
   read_on_continues (LinePart.at_step is_2d pen) = grind (arith, common_steps, then_continues, begin_step_on, full_on)
-  read_on_continues (LinePart.in_run run pen) =
-      then_continues more (rest_on more) (part_before more) (added pen) (added (longer pen))
-      (λ found. word_added_on run (record pen { rest = found.1 }) found.0) (word_here pen) (word_here (longer pen))
-      (word_goes_on more pen)
+  read_on_continues (LinePart.in_run run pen) = then_continues more (rest_on more) (part_before more) (added pen)
+      (added (longer pen)) (λ found. word_added_on run (record pen { rest = found.1 }) found.0) (word_here pen)
+      (word_here (longer pen)) (word_goes_on more pen)
     where
       added : Pen → ℕ × Bits → Drawing LinePart
       added p found = word_added settings.strict settings.columns run (record p { rest = found.1 }) found.0
@@ -229,10 +215,6 @@ behind_leads part P turn behind first second = grind arith
 paint_leads : {A : Type 0} (part : LinePart) (turn : Turn A Line) → GoesOrEnds Anything turn → GoesOrLacks part Anything turn
 paint_leads part turn known = grind (arith, false≢true)
 
-fault_lacks : {V : Type 0} (list : List (Code V)) (here : Bits) (front : Row) (fault : DecodeError)
-    → read_code list here ≡ Err fault → is_short (Line.broken front fault) ≡ true → read_code list here ≡ Err UnexpectedEof
-fault_lacks list here front fault e short = e ∙ ap Err (missing_end fault short)
-
 -- the bits after a word are fewer
 abbrev WordIsRead : {V : Type 0} → Bits → V × Bits → Type 0
 WordIsRead here found = Precedes here found.1 × (length found.1 < length here)
@@ -245,7 +227,7 @@ word_leads_on {V} part list here front full lacks = by_read_code (read_code list
     by_read_code : (r : Result (V × Bits) DecodeError) → read_code list here ≡ r
         → GoesOrLacks part (WordIsRead here) (unless_fault front r)
     by_read_code (Ok (v, rest)) e = grind (arith, common_steps, read_code_found, read_code_shorter)
-    by_read_code (Err fault) e = λ short. lacks (fault_lacks list here front fault e short)
+    by_read_code (Err fault) e = λ short. lacks (grind (arith, common_steps, missing_end))
 
 module _ (settings : DecodeSettings) (reference : Row) (part : LinePart) (pen : Pen) (is : left_of part ≡ pen.rest) where
   -- a pen behind a word
@@ -260,9 +242,8 @@ module _ (settings : DecodeSettings) (reference : Row) (part : LinePart) (pen : 
   mode_leads_on rest (Vertical k) word size_is =
       grind (arith, common_steps, behind_leads, paint_leads, place_known, paint_known, behind_word_leads)
 
-  run_leads_on : (run : OpenRun) (rest : Bits) (n : ℕ) → WordIsRead {V = ℕ} pen.rest (n, rest)
-      → 2 * length pen.rest ≤ part_size part
-      → LeadsOn part (word_added settings.strict settings.columns run (record pen { rest = rest }) n).turn
+  run_leads_on : (run : OpenRun) (rest : Bits) (n : ℕ) → WordIsRead {V = ℕ} pen.rest (n, rest) → 2 * length pen.rest
+      ≤ part_size part → LeadsOn part (word_added settings.strict settings.columns run (record pen { rest = rest }) n).turn
   run_leads_on run rest n word size_is =
       grind (arith, common_steps, behind_leads, false≢true, behind_word_leads, paint_leads, paint_known)
 
@@ -283,16 +264,14 @@ module _ (settings : DecodeSettings) (reference : Row) where
       added : Pen → Mode × Bits → Turn LinePart Line
       added p mode = (mode_added settings.strict settings.columns reference (record p { rest = mode.1 }) mode.0).turn
 
-      either_way : (full : Bool) → LeadsOn (LinePart.at_step true pen)
-          (turn_behind (cond full (Turn.done (Line.whole pen.front pen.rest)) (Turn.next pen))
-          (λ p. if_read p.front (read_code mode_codes p.rest) (added p)))
+      either_way : (full : Bool) → LeadsOn (LinePart.at_step true pen) (turn_behind (cond full (Turn.done
+          (Line.whole pen.front pen.rest)) (Turn.next pen)) (λ p. if_read p.front (read_code mode_codes p.rest) (added p)))
       either_way true = λ short. absurd (false≢true short)
       either_way false =
           behind_leads (LinePart.at_step true pen) (WordIsRead pen.rest) (unless_fault pen.front (read_code mode_codes pen.rest))
           (added pen) (word_leads_on (LinePart.at_step true pen) mode_codes pen.rest pen.front modes_not_empty (λ e. e))
           (λ mode word. mode_leads_on settings reference (LinePart.at_step true pen) pen refl mode.1 mode.0 word (omega arith))
-  part_leads_on (LinePart.in_run run pen) =
-      behind_leads (LinePart.in_run run pen) (WordIsRead pen.rest)
+  part_leads_on (LinePart.in_run run pen) = behind_leads (LinePart.in_run run pen) (WordIsRead pen.rest)
       (unless_fault pen.front (read_code (codes_of pen.color) pen.rest))
       (λ found. (word_added settings.strict settings.columns run (record pen { rest = found.1 }) found.0).turn)
       (word_leads_on (LinePart.in_run run pen) (codes_of pen.color) pen.rest pen.front (words_not_empty pen.color) (λ e. e))
@@ -318,9 +297,7 @@ word_few n (c ∷ list) v w e (inr i) = word_few n list v w (and_parts (leb (len
 -- the bits of a word that isn't whole are fewer than its own
 cut_few : {V : Type 0} (n : ℕ) (list : List (Code V)) (here : Bits) → is_prefix_free list ≡ true → IsShorter n list ≡ true
     → read_code list here ≡ Err UnexpectedEof → length here < n
-cut_few {V} n list here free few e =
-    let cut = ((reads_codes list free).cut here).0 e in
-    grind (arith, by_rest)
+cut_few {V} n list here free few e = let cut = ((reads_codes list free).cut here).0 e in grind (arith, by_rest)
   where
     by_rest : (v : V) (w : Bits) → Has list v w → NoneStands list here → (rest : Bits) → w ≡ here ++ rest → length here < n
     by_rest v w has none [] is = absurd (none v [] (w, has, sym (ap (λ (b : Bits). b ++ []) is ∙ append-nil _ ∙ append-nil here)))
@@ -335,9 +312,8 @@ lacks_few (LinePart.in_run run pen) e = cut_few 13 (codes_of pen.color) pen.rest
 module _ (settings : DecodeSettings) (reference : Row) where
   -- the line from a part of it on goes on from another
   abbrev GoesOnAt : LinePart → LinePart → Type 0
-  GoesOnAt part last = ((more : Bits)
-      → line_from_part settings reference (part_before more part) ≡ line_from_part settings reference (part_before more last))
-      × Precedes (left_of part) (left_of last) × LacksWord last
+  GoesOnAt part last = ((more : Bits) → line_from_part settings reference (part_before more part)
+      ≡ line_from_part settings reference (part_before more last)) × Precedes (left_of part) (left_of last) × LacksWord last
 
   leads_to_last : (n : ℕ) (part : LinePart) → part_size part < n → is_short (line_from_part settings reference part) ≡ true
       → (last : LinePart) × GoesOnAt part last
@@ -359,8 +335,7 @@ module _ (settings : DecodeSettings) (reference : Row) where
 -- Each short line goes on from a part of it.
 pub short_line_goes_on : (settings : DecodeSettings) (reference : Row) (here : Bits)
     → is_short (line_here settings reference here) ≡ true → (part : LinePart) × GoesOnFrom settings reference here part
-short_line_goes_on settings reference here short =
-    let part = LinePart.begins here in
+short_line_goes_on settings reference here short = let part = LinePart.begins here in
     let (last, goes) = leads_to_last settings reference (suc (part_size part)) part (omega arith) short in
     (last, record { line = goes.0; read = goes.1; lacks = goes.2; few = lacks_few last goes.2 })
 

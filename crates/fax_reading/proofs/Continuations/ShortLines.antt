@@ -1,24 +1,20 @@
 -- Lines before zeros: none is short.
-use Rattle.fax_reading.proofs.Names.{common_steps, ◌≡◌, ◌↔◌, ℕ, suc, ◌+◌, Bool, true, false, cond, List, [], ◌∷◌, ◌++◌}
-use Rattle.fax_reading.proofs.Names.{length, replicate, None, Result, Ok, Err, refl, sym, ap, subst, ◌∙◌, arith, inl, inr, ℤ}
-use Rattle.fax_reading.proofs.Names.{Color, Mode, Pass, Horizontal, Vertical, DecodeError, DecodeSettings, EncodingMode}
-use Rattle.fax_reading.proofs.Names.{Group4, Group3_1D, Group3_2D, UnexpectedEof, Overflow}
-use Rattle.fax_reading.proofs.Names.{Bits, Code, mode_codes, Has, is_prefix_free, read_code, IsWord, Turn, Row, opposite, paint}
-use Rattle.fax_reading.proofs.Names.{codes_of, run_turn, run_from, Line, Pen, Drawing, start, draw_1d, draw_2d, draw_mode}
-use Rattle.fax_reading.proofs.Names.{draw_run, go_on, mode_here, run_here, painted, place_from, unless_fault, unless_full}
-use Rattle.fax_reading.proofs.Names.{turn_behind, ◌>>=◌, line_by, line_here, line_1d, line_2d, LineIsSettled, LinesSettle}
-use Rattle.fax_reading.proofs.Names.{StaysAsRead, is_short, append_assoc, line_before, misses_end}
+use Rattle.fax_reading.proofs.Names.{common_steps, ◌≡◌, ◌↔◌, ℕ, suc, ◌+◌, Bool, true, false, cond, List, [], ◌∷◌, ◌++◌, length}
+use Rattle.fax_reading.proofs.Names.{replicate, None, Result, Ok, Err, refl, sym, ap, subst, ◌∙◌, arith, inl, inr, ℤ, Color, Mode}
+use Rattle.fax_reading.proofs.Names.{Pass, Horizontal, Vertical, DecodeError, DecodeSettings, EncodingMode, Group4, Group3_1D}
+use Rattle.fax_reading.proofs.Names.{Group3_2D, UnexpectedEof, Overflow, Bits, Code, mode_codes, Has, is_prefix_free, read_code}
+use Rattle.fax_reading.proofs.Names.{IsWord, Turn, Row, opposite, paint, codes_of, run_turn, run_from, Line, Pen, Drawing, start}
+use Rattle.fax_reading.proofs.Names.{draw_1d, draw_2d, draw_mode, draw_run, go_on, mode_here, run_here, painted, place_from}
+use Rattle.fax_reading.proofs.Names.{unless_fault, unless_full, turn_behind, ◌>>=◌, line_by, line_here, line_1d, line_2d}
+use Rattle.fax_reading.proofs.Names.{LineIsSettled, LinesSettle, StaysAsRead, is_short, append_assoc, misses_end}
 use Rattle.fax_bits.specs.CodeReading.{IsCut}
 use Rattle.fax_bits.proofs.BitReading.ZerosInWords.{scan, scan-append, scan_holds, quiet_is, word_quiet, codes_free, modes_free}
-use Rattle.fax_bits.proofs.CodeWords.CodeReadings.{reads_codes}
-use Rattle.fax_bits.proofs.CodeWords.ReadCodes.{read_code_found}
-use Rattle.fax_bits.proofs.CodeWords.ReadRuns.{run_shrinks, size}
-use Rattle.fax_bits.proofs.Repetition.Repeated.{repeated_induct}
 use Rattle.fax_reading.proofs.Continuations.LinesContinued.{found_settled, line_settled, row_continues}
 use Rattle.fax_reading.proofs.Continuations.StrictLines.{strict_settled}
 use Rattle.fax_reading.proofs.DamagedLines.LinesBeforeEol.{scan_above, scan_stays}
 use Rattle.fax_reading.proofs.DrawingLines.ReadLines.{pen_left, step_1d_shrinks, step_2d_shrinks}
-use Rattle.fax_bits.proofs.ErrorKinds.{not_missing_end}
+use Rattle.fax_bits.proofs.{Repetition.Repeated.repeated_induct, ErrorKinds.not_missing_end, CodeWords.CodeReadings.reads_codes}
+use Rattle.fax_bits.proofs.{CodeWords.ReadCodes.read_code_found, CodeWords.ReadRuns.run_shrinks, CodeWords.ReadRuns.size}
 
 -- eleven zeros are here, of which three may be before
 abbrev HasZeros : Bits → Type 0
@@ -32,15 +28,13 @@ IsKnown P (Err fault) = misses_end fault ≡ false
 -- ---- Words and runs
 
 zeros_behind : (here word rest : Bits) → IsWord word → HasZeros here → here ≡ word ++ rest → HasZeros rest
-zeros_behind here word rest is_word zeros is =
-    let q = quiet_is (scan 3 word) (word_quiet word is_word) in
+zeros_behind here word rest is_word zeros is = let q = quiet_is (scan 3 word) (word_quiet word is_word) in
     scan_above q.0 3 rest q.2 (sym (scan-append 3 q.0 word rest q.1) ∙ ap (scan 3) (sym is) ∙ zeros)
 
 module _ {V : Type 0} (list : List (Code V)) (free : is_prefix_free list ≡ true)
     (words : (v : V) (word : Bits) → Has list v word → IsWord word) where
   uncut_zeros : (here : Bits) → HasZeros here → IsCut list here → ⊥
-  uncut_zeros here zeros (v, w, has, begins) =
-      let q = quiet_is (scan 3 w) (word_quiet w (words v w has)) in
+  uncut_zeros here zeros (v, w, has, begins) = let q = quiet_is (scan 3 w) (word_quiet w (words v w has)) in
       grind (arith, scan_stays)
 
   code_known : (here : Bits) → HasZeros here → IsKnown (λ found. HasZeros found.1) (read_code list here)
@@ -70,10 +64,8 @@ run_turn_known color (total, here) zeros = by_read_code (read_code (codes_of col
     by_read_code r e left = grind (arith, either_way)
 
 run_known : (color : Color) (here : Bits) → HasZeros here → IsKnown (λ found. HasZeros found.1) (run_from color (0, here))
-run_known color here zeros =
-    repeated_induct (run_turn color) (Err UnexpectedEof) size (run_shrinks color)
-    (λ s r. HasZeros s.1 → IsKnown (λ found. HasZeros found.1) r)
-    (λ s r e left. subst TurnIsKnown e (run_turn_known color s left))
+run_known color here zeros = repeated_induct (run_turn color) (Err UnexpectedEof) size (run_shrinks color) (λ s r. HasZeros s.1
+    → IsKnown (λ found. HasZeros found.1) r) (λ s r e left. subst TurnIsKnown e (run_turn_known color s left))
     (λ s t r e on left. on (subst TurnIsKnown e (run_turn_known color s left))) (suc (length here)) (0, here) (omega arith) zeros
 
 -- ---- Lines
@@ -136,9 +128,8 @@ module _ (strict : Bool) (columns : ℕ) where
   drew_2d_known reference pen zeros =
       behind_known IsBeforeZeros IsBeforeZeros (unless_full columns pen).turn (λ p. (behind p).turn) (full_known pen zeros)
       (λ p left. behind_known (λ mode. HasZeros mode.1) IsBeforeZeros (mode_here p).turn (λ mode. (drew p mode).turn)
-      (found_known (λ mode. HasZeros mode.1) p.front (read_code mode_codes p.rest)
-      (code_known mode_codes modes_free (λ mode word has. inr (mode, has)) p.rest left))
-      (λ mode further. drew_mode_known reference (record p { rest = mode.1 }) mode.0 further))
+      (found_known (λ mode. HasZeros mode.1) p.front (read_code mode_codes p.rest) (code_known mode_codes modes_free (λ mode word
+      has. inr (mode, has)) p.rest left)) (λ mode further. drew_mode_known reference (record p { rest = mode.1 }) mode.0 further))
     where
       drew : Pen → Mode × Bits → Drawing Pen
       drew p mode = draw_mode strict columns reference (record p { rest = mode.1 }) mode.0
@@ -147,18 +138,15 @@ module _ (strict : Bool) (columns : ℕ) where
       behind p = mode_here p >>= drew p
 
   line_1d_known : (here : Bits) → HasZeros here → is_short (line_1d strict columns here) ≡ false
-  line_1d_known here zeros =
-      repeated_induct (λ pen. (draw_1d strict columns pen).turn) (Line.broken [] UnexpectedEof) pen_left
+  line_1d_known here zeros = repeated_induct (λ pen. (draw_1d strict columns pen).turn) (Line.broken [] UnexpectedEof) pen_left
       (step_1d_shrinks strict columns) (λ pen line. IsBeforeZeros pen → is_short line ≡ false)
-      (λ pen line e left. subst (GoesOrEnds IsBeforeZeros) e (drew_1d_known pen left))
-      (λ pen p line e on left. on (subst (GoesOrEnds IsBeforeZeros) e (drew_1d_known pen left))) (suc (length here)) (start here)
-      (omega arith) zeros
+      (λ pen line e left. subst (GoesOrEnds IsBeforeZeros) e (drew_1d_known pen left)) (λ pen p line e on left. on
+      (subst (GoesOrEnds IsBeforeZeros) e (drew_1d_known pen left))) (suc (length here)) (start here) (omega arith) zeros
 
   line_2d_known : (reference : Row) (here : Bits) → HasZeros here → is_short (line_2d strict columns reference here) ≡ false
-  line_2d_known reference here zeros =
-      repeated_induct (λ pen. (draw_2d strict columns reference pen).turn) (Line.broken [] UnexpectedEof) pen_left
-      (step_2d_shrinks strict columns reference) (λ pen line. IsBeforeZeros pen → is_short line ≡ false)
-      (λ pen line e left. subst (GoesOrEnds IsBeforeZeros) e (drew_2d_known reference pen left))
+  line_2d_known reference here zeros = repeated_induct (λ pen. (draw_2d strict columns reference pen).turn)
+      (Line.broken [] UnexpectedEof) pen_left (step_2d_shrinks strict columns reference) (λ pen line. IsBeforeZeros pen
+      → is_short line ≡ false) (λ pen line e left. subst (GoesOrEnds IsBeforeZeros) e (drew_2d_known reference pen left))
       (λ pen p line e on left. on (subst (GoesOrEnds IsBeforeZeros) e (drew_2d_known reference pen left))) (suc (length here))
       (start here) (omega arith) zeros
 
@@ -192,13 +180,10 @@ eol_ends_line settings reference fill behind = by_encoding settings.encoding fil
     by_encoding Group3_2D (false ∷ fill) = grind (arith, common_steps, line_2d_known, append_assoc, scan_holds)
     by_encoding Group4 fill = grind (arith, common_steps, line_2d_known, append_assoc, scan_holds)
 
-same_shortness : (more : Bits) (line : Line) → is_short (line_before more line) ≡ is_short line
-same_shortness more line = grind arith
-
 -- A line that is settled isn't short.
 pub settled_not_short : (settings : DecodeSettings) (reference : Row) (here : Bits) → LineIsSettled settings reference here
     → is_short (line_here settings reference here) ≡ false
-settled_not_short settings reference here settled = sym (same_shortness (replicate 16 false) (line_here settings reference here))
+settled_not_short settings reference here settled = sym (grind (arith, common_steps))
     ∙ sym (ap is_short (settled (replicate 16 false))) ∙ zeros_end_line settings reference here
 
 -- Exactly the lines that aren't short are settled.

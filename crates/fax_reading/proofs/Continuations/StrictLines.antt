@@ -1,13 +1,12 @@
 -- The strict reading of a line that isn't short.
-use Rattle.fax_reading.proofs.Names.{arith, common_steps, ◌≡◌, ℕ, zero, suc, ◌-◌, Bool, true, false, [], ◌∷◌, length, refl}
-use Rattle.fax_reading.proofs.Names.{◌⊎◌, inl, inr, Color, Mode, Pass, Horizontal, Vertical, DecodeSettings, EncodingMode, Group4}
-use Rattle.fax_reading.proofs.Names.{Group3_1D, Group3_2D, UnexpectedEof, Bits, Turn, repeated, Row, opposite}
-use Rattle.fax_reading.proofs.Names.{paint, Line, Pen, Drawing, start, draw_1d, draw_2d, draw_mode, draw_run, go_on}
-use Rattle.fax_reading.proofs.Names.{mode_here, run_here, painted, painted_to, place_by, unless_fault, unless_full, turn_behind}
-use Rattle.fax_reading.proofs.Names.{◌>>=◌, line_by, line_here, line_1d, line_2d, LineIsSettled, is_short}
+use Rattle.fax_reading.proofs.Names.{arith, common_steps, ◌≡◌, ℕ, zero, suc, Bool, true, false, [], ◌∷◌, length, refl, ◌⊎◌}
+use Rattle.fax_reading.proofs.Names.{inl, inr, Color, Mode, Pass, Horizontal, Vertical, DecodeSettings, EncodingMode, Group4}
+use Rattle.fax_reading.proofs.Names.{Group3_1D, Group3_2D, UnexpectedEof, Bits, Turn, repeated, Row, opposite, paint, Line, Pen}
+use Rattle.fax_reading.proofs.Names.{Drawing, start, draw_1d, draw_2d, draw_mode, draw_run, go_on, mode_here, run_here, painted}
+use Rattle.fax_reading.proofs.Names.{unless_fault, unless_full, turn_behind, ◌>>=◌, line_by, line_here}
+use Rattle.fax_reading.proofs.Names.{line_1d, line_2d, LineIsSettled, is_short, too_many_pixels}
 use Rattle.fax_reading.specs.Laws.{strictly}
 use Rattle.fax_reading.proofs.Continuations.LinesContinued.{line_settled}
-use Rattle.fax_reading.proofs.Names.{too_many_pixels}
 
 -- a turn of the strict reading is the same, or a run that is too long ends its line
 abbrev pub IsStricter : {A : Type 0} → Turn A Line → Turn A Line → Type 0
@@ -27,9 +26,8 @@ strict_paint strict columns front color n = grind arith
 module _ (strict : Bool) (columns : ℕ) where
   strict_run : (pen : Pen) → IsStricter (draw_run true columns pen).turn (draw_run strict columns pen).turn
   strict_run pen = strict_behind (run_here pen).turn (run_here pen).turn (λ run. (drew true run).turn)
-      (λ run. (drew strict run).turn) (inl refl) (λ run. strict_behind (painted true columns pen run.0).turn
-      (painted strict columns pen run.0).turn
-      (λ front. Turn.next (record { front = front; color = opposite pen.color; rest = run.1 }))
+      (λ run. (drew strict run).turn) (inl refl) (λ run. strict_behind (painted true columns pen run.0).turn (painted strict
+      columns pen run.0).turn (λ front. Turn.next (record { front = front; color = opposite pen.color; rest = run.1 }))
       (λ front. Turn.next (record { front = front; color = opposite pen.color; rest = run.1 }))
       (strict_paint strict columns pen.front pen.color run.0) (λ front. inl refl))
     where
@@ -42,16 +40,7 @@ module _ (strict : Bool) (columns : ℕ) where
   strict_mode reference pen Pass = grind (arith, common_steps, strict_behind, strict_paint)
   strict_mode reference pen Horizontal = strict_behind (draw_run true columns pen).turn (draw_run strict columns pen).turn
       (λ p. (draw_run true columns p).turn) (λ p. (draw_run strict columns p).turn) (strict_run pen) strict_run
-  strict_mode reference pen (Vertical k) =
-      strict_behind (place_by reference pen k).turn (place_by reference pen k).turn (λ place. (drew true place).turn)
-      (λ place. (drew strict place).turn) (inl refl) (λ place. strict_behind (painted_to true columns pen place).turn
-      (painted_to strict columns pen place).turn (λ front. Turn.next (record pen { front = front; color = opposite pen.color }))
-      (λ front. Turn.next (record pen { front = front; color = opposite pen.color }))
-      (strict_paint strict columns pen.front pen.color (place - length pen.front)) (λ front. inl refl))
-    where
-      drew : Bool → ℕ → Drawing Pen
-      drew exact place = painted_to exact columns pen place
-          >>= (λ front. go_on (record pen { front = front; color = opposite pen.color }))
+  strict_mode reference pen (Vertical k) = grind (arith, common_steps, strict_behind, strict_paint)
 
   strict_1d : (pen : Pen) → IsStricter (draw_1d true columns pen).turn (draw_1d strict columns pen).turn
   strict_1d pen = strict_behind (unless_full columns pen).turn (unless_full columns pen).turn

@@ -1,16 +1,13 @@
 -- Code words and runs where more bits follow.
 use Rattle.fax_reading.proofs.Names.{common_steps, ◌≡◌, ℕ, zero, suc, ◌-◌, ◌<◌, Bool, true, false, List, [], ◌∷◌, ◌++◌, length}
 use Rattle.fax_reading.proofs.Names.{take, Result, Ok, Err, refl, sym, ap, ◌∙◌, append_assoc, arith, inl, inr, cases_lt}
-use Rattle.fax_reading.proofs.Names.{false≢true, Color, DecodeError, UnexpectedEof, InvalidCode}
-use Rattle.fax_reading.proofs.Names.{Bits, Code, is_prefix_free, read_code, Turn, repeated, gathered}
-use Rattle.fax_reading.proofs.Names.{codes_of, run_turn, run_from, run_found, run_gives, word_found, misses_end}
+use Rattle.fax_reading.proofs.Names.{false≢true, Color, DecodeError, UnexpectedEof, InvalidCode, Bits, Code, is_prefix_free}
+use Rattle.fax_reading.proofs.Names.{read_code, Turn, repeated, gathered, codes_of, run_turn, run_from, run_found, run_gives}
+use Rattle.fax_reading.proofs.Names.{word_found, misses_end}
 use Rattle.fax_bits.specs.CodeReading.{NoneStands, IsCut, ReadsCodes}
 use Rattle.fax_bits.proofs.BitReading.ZerosInWords.{prefix_of_prefix, codes_free}
-use Rattle.fax_bits.proofs.CodeWords.CodeReadings.{reads_codes}
-use Rattle.fax_bits.proofs.CodeWords.ReadCodes.{cases_reading}
-use Rattle.fax_bits.proofs.CodeWords.ReadRuns.{run_shrinks, size}
-use Rattle.fax_bits.proofs.Repetition.Gathered.{gathered_after}
-use Rattle.fax_bits.proofs.Repetition.Repeated.{Shrinks, after_turn}
+use Rattle.fax_bits.proofs.CodeWords.{CodeReadings.reads_codes, ReadCodes.cases_reading, ReadRuns.run_shrinks, ReadRuns.size}
+use Rattle.fax_bits.proofs.Repetition.{Gathered.gathered_after, Repeated.Shrinks, Repeated.after_turn}
 
 -- ---- Repetitions whose states go on where more follows
 
@@ -29,9 +26,8 @@ abbrev pub StepGoesOn : {S R A : Type 0} → (S → Turn S R) → (S → List A)
 StepGoesOn {S} step gives on ends waits = (s : S) → turn_waits waits (step s) ≡ false
     → (step (on s) ≡ turn_on on ends (step s)) × (gives (on s) ≡ gives s)
 
-module _ {S R A : Type 0} (step : S → Turn S R) (gives : S → List A) (late : R) (size_of : S → ℕ)
-    (shrinks : Shrinks step size_of) (on : S → S) (ends : R → R) (waits : R → Bool)
-    (goes : StepGoesOn step gives on ends waits) where
+module _ {S R A : Type 0} (step : S → Turn S R) (gives : S → List A) (late : R) (size_of : S → ℕ) (shrinks : Shrinks step size_of)
+    (on : S → S) (ends : R → R) (waits : R → Bool) (goes : StepGoesOn step gives on ends waits) where
   -- what comes of the repetition of such a step, and what its turns yield, is the same from a state that goes on
   pub repeated_on : (n m : ℕ) (s : S) → size_of s < n → size_of (on s) < m → waits (repeated step late n s) ≡ false
       → (repeated step late m (on s) ≡ ends (repeated step late n s)) × (gathered step gives m (on s) ≡ gathered step gives n s)
@@ -40,15 +36,12 @@ module _ {S R A : Type 0} (step : S → Turn S R) (gives : S → List A) (late :
   repeated_on (suc n) (suc m) s lt other_lt known =
       by_step (λ t small other k. repeated_on n m t small other k) (step s) refl known
     where
-      by_step : ((t : S) → size_of t < n → size_of (on t) < m → waits (repeated step late n t) ≡ false
-          → (repeated step late m (on t) ≡ ends (repeated step late n t))
-          × (gathered step gives m (on t) ≡ gathered step gives n t)) → (turn : Turn S R) → step s ≡ turn
-          → waits (after_turn (repeated step late n) turn) ≡ false
-          → (after_turn (repeated step late m) (step (on s)) ≡ ends (after_turn (repeated step late n) turn))
-          × (gives (on s) ++ gathered_after (gathered step gives m) (step (on s))
-          ≡ gives s ++ gathered_after (gathered step gives n) turn)
-      by_step later (Turn.next t) e k =
-          let a = goes s (ap (turn_waits waits) e) in
+      by_step : ((t : S) → size_of t < n → size_of (on t) < m → waits (repeated step late n t) ≡ false → (repeated step late m
+          (on t) ≡ ends (repeated step late n t)) × (gathered step gives m (on t) ≡ gathered step gives n t)) → (turn : Turn S R)
+          → step s ≡ turn → waits (after_turn (repeated step late n) turn) ≡ false
+          → (after_turn (repeated step late m) (step (on s)) ≡ ends (after_turn (repeated step late n) turn)) × (gives (on s)
+          ++ gathered_after (gathered step gives m) (step (on s)) ≡ gives s ++ gathered_after (gathered step gives n) turn)
+      by_step later (Turn.next t) e k = let a = goes s (ap (turn_waits waits) e) in
           let there : step (on s) ≡ Turn.next (on t) = a.0 ∙ ap (turn_on on ends) e in
           grind arith
       by_step later (Turn.done r) e k = grind (arith, common_steps)
@@ -88,22 +81,18 @@ module _ {V : Type 0} (list : List (Code V)) (free : is_prefix_free list ≡ tru
   uncut_further uncut (v, w, has, begins) = grind (arith, common_steps, append_assoc)
 
   -- A word that is found stays, and a wrong code stays wrong. Only where the end is missing can more bits change what is read.
-  pub code_continues : result_waits (read_code list here) ≡ false
-      → (read_code list (here ++ more) ≡ result_on (rest_on more) (read_code list here))
-      × (word_found list (here ++ more) ≡ word_found list here)
+  pub code_continues : result_waits (read_code list here) ≡ false → (read_code list (here ++ more)
+      ≡ result_on (rest_on more) (read_code list here)) × (word_found list (here ++ more) ≡ word_found list here)
   code_continues known = by_read_code (read_code list here) refl known
     where
       by_read_code : (r : Result (V × Bits) DecodeError) → read_code list here ≡ r → result_waits r ≡ false
           → (read_code list (here ++ more) ≡ result_on (rest_on more) r)
           × (word_of (here ++ more) (read_code list (here ++ more)) ≡ word_of here r)
-      by_read_code (Ok (v, rest)) e k =
-          let again = codes.alone here v rest more e in
-          grind (arith, common_steps, append_assoc)
+      by_read_code (Ok (v, rest)) e k = let again = codes.alone here v rest more e in grind (arith, common_steps, append_assoc)
       by_read_code (Err fault) e k = elim (cases_reading list here (Err fault) e) [
         | inl found ↦ absurd cc
         | inr (inl cut) ↦ let is : fault ≡ UnexpectedEof = cc in absurd (false≢true (sym k ∙ ap misses_end is))
-        | inr (inr none) ↦
-            let is : fault ≡ InvalidCode = cc in
+        | inr (inr none) ↦ let is : fault ≡ InvalidCode = cc in
             let wrong = (codes.wrong here).0 (e ∙ ap Err is) in
             let again = (codes.wrong (here ++ more)).1 (none_further wrong.0 wrong.1, uncut_further wrong.1) ∙ ap Err (sym is) in
             (again, ap (word_of (here ++ more)) again)

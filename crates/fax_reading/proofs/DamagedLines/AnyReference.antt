@@ -1,23 +1,20 @@
 -- A two-dimensional line, read against any reference row: it ends behind one of its modes or is broken, so that the next
 -- EOL is the one behind it.
 use Rattle.fax_reading.proofs.PixelRows.ReferencePlaces.{opposite_twice}
-use Rattle.fax_reading.proofs.Names.{◌≡◌, ℕ, suc, ◌+◌, ◌-◌, ◌≤◌, Bool, true, false, [], ◌∷◌, ◌++◌, length, replicate, Option}
-use Rattle.fax_reading.proofs.Names.{Some, None, Ok, Err, refl, sym, ap, subst, ◌∙◌, append_assoc, arith, ◌⊎◌, inl, inr, cases_lt}
-use Rattle.fax_reading.proofs.Names.{lt-ltb, le-ltb, lt-leb, length-append, replicate-append-replicate, Color, White, Mode, Pass}
-use Rattle.fax_reading.proofs.Names.{Horizontal, Vertical, DecodeError, UnexpectedEof, InvalidCode, Overflow, Bits, mode_codes}
-use Rattle.fax_reading.proofs.Names.{Has, read_code, Turn, Row, opposite, paint, codes_of, run_from, read_run, Line, Pen, start}
-use Rattle.fax_reading.proofs.Names.{line_2d, line_by, line_here, EncodingMode, Group3_2D, DecodeSettings, Step, Spells}
-use Rattle.fax_reading.proofs.Names.{EncodesLine2D, after_eol, ReadsModes, behind_mode, behind_read, behind_first_run}
-use Rattle.fax_reading.proofs.Names.{behind_second_run, common_steps}
-use Rattle.fax_reading.proofs.DamagedLines.PastEol.{past}
-use Rattle.fax_bits.proofs.CodeWords.ReadCodes.{read_code_again}
+use Rattle.fax_reading.proofs.Names.{◌≡◌, ℕ, suc, ◌+◌, ◌-◌, ◌≤◌, Bool, true, false, [], ◌∷◌, ◌++◌, length, Option, Some, None, Ok}
+use Rattle.fax_reading.proofs.Names.{Err, refl, sym, ap, subst, ◌∙◌, append_assoc, arith, ◌⊎◌, inl, inr, cases_lt, lt-ltb, le-ltb}
+use Rattle.fax_reading.proofs.Names.{lt-leb, length-append, replicate-append-replicate, Color, White, Mode, Pass, Horizontal, Has}
+use Rattle.fax_reading.proofs.Names.{Vertical, DecodeError, UnexpectedEof, InvalidCode, Overflow, Bits, mode_codes, read_code}
+use Rattle.fax_reading.proofs.Names.{Turn, Row, opposite, paint, codes_of, run_from, read_run, Line, Pen, start, line_2d, line_by}
+use Rattle.fax_reading.proofs.Names.{line_here, EncodingMode, Group3_2D, DecodeSettings, Step, Spells, EncodesLine2D, after_eol}
+use Rattle.fax_reading.proofs.Names.{ReadsModes, behind_mode, behind_read, behind_first_run, common_steps}
 use Rattle.fax_bits.proofs.Repetition.Repeated.{repeated_keeps, next_is}
 use Rattle.fax_bits.proofs.BitReading.ZerosInWords.{scan, is_quiet, scan_below, scan-append, quiet_is, word_quiet, codes_free}
 use Rattle.fax_bits.proofs.BitReading.ZerosInWords.{modes_free}
-use Rattle.fax_bits.proofs.CodeWords.ReadRuns.{run_passes, run_ends, run_goes_on}
-use Rattle.fax_reading.proofs.DamagedLines.LineTails.{after_eol_is}
 use Rattle.fax_reading.proofs.DrawingLines.Drawings.{try, run_then, mode_step, step_2d, step_2d_is, horizontal_is}
 use Rattle.fax_reading.proofs.DrawingLines.ReadLines.{try_next, unless_full_next, try_goes_on, draw_mode_goes_on, full_by}
+use Rattle.fax_reading.proofs.DamagedLines.{PastEol.past, LineTails.after_eol_is}
+use Rattle.fax_bits.proofs.CodeWords.{ReadCodes.read_code_again, ReadRuns.run_passes, ReadRuns.run_ends, ReadRuns.run_goes_on}
 
 -- ---- Words contain no EOL
 
@@ -35,9 +32,7 @@ quiet_word : (word : Bits) → is_quiet word ≡ true → Quiet word
 quiet_word word quiet n le = grind (arith, common_steps, quiet_is (scan 3 word) quiet, scan_below n 3)
 
 pub quiet_append : (a b : Bits) → Quiet a → Quiet b → Quiet (a ++ b)
-quiet_append a b p q n le =
-    let f = p n le in
-    grind (arith, common_steps, scan-append n f.0 a b f.1)
+quiet_append a b p q n le = let f = p n le in grind (arith, common_steps, scan-append n f.0 a b f.1)
 
 pub quiet_run : (color : Color) (n : ℕ) (bits : Bits) → Spells color n bits → Quiet bits
 quiet_run color n bits (Spells.terminating m word has small) = quiet_word bits (word_quiet bits (inl (color, n, has)))
@@ -55,9 +50,8 @@ quiet_line reference row from color bits (EncodesLine2D.pass from2 word {bits = 
     quiet_append word next (quiet_mode Pass word has) (quiet_line reference row _ color next steps)
 quiet_line reference row from color bits (EncodesLine2D.vertical from2 word k {bits = next} inside has exact steps) =
     quiet_append word next (quiet_mode (Vertical k) word has) (quiet_line reference row _ (opposite color) next steps)
-quiet_line reference row from color bits
-    (EncodesLine2D.horizontal from2 word {first = run1} {second = run2} {bits = next} inside has spells1 spells2 steps) =
-    quiet_append word (run1 ++ (run2 ++ next)) (quiet_mode Horizontal word has)
+quiet_line reference row from color bits (EncodesLine2D.horizontal from2 word {first = run1} {second = run2} {bits = next} inside
+    has spells1 spells2 steps) = quiet_append word (run1 ++ (run2 ++ next)) (quiet_mode Horizontal word has)
     (quiet_append run1 (run2 ++ next) (quiet_run color _ run1 spells1)
     (quiet_append run2 next (quiet_run (opposite color) _ run2 spells2) (quiet_line reference row _ color next steps)))
 
@@ -73,12 +67,11 @@ spelled_is_read color n bits total more (Spells.terminating m word has small) =
     ]
 spelled_is_read color n bits total more (Spells.makeup m word {n = k} {bits = next} has large rest) =
     let here : (word ++ next) ++ more ≡ word ++ (next ++ more) = append_assoc word next more in
-    let read : read_code (codes_of color) ((word ++ next) ++ more) ≡ Ok (m, next ++ more)
-    = ap (read_code (codes_of color)) here ∙ read_code_again (codes_of color) m word (next ++ more) (codes_free color) has in
+    let read : read_code (codes_of color)
+    ((word ++ next) ++ more) ≡ Ok (m, next ++ more) = grind (arith, common_steps, read_code_again, codes_free) in
     elim (cases_lt 4294967295 (total + m)) [
       | inl big ↦ inr (Overflow, run_passes color total m ((word ++ next) ++ more) (next ++ more) read big)
-      | inr fits ↦
-          grind (arith, spelled_is_read color k next (total + m) more rest, run_goes_on)
+      | inr fits ↦ grind (arith, spelled_is_read color k next (total + m) more rest, run_goes_on)
     ]
 
 -- ---- Modes that are read
@@ -104,10 +97,8 @@ pen_with front color rest = record { front = front; color = color; rest = rest }
 run_was_read : (strict : Bool) (columns : ℕ) (pen : Pen) (f : Pen → Step) (t : Pen) → run_then strict columns pen f ≡ Turn.next t
     → (n : ℕ) × (front : Row) × (rest : Bits) × (read_run pen.color pen.rest ≡ Ok (n, rest))
     × (f (pen_with front (opposite pen.color) rest) ≡ Turn.next t)
-run_was_read strict columns pen f t e =
-    let a = try_next pen.front (run_from pen.color (0, pen.rest))
-    (λ run. try pen.front (paint strict columns pen.front pen.color run.0)
-    (λ front. f (pen_with front (opposite pen.color) run.1))) t e in
+run_was_read strict columns pen f t e = let a = try_next pen.front (run_from pen.color (0, pen.rest)) (λ run. try pen.front
+    (paint strict columns pen.front pen.color run.0) (λ front. f (pen_with front (opposite pen.color) run.1))) t e in
     let b = try_next pen.front (paint strict columns pen.front pen.color a.0.0)
     (λ front. f (pen_with front (opposite pen.color) a.0.1)) t a.2 in
     (a.0.0, b.0, a.0.1, a.1, b.2)
@@ -118,28 +109,22 @@ module _ (strict : Bool) (columns : ℕ) (other : Row) where
 
   -- a mode that was drawn was read
   mode_on : (front : Row) (color : Color) (here last : Bits) (mode : Mode) (rest : Bits) (t : Pen)
-      → read_code mode_codes here ≡ Ok (mode, rest)
-      → mode_step strict columns other (pen_with front color rest) mode ≡ Turn.next t → reads_at t last
-      → ReadsModes color here last
+      → read_code mode_codes here ≡ Ok (mode, rest) → mode_step strict columns other
+      (pen_with front color rest) mode ≡ Turn.next t → reads_at t last → ReadsModes color here last
   mode_on front color here last Pass rest t read e reads =
       let a = try_next front _ (λ more. Turn.next (pen_with more color rest)) t e in
       ReadsModes.mode color rest (ap (behind_read color) read)
       (subst (λ (p : Pen). reads_at p last) {y = pen_with a.0 color rest} (sym (next_is _ t a.2)) reads)
-  mode_on front color here last (Vertical k) rest t read e reads =
-      let a = try_next front _ (λ place. try front (paint strict columns front color (place - length front))
-      (λ more. Turn.next (pen_with more (opposite color) rest))) t e in
+  mode_on front color here last (Vertical k) rest t read e reads = let a = try_next front _ (λ place. try front
+      (paint strict columns front color (place - length front)) (λ more. Turn.next (pen_with more (opposite color) rest))) t e in
       let b = try_next front _ (λ more. Turn.next (pen_with more (opposite color) rest)) t a.2 in
       ReadsModes.mode (opposite color) rest (ap (behind_read color) read)
       (subst (λ (p : Pen). reads_at p last) {y = pen_with b.0 (opposite color) rest} (sym (next_is _ t b.2)) reads)
-  mode_on front color here last Horizontal rest t read e reads =
-      let one = run_was_read strict columns (pen_with front color rest) (λ p. run_then strict columns p Turn.next) t
-      (horizontal_is strict columns other (pen_with front color rest) ∙ e) in
+  mode_on front color here last Horizontal rest t read e reads = let one = run_was_read strict columns (pen_with front color rest)
+      (λ p. run_then strict columns p Turn.next) t (horizontal_is strict columns other (pen_with front color rest) ∙ e) in
       let two = run_was_read strict columns (pen_with one.1 (opposite color) one.2) Turn.next t one.4 in
-      ReadsModes.mode color two.2
-      (ap (behind_read color) read ∙ ap (behind_first_run color) one.3 ∙ ap (behind_second_run color) two.3)
-      (subst (λ (c : Color). ReadsModes c two.2 last) (opposite_twice color)
-      (subst (λ (p : Pen). reads_at p last) {y = pen_with two.1 (opposite (opposite color)) two.2} (sym (next_is _ t two.4))
-      reads))
+      ReadsModes.mode color two.2 (grind (arith, common_steps))
+      (subst (λ (c : Color). ReadsModes c two.2 last) (opposite_twice color) (grind (arith, common_steps)))
 
   abbrev Keeps : Bits → Pen → Type 0
   Keeps here pen = (last : Bits) → reads_at pen last → ReadsModes White here last
@@ -153,8 +138,7 @@ module _ (strict : Bool) (columns : ℕ) (other : Row) where
       (λ mode. mode_step strict columns other (pen_with pen.front pen.color mode.1) mode.0)
 
   keeps : (here : Bits) (s t : Pen) → Keeps here s → step_2d strict columns other s ≡ Turn.next t → Keeps here t
-  keeps here s t kept e last reads =
-      let a = try_next s.front (read_code mode_codes s.rest)
+  keeps here s t kept e last reads = let a = try_next s.front (read_code mode_codes s.rest)
       (λ mode. mode_step strict columns other (pen_with s.front s.color mode.1) mode.0) t
       (unless_full_next columns s (mode_here s) t (sym (step_2d_is strict columns other s) ∙ e)) in
       kept last (mode_on s.front s.color s.rest last a.0.0 a.0.1 t a.1 a.2 reads)
@@ -162,21 +146,17 @@ module _ (strict : Bool) (columns : ℕ) (other : Row) where
   ends : (here : Bits) (s : Pen) (line : Line) → Keeps here s → step_2d strict columns other s ≡ Turn.done line
       → EndsBehind here line
   ends here s (Line.broken front fault) kept e = tt
-  ends here s (Line.whole row rest) kept e =
-      let f = full_by columns s (mode_here s) row rest
-      (try_goes_on s.front (read_code mode_codes s.rest) _
-      (λ mode. draw_mode_goes_on strict columns other (pen_with s.front s.color mode.1) mode.0))
-      (sym (step_2d_is strict columns other s) ∙ e) in
-      let there : s.rest ≡ rest = let w = f.1 in cc in
+  ends here s (Line.whole row rest) kept e = let f = full_by columns s (mode_here s) row rest
+      (grind (arith, common_steps, try_goes_on, draw_mode_goes_on)) (sym (step_2d_is strict columns other s) ∙ e) in
+      let there : s.rest ≡ rest = grind (arith, common_steps) in
       subst (ReadsModes White here) there (kept s.rest ReadsModes.over)
 
   -- Whatever row it is read against, its modes were read up to where it ends.
   pub modes_read : (here : Bits) (row : Row) (rest : Bits) → line_2d strict columns other here ≡ Line.whole row rest
       → ReadsModes White here rest
   modes_read here row rest e =
-      subst (EndsBehind here) e
-      (repeated_keeps (step_2d strict columns other) (Line.broken [] UnexpectedEof) (Keeps here) (EndsBehind here) tt (keeps here)
-      (ends here) (suc (length here)) (start here) (λ last reads. reads))
+      subst (EndsBehind here) e (repeated_keeps (step_2d strict columns other) (Line.broken [] UnexpectedEof) (Keeps here)
+      (EndsBehind here) tt (keeps here) (ends here) (suc (length here)) (start here) (λ last reads. reads))
 
 -- ---- A line of an encoding
 
@@ -198,52 +178,28 @@ runs_are color n m run1 run2 more spells1 spells2 = grind (arith, common_steps, 
 encoded_from : (reference row : Row) (from : ℕ) (color : Color) (bits tail rest : Bits) → EncodesLine2D reference row from color
     bits → read_code mode_codes tail ≡ Err InvalidCode → ReadsModes color (bits ++ tail) rest → length tail ≤ length rest
 encoded_from reference row from color bits tail rest EncodesLine2D.over none reads = grind (arith, common_steps, left_behind)
-encoded_from reference row from color bits tail rest (EncodesLine2D.pass from2 word {bits = next} inside has left_of steps)
-    none reads =
-    grind (arith, encoded_from reference row _ color next tail rest steps none, mode_is, left_behind, long)
-encoded_from reference row from color bits tail rest
-    (EncodesLine2D.vertical from2 word k {bits = next} inside has exact steps) none reads =
-    elim (subst (LeftBehind ((word ++ next) ++ tail) rest) (ap (behind_read color) (mode_is (Vertical k) word next tail has))
-    (left_behind color ((word ++ next) ++ tail) rest reads)) [
+encoded_from reference row from color bits tail rest (EncodesLine2D.pass from2 word {bits = next} inside has left_of steps) none
+    reads = grind (arith, encoded_from reference row _ color next tail rest steps none, mode_is, left_behind, long)
+encoded_from reference row from color bits tail rest (EncodesLine2D.vertical from2 word k {bits = next} inside has exact steps)
+    none reads = elim (subst (LeftBehind ((word ++ next) ++ tail) rest)
+    (ap (behind_read color) (mode_is (Vertical k) word next tail has)) (left_behind color ((word ++ next) ++ tail) rest reads)) [
       | inl e ↦ long (word ++ next) tail rest e
       | inr more ↦ encoded_from reference row _ (opposite color) next tail rest steps none more
     ]
-encoded_from reference row from color bits tail rest
-    (EncodesLine2D.horizontal from2 word {first = run1} {second = run2} {bits = next} inside has spells1 spells2 steps) none
-    reads =
-    grind (
-      arith,
-      encoded_from reference row _ color next tail rest steps none,
-      append_assoc,
-      mode_is,
-      left_behind,
-      runs_are,
-      long,
-    )
-
--- an EOL begins with eleven zeros, which are no mode
-no_mode_at_eol : (next after : Bits) → after_eol 0 next ≡ Some after → read_code mode_codes next ≡ Err InvalidCode
-no_mode_at_eol next after e =
-    let eol = after_eol_is 0 next after e in
-    let sum : 11 + (eol.0 - 11) ≡ eol.0 = omega (arith, eol.2) in
-    ap (read_code mode_codes) (
-    eol.1 ∙ ap (λ (n : ℕ). replicate n false ++ true ∷ after) (sym sum)
-    ∙ ap (λ (b : Bits). b ++ true ∷ after) (sym (replicate-append-replicate 11 (eol.0 - 11) false))
-    ∙ append_assoc (replicate 11 false) (replicate (eol.0 - 11) false) (true ∷ after)
-    )
+encoded_from reference row from color bits tail rest (EncodesLine2D.horizontal from2 word {first = run1} {second = run2}
+    {bits = next} inside has spells1 spells2 steps) none reads = grind
+    (arith, encoded_from reference row _ color next tail rest steps none, append_assoc, mode_is, left_behind, runs_are, long)
 
 -- its modes end before the EOL behind it
 pub encoded_ends : (reference row : Row) (line next after rest : Bits) → EncodesLine2D reference row 0 White line
     → after_eol 0 next ≡ Some after → ReadsModes White (line ++ next) rest → length next ≤ length rest
-encoded_ends reference row line next after rest encodes eol reads =
-    encoded_from reference row 0 White line next rest encodes (no_mode_at_eol next after eol) reads
+encoded_ends reference row line next after rest encodes eol reads = encoded_from reference row 0 White line next rest encodes
+    (grind (arith, common_steps, after_eol_is, replicate-append-replicate, append_assoc)) reads
 
 -- a whole line leaves that EOL, whatever row it is read against
-pub leaves_next : (settings : DecodeSettings) → settings.encoding ≡ Group3_2D
-    → (other reference row : Row) (line next after : Bits)
-    → EncodesLine2D reference row 0 White line → after_eol 0 next ≡ Some after → (read : Row) (rest : Bits)
-    → line_here settings other (false ∷ line ++ next) ≡ Line.whole read rest → length next ≤ length rest
-leaves_next settings encoding other reference row line next after encodes eol read rest e =
-    encoded_ends reference row line next after rest encodes eol
-    (modes_read settings.strict settings.columns other (line ++ next) read rest
+pub leaves_next : (settings : DecodeSettings) → settings.encoding ≡ Group3_2D → (other reference row : Row)
+    (line next after : Bits) → EncodesLine2D reference row 0 White line → after_eol 0 next ≡ Some after → (read : Row)
+    (rest : Bits) → line_here settings other (false ∷ line ++ next) ≡ Line.whole read rest → length next ≤ length rest
+leaves_next settings encoding other reference row line next after encodes eol read rest e = encoded_ends reference row line next
+    after rest encodes eol (modes_read settings.strict settings.columns other (line ++ next) read rest
     (sym (ap (λ (e : EncodingMode). line_by e settings.strict settings.columns other (false ∷ line ++ next)) encoding) ∙ e))

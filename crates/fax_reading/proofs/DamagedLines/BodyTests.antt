@@ -1,16 +1,13 @@
 -- The tests of a local body, as they are made.
-use Rattle.fax_reading.proofs.DamagedLines.LineStarts.{not_some}
-use Rattle.fax_reading.proofs.Names.{◌≡◌, ◌≢◌, ℕ, zero, suc, ◌+◌, ◌-◌, ◌<◌, ◌≤◌, ◌⊎◌, Bool, true, false, eqb, ltb, leb, []}
-use Rattle.fax_reading.proofs.Names.{◌∷◌, ◌++◌, length, take, drop, replicate, Option, Some, None, Err, IsTrue, refl, sym, ap}
-use Rattle.fax_reading.proofs.Names.{subst, ◌∙◌, arith, ◌↔◌, is_some, cases_lt, lt-ltb, le-leb, lt-leb, ltb-true}
-use Rattle.fax_reading.proofs.Names.{leb-true, eqb-true, eq-eqb, none-some, length-append, length-drop}
-use Rattle.fax_reading.proofs.Names.{take-append-drop, drop-drop, DecodeError, OutOfMemory, DecodeSettings, Group3_1D, DrawsLine}
-use Rattle.fax_reading.proofs.Names.{line_from_1d, Bits, BitsAt, here, leading_zeros, Held, fresh, after_eol, next_eol, Line}
-use Rattle.fax_reading.proofs.Names.{line_1d, EndsBefore, IsLocal, Row, common_steps}
-use Rattle.fax_reading.proofs.DamagedLines.LinesByEols.{past_shorter}
+use Rattle.fax_reading.proofs.Names.{◌≡◌, ◌≢◌, ℕ, zero, suc, ◌+◌, ◌-◌, ◌<◌, ◌≤◌, ◌⊎◌, Bool, true, false, eqb, ltb, leb, [], ◌∷◌}
+use Rattle.fax_reading.proofs.Names.{◌++◌, length, take, drop, replicate, Option, Some, None, Err, IsTrue, refl, sym, ap, subst}
+use Rattle.fax_reading.proofs.Names.{◌∙◌, arith, ◌↔◌, is_some, cases_lt, lt-ltb, le-leb, lt-leb, ltb-true, leb-true, eqb-true}
+use Rattle.fax_reading.proofs.Names.{eq-eqb, none-some, length-append, length-drop, take-append-drop, drop-drop, DecodeError, Row}
+use Rattle.fax_reading.proofs.Names.{OutOfMemory, DecodeSettings, Group3_1D, DrawsLine, line_from_1d, Bits, BitsAt, here, Held}
+use Rattle.fax_reading.proofs.Names.{leading_zeros, fresh, after_eol, next_eol, Line, line_1d, EndsBefore, IsLocal, common_steps}
 use Rattle.fax_bits.proofs.BitReading.ConsecutiveEols.{next_eol_found}
-use Rattle.fax_reading.proofs.DamagedLines.LocalByTests.{local_by_tests}
 use Rattle.fax_reading.proofs.DamagedLines.PastEol.{past, past_is, then_after}
+use Rattle.fax_reading.proofs.DamagedLines.{LineStarts.not_some, LinesByEols.past_shorter, LocalByTests.local_by_tests}
 
 -- ---- An EOL before a position.
 -- the EOL of the twelve bits before a position ends there

@@ -1,9 +1,8 @@
 -- What the tests of a body look at.
-use Rattle.fax_reading.proofs.Names.{◌≡◌, ℕ, zero, suc, ◌+◌, ◌-◌, ◌*◌, ◌≤◌, true, false, List, [], ◌∷◌, length, drop}
-use Rattle.fax_reading.proofs.Names.{Option, Some, None, refl, sym, ap, ◌∙◌, arith, none-some, length-drop, drop-drop, Bits}
-use Rattle.fax_reading.proofs.Names.{after_eol, next_eol, looked, common_steps}
-use Rattle.fax_bits.proofs.BitReading.SoughtEols.{next_eol-here}
-use Rattle.fax_bits.proofs.BitReading.ConsecutiveEols.{next_eol_found}
+use Rattle.fax_reading.proofs.Names.{◌≡◌, ℕ, zero, suc, ◌+◌, ◌-◌, ◌*◌, ◌≤◌, true, false, List, [], ◌∷◌, length, drop, Option}
+use Rattle.fax_reading.proofs.Names.{Some, None, refl, sym, ap, ◌∙◌, arith, none-some, length-drop, drop-drop, Bits, after_eol}
+use Rattle.fax_reading.proofs.Names.{next_eol, looked, common_steps}
+use Rattle.fax_bits.proofs.BitReading.{SoughtEols.next_eol-here, ConsecutiveEols.next_eol_found}
 
 -- further on no fewer bits are looked at but for those between
 looked_further : (k : ℕ) (here : Bits) → looked here ≤ k + looked (drop k here)
@@ -43,19 +42,13 @@ module _ (bits after : Bits) (from to : ℕ) (order : from ≤ to) (within : to 
   pub sought_work : (place before sought read : ℕ) → place ≤ length bits → next_eol (drop from bits) ≡ Some (drop place bits)
       → sought + length (drop place bits) ≡ before + length (drop from bits) + looked (drop place bits)
       → read ≡ sought + looked (drop place bits) → (before ≤ read) × (read ≤ before + 2 * (to - from) + 2 * looked (drop to bits))
-  sought_work place before sought read inside next passed again =
-      let both : ◌≡◌ {A = Option Bits} (Some ahead.0) (Some (drop place bits)) = sym ahead.1 ∙ next in
+  sought_work place before sought read inside next passed again = let both : ◌≡◌ {A = Option Bits} (Some ahead.0)
+      (Some (drop place bits)) = sym ahead.1 ∙ next in
       let same : ahead.0 ≡ drop place bits = cc in
-      let near : place ≤ to =
-      omega (arith, ahead.2, ap length same, length-drop place bits, length-drop to bits, inside, within) in
-      grind (
-        arith,
-        common_steps,
-        looked_between bits place to near,
-        length-drop place bits,
-        length-drop from bits,
-        next_eol_found,
-      )
+      let near : place ≤ to = omega
+      (arith, ahead.2, ap length same, length-drop place bits, length-drop to bits, inside, within) in
+      grind
+      (arith, common_steps, looked_between bits place to near, length-drop place bits, length-drop from bits, next_eol_found)
 
 -- the same bound, for the same words and the same count before
 pub same_bound : (now before same : ℕ) (words known : List Bits) → same ≡ before → known ≡ words → now ≤ same + length known + 1

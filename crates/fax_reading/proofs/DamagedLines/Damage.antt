@@ -1,24 +1,23 @@
 -- Damage to one line changes its row alone.
 use Rattle.fax_reading.proofs.Names.{◌≡◌, ℕ, suc, ◌+◌, ◌-◌, ◌*◌, ◌/◌, ◌<◌, ◌≤◌, Bool, true, false, ◌||◌, ltb, List, [], ◌∷◌, ◌++◌}
-use Rattle.fax_reading.proofs.Names.{length, take, drop, None, Some, Result, Ok, Err, refl, sym, ap, subst, ◌∙◌}
-use Rattle.fax_reading.proofs.Names.{append_assoc, arith, ◌⊎◌, inl, inr, cases_lt, cases_eq, or_right, length-append, length-drop}
+use Rattle.fax_reading.proofs.Names.{length, take, drop, None, Some, Result, Ok, Err, refl, sym, ap, subst, ◌∙◌, append_assoc}
+use Rattle.fax_reading.proofs.Names.{arith, ◌⊎◌, inl, inr, cases_lt, cases_eq, or_right, length-append, length-drop}
 use Rattle.fax_reading.proofs.Names.{take-append-drop, append-nil, append_cancel_right, set_at, DecodeError, UnexpectedEof}
 use Rattle.fax_reading.proofs.Names.{Group3_2D, DecodeSettings, Bits, AreWholeBytes, AreSettings, repeated, Reaches, Row}
-use Rattle.fax_reading.proofs.Names.{after_eol, all_eols, line_of_turn, row_before, Progress, Ending, first_line}
-use Rattle.fax_reading.proofs.Names.{move_on, end_of, bytes_before, plain, Reading, IsEol, IsLocal, ComesToLine, OneRowDiffers}
-use Rattle.fax_reading.proofs.Names.{EndsAt, EndAlike, DamageStaysInRow, Locality, IsTagOfLine, common_steps}
+use Rattle.fax_reading.proofs.Names.{after_eol, all_eols, line_of_turn, row_before, Progress, Ending, first_line, move_on, end_of}
+use Rattle.fax_reading.proofs.Names.{bytes_before, plain, Reading, IsEol, IsLocal, OneRowDiffers, EndsAt, EndAlike}
+use Rattle.fax_reading.proofs.Names.{DamageStaysInRow, Locality, IsTagOfLine, common_steps}
 use Rattle.fax_reading.proofs.Readings.GapsAndRows.{end_t4, plain_is}
 use Rattle.fax_bits.proofs.Repetition.Repeated.{reached_follows}
 use Rattle.fax_reading.proofs.DamagedLines.EolsAlike.{Closes, RestAlike, leaves_length, all_eols_alike}
 use Rattle.fax_reading.proofs.DamagedLines.LineTails.{drop_at, eol_closes, is_tail, stays_1d}
-use Rattle.fax_reading.proofs.DamagedLines.LinesByEols.{past_shorter, seeks}
-use Rattle.fax_reading.proofs.DamagedLines.PastEol.{past}
 use Rattle.fax_bits.proofs.BitReading.ConsecutiveEols.{all_eols-none, all_tagged}
 use Rattle.fax_reading.proofs.DamagedLines.RunsAlike.{IsGroup3, not_group4, Settles, RowsAlike, EndsAlike, RunsAlike, IsTail}
 use Rattle.fax_reading.proofs.DamagedLines.RunsAlike.{moves_alike}
 use Rattle.fax_reading.proofs.DamagedLines.SoughtTurns.{sought, rest_of, sought_line_is}
 use Rattle.fax_reading.proofs.DrawingLines.LinesLeaveBits.{LeavesBits, leaves_trans}
 use Rattle.fax_reading.proofs.Readings.TurnsMoveOn.{left_to_read, left_below, move_shrinks}
+use Rattle.fax_reading.proofs.DamagedLines.{LinesByEols.past_shorter, LinesByEols.seeks, PastEol.past}
 
 -- ---- From the ends of two runs to their results
 
@@ -46,12 +45,6 @@ module _ (settings : DecodeSettings) (wide : 0 < settings.columns) (one two : Bi
   Begins rows = Reaches (move_on settings) (first_line settings one) (sought rows x)
       × Reaches (move_on settings) (first_line settings two) (sought rows y)
 
-  pub comes_one : (rows : List Row) → Begins rows → ComesToLine settings one from (length rows)
-  comes_one rows begins = (sought rows x, begins.0, x_is, refl)
-
-  pub comes_two : (rows : List Row) → Begins rows → ComesToLine settings two from (length rows)
-  comes_two rows begins = (sought rows y, begins.1, y_is, refl)
-
   -- what is said of both results
   abbrev Differ : Type 0
   Differ = RowsAlike differ Begins (plain settings one).rows (plain settings two).rows
@@ -74,10 +67,8 @@ module _ (settings : DecodeSettings) (wide : 0 < settings.columns) (one two : Bi
       (rows_differ rows, EndAlike.faults fault (outcome_of one (Err fault) e) (outcome_of two (Err fault) f))
   answers_alike (EndsAlike.early bits short e f rows) =
       let place : ℕ = from - (length bits + 1) in
-      let at_one : place + length (bits ++ true ∷ x) ≡ length one =
-      omega (arith, short, length-append bits (true ∷ x), length_one) in
-      let at_two : place + length (bits ++ true ∷ y) ≡ length two =
-      omega (arith, short, length-append bits (true ∷ y), length_two) in (
+      let at_one : place + length (bits ++ true ∷ x) ≡ length one = grind (arith, common_steps, length-append) in
+      let at_two : place + length (bits ++ true ∷ y) ≡ length two = grind (arith, common_steps, length-append) in (
         rows_differ (inl rows),
         EndAlike.before place ((place + 7) / 8) (omega arith) (ends_at one (bits ++ true ∷ x) place e at_one)
             (ends_at two (bits ++ true ∷ y) place f at_two),
@@ -87,17 +78,14 @@ module _ (settings : DecodeSettings) (wide : 0 < settings.columns) (one two : Bi
     EndAlike.before from ((from + 7) / 8) (omega arith) (ends_at one x from e (sym length_one))
         (ends_at two y from f (sym length_two)),
   )
-  answers_alike (EndsAlike.later rest short e f rows) =
-      let place : ℕ = length one - length rest in
+  answers_alike (EndsAlike.later rest short e f rows) = let place : ℕ = length one - length rest in
       let place2 : ℕ = length two - length rest in
       let at_one : place + length rest ≡ length one = omega (arith, short, past_shorter, length_one) in
       let at_two : place2 + length rest ≡ length two = omega (arith, short, shorter_y, length_two) in
-      let counts : 8 * ((place + 7) / 8) + length two ≡ 8 * ((place2 + 7) / 8) + length one =
-      omega (arith, at_one, at_two, whole_one, whole_two) in (
+      let counts : 8 * ((place + 7) / 8) + length two ≡ 8 * ((place2 + 7) / 8) + length one = grind (arith, common_steps) in (
         rows_differ rows,
-        EndAlike.past place place2 ((place + 7) / 8) ((place2 + 7) / 8) (omega (arith, short, past_shorter, length_one))
-            (omega (arith, short, shorter_y, length_two)) (ends_at one rest place e at_one)
-            (ends_at two rest place2 f at_two) counts,
+        EndAlike.past place place2 ((place + 7) / 8) ((place2 + 7) / 8) (omega (arith, short, past_shorter, length_one)) (omega
+            (arith, short, shorter_y, length_two)) (ends_at one rest place e at_one) (ends_at two rest place2 f at_two) counts,
       )
   answers_alike (EndsAlike.limit before these those u v begins same some few is r q e f le le2) =
       let place : ℕ = length one - length u in
@@ -106,19 +94,9 @@ module _ (settings : DecodeSettings) (wide : 0 < settings.columns) (one two : Bi
       let at_two : place2 + length v ≡ length two = omega (arith, le2, length_two) in
       let many : length (plain settings one).rows ≡ settings.rows
       = ap length (rows_of one ∙ r) ∙ length-append before these ∙ sym is in (
-        rows_differ (inr (
-          before,
-          these,
-          those,
-          [],
-          same,
-          few,
-          r ∙ ap (λ (rows : List Row). before ++ rows) (sym (append-nil these)),
-          q ∙ ap (λ (rows : List Row). before ++ rows) (sym (append-nil those)),
-          begins,
-        )),
-        EndAlike.at_limit (length before) place place2 ((place + 7) / 8) ((place2 + 7) / 8) (comes_one before begins)
-            (comes_two before begins) (omega (arith, is, some)) (omega (arith, is, few)) many (omega (arith, le, length_one))
+        rows_differ (inr (grind (arith, common_steps, append-nil))),
+        EndAlike.at_limit (length before) place place2 ((place + 7) / 8) ((place2 + 7) / 8) (grind (arith, common_steps))
+            (grind (arith, common_steps)) (omega (arith, is, some)) (omega (arith, is, few)) many (omega (arith, le, length_one))
             (omega (arith, le2, length_two)) (ends_at one u place e at_one) (ends_at two v place2 f at_two),
       )
 
@@ -127,8 +105,7 @@ module _ (settings : DecodeSettings) (wide : 0 < settings.columns) (one two : Bi
 -- the bits before a position where an EOL ends: they end with eleven zeros and a one
 ends_eol : (bits : Bits) (from : ℕ) (place : ℕ) → IsEol bits place from → (front : Bits) × Closes front
     × (bits ≡ front ++ true ∷ drop from bits)
-ends_eol bits from place eol =
-    let f = eol_closes (take place bits) (drop place bits) (drop from bits) eol.2 in
+ends_eol bits from place eol = let f = eol_closes (take place bits) (drop place bits) (drop from bits) eol.2 in
     (f.0, f.1, sym (take-append-drop place bits) ∙ f.2)
 
 -- what is known of two data, in both of which a line begins at a position that may be damaged
@@ -186,14 +163,13 @@ module _ (settings : DecodeSettings) (one two : Bits) (from : ℕ) (after : Bits
   )
 
   within_short : (bits : Bits) → Within bits → length bits < from
-  within_short bits within =
-      omega (
-        arith,
-        leaves_length one (bits ++ true ∷ drop from one) within.0,
-        length-append bits (true ∷ drop from one),
-        length-drop from one,
-        given.fits_one,
-      )
+  within_short bits within = omega (
+    arith,
+    leaves_length one (bits ++ true ∷ drop from one) within.0,
+    length-append bits (true ∷ drop from one),
+    length-drop from one,
+    given.fits_one,
+  )
 
   abbrev Start : Progress → Progress → Type 0
   Start s t = RunsAlike settings Begun (suc lines) Within (drop from one) (drop from two) after s t
@@ -249,8 +225,7 @@ module _ (settings : DecodeSettings) (one two : Bits) (from : ℕ) (after : Bits
       → ((settings.end_of_line ≡ true) ⊎ ((end : ℕ) × (end ≤ from) × IsEol one 0 end)) → Start (first one) (first two)
   begin (inl zero_from) (inl eol) = begin_there zero_from eol
   begin (inl zero_from) (inr e) = absurd (omega (arith, zero_from, e.1, e.2.0))
-  begin (inr (place, eol)) sought_by =
-      let f = ends_eol one from place eol in
+  begin (inr (place, eol)) sought_by = let f = ends_eol one from place eol in
       begin_ahead f.0 f.1 f.2
       (seeks one settings.end_of_line (elim sought_by [ inl e ↦ inl e | inr e ↦ inr (drop e.0 one, e.2.2) ]))
 
@@ -258,32 +233,22 @@ module _ (settings : DecodeSettings) (one two : Bits) (from : ℕ) (after : Bits
     -- readings that start alike end alike
     ends_alike : Start (first one) (first two) → EndsAlike settings Begun
         (suc lines) from (drop from one) (drop from two) after (end_of settings one) (end_of settings two)
-    ends_alike alike =
-        let late : Progress → Ending = λ run. record { rows = run.rows; has_eols = run.has_eols; outcome = Err UnexpectedEof } in
+    ends_alike alike = let late : Progress
+        → Ending = λ run. record { rows = run.rows; has_eols = run.has_eols; outcome = Err UnexpectedEof } in
         let other = not_group4 settings.encoding given.group3 in
         rw (end_t4 settings one other, end_t4 settings two other)
         (reached_follows (move_on settings) (late (first one)) left_to_read (move_shrinks settings wide) (move_on settings)
-        (late (first two)) left_to_read (move_shrinks settings wide)
-        Start (EndsAlike settings Begun (suc lines) from (drop from one) (drop from two) after)
-        (first one) (first two)
-        (λ s t reached other_reached. moves_alike settings given.group3 given.lenient Begun (suc lines) from (drop from one)
-        (drop from two) after
-        given.tail_one given.tail_two Within within_later within_short
-        (λ bits found count e within leaves. few_from one found from count (given.few_one e)
-        (leaves_trans one (bits ++ true ∷ drop from one) found within.0 leaves))
-        (λ bits found count e within leaves. few_from two found from count (given.few_two e)
-        (leaves_trans two (bits ++ true ∷ drop from two) found within.1 leaves))
-        lines (omega arith) given.settles (λ rows begun. given.stays_one rows begun.0)
-        (λ rows begun. given.stays_two rows begun.1)
+        (late (first two)) left_to_read (move_shrinks settings wide) Start (EndsAlike settings Begun (suc lines) from
+        (drop from one) (drop from two) after) (first one) (first two) (λ s t reached other_reached. moves_alike settings
+        given.group3 given.lenient Begun (suc lines) from (drop from one) (drop from two) after given.tail_one given.tail_two
+        Within within_later within_short (λ bits found count e within leaves. few_from one found from count (given.few_one e)
+        (leaves_trans one (bits ++ true ∷ drop from one) found within.0 leaves)) (λ bits found count e within leaves. few_from two
+        found from count (given.few_two e) (leaves_trans two (bits ++ true ∷ drop from two) found within.1 leaves)) lines
+        (omega arith) given.settles (λ rows begun. given.stays_one rows begun.0) (λ rows begun. given.stays_two rows begun.1)
         (λ t. repeated (move_on settings) (late (first two)) (suc (left_to_read t)) t) s t
-        (λ rows e f. (
-          subst (Reaches (move_on settings) (first one)) e reached,
-          subst (Reaches (move_on settings) (first two)) f other_reached,
-        ))
-        (omega (arith, past_shorter 0 (drop from one) after given.tail_one.next))
-        (omega (arith, past_shorter 0 (drop from two) after given.tail_two.next)))
-        (suc (suc (length (first one).rest))) (suc (suc (length (first two).rest))) (left_below (first one))
-        (left_below (first two)) alike)
+        (λ rows e f. (grind (arith, common_steps))) (omega (arith, past_shorter 0 (drop from one) after given.tail_one.next))
+        (omega (arith, past_shorter 0 (drop from two) after given.tail_two.next))) (suc (suc (length (first one).rest)))
+        (suc (suc (length (first two).rest))) (left_below (first one)) (left_below (first two)) alike)
 
     -- so rows and results are alike
     pub damage : AreWholeBytes one → AreWholeBytes two
@@ -349,9 +314,8 @@ locality settings one are whole_one two from to to2 whole_two differ = in_each_c
         → OneRowDiffers settings one two from (plain settings one).rows (plain settings two).rows
         × EndAlike settings one two from 1 (plain settings one).rows (plain settings one).outcome (plain settings two).outcome
     in_each_case (inl e) = grind (arith, common_steps)
-    in_each_case (inr e) =
-        let wide : 0 < settings.columns =
-        elim (cases_lt 0 settings.columns) [ inl lt ↦ lt | inr ge ↦ absurd (e (omega arith)) ] in
+    in_each_case (inr e) = let wide : 0
+        < settings.columns = elim (cases_lt 0 settings.columns) [ inl lt ↦ lt | inr ge ↦ absurd (e (omega arith)) ] in
         let both = damage settings one two from local_one.closes.0 0 lines_differ wide whole_one whole_two in
         (one_row_differs settings one two from (plain settings one).rows (plain settings two).rows both.0, both.1)
 

@@ -1,20 +1,19 @@
 -- Damage to a line of two-dimensional data ends at the next one-dimensional line.
-use Rattle.fax_reading.proofs.Names.{common_steps, ◌≡◌, ℕ, zero, suc, ◌-◌, ◌<◌, ◌≤◌, true, false, List, [], ◌∷◌, ◌++◌}
-use Rattle.fax_reading.proofs.Names.{length, take, drop, Some, None, Result, refl, sym, ap, subst, ◌∙◌, append_assoc}
-use Rattle.fax_reading.proofs.Names.{arith, ◌⊎◌, inl, inr, cases_lt, cases_eq, cond-true, eq-eqb, length-append, length-replicate}
-use Rattle.fax_reading.proofs.Names.{White, DecodeError, EncodingMode, Group3_2D, DecodeSettings, Bits, AreWholeBytes}
-use Rattle.fax_reading.proofs.Names.{AreSettings, Reaches, Row, EncodesLine2D, after_eol, one_more, pass_last_tag, tagged_eols}
-use Rattle.fax_reading.proofs.Names.{first_line, move_on, line_by, eols_by, line_here, eols_here, plain, IsEolAt, EndAlike}
-use Rattle.fax_reading.proofs.Names.{IsTaggedBody, ComesBefore1D, IsLine2D, ComeBefore1D, RowsDiffer, DamageEndsAt1D, LocalityByK}
+use Rattle.fax_reading.proofs.Names.{common_steps, ◌≡◌, ℕ, zero, suc, ◌-◌, ◌<◌, ◌≤◌, false, List, [], ◌∷◌, ◌++◌, length}
+use Rattle.fax_reading.proofs.Names.{take, drop, Some, None, Result, refl, sym, ap, subst, ◌∙◌, append_assoc, arith, ◌⊎◌, inl}
+use Rattle.fax_reading.proofs.Names.{inr, cases_lt, cases_eq, cond-true, eq-eqb, length-append, length-replicate, White}
+use Rattle.fax_reading.proofs.Names.{DecodeError, EncodingMode, Group3_2D, DecodeSettings, Bits, AreWholeBytes, AreSettings}
+use Rattle.fax_reading.proofs.Names.{Reaches, Row, EncodesLine2D, after_eol, one_more, pass_last_tag, tagged_eols, first_line}
+use Rattle.fax_reading.proofs.Names.{move_on, line_by, eols_by, line_here, eols_here, plain, IsEolAt, EndAlike, IsTaggedBody}
+use Rattle.fax_reading.proofs.Names.{ComesBefore1D, IsLine2D, ComeBefore1D, RowsDiffer, DamageEndsAt1D, LocalityByK}
 use Rattle.fax_reading.proofs.DamagedLines.AnyReference.{quiet_line, scan_past, modes_read, encoded_ends}
-use Rattle.fax_reading.proofs.DamagedLines.Damage.{LinesDiffer, damage}
 use Rattle.fax_reading.proofs.DamagedLines.LineTails.{after_eol_is, past_before, line_past_by, is_tagged_tail, stays_2d}
-use Rattle.fax_reading.proofs.DamagedLines.PastEol.{past, past_is, then_after}
 use Rattle.fax_bits.proofs.BitReading.ConsecutiveEols.{all_tagged-some, all_tagged-none, after_eol_shorter, next_eol_found}
 use Rattle.fax_reading.proofs.DamagedLines.RunsAlike.{RowsAlike, Settles, Unreferred, IsTail}
 use Rattle.fax_reading.proofs.DamagedLines.SoughtTurns.{sought, rest_of, found_next, eols_here_same}
 use Rattle.fax_reading.proofs.EncodedPictures.PicturesT4.{line_2d_after_tag}
 use Rattle.fax_reading.proofs.Readings.TurnsMoveOn.{eols_end}
+use Rattle.fax_reading.proofs.DamagedLines.{Damage.LinesDiffer, Damage.damage, PastEol.past, PastEol.past_is, PastEol.then_after}
 
 -- ---- The lines that follow
 
@@ -25,24 +24,7 @@ module _ (settings : DecodeSettings) (encoding : settings.encoding ≡ Group3_2D
 
   -- a one-dimensional line has no reference row
   unreferred : (here : Bits) → ComesBefore1D settings here → Unreferred settings (eols_here settings here)
-  unreferred here (eol, ends) = rw is_2d (in_each_case ends)
-    where
-      is_2d : eols_here settings here ≡ eols_by Group3_2D settings.end_of_block here
-      is_2d = ap (λ (e : EncodingMode). eols_by e settings.end_of_block here) encoding
-
-      same : (tagged : Bits) → ((reference other : Row)
-          → line_by Group3_2D settings.strict settings.columns reference tagged ≡ line_by Group3_2D settings.strict
-          settings.columns other tagged)
-          → (reference other : Row) → line_here settings reference tagged ≡ line_here settings other tagged
-      same tagged f reference other = rw encoding (f reference other)
-
-      in_each_case : ((settings.end_of_block ≡ true) × (6 ≤ (eols_by Group3_2D settings.end_of_block here).0))
-          ⊎ (((line : Bits) × ((eols_by Group3_2D settings.end_of_block here).1 ≡ true ∷ line))
-          ⊎ ((eols_by Group3_2D settings.end_of_block here).1 ≡ []))
-          → Unreferred settings (eols_by Group3_2D settings.end_of_block here)
-      in_each_case (inl (block, six)) = inl ((eols_end settings (eols_by Group3_2D settings.end_of_block here).0).2 block six)
-      in_each_case (inr (inl (line, e))) = inr (rw e (same (true ∷ line) (λ reference other. refl)))
-      in_each_case (inr (inr e)) = inr (rw e (same [] (λ reference other. refl)))
+  unreferred here (eol, ends) = grind (arith, common_steps, eols_end)
 
   -- one EOL is counted before a two-dimensional line
   one_before : (line found : Bits) → after_eol 0 (false ∷ line) ≡ None → after_eol 0 found ≡ Some (false ∷ line)
@@ -53,18 +35,15 @@ module _ (settings : DecodeSettings) (encoding : settings.encoding ≡ Group3_2D
   -- the next EOL is the one behind it, whatever it is read against
   next_behind : (other : Row) (line next : Bits) (is : IsLine2D line next)
       → past 0 (rest_of (line_here settings other (false ∷ line)) (false ∷ line)) ≡ Some is.ends.0
-  next_behind other line next is =
-      line_past_by settings other (false ∷ line) is.ends.0
-      (past_is (false ∷ line) ∙ ap then_after is.next_is ∙ is.ends.1)
-      (λ row rest e. is.ends.2 rest (modes_read settings.strict settings.columns other line row rest
+  next_behind other line next is = line_past_by settings other (false ∷ line) is.ends.0 (past_is (false ∷ line) ∙ ap then_after
+      is.next_is ∙ is.ends.1) (λ row rest e. is.ends.2 rest (modes_read settings.strict settings.columns other line row rest
       (sym (ap (λ (e : EncodingMode). line_by e settings.strict settings.columns other (false ∷ line)) encoding) ∙ e)))
 
   -- the lines that follow are read with the same EOLs behind them, whatever they are read against
   settles : (lines : ℕ) (here after : Bits) → ComeBefore1D settings lines here → after_eol 0 here ≡ Some after
       → Settles settings lines after
   settles zero here after comes e = λ found f. rw (eols_here_same settings found here after f e) (unreferred here comes)
-  settles (suc lines) here after (line, next, f, is, more) e =
-      let after_is : false ∷ line ≡ after = cc in
+  settles (suc lines) here after (line, next, f, is, more) e = let after_is : false ∷ line ≡ after = cc in
       subst (Settles settings (suc lines)) after_is (
         is.ends.0,
         omega (arith, after_eol_shorter 0 next is.ends.0 is.ends.1, (next_eol_found (false ∷ line) next is.next_is).0),
@@ -84,8 +63,7 @@ module _ (settings : DecodeSettings) (encoding : settings.encoding ≡ Group3_2D
   -- a two-dimensional line of an encoding is such a line
   pub encoded_follows : (lines : ℕ) (reference row : Row) (line next here : Bits) → EncodesLine2D reference row 0 White line
       → ComeBefore1D settings lines next → after_eol 0 here ≡ Some (false ∷ line ++ next) → ComeBefore1D settings (suc lines) here
-  encoded_follows lines reference row line next here encodes more e =
-      let eol = eol_before_lines lines next more in
+  encoded_follows lines reference row line next here encodes more e = let eol = eol_before_lines lines next more in
       let after = eol.0 in
       grind (
         arith,
@@ -157,9 +135,8 @@ locality_by_k settings one are whole_one two from to to2 lines whole_two differ 
         (suc lines) (plain settings one).rows (plain settings two).rows × EndAlike settings one two from
         (suc lines) (plain settings one).rows (plain settings one).outcome (plain settings two).outcome
     in_each_case (inl e) = grind (arith, common_steps, cond-true, eq-eqb)
-    in_each_case (inr e) =
-        let wide : 0 < settings.columns = elim (cases_lt 0 settings.columns) [ inl lt ↦ lt | inr ge ↦ absurd (e (omega arith)) ]
-        in
+    in_each_case (inr e) = let wide : 0
+        < settings.columns = elim (cases_lt 0 settings.columns) [ inl lt ↦ lt | inr ge ↦ absurd (e (omega arith)) ] in
         let both = damage settings one two from body.closes.0 lines lines_differ wide whole_one whole_two in
         (rows_differ settings one two from (suc lines) (plain settings one).rows (plain settings two).rows both.0, both.1)
 

@@ -3,18 +3,17 @@ use Rattle.fax_reading.proofs.Names.{◌≡◌, ℕ, zero, suc, ◌+◌, ◌-◌
 use Rattle.fax_reading.proofs.Names.{drop, replicate, Option, Some, None, refl, sym, ap, subst, ◌∙◌, append_assoc, arith, ◌⊎◌}
 use Rattle.fax_reading.proofs.Names.{inl, inr, cases_lt, lt-leb, le-leb, length-append, length-replicate, length-drop, append-nil}
 use Rattle.fax_reading.proofs.Names.{take-append-drop, drop-drop, All-head, All-tail, Color, White, Pass, Horizontal, Vertical}
-use Rattle.fax_reading.proofs.Names.{DecodeSettings, Group3_2D, IsWord, Line, IsEol, IsTagOfLine, IsTaggedBody}
-use Rattle.fax_reading.proofs.Names.{EncodedLinesAreBodies, row_before, line_here, Row, HaveWidth, opposite, Bits}
-use Rattle.fax_reading.proofs.Names.{after_eol, one_more, past_tag, Spells, EncodesLine1D, EncodesLine2D, EncodesLine}
-use Rattle.fax_reading.proofs.Names.{EncodesRowsWithEols, eol, common_steps}
-use Rattle.fax_reading.proofs.{EncodedPictures.EncodedRuns.line_1d_again, EncodedPictures.PicturesT4.eol_stands}
+use Rattle.fax_reading.proofs.Names.{DecodeSettings, Group3_2D, IsWord, Line, IsEol, IsTagOfLine, IsTaggedBody, row_before, Row}
+use Rattle.fax_reading.proofs.Names.{EncodedLinesAreBodies, line_here, HaveWidth, opposite, Bits, after_eol, one_more, past_tag}
+use Rattle.fax_reading.proofs.Names.{Spells, EncodesLine1D, EncodesLine2D, EncodesLine, EncodesRowsWithEols, eol, common_steps}
 use Rattle.fax_bits.proofs.BitReading.ZerosInWords.{holds_a_one, word_one}
 use Rattle.fax_reading.proofs.DamagedLines.AnyReference.{Quiet, quiet_append, quiet_run, quiet_line, leaves_next, scan_past}
 use Rattle.fax_reading.proofs.DamagedLines.LineTails.{drop_front, drop_at, after_eol_is, after_eol_more, first_one, past_before}
 use Rattle.fax_reading.proofs.DamagedLines.PastEol.{past, past-eol}
-use Rattle.fax_bits.proofs.BitReading.ConsecutiveEols.{all_tagged, all_tagged-some, all_tagged-none}
+use Rattle.fax_bits.proofs.BitReading.ConsecutiveEols.{all_tagged, all_tagged-some, all_tagged-none, after_eol_shorter}
+use Rattle.fax_bits.proofs.BitReading.ConsecutiveEols.{past_tag_shorter}
 use Rattle.fax_reading.proofs.DrawingLines.LinesLeaveBits.{LeavesBits, leaves_trans}
-use Rattle.fax_bits.proofs.BitReading.ConsecutiveEols.{after_eol_shorter, past_tag_shorter}
+use Rattle.fax_reading.proofs.EncodedPictures.{EncodedRuns.line_1d_again, PicturesT4.eol_stands}
 
 -- ---- Suffixes
 
@@ -48,10 +47,6 @@ tag_leaves (true ∷ here) = by_after_eol (after_eol 0 here) refl
     by_after_eol None e = rw (e, past_tag) ([], refl)
     by_after_eol (Some rest) e = rw (e, past_tag) (true ∷ [], refl)
 
--- one bit at most
-tag_short : (here : Bits) → length here ≤ suc (length (past_tag here))
-tag_short here = grind arith
-
 -- where there is an EOL some are counted
 not_none : (here rest last : Bits) → after_eol 0 here ≡ Some rest → all_tagged here ≡ (0, last) → ⊥
 not_none here rest last f e = grind (arith, common_steps, all_tagged-some)
@@ -82,8 +77,7 @@ last_two (suc n) count here last lt e =
     by_after_eol : ((c : ℕ) (next : Bits) → length next < n → all_tagged next ≡ (suc (suc c), last) → Two next) → (count : ℕ)
         → all_tagged here ≡ (suc (suc count), last) → (o : Option Bits) → after_eol 0 here ≡ o → Two here
     by_after_eol on count e None f = grind (arith, common_steps, all_tagged-none)
-    by_after_eol on zero e (Some rest) f =
-        grind (arith, common_steps, all_tagged-some here rest f, one_left (past_tag rest) last)
+    by_after_eol on zero e (Some rest) f = grind (arith, common_steps, all_tagged-some here rest f, one_left (past_tag rest) last)
     by_after_eol on (suc count) e (Some rest) f =
         let g : one_more (all_tagged (past_tag rest)) ≡ (suc (suc (suc count)), last) = sym (all_tagged-some here rest f) ∙ e in
         let more : all_tagged (past_tag rest) ≡ (suc (suc count), last) = grind (arith, common_steps) in
@@ -123,8 +117,7 @@ module _ (front words next : Bits) (tag : Bool) (fill : ℕ) (quiet : Quiet word
       in_each_case : LeavesBits (true ∷ (tag ∷ behind)) found ⊎ ((more : Bits) × (found ≡ more ++ true ∷ (tag ∷ behind))) → ⊥
       in_each_case (inl (before, split)) =
           omega (arith, longer, past_first 0 before found rest next e (ap (past 0) (sym split) ∙ next_is))
-      in_each_case (inr (more, split)) =
-          let zeros = after_eol_is 0 found rest e in
+      in_each_case (inr (more, split)) = let zeros = after_eol_is 0 found rest e in
           let first = first_one zeros.0 rest more (tag ∷ behind) (sym zeros.1 ∙ split) in
           let sizes : zeros.0 + suc (length rest) ≡ length more + suc (length (tag ∷ behind)) = omega (
             arith,
@@ -134,15 +127,13 @@ module _ (front words next : Bits) (tag : Bool) (fill : ℕ) (quiet : Quiet word
             length-replicate zeros.0 false,
             length-append more (true ∷ (tag ∷ behind)),
           ) in
-          let after_found : LeavesBits found rest
-          = (replicate zeros.0 false ++ true ∷ [], zeros.1 ∙ sym (append_assoc (replicate zeros.0 false) (true ∷ []) rest)) in
-          let in_both : LeavesBits ((more ++ true ∷ tag ∷ []) ++ behind) rest
-          = (after_found.0, append_assoc more (true ∷ tag ∷ []) behind ∙ sym split ∙ after_found.1) in
-          let tagged : LeavesBits ((more ++ true ∷ tag ∷ []) ++ behind) (past_tag rest) =
-          leaves_trans _ rest (past_tag rest) in_both
-          (tag_leaves rest) in
+          let after_found : LeavesBits found rest =
+          (replicate zeros.0 false ++ true ∷ [], zeros.1 ∙ sym (append_assoc (replicate zeros.0 false) (true ∷ []) rest)) in
+          let in_both : LeavesBits ((more ++ true ∷ tag ∷ []) ++ behind) rest = grind (arith, common_steps, append_assoc) in
+          let tagged : LeavesBits ((more ++ true ∷ tag ∷ []) ++ behind)
+          (past_tag rest) = leaves_trans _ rest (past_tag rest) in_both (tag_leaves rest) in
           let covered = suffix_ends_with (more ++ true ∷ tag ∷ []) behind (past_tag rest) tagged
-          (omega (arith, sizes, first, tag_short rest)) in
+          (grind (arith, common_steps, sizes, first)) in
           let others = after_eol_is 0 (past_tag rest) next f in
           grind (
             arith,
@@ -163,8 +154,7 @@ module _ (front words next : Bits) (tag : Bool) (fill : ℕ) (quiet : Quiet word
       → count < 6
   few_before here zero leaves e = omega arith
   few_before here (suc zero) leaves e = omega arith
-  few_before here (suc (suc count)) leaves e =
-      let two = last_two (suc (length here)) count here next (omega arith) e in
+  few_before here (suc (suc count)) leaves e = let two = last_two (suc (length here)) count here next (omega arith) e in
       absurd (not_two two.0 two.1 (leaves_trans _ here two.0 leaves two.2) two.3 two.4)
 
 -- ---- Lines of an encoding
@@ -204,9 +194,8 @@ holds_2d reference row from color bits (EncodesLine2D.pass from2 word {bits = ne
     one_more_bits word next (word_holds word (inr (Pass, has)))
 holds_2d reference row from color bits (EncodesLine2D.vertical from2 word k {bits = next} inside has exact steps) le =
     one_more_bits word next (word_holds word (inr (Vertical k, has)))
-holds_2d reference row from color bits
-    (EncodesLine2D.horizontal from2 word {first = run1} {second = run2} {bits = next} inside has spells1 spells2 steps) le =
-    one_more_bits word (run1 ++ (run2 ++ next)) (word_holds word (inr (Horizontal, has)))
+holds_2d reference row from color bits (EncodesLine2D.horizontal from2 word {first = run1} {second = run2} {bits = next} inside
+    has spells1 spells2 steps) le = one_more_bits word (run1 ++ (run2 ++ next)) (word_holds word (inr (Horizontal, has)))
 
 -- a tag, and words after it
 pub record IsTagged (line : Bits) : Type 0 where
@@ -236,21 +225,14 @@ last_line columns reference (row ∷ rows) bits wide widths (fill, line, next, e
     some = omega (arith, wide, All-head (λ row. length row ≡ columns) row rows widths)
 
     in_each_case : (next ≡ []) ⊎ LastLine next → (bits ≡ []) ⊎ LastLine bits
-    in_each_case (inl e) = inr (
-      [],
-      line,
-      fill,
-      grind (arith, append_assoc, append-nil),
-      tagged reference row line encodes some,
+    in_each_case (inl e) = inr ([], line, fill, grind (arith, append_assoc, append-nil), tagged reference row line encodes some)
+    in_each_case (inr (before, last, fill2, e, is)) = inr (
+      eol fill ++ (line ++ before),
+      last,
+      fill2,
+      split ∙ append_assoc (eol fill) line next ∙ ap (λ (b : Bits). eol fill ++ (line ++ b)) e ∙ simp append_assoc,
+      is,
     )
-    in_each_case (inr (before, last, fill2, e, is)) =
-        inr (
-          eol fill ++ (line ++ before),
-          last,
-          fill2,
-          split ∙ append_assoc (eol fill) line next ∙ ap (λ (b : Bits). eol fill ++ (line ++ b)) e ∙ simp append_assoc,
-          is,
-        )
 
 -- ---- The law
 module _ (settings : DecodeSettings) (encoding : settings.encoding ≡ Group3_2D) (lenient : settings.strict ≡ false)
@@ -281,40 +263,33 @@ module _ (settings : DecodeSettings) (encoding : settings.encoding ≡ Group3_2D
   longer = grind (arith, common_steps, after_eol_is, length-append, length-replicate)
 
   no_eol_in : (place end : ℕ) → from ≤ place → end ≤ to → IsEol whole place end → ⊥
-  no_eol_in place end le le2 (lt, within, stands) =
-      grind (
-        arith,
-        common_steps,
-        line_on,
-        drop-drop (place - from) from whole,
-        past_first 0 (take (place - from) (line ++ next)) (drop (place - from) (line ++ next)) (drop end whole) after,
-        take-append-drop (place - from) (line ++ next),
-        next_from,
-        longer,
-        length-drop end whole,
-        length-append (front ++ eol fill) (line ++ next),
-        length-append line next,
-      )
+  no_eol_in place end le le2 (lt, within, stands) = grind (
+    arith,
+    common_steps,
+    line_on,
+    drop-drop (place - from) from whole,
+    past_first 0 (take (place - from) (line ++ next)) (drop (place - from) (line ++ next)) (drop end whole) after,
+    take-append-drop (place - from) (line ++ next),
+    next_from,
+    longer,
+    length-drop end whole,
+    length-append (front ++ eol fill) (line ++ next),
+    length-append line next,
+  )
 
   read_before : (other read : Row) (rest : Bits) → line_here settings other (line ++ next) ≡ Line.whole read rest
       → length after + 12 ≤ length rest
   read_before other read rest e = by_premise encodes
     where
       by_premise : EncodesLine Group3_2D above row line → length after + 12 ≤ length rest
-      by_premise (words, inl (line_is, encodes)) =
-          grind (
-            arith,
-            common_steps,
-            line_1d_again settings.strict settings.columns [] row White words next encodes small,
-            longer,
-          )
-      by_premise (words, inr (line_is, encodes)) =
-          omega (
-            arith,
-            longer,
-            leaves_next settings encoding other above row words next after encodes eol_next read rest
-                (ap (λ (b : Bits). line_here settings other (b ++ next)) (sym line_is) ∙ e),
-          )
+      by_premise (words, inl (line_is, encodes)) = grind
+          (arith, common_steps, line_1d_again settings.strict settings.columns [] row White words next encodes small, longer)
+      by_premise (words, inr (line_is, encodes)) = omega (
+        arith,
+        longer,
+        leaves_next settings encoding other above row words next after encodes eol_next read rest
+            (ap (λ (b : Bits). line_here settings other (b ++ next)) (sym line_is) ∙ e),
+      )
 
   -- so it is such a body, if the tag is a line's
   body : IsTagOfLine whole from → IsTaggedBody settings whole from to
@@ -356,8 +331,7 @@ few_tags front line fill (inl none) here count leaves e = by_count count e
     by_count : (count : ℕ) → all_tagged here ≡ (count, line) → count < 6
     by_count zero e = omega arith
     by_count (suc zero) e = omega arith
-    by_count (suc (suc count)) e =
-        let two = last_two (suc (length here)) count here line (omega arith) e in
+    by_count (suc (suc count)) e = let two = last_two (suc (length here)) count here line (omega arith) e in
         let at = leaves_trans (eol fill ++ line) here two.0 first two.2 in
         let next : past 0 (at.0 ++ two.0) ≡ Some line = grind (arith, past-eol, eol_stands) in
         absurd (omega (
@@ -366,9 +340,8 @@ few_tags front line fill (inl none) here count leaves e = by_count count e
           after_eol_shorter 0 (past_tag two.1) line two.4,
           past_tag_shorter two.1,
         ))
-few_tags front line fill (inr (before, last, fill2, split, is)) here count leaves e =
-    few_before (before ++ replicate (11 + fill2) false) is.words line is.tag fill is.quiet is.one here count
-    (subst (λ (b : Bits). LeavesBits b here) same leaves) e
+few_tags front line fill (inr (before, last, fill2, split, is)) here count leaves e = few_before (before ++ replicate (11 + fill2)
+    false) is.words line is.tag fill is.quiet is.one here count (subst (λ (b : Bits). LeavesBits b here) same leaves) e
   where
     same : (front ++ eol fill) ++ line ≡ (before ++ replicate (11 + fill2) false)
         ++ true ∷ (is.tag ∷ (is.words ++ (eol fill ++ line)))
@@ -377,12 +350,11 @@ few_tags front line fill (inr (before, last, fill2, split, is)) here count leave
 -- the law
 pub encoded_lines_are_bodies : EncodedLinesAreBodies
 encoded_lines_are_bodies settings reference above row rows front line next fill are encoding lenient picture lines encodes
-    (after, eol_next) =
-    let width = All-head (λ row. length row ≡ settings.columns) row rows picture.1 in
+    (after, eol_next) = let width = All-head (λ row. length row ≡ settings.columns) row rows picture.1 in
     let widths = All-tail (λ row. length row ≡ settings.columns) row rows picture.1 in
     let is = tagged above row line encodes (omega (arith, width, picture.0)) in
     let last = last_line settings.columns reference rows front picture.0 widths lines in
     body settings encoding lenient (omega (arith, are.columns)) above row front line next after fill width encodes is eol_next
     (λ place count e. few_tags front (line ++ next) fill last (drop place ((front ++ eol fill) ++ (line ++ next))) count
-    (take place ((front ++ eol fill) ++ (line ++ next)), sym (take-append-drop place ((front ++ eol fill) ++ (line ++ next))))
-    (e ∙ ap (λ (b : Bits). (count, b)) (drop_front (front ++ eol fill) (line ++ next))))
+    (take place ((front ++ eol fill) ++ (line ++ next)), sym (take-append-drop place ((front ++ eol fill) ++ (line ++ next)))) (e
+    ∙ ap (λ (b : Bits). (count, b)) (drop_front (front ++ eol fill) (line ++ next))))

@@ -55,8 +55,7 @@ last_tag_few count here few = grind (arith, lt-leb)
 
 -- behind the first of bits that end with the zeros of an EOL there are enough zeros left
 pub closes_tail : (tag : Bool) (bits : Bits) → Closes (tag ∷ bits) → Inside bits
-closes_tail tag bits ([], e) =
-    let ten : bits ≡ replicate 10 false = cc in
+closes_tail tag bits ([], e) = let ten : bits ≡ replicate 10 false = cc in
     record { holds = ap (scan 3) ten; last = (tag ∷ [], [], e) }
 closes_tail tag bits (b ∷ first, e) = closes_inside bits (first, cc)
 
@@ -84,10 +83,8 @@ module _ (x y : Bits) where
   pub after_eol_alike : (seen : ℕ) (bits : Bits)
       → EolAlike bits (after_eol seen (bits ++ true ∷ x)) (after_eol seen (bits ++ true ∷ y))
   after_eol_alike seen [] = grind (arith, common_steps)
-  after_eol_alike seen (false ∷ bits) = elim (after_eol_alike (suc seen) bits) [
-    | inl a ↦ inl (false ∷ a.0, a.1, ap (λ (z : Bits). false ∷ z) a.2, a.3, a.4)
-    | inr a ↦ inr a
-  ]
+  after_eol_alike seen (false ∷ bits) = elim (after_eol_alike (suc seen) bits)
+      [ inl a ↦ inl (false ∷ a.0, a.1, ap (λ (z : Bits). false ∷ z) a.2, a.3, a.4) | inr a ↦ inr a ]
   after_eol_alike seen (true ∷ bits) = either_way (leb 11 seen)
     where
       either_way : (b : Bool)
@@ -103,10 +100,8 @@ module _ (x y : Bits) where
   -- the next EOL ends alike in both
   pub past_alike : (seen : ℕ) (bits : Bits) → PastAlike bits (past seen (bits ++ true ∷ x)) (past seen (bits ++ true ∷ y))
   past_alike seen [] = grind (arith, common_steps)
-  past_alike seen (false ∷ bits) = elim (past_alike (suc seen) bits) [
-    | inl a ↦ inl (false ∷ a.0, a.1, ap (λ (z : Bits). false ∷ z) a.2, a.3, a.4)
-    | inr a ↦ inr a
-  ]
+  past_alike seen (false ∷ bits) = elim (past_alike (suc seen) bits)
+      [ inl a ↦ inl (false ∷ a.0, a.1, ap (λ (z : Bits). false ∷ z) a.2, a.3, a.4) | inr a ↦ inr a ]
   past_alike seen (true ∷ bits) = either_way (leb 11 seen) (past_alike 0 bits)
     where
       either_way : (b : Bool) → PastAlike bits (past 0 (bits ++ true ∷ x)) (past 0 (bits ++ true ∷ y))
@@ -146,8 +141,7 @@ module _ (x y : Bits) where
           by_after_eol : ((rest : Bits) → length rest < n → CountAlike rest (all (rest ++ true ∷ x)) (all (rest ++ true ∷ y)))
               → (o p : Option Bits) → after_eol 0 (bits ++ true ∷ x) ≡ o → after_eol 0 (bits ++ true ∷ y) ≡ p
               → EolAlike bits o p → CountAlike bits (all (bits ++ true ∷ x)) (all (bits ++ true ∷ y))
-          by_after_eol on o p e f (inl a) =
-              let past = passed a.1 in
+          by_after_eol on o p e f (inl a) = let past = passed a.1 in
               let more = on past.0 (omega (arith, after_shorter, leaves_length a.1 past.0 past.1, lt)) in
               let keeps : Closes bits → Closes past.0 = λ closes. past.2 (closes_after a.0 a.1 closes.0 (sym a.2 ∙ closes.1)) in
               rw (
@@ -178,15 +172,9 @@ module _ (x y : Bits) where
       -- so they are from an EOL on that ends among the equal bits
       pub count_found : (bits found other : Bits) → after_eol 0 found ≡ Some (bits ++ true ∷ x)
           → after_eol 0 other ≡ Some (bits ++ true ∷ y) → CountAlike bits (all found) (all other)
-      count_found bits found other e f =
-          let past = passed bits in
+      count_found bits found other e f = let past = passed bits in
           let more = count_alike past.0 in
-          rw (
-            count_all-some counts found (bits ++ true ∷ x) e,
-            count_all-some counts other (bits ++ true ∷ y) f,
-            past.3,
-            past.4,
-          ) (
+          rw (count_all-some counts found _ e, count_all-some counts other _ f, past.3, past.4) (
             ap suc more.0,
             elim more.1 [
               | inl b ↦ inl (b.0, leaves_trans bits past.0 b.0 past.1 b.1, λ closes. b.2 (past.2 closes), b.3, b.4)
@@ -215,9 +203,8 @@ module _ (x y : Bits) where
           behind : Closes (true ∷ bits) → Closes bits
           behind closes = closes_after [] bits closes.0 closes.1
 
-          by_after_eol : (o p : Option Bits) → after_eol 0 (bits ++ true ∷ x) ≡ o → after_eol 0 (bits ++ true ∷ y) ≡ p
-              → EolAlike bits o p → PassAlike (true ∷ bits) (past_tag (true ∷ bits ++ true ∷ x))
-              (past_tag (true ∷ bits ++ true ∷ y))
+          by_after_eol : (o p : Option Bits) → after_eol 0 (bits ++ true ∷ x) ≡ o → after_eol 0 (bits ++ true ∷ y) ≡ p → EolAlike
+              bits o p → PassAlike (true ∷ bits) (past_tag (true ∷ bits ++ true ∷ x)) (past_tag (true ∷ bits ++ true ∷ y))
           by_after_eol o p e f (inl a) =
               (bits, (true ∷ [], refl), behind, rw (e ∙ a.3, past_tag) refl, rw (f ∙ a.4, past_tag) refl)
           by_after_eol o p e f (inr (inl a)) =
@@ -238,18 +225,17 @@ module _ (x y : Bits) where
       last_tag_alike bits (n, here) (m, there) (same, inl ([], le, keeps, e, f)) few_x few_y = grind (arith, common_steps)
       last_tag_alike bits (n, here) (m, there) (same, inl (false ∷ rest, le, keeps, e, f)) few_x few_y =
           rw (← same, e, f) (refl, inl (false ∷ rest, le, keeps, refl, refl))
-      last_tag_alike bits (n, here) (m, there) (same, inl (true ∷ rest, le, keeps, e, f)) few_x few_y = rw (← same, e, f)
-          (either_way (leb 6 n))
+      last_tag_alike bits (n, here) (m, there) (same, inl (true ∷ rest, le, keeps, e, f)) few_x few_y =
+          rw (← same, e, f) grind (arith, common_steps, either_way)
         where
           either_way : (b : Bool) → CountAlike bits (cond b (n, rest ++ true ∷ x) (n, true ∷ rest ++ true ∷ x))
               (cond b (n, rest ++ true ∷ y) (n, true ∷ rest ++ true ∷ y))
           either_way true =
               grind (arith, common_steps, leaves_trans bits (true ∷ rest) rest le (true ∷ [], refl), closes_after [] rest)
           either_way false = (refl, inl (true ∷ rest, le, keeps, refl, refl))
-      last_tag_alike bits (n, here) (m, there) (same, inr (e, f)) few_x few_y =
-          rw (
-            e,
-            f,
-            last_tag_few n x (few_x n (ap (λ (b : Bits). (n, b)) e)),
-            last_tag_few m y (few_y m (ap (λ (b : Bits). (m, b)) f)),
-          ) (same, inr (refl, refl))
+      last_tag_alike bits (n, here) (m, there) (same, inr (e, f)) few_x few_y = rw (
+        e,
+        f,
+        last_tag_few n x (few_x n (ap (λ (b : Bits). (n, b)) e)),
+        last_tag_few m y (few_y m (ap (λ (b : Bits). (m, b)) f)),
+      ) (same, inr (refl, refl))

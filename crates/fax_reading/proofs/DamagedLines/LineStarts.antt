@@ -1,16 +1,15 @@
 -- Where lines begin, by positions.
-use Rattle.fax_reading.proofs.Readings.TurnsMoveOn.{at_end_length}
 use Rattle.fax_bits.proofs.BitReading.ConsecutiveEols.{after_eol_shorter, eol_of, all_eols-some, all_eols-none}
 use Rattle.fax_reading.proofs.Names.{◌≡◌, ℕ, zero, suc, ◌+◌, ◌<◌, ◌≤◌, Bool, true, false, cond, not, ◌&&◌, leb, List, [], ◌∷◌}
-use Rattle.fax_reading.proofs.Names.{◌++◌, length, take, drop, replicate, Option, Some, None, refl, sym, ap, ◌∙◌}
-use Rattle.fax_reading.proofs.Names.{append_assoc, arith, ◌⊎◌, inl, inr, Contains, All, is_some, cases_lt, le-leb, leb-true}
-use Rattle.fax_reading.proofs.Names.{and_parts, and_from, not-true, not_from_false, length-append, length-drop, take-append-drop}
-use Rattle.fax_reading.proofs.Names.{length-replicate, append_cancel_left, Contains-append_right}
-use Rattle.fax_reading.proofs.Names.{Contains-append_cases, All-nil, All-append, All-weaker, Bits, after_eol, all_eols, at_end}
-use Rattle.fax_reading.proofs.Names.{begins_line, later_starts, starts, IsStart, Descends, StartsAre, common_steps}
-use Rattle.fax_reading.proofs.DrawingLines.LinesLeaveBits.{LeavesBits}
+use Rattle.fax_reading.proofs.Names.{◌++◌, length, take, drop, replicate, Option, Some, None, refl, sym, ap, ◌∙◌, append_assoc}
+use Rattle.fax_reading.proofs.Names.{arith, ◌⊎◌, inl, inr, Contains, All, is_some, cases_lt, le-leb, leb-true, and_parts}
+use Rattle.fax_reading.proofs.Names.{and_from, not_from_false, length-append, length-drop, take-append-drop}
+use Rattle.fax_reading.proofs.Names.{length-replicate, append_cancel_left, Contains-append_right, Contains-append_cases, All-nil}
+use Rattle.fax_reading.proofs.Names.{All-append, All-weaker, Bits, after_eol, all_eols, at_end, begins_line, later_starts, starts}
+use Rattle.fax_reading.proofs.Names.{IsStart, Descends, StartsAre, common_steps}
 use Rattle.fax_bits.proofs.BitReading.ZerosInWords.{prefix_of_prefix}
 use Rattle.fax_reading.proofs.DamagedLines.LineTails.{after_eol_is, first_one, drop_at}
+use Rattle.fax_reading.proofs.{DrawingLines.LinesLeaveBits.LeavesBits}
 
 -- ---- Later starts come in order
 later_below : (seen : ℕ) (here : Bits) → All (λ other. length other < length here) (later_starts seen here)
@@ -34,9 +33,6 @@ zeros_along : (seen : ℕ) (here : Bits) → replicate (suc seen) false ++ here 
 zeros_along zero here = refl
 zeros_along (suc seen) here = ap (λ (b : Bits). false ∷ b) (zeros_along seen here)
 
-contains_one : (here other : Bits) → Contains (here ∷ []) other → here ≡ other
-contains_one here other given = grind (arith, common_steps)
-
 contains_none : (other : Bits) → Contains {X = Bits} [] other → ⊥
 contains_none other (k, lt, e) = absurd (omega arith)
 
@@ -50,9 +46,8 @@ from_later seen (true ∷ here) end c = by_leb (leb 11 seen && begins_line here)
     by_leb : (b : Bool) → (leb 11 seen && begins_line here) ≡ b → (Contains (later_starts 0 here) end → EndsLater 0 here end
         × (begins_line end ≡ true)) → Contains (cond b (here ∷ []) []) end ⊎ Contains (later_starts 0 here) end
         → EndsLater seen (true ∷ here) end × (begins_line end ≡ true)
-    by_leb true e on (inl found) =
-        let step = and_parts (leb 11 seen) (begins_line here) e in
-        grind (arith, common_steps, step, contains_one here end found, eol_of 0 seen here, leb-true 11 seen)
+    by_leb true e on (inl found) = let step = and_parts (leb 11 seen) (begins_line here) e in
+        grind (arith, common_steps, step, eol_of 0 seen here, leb-true 11 seen)
     by_leb false e on (inl found) = absurd (contains_none end found)
     by_leb b e on (inr found) =
         let f = on found in
@@ -69,26 +64,22 @@ same_end xs ys us vs e len = grind (arith, common_steps, shorter_end xs ys us vs
 
 to_later : (seen : ℕ) (here end : Bits) → EndsLater seen here end → begins_line end ≡ true → Contains (later_starts seen here) end
 to_later seen [] end (at, leaves, eol, lt) b = absurd (omega arith)
-to_later seen (false ∷ here) end (at, leaves, eol, lt) b =
-    let is = after_eol_is 0 at end eol in
-    grind (
-      arith,
-      common_steps,
-      to_later (suc seen) here end,
-      append_assoc leaves.0 (replicate is.0 false) (true ∷ end),
-      zeros_along seen here,
-      cases_lt (length end) (length here),
-      same_end (replicate seen false) (false ∷ here) (leaves.0 ++ replicate is.0 false) (true ∷ end),
-    )
+to_later seen (false ∷ here) end (at, leaves, eol, lt) b = let is = after_eol_is 0 at end eol in grind (
+  arith,
+  common_steps,
+  to_later (suc seen) here end,
+  append_assoc leaves.0 (replicate is.0 false) (true ∷ end),
+  zeros_along seen here,
+  cases_lt (length end) (length here),
+  same_end,
+)
 to_later seen (true ∷ here) end (at, leaves, eol, lt) b = elim (cases_lt (length end) (length here)) [
-  | inl less ↦ Contains-append_right (cond (leb 11 seen && begins_line here) (here ∷ []) []) (later_starts 0 here) end
-      (to_later 0 here end (at, inside less, eol, less) b)
-  | inr ge ↦
-      let same : true ∷ here ≡ true ∷ end =
-      same_end (replicate seen false) (true ∷ here) (leaves.0 ++ replicate is.0 false) (true ∷ end) whole (omega arith) in
-      let here_is : here ≡ end = cc in
-      let lengths : length (replicate seen false) + length (true ∷ here) ≡ length (leaves.0 ++ replicate is.0 false)
-      + length (true ∷ end) = sym (length-append (replicate seen false) (true ∷ here)) ∙ ap length whole
+  | inl less ↦ Contains-append_right (cond (leb 11 seen && begins_line here) (here ∷ []) [])
+      (later_starts 0 here) end (to_later 0 here end (at, inside less, eol, less) b)
+  | inr ge ↦ let same : true ∷ here ≡ true ∷ end = same_end (replicate seen false) (true ∷ here)
+      (leaves.0 ++ replicate is.0 false) (true ∷ end) whole (omega arith) in
+      let lengths : length (replicate seen false) + length (true ∷ here) ≡ length (leaves.0 ++ replicate is.0 false) + length
+      (true ∷ end) = sym (length-append (replicate seen false) (true ∷ here)) ∙ ap length whole
       ∙ length-append (leaves.0 ++ replicate is.0 false) (true ∷ end) in
       grind (arith, length-append, length-replicate, and_from, le-leb)
 ]
@@ -122,16 +113,14 @@ first_leaves (suc n) bits lt = by_after_eol (first_leaves n) (after_eol 0 bits) 
     by_after_eol : ((rest : Bits) → length rest < n → FirstLeaves rest (all_eols rest).1) → (o : Option Bits)
         → after_eol 0 bits ≡ o → FirstLeaves bits (all_eols bits).1
     by_after_eol on None e = rw (all_eols-none bits e) ([], refl, inl refl)
-    by_after_eol on (Some rest) e =
-        let is = after_eol_is 0 bits rest e in
+    by_after_eol on (Some rest) e = let is = after_eol_is 0 bits rest e in
         let f = on rest (omega (arith, after_eol_shorter 0 bits rest e)) in
         rw (all_eols-some bits rest e) (
           replicate is.0 false ++ true ∷ f.0,
           grind (arith, append_assoc),
           inr (elim f.2 [
             | inl none ↦ (replicate is.0 false, ap (λ (b : Bits). replicate is.0 false ++ true ∷ b) none)
-            | inr more ↦
-                grind (arith, common_steps, append_assoc (replicate is.0 false) (true ∷ more.0) (true ∷ []))
+            | inr more ↦ grind (arith, common_steps, append_assoc (replicate is.0 false) (true ∷ more.0) (true ∷ []))
           ]),
         )
 
@@ -157,24 +146,11 @@ module _ (bits : Bits) where
   is_start : (place : ℕ) → place ≤ length bits → Contains (starts bits) (drop place bits) → IsStart bits place
   is_start place le c = elim (contains_first (all_eols bits).1 (drop place bits) (later_starts 0 (all_eols bits).1) c) [
     | inl same ↦ inl (omega (arith, ap length same, length-drop place bits, le))
-    | inr found ↦
-        let f = from_later 0 (all_eols bits).1 (drop place bits) found in
+    | inr found ↦ let f = from_later 0 (all_eols bits).1 (drop place bits) found in
         let both = and_parts (not (at_end (drop place bits))) (not (is_some (after_eol 0 (drop place bits)))) f.1 in
-        let begins = at_end_length (drop place bits) (not-true (at_end (drop place bits)) both.0) in
         let front : Bits = leaves_first.0 ++ f.0.1.0 in
-        let cut : bits ≡ front ++ f.0.0 =
-        leaves_first.1 ∙ ap (λ (b : Bits). leaves_first.0 ++ b) f.0.1.1 ∙ sym (append_assoc leaves_first.0 f.0.1.0 f.0.0) in
-        grind (
-          arith,
-          common_steps,
-          after_eol_shorter 0 f.0.0 (drop place bits) f.0.2,
-          length-append front f.0.0,
-          length-drop place bits,
-          first_length,
-          drop_at bits front f.0.0 (length front) cut refl,
-          not_some (after_eol 0 (drop place bits)) (not-true (is_some (after_eol 0 (drop place bits))) both.1),
-          not-true (is_some (after_eol 0 (drop place bits))) both.1,
-        )
+        let cut : bits ≡ front ++ f.0.0 = grind (arith, common_steps, leaves_first, append_assoc) in
+        grind (arith, common_steps, after_eol_shorter, drop_at bits front f.0.0 (length front) cut refl)
   ]
 
   has_start : (place : ℕ) → place ≤ length bits → IsStart bits place → Contains (starts bits) (drop place bits)
@@ -198,11 +174,10 @@ module _ (bits : Bits) where
           before : (leaves_first.0 ≡ []) ⊎ ((more : Bits) × (leaves_first.0 ≡ more ++ true ∷ []))
               → length (all_eols bits).1 < length (drop at bits) → ⊥
           before (inl none_before) longer = omega (arith, longer, ap length none_before, first_length, length-drop at bits)
-          before (inr (more, is)) longer =
-              let split : more ++ true ∷ (all_eols bits).1 ≡ take at bits ++ drop at bits = sym
-              (append_assoc more (true ∷ []) (all_eols bits).1) ∙ ap (λ (b : Bits). b ++ (all_eols bits).1) (sym is) ∙ whole in
-              let f =
-              shorter_end (take at bits) (drop at bits) more (true ∷ (all_eols bits).1) (sym split) (omega (arith, longer)) in
+          before (inr (more, is)) longer = let split : more ++ true ∷ (all_eols bits).1 ≡ take at bits ++ drop at bits = grind
+              (arith, common_steps, append_assoc) in
+              let f = shorter_end (take at bits) (drop at bits) more (true ∷ (all_eols bits).1) (sym split)
+              (omega (arith, longer)) in
               grind (arith, after_eol_is, first_one, length-append, length-replicate, length-drop, first_length)
 
 -- the law

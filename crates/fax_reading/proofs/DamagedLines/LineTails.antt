@@ -5,11 +5,10 @@ use Rattle.fax_reading.proofs.Names.{le-leb, length-append, length-take-le, leng
 use Rattle.fax_reading.proofs.Names.{drop-drop, DecodeSettings, Bits, IsPrefix, after_eol, past_tag, Reaches, Row, Line}
 use Rattle.fax_reading.proofs.Names.{first_line, row_before, line_here, line_of_turn, move_on, IsEol, IsLocal, IsTaggedBody}
 use Rattle.fax_reading.proofs.Names.{common_steps, replicate-append-replicate}
-use Rattle.fax_reading.proofs.DamagedLines.EolsAlike.{Closes}
 use Rattle.fax_reading.proofs.DamagedLines.PastEol.{past, past-eol, past_later, next_eol_leaves}
-use Rattle.fax_reading.proofs.DamagedLines.RunsAlike.{IsTail}
 use Rattle.fax_reading.proofs.DamagedLines.SoughtTurns.{sought, rest_of, found_next, sought_line_is}
 use Rattle.fax_reading.proofs.DrawingLines.LinesLeaveBits.{LineLeaves, line_by_leaves}
+use Rattle.fax_reading.proofs.DamagedLines.{EolsAlike.Closes, RunsAlike.IsTail}
 
 -- without a prefix the rest is left
 pub drop_front : {A : Type 0} (front rest : List A) → drop (length front) (front ++ rest) ≡ rest
@@ -35,8 +34,7 @@ after_eol_is seen (true ∷ here) rest e = grind (arith, common_steps, eol_at_on
 -- they are eleven zeros behind more
 pub zeros_of_eol : (here rest : Bits) → after_eol 0 here ≡ Some rest
     → (more : ℕ) × (here ≡ (replicate more false ++ replicate 11 false) ++ true ∷ rest)
-zeros_of_eol here rest e =
-    let is = after_eol_is 0 here rest e in
+zeros_of_eol here rest e = let is = after_eol_is 0 here rest e in
     let more : ℕ = is.0 - 11 in
     let sum : is.0 ≡ more + 11 = omega (arith, is.2) in
     let zeros = ap (λ (n : ℕ). replicate n false) sum ∙ sym (replicate-append-replicate more 11 false) in
@@ -118,17 +116,16 @@ module _ (bits : Bits) (from to : ℕ) (after : Bits) (local : IsBody bits from 
   -- no EOL begins at or after the line's start and ends at or before `to`
   not_within : (before rest : Bits) (k : ℕ) (found : Bits) → line_on ≡ before ++ found → found ≡ replicate k false ++ true ∷ rest
       → after_eol 0 found ≡ Some rest → length before + (k + 1) ≤ to - from → ⊥
-  not_within before rest k found e f eol le =
-      grind (
-        arith,
-        append_assoc,
-        drop_at bits (take from bits ++ before) found (from + length before),
-        drop_at bits ((take from bits ++ before) ++ (replicate k false ++ true ∷ [])) rest (from + (length before + (k + 1))),
-        front_length,
-        length-append,
-        length-replicate,
-        whole,
-      )
+  not_within before rest k found e f eol le = grind (
+    arith,
+    append_assoc,
+    drop_at bits (take from bits ++ before) found (from + length before),
+    drop_at bits ((take from bits ++ before) ++ (replicate k false ++ true ∷ [])) rest (from + (length before + (k + 1))),
+    front_length,
+    length-append,
+    length-replicate,
+    whole,
+  )
 
   -- no EOL ends within the body
   pub none_in_body : past 0 body ≡ None
@@ -136,8 +133,7 @@ module _ (bits : Bits) (from to : ℕ) (after : Bits) (local : IsBody bits from 
     where
       by_past : (o : Option Bits) → past 0 body ≡ o → past 0 body ≡ None
       by_past None e = e
-      by_past (Some rest) e =
-          let next = found_next body rest e in
+      by_past (Some rest) e = let next = found_next body rest e in
           let before = next_eol_leaves body next.0 next.1 in
           let is = after_eol_is 0 next.0 rest next.2 in
           grind (arith, append_assoc, after_eol-append, body_length, length-append, length-replicate, not_within, cut)
@@ -147,16 +143,15 @@ module _ (bits : Bits) (from to : ℕ) (after : Bits) (local : IsBody bits from 
     where
       by_after_eol : (o : Option Bits) → after_eol 0 line_on ≡ o → after_eol 0 line_on ≡ None
       by_after_eol None e = e
-      by_after_eol (Some rest) e =
-          let is = after_eol_is 0 line_on rest e in
+      by_after_eol (Some rest) e = let is = after_eol_is 0 line_on rest e in
           let n : ℕ = local.one.0 - from in
           let sum : from + n ≡ local.one.0 = omega (arith, local.one.1) in
-          let there : drop n line_on ≡ true ∷ local.one.3.0 =
-          drop-drop n from bits ∙ ap (λ (k : ℕ). drop k bits) sum ∙ local.one.3.1 in
-          let split : replicate is.0 false ++ true ∷ rest ≡ take n line_on ++ true ∷ local.one.3.0 =
-          sym is.1 ∙ sym (take-append-drop n line_on) ∙ ap (λ (b : Bits). take n line_on ++ b) there in
-          let short : length (take n line_on) ≡ n =
-          length-take-le n line_on (omega (arith, length-drop from bits, local.one.1, local.one.2, local.within)) in
+          let there : drop n line_on ≡ true ∷ local.one.3.0 = drop-drop n from bits ∙ ap (λ (k : ℕ). drop k bits) sum
+          ∙ local.one.3.1 in
+          let split : replicate is.0 false ++ true ∷ rest ≡ take n line_on ++ true ∷ local.one.3.0 = sym is.1
+          ∙ sym (take-append-drop n line_on) ∙ ap (λ (b : Bits). take n line_on ++ b) there in
+          let short : length (take n line_on) ≡ n = length-take-le n line_on
+          (omega (arith, length-drop from bits, local.one.1, local.one.2, local.within)) in
           absurd (not_within [] rest is.0 line_on refl is.1 e (omega (arith, first_one, short, local.one.1, local.one.2)))
 
   pub next_line_is : past 0 line_on ≡ Some after
@@ -186,13 +181,11 @@ body_1d settings bits from to local = grind (arith, common_steps)
 -- a local body begins such a tail
 pub is_tail : (settings : DecodeSettings) (bits : Bits) (from to : ℕ) (local : IsLocal settings bits from to)
     → IsTail settings local.closes.0 (drop from bits)
-is_tail settings bits from to local =
-    let body = body_1d settings bits from to local in
-    record {
-      none = no_eol_here bits from to local.closes.0 body;
-      next = next_line_is bits from to local.closes.0 body;
-      tag = λ e. absurd (let f = local.encoding in cc);
-    }
+is_tail settings bits from to local = let body = body_1d settings bits from to local in record {
+  none = no_eol_here bits from to local.closes.0 body;
+  next = next_line_is bits from to local.closes.0 body;
+  tag = λ e. absurd (cc);
+}
 
 -- the next EOL behind its line is the one behind it
 pub stays_1d : (settings : DecodeSettings) (bits : Bits) (from to : ℕ) (local : IsLocal settings bits from to) (reference : Row)
@@ -208,24 +201,17 @@ body_2d : (settings : DecodeSettings) (bits : Bits) (from to : ℕ) (local : IsT
     → IsBody bits from to local.closes.0
 body_2d settings bits from to local = grind (arith, common_steps)
 
--- the body alone
-body_behind_tag : (settings : DecodeSettings) (bits : Bits) (from to : ℕ) (local : IsTaggedBody settings bits from to)
-    → IsBody bits (suc from) to local.closes.0
-body_behind_tag settings bits from to local = grind (arith, common_steps)
-
 -- it begins such a tail
 pub is_tagged_tail : (settings : DecodeSettings) (bits : Bits) (from to : ℕ) (local : IsTaggedBody settings bits from to)
     → IsTail settings local.closes.0 (drop from bits)
-is_tagged_tail settings bits from to local =
-    let body = body_2d settings bits from to local in
-    record {
-      none = no_eol_here bits from to local.closes.0 body;
-      next = next_line_is bits from to local.closes.0 body;
-      tag = λ e. by_drop (drop from bits) refl;
-    }
+is_tagged_tail settings bits from to local = let body = body_2d settings bits from to local in record {
+  none = no_eol_here bits from to local.closes.0 body;
+  next = next_line_is bits from to local.closes.0 body;
+  tag = λ e. by_drop (drop from bits) refl;
+}
   where
     none : after_eol 0 (drop (suc from) bits) ≡ None
-    none = no_eol_here bits (suc from) to local.closes.0 (body_behind_tag settings bits from to local)
+    none = no_eol_here bits (suc from) to local.closes.0 (grind (arith, common_steps))
 
     by_drop : (here : Bits) → drop from bits ≡ here → past_tag here ≡ here
     by_drop [] e = refl

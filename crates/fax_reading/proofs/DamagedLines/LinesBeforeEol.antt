@@ -1,18 +1,16 @@
 -- A line that begins before the zeros of an EOL ends before their end, whatever comes after them.
-use Rattle.fax_reading.proofs.Names.{◌≡◌, ℕ, suc, ◌≤◌, Bool, true, false, cond, leb, List, [], ◌∷◌, ◌++◌, length, replicate}
-use Rattle.fax_reading.proofs.Names.{Option, Some, None, Result, Ok, Err, refl, sym, append_assoc, arith, inl, inr}
-use Rattle.fax_reading.proofs.Names.{cases_lt, lt-ltb, le-ltb, append_cancel_left, Color, Mode, Pass, Horizontal, Vertical}
-use Rattle.fax_reading.proofs.Names.{DecodeError, UnexpectedEof, Bits, Code, mode_codes, Has, is_prefix_free, read_code, IsWord}
-use Rattle.fax_reading.proofs.Names.{Turn, Row, opposite, paint, codes_of, run_turn, run_from, Line, Pen, start}
-use Rattle.fax_reading.proofs.Names.{line_1d, line_2d, Step, common_steps}
+use Rattle.fax_reading.proofs.Names.{◌≡◌, ℕ, suc, ◌≤◌, Bool, true, false, cond, leb, List, [], ◌∷◌, ◌++◌, length, replicate, Some}
+use Rattle.fax_reading.proofs.Names.{Option, None, Result, Ok, Err, refl, sym, append_assoc, arith, inl, inr, cases_lt, lt-ltb}
+use Rattle.fax_reading.proofs.Names.{le-ltb, append_cancel_left, Color, Mode, Pass, Horizontal, Vertical, DecodeError, Bits, Code}
+use Rattle.fax_reading.proofs.Names.{UnexpectedEof, mode_codes, Has, is_prefix_free, read_code, IsWord, Turn, Row, opposite, Line}
+use Rattle.fax_reading.proofs.Names.{paint, codes_of, run_turn, run_from, Pen, start, line_1d, line_2d, Step, common_steps}
 use Rattle.fax_bits.proofs.BitReading.ZerosInWords.{scan, is_quiet, scan_below, scan-append, quiet_is, word_quiet}
 use Rattle.fax_bits.proofs.BitReading.ZerosInWords.{prefix_of_prefix, codes_free, modes_free}
-use Rattle.fax_bits.proofs.CodeWords.ReadCodes.{read_code_found, read_code_again}
-use Rattle.fax_bits.proofs.CodeWords.ReadRuns.{run_shrinks, size}
 use Rattle.fax_reading.proofs.DrawingLines.Drawings.{try, run_then, mode_step, step_1d, step_2d, step_1d_is, step_2d_is}
 use Rattle.fax_reading.proofs.DrawingLines.Drawings.{horizontal_is}
 use Rattle.fax_reading.proofs.DrawingLines.ReadLines.{pen_left, step_1d_shrinks, step_2d_shrinks}
 use Rattle.fax_bits.proofs.Repetition.Repeated.{Follows, repeated_follows}
+use Rattle.fax_bits.proofs.CodeWords.{ReadCodes.read_code_found, ReadCodes.read_code_again, ReadRuns.run_shrinks, ReadRuns.size}
 
 pub scan_stays : (n : ℕ) (a b : Bits) → scan n a ≡ None → scan n (a ++ b) ≡ None
 scan_stays n [] b e = absurd cc
@@ -39,22 +37,18 @@ InFront x y here there = (bits : Bits) × Inside bits × (here ≡ bits ++ x) ×
 -- a word that begins inside ends inside
 word_inside : (bits x word rest : Bits) → Inside bits → is_quiet word ≡ true → bits ++ x ≡ word ++ rest → (more : Bits)
     × Inside more × (bits ≡ word ++ more) × (rest ≡ more ++ x)
-word_inside bits x word rest inside quiet e =
-    let q = quiet_is (scan 3 word) quiet in
+word_inside bits x word rest inside quiet e = let q = quiet_is (scan 3 word) quiet in
     elim (cases_lt (length bits) (length word)) [
-      | inl lt ↦
-          grind (arith, common_steps, prefix_of_prefix bits x word rest (sym e) (omega arith), scan_stays 3 bits)
-      | inr ge ↦
-          let f = prefix_of_prefix word rest bits x e ge in
-          grind (
-            arith,
-            common_steps,
-            scan-append 3 q.0 word f.0 q.1,
-            append_assoc word f.0 x,
-            append_assoc inside.last.0 word f.0,
-            scan_above q.0 3 f.0 q.2,
-            append_cancel_left word (f.0 ++ x) rest,
-          )
+      | inl lt ↦ grind (arith, common_steps, prefix_of_prefix bits x word rest (sym e) (omega arith), scan_stays 3 bits)
+      | inr ge ↦ let f = prefix_of_prefix word rest bits x e ge in grind (
+        arith,
+        common_steps,
+        scan-append 3 q.0 word f.0 q.1,
+        append_assoc word f.0 x,
+        append_assoc inside.last.0 word f.0,
+        scan_above q.0 3 f.0 q.2,
+        append_cancel_left word (f.0 ++ x) rest,
+      )
     ]
 
 -- ---- What is found in one is found in the other
@@ -68,8 +62,7 @@ module _ {V : Type 0} (list : List (Code V)) (free : is_prefix_free list ≡ tru
     (words : (v : V) (word : Bits) → Has list v word → IsWord word) where
   reads_too : (bits x y : Bits) (v : V) (rest : Bits) → Inside bits → read_code list (bits ++ x) ≡ Ok (v, rest)
       → (more : Bits) × Inside more × (rest ≡ more ++ x) × (read_code list (bits ++ y) ≡ Ok (v, more ++ y))
-  reads_too bits x y v rest inside e =
-      let f = read_code_found list (bits ++ x) v rest e in
+  reads_too bits x y v rest inside e = let f = read_code_found list (bits ++ x) v rest e in
       let g = word_inside bits x f.0 rest inside (word_quiet f.0 (words v f.0 f.1)) f.2 in
       grind (arith, append_assoc, read_code_again)
 
@@ -86,10 +79,6 @@ module _ {V : Type 0} (list : List (Code V)) (free : is_prefix_free list ≡ tru
   words_in_front : (x y here there : Bits) → InFront x y here there → FoundAlike x y (read_code list here) (read_code list there)
   words_in_front x y here there (bits, inside, e, f) = rw (e, f) (words_alike bits x y inside)
 
-read_code_alike : (color : Color) (bits x y : Bits) → Inside bits
-    → FoundAlike x y (read_code (codes_of color) (bits ++ x)) (read_code (codes_of color) (bits ++ y))
-read_code_alike color bits x y inside = grind (arith, common_steps, words_alike, codes_free)
-
 read_mode_alike : (x y here there : Bits) → InFront x y here there
     → FoundAlike x y (read_code mode_codes here) (read_code mode_codes there)
 read_mode_alike x y here there front = words_in_front mode_codes modes_free
@@ -104,21 +93,19 @@ module _ (x y : Bits) where
     turn_alike : (total : ℕ) (bits : Bits) → Inside bits
         → Follows Runs (FoundAlike x y) rest (run_turn color (total, bits ++ x)) (run_turn color (total, bits ++ y))
     turn_alike total bits inside = by_read_code (read_code (codes_of color) (bits ++ x))
-        (read_code (codes_of color) (bits ++ y)) refl refl (read_code_alike color bits x y inside)
+        (read_code (codes_of color) (bits ++ y)) refl refl (grind (arith, common_steps, words_alike, codes_free))
       where
         by_read_code : (r q : Result (ℕ × Bits) DecodeError)
             → read_code (codes_of color) (bits ++ x) ≡ r → read_code (codes_of color) (bits ++ y) ≡ q → FoundAlike x y r q
             → Follows Runs (FoundAlike x y) rest (run_turn color (total, bits ++ x)) (run_turn color (total, bits ++ y))
         by_read_code r q e f g = grind (arith, common_steps)
 
-    states_alike : (s t : ℕ × Bits) → Runs s t → Follows Runs (FoundAlike x y) rest (run_turn color s) (run_turn color t)
-    states_alike (total, here) (other, there) p = grind (arith, common_steps, turn_alike)
-
   run_alike : (color : Color) (total : ℕ) (here there : Bits) → InFront x y here there
       → FoundAlike x y (run_from color (total, here)) (run_from color (total, there))
   run_alike color total here there front = repeated_follows (run_turn color) (Err UnexpectedEof) size (run_shrinks color)
-      (run_turn color) (Err UnexpectedEof) size (run_shrinks color) Runs (FoundAlike x y) (states_alike color _)
-      (suc (length here)) (suc (length there)) (total, here) (total, there) (omega arith) (omega arith) (refl, front)
+      (run_turn color) (Err UnexpectedEof) size (run_shrinks color) Runs (FoundAlike x y)
+      (grind (arith, common_steps, turn_alike)) (suc (length here)) (suc (length there)) (total, here) (total, there)
+      (omega arith) (omega arith) (refl, front)
 
   -- ---- Lines
   abbrev pub LineAlike : Line → Line → Type 0
@@ -136,11 +123,10 @@ module _ (x y : Bits) where
     drew_alike : (front : Row) (color : Color) (here there : Bits) → InFront x y here there
         → Follows Pens LineAlike rest (step_1d false columns (record { front = front; color = color; rest = here }))
         (step_1d false columns (record { front = front; color = color; rest = there }))
-    drew_alike front color here there infront =
-        rw (
-          step_1d_is false columns (record { front = front; color = color; rest = here }),
-          step_1d_is false columns (record { front = front; color = color; rest = there }),
-        ) (full (leb columns (length front)))
+    drew_alike front color here there infront = rw (
+      step_1d_is false columns (record { front = front; color = color; rest = here }),
+      step_1d_is false columns (record { front = front; color = color; rest = there }),
+    ) (full (leb columns (length front)))
       where
         drawn_by : Result (ℕ × Bits) DecodeError → Step
         drawn_by r = try front r (λ run. try front (paint false columns front color run.0)
@@ -153,16 +139,13 @@ module _ (x y : Bits) where
             (run_from color (0, here)))) (cond b (Turn.done (Line.whole front there)) (drawn_by (run_from color (0, there))))
         full b = grind (arith, common_steps, drew, run_alike)
 
-    pens_alike : (s t : Pen) → Pens s t → Follows Pens LineAlike rest (step_1d false columns s) (step_1d false columns t)
-    pens_alike s t (front, color, here, there, a, b, infront) = rw (a, b) (drew_alike front color here there infront)
-
   -- a line of two data at one position, inside, is the same, and ends inside
   pub line_1d_alike : (columns : ℕ) (here there : Bits) → InFront x y here there
       → LineAlike (line_1d false columns here) (line_1d false columns there)
   line_1d_alike columns here there front = repeated_follows (step_1d false columns) (Line.broken [] UnexpectedEof) pen_left
-      (step_1d_shrinks false columns) (step_1d false columns) (Line.broken [] UnexpectedEof) pen_left
-      (step_1d_shrinks false columns) Pens LineAlike (pens_alike columns _) (suc (length here)) (suc (length there))
-      (start here) (start there) (omega arith) (omega arith) ([], Color.White, here, there, refl, refl, front)
+      (step_1d_shrinks false columns) (step_1d false columns) (Line.broken [] UnexpectedEof) pen_left (step_1d_shrinks false
+      columns) Pens LineAlike (grind (arith, common_steps, drew_alike)) (suc (length here)) (suc (length there)) (start here)
+      (start there) (omega arith) (omega arith) ([], Color.White, here, there, refl, refl, front)
 
   -- the same of a two-dimensional line, against one reference row
   module _ (columns : ℕ) (reference : Row) (rest : Pen → Line) where
@@ -191,11 +174,10 @@ module _ (x y : Bits) where
         → Both (mode_step false columns reference (record { front = front; color = color; rest = here }) mode)
         (mode_step false columns reference (record { front = front; color = color; rest = there }) mode)
     mode_alike front color here there Pass infront = (_, color, here, there, refl, refl, infront)
-    mode_alike front color here there Horizontal infront =
-        rw (
-          ← horizontal_is false columns reference (record { front = front; color = color; rest = here }),
-          ← horizontal_is false columns reference (record { front = front; color = color; rest = there }),
-        ) (run_then_alike front color here there (λ p. run_then false columns p Turn.next) infront second)
+    mode_alike front color here there Horizontal infront = rw (
+      ← horizontal_is false columns reference (record { front = front; color = color; rest = here }),
+      ← horizontal_is false columns reference (record { front = front; color = color; rest = there }),
+    ) (run_then_alike front color here there (λ p. run_then false columns p Turn.next) infront second)
       where
         second : (s t : Pen) → Pens s t → Both (run_then false columns s Turn.next) (run_then false columns t Turn.next)
         second s t (more, color2, here2, there2, a, b, still) = rw (a, b)
@@ -203,13 +185,12 @@ module _ (x y : Bits) where
     mode_alike front color here there (Vertical k) infront = grind (arith, common_steps)
 
     step_2d_alike : (s t : Pen) → Pens s t → Both (step_2d false columns reference s) (step_2d false columns reference t)
-    step_2d_alike s t (front, color, here, there, a, b, infront) =
-        rw (
-          a,
-          b,
-          step_2d_is false columns reference (record { front = front; color = color; rest = here }),
-          step_2d_is false columns reference (record { front = front; color = color; rest = there }),
-        ) (full (leb columns (length front)))
+    step_2d_alike s t (front, color, here, there, a, b, infront) = rw (
+      a,
+      b,
+      step_2d_is false columns reference (record { front = front; color = color; rest = here }),
+      step_2d_is false columns reference (record { front = front; color = color; rest = there }),
+    ) (full (leb columns (length front)))
       where
         step : Result (Mode × Bits) DecodeError → Step
         step r = try front r (λ mode. mode_step false columns reference
@@ -225,9 +206,8 @@ module _ (x y : Bits) where
 
   pub line_2d_alike : (columns : ℕ) (reference : Row) (here there : Bits) → InFront x y here there
       → LineAlike (line_2d false columns reference here) (line_2d false columns reference there)
-  line_2d_alike columns reference here there front =
-      repeated_follows (step_2d false columns reference) (Line.broken [] UnexpectedEof) pen_left
-      (step_2d_shrinks false columns reference) (step_2d false columns reference) (Line.broken [] UnexpectedEof) pen_left
-      (step_2d_shrinks false columns reference) Pens LineAlike (step_2d_alike columns reference _) (suc (length here))
-      (suc (length there)) (start here) (start there) (omega arith) (omega arith)
-      ([], Color.White, here, there, refl, refl, front)
+  line_2d_alike columns reference here there front = repeated_follows (step_2d false columns reference)
+      (Line.broken [] UnexpectedEof) pen_left (step_2d_shrinks false columns reference) (step_2d false columns reference)
+      (Line.broken [] UnexpectedEof) pen_left (step_2d_shrinks false columns reference) Pens LineAlike
+      (step_2d_alike columns reference _) (suc (length here)) (suc (length there)) (start here) (start there) (omega arith)
+      (omega arith) ([], Color.White, here, there, refl, refl, front)

@@ -1,19 +1,18 @@
 -- Lines by EOLs.
 use Rattle.fax_reading.proofs.Readings.TurnsAddRows.{turn_extends, after_row_keeps, move_adds, repeated_adds}
-use Rattle.fax_reading.proofs.Names.{◌≡◌, ℕ, zero, suc, ◌<◌, Bool, true, false, cond, ◌||◌, ltb, List, [], ◌∷◌, ◌++◌, length}
-use Rattle.fax_reading.proofs.Names.{map, Option, Some, None, Ok, Err, refl, sym, ap, subst, ◌∙◌, append_assoc, arith, ◌⊎◌, All}
-use Rattle.fax_reading.proofs.Names.{All-head, All-tail, All-same, append-nil, cases_lt, lt-leb, le-leb, and_right}
-use Rattle.fax_reading.proofs.Names.{cond-false, UnexpectedEof, Group3_1D, DecodeSettings, Bits, IsPrefix, Turn, repeated, Row}
-use Rattle.fax_reading.proofs.Names.{line_1d, after_eol, all_eols, Progress, Ending, Move, limit_met, at_end, ends_with, move_on}
+use Rattle.fax_reading.proofs.Names.{◌≡◌, ℕ, zero, suc, ◌<◌, Bool, true, false, cond, ◌||◌, ltb, List, [], ◌∷◌, ◌++◌, length, map}
+use Rattle.fax_reading.proofs.Names.{Option, Some, None, Ok, Err, refl, sym, ap, subst, ◌∙◌, append_assoc, arith, ◌⊎◌, All}
+use Rattle.fax_reading.proofs.Names.{All-head, All-tail, All-same, append-nil, cases_lt, lt-leb, le-leb, and_right, cond-false}
+use Rattle.fax_reading.proofs.Names.{UnexpectedEof, Group3_1D, DecodeSettings, Bits, IsPrefix, Turn, repeated, Row, line_1d}
+use Rattle.fax_reading.proofs.Names.{after_eol, all_eols, Progress, Ending, Move, limit_met, at_end, ends_with, move_on}
 use Rattle.fax_reading.proofs.Names.{begins_line, later_starts, starts, row_at, StaysBefore, IsEolAt, LinesByEols, common_steps}
-use Rattle.fax_reading.proofs.{Readings.GapsAndRows.ending_t4, Readings.RowsAndGaps.after_row, Readings.RowsAndGaps.unless_over}
-use Rattle.fax_reading.proofs.DamagedLines.PastEol.{past, past-eol}
 use Rattle.fax_bits.proofs.BitReading.ConsecutiveEols.{all_eols-some, after_eol_shorter, count_shorter, counts_plain}
-use Rattle.fax_reading.proofs.DamagedLines.LineTails.{line_past_of}
 use Rattle.fax_reading.proofs.DamagedLines.SoughtTurns.{sought, rest_of, found_next, after_row_past, move_line}
 use Rattle.fax_reading.proofs.DrawingLines.LinesLeaveBits.{line_1d_leaves}
 use Rattle.fax_bits.proofs.Repetition.Repeated.{after_turn, repeated_turn, repeated_same}
 use Rattle.fax_reading.proofs.Readings.TurnsMoveOn.{eols_end, left_to_read, left_below, move_shrinks}
+use Rattle.fax_reading.proofs.Readings.{GapsAndRows.ending_t4, RowsAndGaps.after_row, RowsAndGaps.unless_over}
+use Rattle.fax_reading.proofs.DamagedLines.{PastEol.past, PastEol.past-eol, LineTails.line_past_of}
 
 -- what follows the next EOL is shorter
 pub past_shorter : (seen : ℕ) (here after : Bits) → past seen here ≡ Some after → length after < length here
@@ -60,8 +59,7 @@ starts-next here after e = starts-past 0 here after e ∙ starts_after (suc (len
 -- ---- The next EOL is the same after a line that stays before it
 pub line_past : (columns : ℕ) (here after : Bits) → StaysBefore columns here → past 0 here ≡ Some after
     → past 0 (rest_of (line_1d false columns here) here) ≡ Some after
-line_past columns here after stays e =
-    let next = found_next here after e in
+line_past columns here after stays e = let next = found_next here after e in
     line_past_of (line_1d false columns here) here after (line_1d_leaves false columns here) e
     (λ row rest l. stays next.0 after next.1 next.2 row rest l)
 
@@ -120,15 +118,13 @@ module _ (settings : DecodeSettings) (encoding : settings.encoding ≡ Group3_1D
           go : (there : Bits) → (all_eols after).1 ≡ there
               → IsPrefix (rows ++ map (row_at settings.columns) (here ∷ later_starts 0 here))
               (after_turn rest_end (after_row settings (sought others rest))).rows
-          go [] is =
-              let none : later_starts 0 here ≡ [] = starts-next here after e ∙ ap from_here is in
+          go [] is = let none : later_starts 0 here ≡ [] = starts-next here after e ∙ ap from_here is in
               subst (λ (m : Move). IsPrefix (rows ++ map (row_at settings.columns) (here ∷ later_starts 0 here))
               (after_turn rest_end m).rows) (sym (turn [] is)) (rw none ([], sym (append-nil others)))
-          go (b ∷ there) is =
-              let some : later_starts 0 here ≡ (b ∷ there) ∷ later_starts 0 (b ∷ there) =
-              starts-next here after e ∙ ap from_here is in
-              let smaller : length (b ∷ there) < n =
-              omega (arith, lt, past_shorter 0 here after e, count_shorter counts_plain (length after) after, ap length is) in
+          go (b ∷ there) is = let some : later_starts 0 here ≡ (b ∷ there) ∷ later_starts 0
+              (b ∷ there) = starts-next here after e ∙ ap from_here is in
+              let smaller : length (b ∷ there) < n = omega
+              (arith, lt, past_shorter 0 here after e, count_shorter counts_plain (length after) after, ap length is) in
               let tail = All-same (StaysBefore settings.columns) ((b ∷ there) ∷ later_starts 0 (b ∷ there)) (later_starts 0 here)
               (sym some) (All-tail (StaysBefore settings.columns) here (later_starts 0 here) stay) in
               let further = on others (b ∷ there) smaller tail in
@@ -138,8 +134,7 @@ module _ (settings : DecodeSettings) (encoding : settings.encoding ≡ Group3_1D
   by_run : (run : Progress) (here : Bits) → run ≡ sought [] here → All (StaysBefore settings.columns) (here ∷ later_starts 0 here)
       → IsPrefix (map (row_at settings.columns) (here ∷ later_starts 0 here))
       (repeated (move_on settings) late (suc (suc (length run.rest))) run).rows
-  by_run run here is stay =
-      subst (λ (e : Ending). IsPrefix (map (row_at settings.columns) (here ∷ later_starts 0 here)) e.rows)
+  by_run run here is stay = subst (λ (e : Ending). IsPrefix (map (row_at settings.columns) (here ∷ later_starts 0 here)) e.rows)
       (repeated_same (move_on settings) late left_to_read (move_shrinks settings wide) (suc (left_to_read run))
       (suc (suc (length run.rest))) run (omega arith) (left_below run))
       (subst (λ (r : Progress). IsPrefix (map (row_at settings.columns) (here ∷ later_starts 0 here)) (rest_end r).rows) (sym is)
@@ -152,13 +147,11 @@ seeks bits end_of_line given = grind (arith, common_steps)
 
 -- the law
 pub lines_by_eols : LinesByEols
-lines_by_eols settings bits are encoding lenient no_block unlimited wide sought_by stay =
-    let first : Progress =
+lines_by_eols settings bits are encoding lenient no_block unlimited wide sought_by stay = let first : Progress =
     record { rows = []; has_eols = ltb 0 (all_eols bits).0 || settings.end_of_line; rest = (all_eols bits).1 } in
-    let first_is : first ≡ sought [] (all_eols bits).1 =
-    ap (λ (b : Bool). record { rows = []; has_eols = b; rest = (all_eols bits).1 }) (seeks bits settings.end_of_line sought_by) in
-    let ends : IsPrefix (map (row_at settings.columns) (starts bits)) (ending_t4 settings bits).rows =
-    by_run settings encoding lenient no_block unlimited wide
+    let first_is : first ≡ sought [] (all_eols bits).1 = grind (arith, common_steps, seeks) in
+    let ends : IsPrefix (map (row_at settings.columns) (starts bits))
+    (ending_t4 settings bits).rows = by_run settings encoding lenient no_block unlimited wide
     (record { rows = []; has_eols = ltb 0 (all_eols bits).0 || settings.end_of_line; outcome = Err UnexpectedEof }) first
     (all_eols bits).1 first_is stay in
     grind (arith, common_steps, ending_t4, map)

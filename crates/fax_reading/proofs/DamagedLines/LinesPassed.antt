@@ -1,14 +1,13 @@
 -- Two-dimensional lines that are passed without their reference rows.
 use Rattle.fax_reading.proofs.Names.{common_steps, ◌≡◌, ℕ, zero, suc, ◌+◌, ◌-◌, ◌<◌, ◌≤◌, ◌⊎◌, Bool, cond, true, false, [], ◌∷◌}
-use Rattle.fax_reading.proofs.Names.{length, drop, Option, Some, None, Result, Ok, Err, refl, sym, ap, subst, ◌∙◌, arith}
-use Rattle.fax_reading.proofs.Names.{◌↔◌, Color, White, Mode, Pass, Horizontal, Vertical, DecodeError, DecodeSettings}
-use Rattle.fax_reading.proofs.Names.{Group3_2D, Bits, mode_codes, read_code, after_eol, next_eol, one_more, pass_last_tag}
-use Rattle.fax_reading.proofs.Names.{tagged_eols, ReadsModes, IsLine2D, ComesBefore1D, ComeBefore1D, IsFollowedBy, behind_mode}
-use Rattle.fax_reading.proofs.Names.{behind_read, behind_word, behind_first_run, behind_second_run, opposite, read_run}
+use Rattle.fax_reading.proofs.Names.{length, drop, Option, Some, None, Result, Ok, Err, refl, ap, subst, ◌∙◌, arith, ◌↔◌}
+use Rattle.fax_reading.proofs.Names.{Color, White, Mode, Pass, Horizontal, Vertical, DecodeError, DecodeSettings, Group3_2D, Bits}
+use Rattle.fax_reading.proofs.Names.{mode_codes, read_code, after_eol, next_eol, one_more, pass_last_tag, tagged_eols, ReadsModes}
+use Rattle.fax_reading.proofs.Names.{IsLine2D, ComesBefore1D, ComeBefore1D, IsFollowedBy, behind_mode, behind_read, behind_word}
+use Rattle.fax_reading.proofs.Names.{behind_first_run, behind_second_run, opposite, read_run}
 use Rattle.fax_bits.proofs.CodeWords.ReadRuns.{read_code_shorter, run_shorter}
-use Rattle.fax_reading.proofs.DamagedLines.AnyReference.{left_behind}
 use Rattle.fax_bits.proofs.BitReading.ConsecutiveEols.{all_tagged-some, all_tagged-none}
-use Rattle.fax_reading.proofs.DrawingLines.ReadLines.{modes_not_empty}
+use Rattle.fax_reading.proofs.{DamagedLines.AnyReference.left_behind, DrawingLines.ReadLines.modes_not_empty}
 
 -- ---- A mode that is read takes bits
 some_rest : (a b : Color × Bits) → ◌≡◌ {A = Option (Color × Bits)} (Some a) (Some b) → a.1 ≡ b.1
@@ -89,7 +88,7 @@ pub before_1d : (settings : DecodeSettings) (here after rest : Bits) (count : �
 before_1d settings here after rest count eol counted ends = grind (arith, common_steps)
 
 not_over : (rest line : Bits) → rest ≡ false ∷ line → rest ≡ [] → ⊥
-not_over rest line e f = let both : ◌≡◌ {A = Bits} (false ∷ line) [] = sym e ∙ f in cc
+not_over rest line e f = cc
 
 pub not_before_1d : (settings : DecodeSettings) (here rest line : Bits) (count : ℕ) → tagged_eols here ≡ (count, rest)
     → (settings.end_of_block ≡ true → 6 ≤ count → ⊥) → rest ≡ false ∷ line → ComesBefore1D settings here → ⊥
@@ -98,8 +97,7 @@ not_before_1d settings here rest line count counted no_rtc tag (eol, ends) = gri
 -- a two-dimensional line is none of these
 line_not_before_1d : (settings : DecodeSettings) (here line next : Bits) → after_eol 0 here ≡ Some (false ∷ line)
     → IsLine2D line next → ComesBefore1D settings here → ⊥
-line_not_before_1d settings here line next e is =
-    not_before_1d settings here (false ∷ line) line 1
+line_not_before_1d settings here line next e is = not_before_1d settings here (false ∷ line) line 1
     (ap pass_last_tag (all_tagged-some here (false ∷ line) e ∙ ap one_more (all_tagged-none (false ∷ line) is.no_eol)))
     (λ block six. absurd (omega (arith, six))) refl
 
@@ -155,17 +153,15 @@ counted_none settings start here rows so_far no_end no_line lines =
     by_left (suc left, same, (line, next, e, is, more)) = no_line line next e is
 
 pub no_eol_no_end : (settings : DecodeSettings) (here : Bits) → after_eol 0 here ≡ None → ComesBefore1D settings here → ⊥
-no_eol_no_end settings here none (eol, ends) = let both : ◌≡◌ {A = Option Bits} None (Some eol.0) = sym none ∙ eol.1 in cc
+no_eol_no_end settings here none (eol, ends) = cc
 
 pub no_eol_no_line : (here : Bits) → after_eol 0 here ≡ None → (line next : Bits) → after_eol 0 here ≡ Some (false ∷ line)
     → IsLine2D line next → ⊥
-no_eol_no_line here none line next e is = let both : ◌≡◌ {A = Option Bits} None (Some (false ∷ line)) = sym none ∙ e in cc
+no_eol_no_line here none line next e is = cc
 
-pub no_line_there : (here after : Bits) → after_eol 0 here ≡ Some after
-    → ((line next : Bits) → after ≡ false ∷ line → IsLine2D line next → ⊥)
-    → (line next : Bits) → after_eol 0 here ≡ Some (false ∷ line) → IsLine2D line next → ⊥
-no_line_there here after eol none line next e is =
-    none line next (let both : ◌≡◌ {A = Option Bits} (Some after) (Some (false ∷ line)) = sym eol ∙ e in cc) is
+pub no_line_there : (here after : Bits) → after_eol 0 here ≡ Some after → ((line next : Bits) → after ≡ false ∷ line
+    → IsLine2D line next → ⊥) → (line next : Bits) → after_eol 0 here ≡ Some (false ∷ line) → IsLine2D line next → ⊥
+no_line_there here after eol none line next e is = none line next (cc) is
 
 -- ---- What a call that tests the settings first returns
 pub reaches_if : (settings : DecodeSettings) (bits : Bits) (to : ℕ) (result : Option ℕ) → settings.encoding ≡ Group3_2D

@@ -4,10 +4,9 @@ use Rattle.fax_reading.proofs.Names.{drop, replicate, Option, Some, None, refl, 
 use Rattle.fax_reading.proofs.Names.{length-append, length-take-le, length-drop, length-replicate, take-append-drop, drop-drop}
 use Rattle.fax_reading.proofs.Names.{replicate-append-replicate, DecodeSettings, Bits, after_eol, next_eol, IsEol, IsLocal}
 use Rattle.fax_reading.proofs.Names.{IsLocalByTests, LocalByTests, common_steps}
-use Rattle.fax_reading.proofs.{DamagedLines.EolsAlike.no_one_in_zeros, DamagedLines.PastEol.past_is}
-use Rattle.fax_reading.proofs.DamagedLines.PastEol.{then_after}
 use Rattle.fax_reading.proofs.DamagedLines.LineTails.{after_eol_is, drop_at, none_in_body, body_1d}
 use Rattle.fax_bits.proofs.BitReading.ConsecutiveEols.{next_eol_found, eol_of}
+use Rattle.fax_reading.proofs.DamagedLines.{EolsAlike.no_one_in_zeros, PastEol.past_is, PastEol.then_after}
 
 -- bits that aren't all zeros contain a one
 holds_one : (bits : Bits) → bits ≢ replicate (length bits) false → (before after : Bits) × (bits ≡ before ++ true ∷ after)
@@ -40,8 +39,7 @@ take-split {A} (suc j) (suc m) (x ∷ xs) le = grind (arith, common_steps, take-
 -- how far an EOL reaches
 eol_lengths : (bits : Bits) (place end zeros : ℕ) → drop place bits ≡ replicate zeros false ++ true ∷ drop end bits
     → length bits - place ≡ zeros + (1 + (length bits - end))
-eol_lengths bits place end zeros is =
-    let step = length-append (replicate zeros false) (true ∷ drop end bits) in
+eol_lengths bits place end zeros is = let step = length-append (replicate zeros false) (true ∷ drop end bits) in
     grind (arith, common_steps, step, length-drop place bits, length-drop end bits, length-replicate zeros false)
 
 module _ (settings : DecodeSettings) (bits : Bits) (from to : ℕ) where
@@ -80,18 +78,16 @@ module _ (settings : DecodeSettings) (bits : Bits) (from to : ℕ) where
           )
 
       no_eol : (place end : ℕ) → from ≤ place → end ≤ to → IsEol bits place end → ⊥
-      no_eol place end le le2 (lt, inside, eol) =
-          let is = after_eol_is 0 (drop place bits) (drop end bits) eol in
+      no_eol place end le le2 (lt, inside, eol) = let is = after_eol_is 0 (drop place bits) (drop end bits) eol in
           let j : ℕ = place - from in
-          let sum : from + j ≡ place = omega (arith, le) in
-          let there : drop j (drop from bits) ≡ replicate is.0 false ++ true ∷ drop end bits =
-          drop-drop j from bits ∙ ap (λ (n : ℕ). drop n bits) sum ∙ is.1 in
+          let there : drop j (drop from bits) ≡ replicate is.0 false ++ true ∷ drop end bits = grind
+          (arith, common_steps, drop-drop) in
           let lengths = eol_lengths bits place end is.0 is.1 in
           let fits : is.0 < (to - from) - j = omega (arith, lengths, le, le2, lt, tests.order, tests.within) in
-          let split : body ≡ take j (drop from bits) ++ (replicate is.0 false ++ true ∷ take (((to - from) - j) - (is.0 + 1))
-          (drop end bits)) = take-split j (to - from) (drop from bits) (omega (arith, le, le2, lt))
-          ∙ ap (λ (b : Bits). take j (drop from bits) ++ take ((to - from) - j) b) there
-          ∙ ap (λ (b : Bits). take j (drop from bits) ++ b) (take_zeros is.0 ((to - from) - j) (drop end bits) fits) in
+          let split : body ≡ take j (drop from bits)
+          ++ (replicate is.0 false ++ true ∷ take (((to - from) - j) - (is.0 + 1)) (drop end bits)) = take-split j (to - from)
+          (drop from bits) (omega (arith, le, le2, lt)) ∙ ap (λ (b : Bits). take j (drop from bits) ++ take ((to - from) - j) b)
+          there ∙ ap (λ (b : Bits). take j (drop from bits) ++ b) (take_zeros is.0 ((to - from) - j) (drop end bits) fits) in
           grind (arith, none_further, eol_of)
 
   -- a local body passes the tests
@@ -108,9 +104,7 @@ module _ (settings : DecodeSettings) (bits : Bits) (from to : ℕ) where
   }
     where
       twelve : (place : ℕ) → IsEol bits place from → (12 ≤ from) × (after_eol 0 (drop (from - 12) bits) ≡ Some (drop from bits))
-      twelve place (lt, inside, eol) =
-          let is = after_eol_is 0 (drop place bits) (drop from bits) eol in
-          let lengths = eol_lengths bits place from is.0 is.1 in
+      twelve place (lt, inside, eol) = let is = after_eol_is 0 (drop place bits) (drop from bits) eol in
           let more : ℕ = is.0 - 11 in
           grind (
             arith,
@@ -123,27 +117,21 @@ module _ (settings : DecodeSettings) (bits : Bits) (from to : ℕ) where
           )
 
       one : take (to - from) (drop from bits) ≢ replicate (to - from) false
-      one e =
-          let j : ℕ = local.one.0 - from in
+      one e = let j : ℕ = local.one.0 - from in
           let m : ℕ = ((to - from) - j) - 1 in
-          let sum : from + j ≡ local.one.0 = omega (arith, local.one.1) in
           let left : (to - from) - j ≡ suc m = omega (arith, local.one.1, local.one.2) in
-          let there : drop j (drop from bits) ≡ true ∷ local.one.3.0 =
-          drop-drop j from bits ∙ ap (λ (n : ℕ). drop n bits) sum ∙ local.one.3.1 in
-          let split : take (to - from) (drop from bits) ≡ take j (drop from bits) ++ true ∷ take m local.one.3.0
-          = take-split j (to - from) (drop from bits) (omega (arith, local.one.1, local.one.2))
-          ∙ ap (λ (n : ℕ). take j (drop from bits) ++ take n (drop j (drop from bits))) left
-          ∙ ap (λ (b : Bits). take j (drop from bits) ++ take (suc m) b) there in
+          let there : drop j (drop from bits) ≡ true ∷ local.one.3.0 = grind (arith, common_steps, drop-drop) in
+          let split : take (to - from) (drop from bits) ≡ take j (drop from bits) ++ true ∷ take m local.one.3.0 = take-split j
+          (to - from) (drop from bits) (omega (arith, local.one.1, local.one.2)) ∙ ap (λ (n : ℕ). take j (drop from bits) ++ take
+          n (drop j (drop from bits))) left ∙ ap (λ (b : Bits). take j (drop from bits) ++ take (suc m) b) there in
           no_one_in_zeros (to - from) (take j (drop from bits)) (take m local.one.3.0) (sym split ∙ e)
 
       none_found : (o : Option Bits) → next_eol (take (to - from) (drop from bits)) ≡ o
           → next_eol (take (to - from) (drop from bits)) ≡ None
       none_found None e = e
-      none_found (Some found) e =
-          let f = next_eol_found (take (to - from) (drop from bits)) found e in
-          let both : ◌≡◌ {A = Option Bits} None (Some f.1.0) = sym
-          (none_in_body bits from to local.closes.0 (body_1d settings bits from to local))
-          ∙ past_is (take (to - from) (drop from bits)) ∙ ap then_after e ∙ f.1.1 in
+      none_found (Some found) e = let f = next_eol_found (take (to - from) (drop from bits)) found e in
+          let both : ◌≡◌ {A = Option Bits} None (Some f.1.0) = sym (none_in_body bits from to local.closes.0
+          (body_1d settings bits from to local)) ∙ past_is (take (to - from) (drop from bits)) ∙ ap then_after e ∙ f.1.1 in
           absurd cc
 
 -- the law

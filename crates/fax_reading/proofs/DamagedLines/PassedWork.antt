@@ -1,18 +1,15 @@
 -- What passing lines counts.
 use Rattle.fax_reading.proofs.Names.{common_steps, ◌≡◌, ℕ, suc, ◌+◌, ◌*◌, ◌<◌, ◌≤◌, true, false, List, [], ◌∷◌, ◌++◌, length}
-use Rattle.fax_reading.proofs.Names.{drop, Option, Some, None, Result, Ok, Err, refl, subst, arith, none-some, inr}
-use Rattle.fax_reading.proofs.Names.{length-append, Color, Mode, Pass, Horizontal, Vertical, DecodeError, Bits, mode_codes}
-use Rattle.fax_reading.proofs.Names.{read_code, opposite, read_run, after_eol, next_eol, tagged_eols}
-use Rattle.fax_reading.proofs.Names.{behind_mode, behind_read, behind_word, behind_first_run, behind_second_run, looked}
-use Rattle.fax_reading.proofs.Names.{mode_found, runs_found, runs_found_behind, second_run_found, run_found, word_found}
-use Rattle.fax_reading.proofs.Names.{most_for_lines, IsLine2D}
-use Rattle.fax_bits.proofs.BitReading.ZeroRuns.{looked_eol}
+use Rattle.fax_reading.proofs.Names.{drop, Option, Some, None, Result, Ok, Err, refl, subst, arith, none-some, inr, length-append}
+use Rattle.fax_reading.proofs.Names.{Color, Mode, Pass, Horizontal, Vertical, DecodeError, Bits, mode_codes, read_code, opposite}
+use Rattle.fax_reading.proofs.Names.{read_run, after_eol, next_eol, tagged_eols, behind_mode, behind_read, behind_word}
+use Rattle.fax_reading.proofs.Names.{behind_first_run, behind_second_run, looked, mode_found, runs_found, runs_found_behind}
+use Rattle.fax_reading.proofs.Names.{second_run_found, run_found, word_found, most_for_lines, IsLine2D}
 use Rattle.fax_reading.proofs.CodeWords.WordsFound.{WordsStand, RunEnds, stands_none, stands_append, word_stands, no_word_stands}
 use Rattle.fax_reading.proofs.CodeWords.WordsFound.{run_stands}
-use Rattle.fax_reading.proofs.DamagedLines.LineTails.{after_eol_more}
-use Rattle.fax_bits.proofs.BitReading.ConsecutiveEols.{all_tagged-some, next_eol_found}
 use Rattle.fax_reading.proofs.Work.EolsPassed.{looked_most, next_eol_within}
-use Rattle.fax_reading.proofs.Work.WordsPay.{stands_count, stands_before_eol}
+use Rattle.fax_bits.proofs.BitReading.{ZeroRuns.looked_eol, ConsecutiveEols.all_tagged-some, ConsecutiveEols.next_eol_found}
+use Rattle.fax_reading.proofs.{DamagedLines.LineTails.after_eol_more, Work.WordsPay.stands_count, Work.WordsPay.stands_before_eol}
 
 -- ---- The words of a mode and its runs are consecutive
 
@@ -49,13 +46,12 @@ mode_words_stand color here = by_read_code (read_code mode_codes here) refl
   where
     by_read_code : (r : Result (Mode × Bits) DecodeError) → read_code mode_codes here ≡ r → (rest : Bits)
         × WordsStand here (word_found mode_codes here ++ runs_found_behind color r) rest × ModeEnds (behind_read color r) rest
-    by_read_code (Ok (mode, left)) e =
-        let runs = runs_stand color mode left in (
-          runs.0,
-          stands_append here left runs.0 (word_found mode_codes here) (runs_found color mode left)
-              (word_stands mode_codes here mode left (λ w i. inr (mode, i)) e) runs.1,
-          runs.2,
-        )
+    by_read_code (Ok (mode, left)) e = let runs = runs_stand color mode left in (
+      runs.0,
+      stands_append here left runs.0 (word_found mode_codes here) (runs_found color mode left)
+          (word_stands mode_codes here mode left (λ w i. inr (mode, i)) e) runs.1,
+      runs.2,
+    )
     by_read_code (Err fault) e = (
       here,
       stands_append here here here (word_found mode_codes here) [] (no_word_stands mode_codes here fault e) (stands_none here),
@@ -83,14 +79,8 @@ passed_mode start color here next rest begun before now (found, stands, most) e 
 -- consecutive words are fewer than the bits before the end of the next EOL
 words_before_eol : (here next after rest : Bits) (found : List Bits) → WordsStand here found rest → next_eol here ≡ Some next
     → after_eol 0 next ≡ Some after → length found + length after < length here
-words_before_eol here next after rest found stands sought eol =
-    let within = next_eol_within here next sought in
-    grind (
-      arith,
-      common_steps,
-      stands_count here found rest stands,
-      stands_before_eol true here found rest (true ∷ within.2.fill) within.0 stands,
-    )
+words_before_eol here next after rest found stands sought eol = let within = next_eol_within here next sought in
+    grind (arith, stands_count, stands_before_eol true here found rest (true ∷ within.2.fill) within.0 stands)
 
 -- the mode that isn't read, and those before it
 pub all_passed : (start : Bits) (color : Color) (here : Bits) (begun before now : ℕ) → WordsPassed start here begun before
@@ -100,8 +90,6 @@ all_passed start color here begun before now (found, stands, most) work next aft
     let mode = mode_words_stand color here in
     omega (
       arith,
-      most,
-      work,
       length-append found (mode_found color here),
       words_before_eol start next after mode.0 (found ++ mode_found color here)
           (stands_append start here mode.0 found (mode_found color here) stands mode.1) sought eol,
@@ -143,24 +131,16 @@ pub line_paid : (start here line next rest : Bits) (count begun before eol tags 
     → tags + 2 * length rest ≤ eol + 2 * length here + 3 + looked (drop 1 rest)
     → now + 3 * length next ≤ tags + 3 * length (false ∷ line) + 3 * looked next → LinesPaid start next begun now
 line_paid start here line next rest count begun before eol tags now paid e is counted read ahead passed =
-    grind (
-      arith,
-      all_tagged-some here (false ∷ line) e,
-      looked_eol 0 here (false ∷ line) e,
-      looked_before_eol 0 (false ∷ line) next is.no_eol is.next_is,
-    )
+    grind (arith, all_tagged-some here (false ∷ line) e, looked_eol, looked_before_eol)
 
 -- no EOL
 pub lines_end : (start here : Bits) (begun before now : ℕ) → LinesPaid start here begun before → now ≡ before + looked here
     → now ≤ begun + most_for_lines (length start)
 lines_end start here begun before now paid read = omega (arith, paid, read, looked_most here)
 
-looked_behind : (rest : Bits) → looked (drop 1 rest) ≤ 2 * length rest
-looked_behind rest = grind (arith, looked_most)
-
 -- an EOL, and no line behind it
 pub lines_end_behind : (start here behind rest : Bits) (begun before eol tags now : ℕ) → LinesPaid start here begun before
     → after_eol 0 here ≡ Some behind → eol ≡ before + looked here → tags + 2 * length rest ≤ eol + 2 * length here + 3 + looked
     (drop 1 rest) → now ≤ tags + 3 * length behind → now ≤ begun + most_for_lines (length start)
 lines_end_behind start here behind rest begun before eol tags now paid e read ahead passed =
-    omega (arith, paid, read, ahead, passed, looked_eol 0 here behind e, looked_behind rest)
+    grind (arith, common_steps, paid, read, ahead, passed, looked_eol 0 here behind e, looked_most)

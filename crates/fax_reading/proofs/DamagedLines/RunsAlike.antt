@@ -1,18 +1,15 @@
 -- Two runs over data that differ in one line.
-use Rattle.fax_reading.proofs.Names.{common_steps, ◌≡◌, ℕ, zero, suc, ◌+◌, ◌<◌, ◌≤◌, Bool, true, false, cond, not, ◌&&◌}
-use Rattle.fax_reading.proofs.Names.{◌||◌, eqb, List, [], ◌∷◌, ◌++◌, length, Option, Some, None, Ok, Err, refl, sym, ap, subst}
-use Rattle.fax_reading.proofs.Names.{◌∙◌, append_assoc, arith, ◌⊎◌, inl, inr, cases_Bool, and_parts, eqb-true, length-append}
-use Rattle.fax_reading.proofs.Names.{length-drop, append_cancel_right, DecodeError, InvalidCode, EncodingMode, Group4, Group3_1D}
-use Rattle.fax_reading.proofs.Names.{Group3_2D, DecodeSettings, Bits, Turn, Row, Line, after_eol, next_eol, past_tag}
-use Rattle.fax_reading.proofs.Names.{is_end_of_block, misses_eol, Progress, Ending, Move, row_before, limit_met}
-use Rattle.fax_reading.proofs.Names.{at_end, ends_with, eols_by, eols_here, line_here, line_of_turn, after_line, move_on, row_of}
-use Rattle.fax_reading.proofs.Names.{repaired, eols, eols_with_tags, ◌≢◌}
+use Rattle.fax_reading.proofs.Names.{common_steps, ◌≡◌, ℕ, zero, suc, ◌+◌, ◌<◌, ◌≤◌, Bool, true, false, cond, not, ◌&&◌, []}
+use Rattle.fax_reading.proofs.Names.{eqb, List, ◌∷◌, ◌++◌, length, Option, Some, None, Ok, Err, refl, sym, ap, subst, ◌∙◌, arith}
+use Rattle.fax_reading.proofs.Names.{append_assoc, ◌⊎◌, inl, inr, cases_Bool, and_parts, eqb-true, length-append, length-drop}
+use Rattle.fax_reading.proofs.Names.{append_cancel_right, DecodeError, InvalidCode, EncodingMode, Group4, Group3_1D, Group3_2D}
+use Rattle.fax_reading.proofs.Names.{DecodeSettings, Bits, Turn, Row, Line, after_eol, next_eol, past_tag, is_end_of_block, Move}
+use Rattle.fax_reading.proofs.Names.{misses_eol, Progress, Ending, row_before, limit_met, at_end, ends_with, eols_by, eols_here}
+use Rattle.fax_reading.proofs.Names.{line_here, line_of_turn, after_line, move_on, row_of, repaired, eols, eols_with_tags, ◌≢◌}
 use Rattle.fax_bits.proofs.Repetition.Repeated.{Follows}
 use Rattle.fax_reading.proofs.DamagedLines.EolsAlike.{Closes, closes_inside, inside_after, leaves_after, leaves_length}
 use Rattle.fax_reading.proofs.DamagedLines.EolsAlike.{past_alike, PastAlike, CountAlike, RestAlike, all_eols_alike, eols_found}
 use Rattle.fax_reading.proofs.DamagedLines.EolsAlike.{all_tagged_alike, tagged_found, last_tag_alike, last_tag_few, line_alike}
-use Rattle.fax_reading.proofs.DamagedLines.LinesBeforeEol.{Inside, LineAlike}
-use Rattle.fax_reading.proofs.DamagedLines.PastEol.{past}
 use Rattle.fax_bits.proofs.BitReading.ConsecutiveEols.{all_eols-some, all_eols-none, all_tagged, all_tagged-some, all_tagged-none}
 use Rattle.fax_bits.proofs.BitReading.ConsecutiveEols.{cond_le, length-one_more, count_shorter, counts_plain, counts_tagged}
 use Rattle.fax_bits.proofs.BitReading.ConsecutiveEols.{last_tag_shorter, next_eol_found, count_past, eols-some}
@@ -23,6 +20,7 @@ use Rattle.fax_reading.proofs.EncodedPictures.PictureLines.{row_before_push}
 use Rattle.fax_reading.proofs.Readings.RowsAndGaps.{unless_over, seek_from, seek_eol, after_row, row_added, after_whole-is}
 use Rattle.fax_reading.proofs.Readings.RowsAndGaps.{after_damage-is}
 use Rattle.fax_reading.proofs.Readings.TurnsMoveOn.{eols_here_counted}
+use Rattle.fax_reading.proofs.DamagedLines.{LinesBeforeEol.Inside, LinesBeforeEol.LineAlike, PastEol.past}
 
 -- ---- Rows of which some may differ
 
@@ -30,9 +28,6 @@ use Rattle.fax_reading.proofs.Readings.TurnsMoveOn.{eols_here_counted}
 abbrev pub RowsAlike : ℕ → (List Row → Type 0) → List Row → List Row → Type 0
 RowsAlike differ Begins xs ys = (xs ≡ ys) ⊎ ((before these those more : List Row) × (length these ≡ length those)
     × (length these ≤ differ) × (xs ≡ before ++ (these ++ more)) × (ys ≡ before ++ (those ++ more)) × Begins before)
-
-rows_length : (differ : ℕ) (Begins : List Row → Type 0) (xs ys : List Row) → RowsAlike differ Begins xs ys → length xs ≡ length ys
-rows_length differ Begins xs ys e5 = grind (arith, length-append)
 
 rows_more : (differ : ℕ) (Begins : List Row → Type 0) (xs ys : List Row) (row : Row) → RowsAlike differ Begins xs ys
     → RowsAlike differ Begins (xs ++ row ∷ []) (ys ++ row ∷ [])
@@ -73,11 +68,9 @@ module _ (settings : DecodeSettings) (most : ℕ) (Alike : List Row → List Row
       → Together (unless_over settings (run_at xs h a) found) (unless_over settings (run_at ys h b) found)
   unless_beyond xs ys h a b (count, here) alike short same = grind arith
 
-  row_beyond : (xs ys : List Row) (h : Bool) (here : Bits) → Alike xs ys → length here ≤ most
-      → ((there : Bits) → SameLine settings xs ys there)
-      → Together (after_row settings (run_at xs h here)) (after_row settings (run_at ys h here))
-  row_beyond xs ys h here alike short same =
-      subst (λ (met : Bool). Together (after_row settings (run_at xs h here))
+  row_beyond : (xs ys : List Row) (h : Bool) (here : Bits) → Alike xs ys → length here ≤ most → ((there : Bits)
+      → SameLine settings xs ys there) → Together (after_row settings (run_at xs h here)) (after_row settings (run_at ys h here))
+  row_beyond xs ys h here alike short same = subst (λ (met : Bool). Together (after_row settings (run_at xs h here))
       (passed ys (((eqb (eols_here settings here).0 0 && h) && not met) && not (at_end here)))) (stay.limits xs ys alike)
       (either_way (misses_eol settings (length xs) h here))
     where
@@ -99,23 +92,20 @@ module _ (settings : DecodeSettings) (most : ℕ) (Alike : List Row → List Row
   -- a row is added to both, after which the next line is the same
   added_beyond : (xs ys : List Row) (h : Bool) (u v : Bits) (row : Row) (here : Bits) → Alike xs ys → length here ≤ most
       → Together (row_added settings (run_at xs h u) row here) (row_added settings (run_at ys h v) row here)
-  added_beyond xs ys h u v row here alike short =
-      let al : Bool = settings.rows_are_byte_aligned && not h in
+  added_beyond xs ys h u v row here alike short = let al : Bool = settings.rows_are_byte_aligned && not h in
       grind (arith, row_beyond, row_before_push, cond_le, length-drop)
 
-  line_beyond : (xs ys : List Row) (h : Bool) (here : Bits) (line : Line) → Alike xs ys → length here ≤ most
-      → LineLeaves here line
-      → Together (after_line settings (run_at xs h here) line) (after_line settings (run_at ys h here) line)
+  line_beyond : (xs ys : List Row) (h : Bool) (here : Bits) (line : Line) → Alike xs ys → length here ≤ most → LineLeaves here
+      line → Together (after_line settings (run_at xs h here) line) (after_line settings (run_at ys h here) line)
   line_beyond xs ys h here (Line.whole row left) alike short leaves =
       rw (after_whole-is settings (run_at xs h here) row left, after_whole-is settings (run_at ys h here) row left)
       (added_beyond xs ys h here here row left alike (omega (arith, short, ap length leaves.1, length-append leaves.0 left)))
-  line_beyond xs ys h here (Line.broken front fault) alike short leaves =
-      grind (
-        arith,
-        after_damage-is settings (run_at xs h here) front fault,
-        after_damage-is settings (run_at ys h here) front fault,
-        added_beyond xs ys h here here (repaired settings.columns front) here alike short,
-      )
+  line_beyond xs ys h here (Line.broken front fault) alike short leaves = grind (
+    arith,
+    after_damage-is settings (run_at xs h here) front fault,
+    after_damage-is settings (run_at ys h here) front fault,
+    added_beyond xs ys h here here (repaired settings.columns front) here alike short,
+  )
 
   pub move_beyond : (xs ys : List Row) (h : Bool) (here : Bits) → Alike xs ys → length here ≤ most
       → SameLine settings xs ys here → Together (move_on settings (run_at xs h here)) (move_on settings (run_at ys h here))
@@ -189,8 +179,8 @@ alone settings after z found group3 tail e = by_encoding settings.encoding setti
     by_encoding : (encoding : EncodingMode) (block : Bool) → IsGroup3 encoding → (encoding ≡ Group3_2D → past_tag z ≡ z)
         → eols_by encoding block found ≡ (1, z)
     by_encoding Group3_1D block is tag = rw (all_eols-some found z e, all_eols-none z tail.none) refl
-    by_encoding Group3_2D block is tag = rw (all_tagged-some found z e, tag refl, all_tagged-none z tail.none)
-        (last_tag_few 1 z (omega arith))
+    by_encoding Group3_2D block is tag =
+        rw (all_tagged-some found z e, tag refl, all_tagged-none z tail.none) grind (arith, common_steps, last_tag_few)
     by_encoding Group4 block (inl is) tag = absurd cc
     by_encoding Group4 block (inr is) tag = absurd cc
 
@@ -207,19 +197,16 @@ eols_past settings here rest e = by_encoding settings.encoding settings.end_of_b
         (omega (arith, length-one_more (eols 1 rest), count_shorter counts_plain 1 rest))
     by_encoding Group4 false = count_past counts_plain here rest e
 
-module _ (settings : DecodeSettings) (group3 : IsGroup3 settings.encoding) (lenient : settings.strict ≡ false)
-    (Begins : List Row → Type 0) (differ from : ℕ) (x y after : Bits)
-    (tail_x : IsTail settings after x) (tail_y : IsTail settings after y) (Within : Bits → Type 0)
-    (within_later : (bits rest : Bits) → Within bits → LeavesBits bits rest → Within rest)
+module _ (settings : DecodeSettings) (group3 : IsGroup3 settings.encoding) (lenient : settings.strict ≡ false) (Begins : List Row
+    → Type 0) (differ from : ℕ) (x y after : Bits) (tail_x : IsTail settings after x) (tail_y : IsTail settings after y)
+    (Within : Bits → Type 0) (within_later : (bits rest : Bits) → Within bits → LeavesBits bits rest → Within rest)
     (within_short : (bits : Bits) → Within bits → length bits < from)
     (few_x : (bits found : Bits) (count : ℕ) → settings.encoding ≡ Group3_2D → Within bits → LeavesBits (bits ++ true ∷ x) found
-    → all_tagged found ≡ (count, x) → count < 6)
-    (few_y : (bits found : Bits) (count : ℕ) → settings.encoding ≡ Group3_2D → Within bits → LeavesBits (bits ++ true ∷ y) found
-    → all_tagged found ≡ (count, y) → count < 6)
-    (lines : ℕ) (enough : suc lines ≤ differ) (settles : Settles settings lines after)
-    (stays_x : (rows : List Row) → Begins rows → past 0 (rest_of (line_of_turn settings (sought rows x)) x) ≡ Some after)
-    (stays_y : (rows : List Row) → Begins rows → past 0 (rest_of (line_of_turn settings (sought rows y)) y) ≡ Some after)
-    (rest : Progress → Ending) where
+    → all_tagged found ≡ (count, x) → count < 6) (few_y : (bits found : Bits) (count : ℕ) → settings.encoding ≡ Group3_2D
+    → Within bits → LeavesBits (bits ++ true ∷ y) found → all_tagged found ≡ (count, y) → count < 6) (lines : ℕ)
+    (enough : suc lines ≤ differ) (settles : Settles settings lines after) (stays_x : (rows : List Row) → Begins rows
+    → past 0 (rest_of (line_of_turn settings (sought rows x)) x) ≡ Some after) (stays_y : (rows : List Row) → Begins rows
+    → past 0 (rest_of (line_of_turn settings (sought rows y)) y) ≡ Some after) (rest : Progress → Ending) where
   -- two turns that are alike
   abbrev Both : Move → Move → Type 0
   Both m n = Follows (RunsAlike settings Begins differ Within x y after)
@@ -232,7 +219,7 @@ module _ (settings : DecodeSettings) (group3 : IsGroup3 settings.encoding) (leni
   stay : StayAlike settings (length after) Alike (RunsAlike settings Begins differ Within x y after)
       (EndsAlike settings Begins differ from x y after)
   stay = record {
-    limits = λ xs ys alike. ap (limit_met settings) (rows_length differ Begins xs ys alike);
+    limits = λ xs ys alike. ap (limit_met settings) (grind (arith, common_steps, length-append));
     longer = rows_more differ Begins;
     goes_on = λ xs ys h here alike short same. RunsAlike.beyond xs ys h here alike short same refl refl;
     ends = λ xs ys h here alike short. EndsAlike.later here short refl refl alike;
@@ -278,8 +265,8 @@ module _ (settings : DecodeSettings) (group3 : IsGroup3 settings.encoding) (leni
   -- after EOLs the last of which ends where the line begins
   unless_there : (rows : List Row) (u v : Bits) (count : ℕ)
       → Both (unless_over settings (sought rows u) (count, x)) (unless_over settings (sought rows v) (count, y))
-  unless_there rows u v count = rw (not_past_end x after tail_x.next, not_past_end y after tail_y.next) (either_way
-      ((is_end_of_block settings count || limit_met settings (length rows)) || false))
+  unless_there rows u v count =
+      rw (not_past_end x after tail_x.next, not_past_end y after tail_y.next) grind (arith, common_steps, either_way)
     where
       either_way : (t : Bool) → Both (cond t (ends_with (sought rows u) (Ok x)) (Turn.next (sought rows x)))
           (cond t (ends_with (sought rows v) (Ok y)) (Turn.next (sought rows y)))
@@ -287,9 +274,8 @@ module _ (settings : DecodeSettings) (group3 : IsGroup3 settings.encoding) (leni
       either_way false = RunsAlike.there rows refl refl
 
   -- after EOLs that end at or before the line
-  unless_ahead : (rows : List Row) (u v bits : Bits) (found other : ℕ × Bits) → Closes bits → Within bits
-      → CountAlike x y bits found other
-      → Both (unless_over settings (sought rows u) found) (unless_over settings (sought rows v) other)
+  unless_ahead : (rows : List Row) (u v bits : Bits) (found other : ℕ × Bits) → Closes bits → Within bits → CountAlike x y bits
+      found other → Both (unless_over settings (sought rows u) found) (unless_over settings (sought rows v) other)
   unless_ahead rows u v bits (count, here) (count2, other) closes within (same, inl (a, leaves, keeps, e, f)) =
       rw (← same, e, f, not_end a x, not_end a y) grind (arith, either_way)
     where
@@ -317,12 +303,11 @@ module _ (settings : DecodeSettings) (group3 : IsGroup3 settings.encoding) (leni
       by_past : limit_met settings (length rows) ≡ false → (o p : Option Bits)
           → past 0 (bits ++ true ∷ x) ≡ o → past 0 (bits ++ true ∷ y) ≡ p → PastAlike x y bits o p
           → Both (after_row settings (sought rows (bits ++ true ∷ x))) (after_row settings (sought rows (bits ++ true ∷ y)))
-      by_past open_limit o p e f (inl (before, a, is, g, h)) =
-          let one = row_past settings lenient rows (bits ++ true ∷ x) (a ++ true ∷ x) open_limit (e ∙ g) in
+      by_past open_limit o p e f (inl (before, a, is, g, h)) = let one = row_past settings lenient rows (bits ++ true ∷ x)
+          (a ++ true ∷ x) open_limit (e ∙ g) in
           let two = row_past settings lenient rows (bits ++ true ∷ y) (a ++ true ∷ y) open_limit (f ∙ h) in
-          rw (one.3, two.3)
-          (unless_ahead rows (bits ++ true ∷ x) (bits ++ true ∷ y) a (eols_here settings one.0) (eols_here settings two.0)
-          (inside_after bits before a inside is) (within_later bits a within (leaves_after bits before a is))
+          rw (one.3, two.3) (unless_ahead rows (bits ++ true ∷ x) (bits ++ true ∷ y) a (eols_here settings one.0) (eols_here
+          settings two.0) (inside_after bits before a inside is) (within_later bits a within (leaves_after bits before a is))
           (counted bits a one.0 two.0 within one.1 two.1 one.2 two.2))
       by_past open_limit o p e f (inr (inl (g, h))) =
           let one = row_past settings lenient rows (bits ++ true ∷ x) x open_limit (e ∙ g) in
@@ -383,8 +368,7 @@ module _ (settings : DecodeSettings) (group3 : IsGroup3 settings.encoding) (leni
       settle zero most unreferred found g = unless_on (before ++ these)
           (before ++ those) true u v (eols_here settings found) alike (omega (arith, eols_past settings found z g, short))
           (elim (unreferred found g) [ inl ends ↦ inl ends | inr line ↦ inr (line _ _) ])
-      settle (suc n) most (next, shorter, one, behind, further) found g = rw (one found g)
-          grind (arith, as_many, on)
+      settle (suc n) most (next, shorter, one, behind, further) found g = rw (one found g) grind (arith, as_many, on)
         where
           on : (t : Bool) → Both (cond t (ends_with (sought (before ++ these) u) (Ok z)) (Turn.next (sought (before ++ these) z)))
               (cond t (ends_with (sought (before ++ those) v) (Ok z)) (Turn.next (sought (before ++ those) z)))
@@ -393,16 +377,13 @@ module _ (settings : DecodeSettings) (group3 : IsGroup3 settings.encoding) (leni
 
       in_each_case : (limit_met settings (length (before ++ these)) ≡ true) ⊎ (limit_met settings (length (before ++ these))
           ≡ false) → Both (after_row settings (sought (before ++ these) u)) (after_row settings (sought (before ++ those) v))
-      in_each_case (inl met) =
-          rw (
-            sought_done settings (before ++ these) u met,
-            sought_done settings (before ++ those) v (ap (limit_met settings) (sym as_many) ∙ met),
-          )
-          (EndsAlike.limit before these those (eols_here settings u).1 (eols_here settings v).1 begins same some (omega arith)
-          (limit_is met) refl refl refl refl
-          (omega (arith, (eols_here_counted settings u).0, le)) (omega (arith, (eols_here_counted settings v).0, le2)))
-      in_each_case (inr open_limit) =
-          let one = row_past settings lenient (before ++ these) u z open_limit e in
+      in_each_case (inl met) = rw (
+        sought_done settings (before ++ these) u met,
+        sought_done settings (before ++ those) v (ap (limit_met settings) (sym as_many) ∙ met),
+      ) (EndsAlike.limit before these those (eols_here settings u).1 (eols_here settings v).1 begins same some (omega arith)
+          (limit_is met) refl refl refl refl (omega (arith, (eols_here_counted settings u).0, le))
+          (omega (arith, (eols_here_counted settings v).0, le2)))
+      in_each_case (inr open_limit) = let one = row_past settings lenient (before ++ these) u z open_limit e in
           let two = row_past settings lenient (before ++ those) v z (ap (limit_met settings) (sym as_many) ∙ open_limit) f in
           rw (one.3, two.3, eols_here_same settings two.0 one.0 z two.2 one.2) (settle left few settled one.0 one.2)
 
@@ -410,53 +391,12 @@ module _ (settings : DecodeSettings) (group3 : IsGroup3 settings.encoding) (leni
   rest_shorter line here leaves = grind (arith, leaves_length)
 
   line_there : (rows : List Row) → Begins rows → Both (move_on settings (sought rows x)) (move_on settings (sought rows y))
-  line_there rows begins =
-      let line : Line = line_of_turn settings (sought rows x) in
+  line_there rows begins = let line : Line = line_of_turn settings (sought rows x) in
       let other : Line = line_of_turn settings (sought rows y) in
-      rw (move_sought settings lenient rows x, move_sought settings lenient rows y)
-      (row_there rows (row_of settings.columns line ∷ []) (row_of settings.columns other ∷ []) (rest_of line x)
-      (rest_of other y) after lines
-      begins refl (omega arith) (omega (arith, enough)) (stays_x rows begins) (stays_y rows begins)
-      (rest_shorter line x (line_by_leaves settings.encoding settings.strict settings.columns
-      (row_before settings.columns rows) x))
-      (rest_shorter other y (line_by_leaves settings.encoding settings.strict settings.columns
-      (row_before settings.columns rows) y))
-      (omega arith) settles)
-
-  -- what follows the next EOL is shorter than the line's bits
-  line_among : (before these those : List Row) (here : Bits) (left : ℕ) → Begins before → length these ≡ length those
-      → length these + suc left ≤ differ → length here ≤ length x → length here ≤ length y
-      → Settles settings (suc left) here → length here ≤ length after
-      → Both (move_on settings (sought (before ++ these) here)) (move_on settings (sought (before ++ those) here))
-  line_among before these those here left begins same few short_x short_y (next, shorter, one, behind, further) short =
-      let line : Line = line_of_turn settings (sought (before ++ these) here) in
-      let other : Line = line_of_turn settings (sought (before ++ those) here) in
-      let row : Row = row_of settings.columns line in
-      let row2 : Row = row_of settings.columns other in
-      rw (
-        move_sought settings lenient (before ++ these) here,
-        move_sought settings lenient (before ++ those) here,
-        append_assoc before these (row ∷ []),
-        append_assoc before those (row2 ∷ []),
-      )
-      (row_there before (these ++ row ∷ []) (those ++ row2 ∷ []) (rest_of line here) (rest_of other here) next left begins
-      (omega (arith, same, length-append these (row ∷ []), length-append those (row2 ∷ [])))
-      (omega (arith, length-append these (row ∷ [])))
-      (omega (arith, few, length-append these (row ∷ []))) (behind (row_before settings.columns (before ++ these)))
-      (behind (row_before settings.columns (before ++ those)))
-      (omega (
-        arith,
-        short_x,
-        rest_shorter line here
-            (line_by_leaves settings.encoding settings.strict settings.columns
-            (row_before settings.columns (before ++ these)) here),
-      )) (omega (
-        arith,
-        short_y,
-        rest_shorter other here
-            (line_by_leaves settings.encoding settings.strict settings.columns
-            (row_before settings.columns (before ++ those)) here),
-      )) (omega (arith, shorter, short)) further)
+      rw (move_sought settings lenient rows x, move_sought settings lenient rows y) (row_there rows (row_of settings.columns line
+      ∷ []) (row_of settings.columns other ∷ []) (rest_of line x) (rest_of other y) after lines begins refl (omega arith) (omega
+      (arith, enough)) (stays_x rows begins) (stays_y rows begins) (grind (arith, common_steps, rest_shorter, line_by_leaves))
+      (grind (arith, common_steps, rest_shorter, line_by_leaves)) (omega arith) settles)
 
   -- a turn of two such runs
   pub moves_alike : (s t : Progress) → ((rows : List Row) → s ≡ sought rows x → t ≡ sought rows y → Begins rows)
@@ -465,7 +405,6 @@ module _ (settings : DecodeSettings) (group3 : IsGroup3 settings.encoding) (leni
   moves_alike s t begins le le2 (RunsAlike.ahead rows bits closes within e f) = rw (e, f) (line_ahead rows bits closes within)
   moves_alike s t begins le le2 (RunsAlike.there rows e f) = rw (e, f) (line_there rows (begins rows e f))
   moves_alike s t begins le le2 (RunsAlike.among before these those here left given same few settled short e f) =
-      rw (e, f) (line_among before these those here left given same few (omega (arith, short, le))
-      (omega (arith, short, le2)) settled short)
+      rw (e, f) (grind (arith, common_steps, move_sought, append_assoc, row_there, length-append, rest_shorter, line_by_leaves))
   moves_alike s t begins le le2 (RunsAlike.beyond xs ys has_eols here alike short same e f) = rw (e, f)
       grind (arith, move_beyond, stay)

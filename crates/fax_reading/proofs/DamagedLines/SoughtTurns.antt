@@ -1,16 +1,15 @@
 -- A turn of a lenient run that seeks EOLs.
-use Rattle.fax_reading.proofs.Names.{◌≡◌, Bool, true, false, not, List, [], ◌∷◌, ◌++◌, length, Option, Some, None, Ok}
-use Rattle.fax_reading.proofs.Names.{refl, sym, ap, ◌∙◌, arith, and_from, not_from_false, cond-true, cond-false, ne_eqb}
-use Rattle.fax_reading.proofs.Names.{EncodingMode, Group4, Group3_1D, Group3_2D, DecodeSettings, Bits, Row, Line, line_1d}
-use Rattle.fax_reading.proofs.Names.{after_eol, one_more, all_eols, next_eol, pass_last_tag, Progress, line_by, eols_by}
-use Rattle.fax_reading.proofs.Names.{line_here, limit_met, at_end, ends_with, eols_here, after_line, move_on, line_of_turn}
-use Rattle.fax_reading.proofs.Names.{row_of, row_at, misses_eol, repaired, ◌||◌, common_steps}
+use Rattle.fax_reading.proofs.Names.{◌≡◌, Bool, true, false, not, List, [], ◌∷◌, ◌++◌, length, Option, Some, None, Ok, refl, sym}
+use Rattle.fax_reading.proofs.Names.{ap, ◌∙◌, arith, and_from, not_from_false, cond-true, cond-false, ne_eqb, EncodingMode}
+use Rattle.fax_reading.proofs.Names.{Group4, Group3_1D, Group3_2D, DecodeSettings, Bits, Row, Line, line_1d, after_eol, one_more}
+use Rattle.fax_reading.proofs.Names.{all_eols, next_eol, pass_last_tag, Progress, line_by, eols_by, line_here, limit_met, at_end}
+use Rattle.fax_reading.proofs.Names.{ends_with, eols_here, after_line, move_on, line_of_turn, row_of, row_at, misses_eol}
+use Rattle.fax_reading.proofs.Names.{repaired, ◌||◌, common_steps}
 use Rattle.fax_reading.proofs.DamagedLines.PastEol.{past, past-eol, past_is, then_after, next_eol_leaves}
 use Rattle.fax_bits.proofs.BitReading.ConsecutiveEols.{all_eols-some, all_tagged-some, eols-some}
-use Rattle.fax_reading.proofs.DrawingLines.LinesLeaveBits.{LeavesBits}
 use Rattle.fax_reading.proofs.Readings.RowsAndGaps.{unless_over, after_row, row_added, after_whole-is, after_damage-is}
 use Rattle.fax_reading.proofs.Readings.RowsAndGaps.{behind_with_eols}
-use Rattle.fax_reading.proofs.Readings.TurnsMoveOn.{eols_here_some}
+use Rattle.fax_reading.proofs.{DrawingLines.LinesLeaveBits.LeavesBits, Readings.TurnsMoveOn.eols_here_some}
 
 -- a run that seeks EOLs
 abbrev pub sought : List Row → Bits → Progress
@@ -58,15 +57,13 @@ module _ (settings : DecodeSettings) where
             × (after_eol 0 found ≡ Some after)
             × (after_row settings (sought rows here) ≡ unless_over settings (sought rows here) (eols_here settings found))
         by_after_eol (Some next) f = grind (arith, common_steps, past-eol, eols_here_some, ne_eqb, cond-false)
-        by_after_eol None f =
-            let next = found_next here after e in
-            let missed : misses_eol settings (length rows) true here ≡ true =
-            grind (arith, common_steps, and_from, not_from_false, not_past_end) in
+        by_after_eol None f = let next = found_next here after e in
+            let missed : misses_eol settings (length rows) true here ≡ true = grind
+            (arith, common_steps, and_from, not_from_false, not_past_end) in
             grind (arith, next_eol_leaves, cond-true, cond-false)
 
     -- a line's row is added, and what follows it is counted
-    pub move_sought : (rows : List Row) (here : Bits)
-        → move_on settings (sought rows here) ≡ after_row settings
+    pub move_sought : (rows : List Row) (here : Bits) → move_on settings (sought rows here) ≡ after_row settings
         (sought (rows ++ row_of settings.columns (line_of_turn settings (sought rows here)) ∷ [])
         (rest_of (line_of_turn settings (sought rows here)) here))
     move_sought rows here = by_line (line_of_turn settings (sought rows here))

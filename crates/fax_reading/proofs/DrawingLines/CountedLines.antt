@@ -1,14 +1,13 @@
 -- The words that a line finds, step by step.
-use Rattle.fax_reading.proofs.Names.{common_steps, ◌≡◌, ℕ, ◌+◌, ◌*◌, ◌<◌, ◌≤◌, Bool, false, cond, leb, List, [], ◌++◌}
-use Rattle.fax_reading.proofs.Names.{length, Result, Ok, Err, ap, subst, ◌∙◌, arith, false≢true, lt-leb, length-append}
-use Rattle.fax_reading.proofs.Names.{append-nil, Mode, DecodeError, Bits, Line, Pen, turn_behind, words_behind, unless_fault}
-use Rattle.fax_reading.proofs.Names.{painted, draw_run, draw_mode, draw_1d, draw_2d, words_drawn, IsFault, OnAnswer, Step}
-use Rattle.fax_reading.proofs.Names.{DrawsStep, pen_of, step_of_run, step_of_mode, words_of_run, words_of_mode, Held, redrawn}
-use Rattle.fax_reading.proofs.Names.{DecodeSettings, mode_codes, read_code, Turn, Row, run_from, run_found, word_found}
-use Rattle.fax_bits.proofs.CodeWords.RunWords.{one_word}
-use Rattle.fax_bits.proofs.Repetition.Gathered.{gathered_turn}
+use Rattle.fax_reading.proofs.Names.{common_steps, ◌≡◌, ℕ, ◌+◌, ◌*◌, ◌<◌, ◌≤◌, Bool, false, cond, List, [], ◌++◌, length}
+use Rattle.fax_reading.proofs.Names.{Result, Ok, Err, ap, subst, ◌∙◌, arith, false≢true, lt-leb, length-append, append-nil, Mode}
+use Rattle.fax_reading.proofs.Names.{DecodeError, Bits, Line, Pen, turn_behind, words_behind, unless_fault, painted, draw_run}
+use Rattle.fax_reading.proofs.Names.{draw_mode, draw_1d, draw_2d, words_drawn, IsFault, OnAnswer, Step, DrawsStep, pen_of}
+use Rattle.fax_reading.proofs.Names.{step_of_run, step_of_mode, words_of_run, words_of_mode, Held, redrawn, DecodeSettings}
+use Rattle.fax_reading.proofs.Names.{mode_codes, read_code, Turn, Row, run_from, run_found, word_found}
 use Rattle.fax_reading.proofs.DrawingLines.Drawings.{try, mode_step, step_1d, step_2d}
 use Rattle.fax_reading.proofs.DrawingLines.ReadLines.{pen_left, step_1d_shrinks, step_2d_shrinks}
+use Rattle.fax_bits.proofs.{CodeWords.RunWords.one_word, Repetition.Gathered.gathered_turn}
 
 -- painting finds no word, nor does what follows it
 none_painted : {A : Type 0} (front : Row) (result : Result A DecodeError)
@@ -51,9 +50,8 @@ unless_full_step full line pen step open_row = grind (arith, false≢true)
 
 -- what a step of a two-dimensional line finds and yields, if its row isn't full
 abbrev mode_words : Bool → ℕ → Row → Pen → List Bits
-mode_words strict columns reference pen =
-    word_found mode_codes pen.rest ++ words_behind (unless_fault pen.front (read_code mode_codes pen.rest))
-    (λ mode. (draw_mode strict columns reference (record pen { rest = mode.1 }) mode.0).words)
+mode_words strict columns reference pen = word_found mode_codes pen.rest ++ words_behind (unless_fault pen.front
+    (read_code mode_codes pen.rest)) (λ mode. (draw_mode strict columns reference (record pen { rest = mode.1 }) mode.0).words)
 
 abbrev mode_turn : Bool → ℕ → Row → Pen → Step
 mode_turn strict columns reference pen = try pen.front
@@ -65,23 +63,18 @@ pub found_1d_on : (strict : Bool) (columns : ℕ) (pen : Pen) → length pen.fro
 found_1d_on strict columns pen open_row =
     gathered_turn (step_1d strict columns) (λ pen. (draw_1d strict columns pen).words) pen_left (step_1d_shrinks strict columns)
     pen ∙ ap (λ (words : List Bits). words ++ found_after (found_1d_from strict columns) (step_1d strict columns pen))
-    (unless_full_words (leb columns (length pen.front)) (Line.whole pen.front pen.rest) pen (λ pen.
-    (draw_run strict columns pen).words) (lt-leb columns (length pen.front) open_row)) ∙ ap (λ (step : Step). (draw_run strict
-    columns pen).words ++ found_after (found_1d_from strict columns) step) (unless_full_step (leb columns (length pen.front))
-    (Line.whole pen.front pen.rest) pen (λ pen. (draw_run strict columns pen).turn) (lt-leb columns (length pen.front) open_row))
+    (grind (arith, common_steps, unless_full_words, lt-leb)) ∙ ap (λ (step : Step). (draw_run strict
+    columns pen).words ++ found_after (found_1d_from strict columns) step) (grind (arith, common_steps, unless_full_step, lt-leb))
 
 -- a two-dimensional line whose row isn't full finds what reading and drawing its next mode does, and then the words after it
 found_2d_turn : (strict : Bool) (columns : ℕ) (reference : Row) (pen : Pen)
     → length pen.front < columns → found_2d_from strict columns reference pen ≡ mode_words strict columns reference pen
     ++ found_after (found_2d_from strict columns reference) (mode_turn strict columns reference pen)
-found_2d_turn strict columns reference pen open_row =
-    gathered_turn (step_2d strict columns reference)
+found_2d_turn strict columns reference pen open_row = gathered_turn (step_2d strict columns reference)
     (λ pen. (draw_2d strict columns reference pen).words) pen_left (step_2d_shrinks strict columns reference) pen ∙ ap
     (λ (words : List Bits). words ++ found_after (found_2d_from strict columns reference) (step_2d strict columns reference pen))
-    (unless_full_words (leb columns (length pen.front)) (Line.whole pen.front pen.rest) pen (mode_words strict columns reference)
-    (lt-leb columns (length pen.front) open_row)) ∙ ap (λ (step : Step). mode_words strict columns reference pen
-    ++ found_after (found_2d_from strict columns reference) step) (unless_full_step (leb columns (length pen.front))
-    (Line.whole pen.front pen.rest) pen (mode_turn strict columns reference) (lt-leb columns (length pen.front) open_row))
+    (grind (arith, common_steps, unless_full_words, lt-leb)) ∙ ap (λ (step : Step). mode_words strict columns reference
+    pen ++ found_after (found_2d_from strict columns reference) step) (grind (arith, common_steps, unless_full_step, lt-leb))
 
 -- so if there is a mode, its word, those of its drawing, and those after it
 pub found_2d_on : (strict : Bool) (columns : ℕ) (reference : Row) (pen : Pen) (mode : Mode) (rest : Bits) → length pen.front

@@ -1,10 +1,9 @@
 -- Runs that are cut: where a strict reading breaks a line.
-use Rattle.fax_reading.proofs.Names.{arith, common_steps, ◌≡◌, ◌<◌, ◌≤◌, ◌-◌, ℕ, Bool, true, false, ◌||◌, ltb}
-use Rattle.fax_reading.proofs.Names.{length, [], Ok, Err, Result, sym, ap, subst, false≢true, OnOk}
-use Rattle.fax_reading.proofs.Names.{Color, White, DecodeError, Step, Bits, BitsAt, here, Context, Held}
-use Rattle.fax_reading.proofs.Names.{redrawn, Mode, Pass, Horizontal, Row, Line, Pen, Turn, turn_behind, is_broken, TellsCut}
-use Rattle.fax_reading.proofs.Names.{exceeds, painted_front, paint, pen_of, line_1d, line_2d, read_code, mode_codes, run_from}
-use Rattle.fax_reading.proofs.Names.{opposite, right_of, b2, strict_step_of_run, strict_step_of_mode, GoesOn, GoesOn2d}
+use Rattle.fax_reading.proofs.Names.{arith, Bool, true, false, ◌||◌, subst, OnOk, Color, White, Step, Bits, paint, pen_of, GoesOn}
+use Rattle.fax_reading.proofs.Names.{common_steps, DecodeError, is_broken, painted_front, strict_step_of_run, strict_step_of_mode}
+use Rattle.fax_reading.proofs.Names.{◌≡◌, length, Result, BitsAt, Context, redrawn, exceeds, line_1d, line_2d, right_of, GoesOn2d}
+use Rattle.fax_reading.proofs.Names.{◌<◌, ◌≤◌, ◌-◌, ℕ, ltb, Ok, Err, sym, ap, here, Held, Mode, Pass, Row, Line, Pen, Turn, b2}
+use Rattle.fax_reading.proofs.Names.{[], false≢true, Horizontal, turn_behind, TellsCut, read_code, mode_codes, run_from, opposite}
 use Rattle.fax_bits.proofs.Repetition.Repeated.{after_turn}
 use Rattle.fax_reading.proofs.DrawingLines.Drawings.{try, drawn_by, step_1d, step_2d}
 use Rattle.fax_reading.proofs.DrawingLines.DrawnLines.{run_open, line_mode}
@@ -21,8 +20,7 @@ or_false b = grind arith
 pub paint_cuts : (strict : Bool) (columns : ℕ) (front : Row) (color : Color) (n : ℕ) (row : Row) (go_on : Row → Step) (pen : Pen)
     (before now : Bool) → paint strict columns front color n ≡ Ok row → now ≡ (before || ltb (columns - length front) n)
     → go_on row ≡ Turn.next pen → TellsCut (try front (paint true columns front color n) go_on) pen before now
-paint_cuts strict columns front color n row go_on pen before now paints told on =
-    grind (arith, common_steps, false≢true, or_true)
+paint_cuts strict columns front color n row go_on pen before now paints told on = grind (arith, common_steps, false≢true, or_true)
 
 -- two steps, one after the other
 pub two_cut : (first : Step) (middle : Pen) (behind : Pen → Step) (last : Pen) (a b c : Bool) → TellsCut first middle a b
@@ -62,17 +60,14 @@ run_cuts held new n rest after before now reads paints color told =
 -- pass mode
 pub pass_cuts : (old mid new : Context) (count : ℕ) (rest : Bits) (r : Result (Unit {0}) DecodeError) → mid.held ≡ old.held
     → mid.cut ≡ old.cut → count ≡ b2 old.held.reference (right_of old.held.front) old.held.color - length old.held.front
-    → OnOk r (painted_front mid.held count ≡ Ok new.held.front) → OnOk r (new ≡ record mid {
-      held = redrawn mid.held new.held.front mid.held.color;
-      cut = mid.cut || exceeds mid.held count;
-      space = new.space;
-    }) → OnOk r (TellsCut (strict_step_of_mode old.held rest Pass) (pen_of new.held rest) old.cut new.cut)
+    → OnOk r (painted_front mid.held count ≡ Ok new.held.front) → OnOk r (new ≡ record mid
+    { held = redrawn mid.held new.held.front mid.held.color; cut = mid.cut || exceeds mid.held count; space = new.space })
+    → OnOk r (TellsCut (strict_step_of_mode old.held rest Pass) (pen_of new.held rest) old.cut new.cut)
 pass_cuts old mid new count rest r same cut counts painted frame = grind (arith, paint_cuts)
 
 -- horizontal mode
-pub horizontal_cuts : (old mid new : Context) (from between after : Bits) (r : Result (Unit {0}) DecodeError)
-    → mid.held ≡ redrawn old.held mid.held.front mid.held.color
-    → TellsCut (strict_step_of_run old.held from) (pen_of mid.held between) old.cut mid.cut
+pub horizontal_cuts : (old mid new : Context) (from between after : Bits) (r : Result (Unit {0}) DecodeError) → mid.held ≡ redrawn
+    old.held mid.held.front mid.held.color → TellsCut (strict_step_of_run old.held from) (pen_of mid.held between) old.cut mid.cut
     → OnOk r (TellsCut (strict_step_of_run mid.held between) (pen_of new.held after) mid.cut new.cut)
     → OnOk r (TellsCut (strict_step_of_mode old.held from Horizontal) (pen_of new.held after) old.cut new.cut)
 horizontal_cuts old mid new from between after (Err e) kept first second = tt
@@ -105,46 +100,35 @@ module _ (before now new : Held) (line : Line) (first cut : Bool) (kept : now �
       (sym same) (subst (λ (n : ℕ). StrictSoFar line (drawn_by (step_2d true n before.reference) (pen_of now at)) first)
       (sym columns_are) so_far) in
       subst (λ (n : ℕ). StrictSoFar line (drawn_by (step_2d true n before.reference) (pen_of new to)) cut) columns_are
-      (subst (λ (r : Row). StrictSoFar line (drawn_by (step_2d true now.settings.columns r) (pen_of new to)) cut) same
-      (strict_on line (drawn_by (step_2d true now.settings.columns now.reference)) _ (strict_step_of_mode now rest mode)
-      (pen_of new to) first cut here
-      (line_mode true now.settings.columns now.reference (pen_of now at) mode rest open_row reads) tells))
+      (subst (λ (r : Row). StrictSoFar line (drawn_by (step_2d true now.settings.columns r) (pen_of new to)) cut) same (strict_on
+      line (drawn_by (step_2d true now.settings.columns now.reference)) _ (strict_step_of_mode now rest mode) (pen_of new to)
+      first cut here (line_mode true now.settings.columns now.reference (pen_of now at) mode rest open_row reads) tells))
 
   -- usual runs
   pub cut_by_usual : (at to : Bits) {ticks later : ℕ}
       → GoesOn now.settings.strict now.settings.columns (pen_of now at) (pen_of new to) ticks later → cut ≡ first
       → StrictSoFar line (drawn_by (step_1d true before.settings.columns) (pen_of now at)) first
       → StrictSoFar line (drawn_by (step_1d true before.settings.columns) (pen_of new to)) cut
-  cut_by_usual at to goes same so_far =
-      subst (StrictSoFar line (drawn_by (step_1d true before.settings.columns) (pen_of new to))) (sym same)
-      (strict_same line _ _ first so_far (subst (λ (n : ℕ). drawn_by (step_1d true n) (pen_of new to)
-      ≡ drawn_by (step_1d true n) (pen_of now at)) columns_are goes.strictly))
+  cut_by_usual at to goes same so_far = subst (StrictSoFar line (drawn_by (step_1d true before.settings.columns) (pen_of new to)))
+      (sym same) (strict_same line _ _ first so_far (subst (λ (n : ℕ). drawn_by (step_1d true n) (pen_of new to) ≡ drawn_by
+      (step_1d true n) (pen_of now at)) columns_are goes.strictly))
 
 -- a one-dimensional line that is begun
-pub cut_begun_1d : (before now new : Context) (begun next : BitsAt) → now ≡ record before {
-  held = redrawn before.held [] White;
-  passed = 0;
-  cut = false;
-} → GoesOn now.held.settings.strict now.held.settings.columns (pen_of now.held (here begun)) (pen_of new.held
-    (here next)) now.ticks
-    new.ticks → new.cut ≡ now.cut → StrictSoFar (line_1d true before.held.settings.columns (here begun))
+pub cut_begun_1d : (before now new : Context) (begun next : BitsAt)
+    → now ≡ record before { held = redrawn before.held [] White; passed = 0; cut = false } → GoesOn now.held.settings.strict
+    now.held.settings.columns (pen_of now.held (here begun)) (pen_of new.held (here next)) now.ticks new.ticks → new.cut ≡ now.cut
+    → StrictSoFar (line_1d true before.held.settings.columns (here begun))
     (drawn_by (step_1d true before.held.settings.columns) (pen_of new.held (here next))) new.cut
-cut_begun_1d before now new begun next frame goes same =
-    let line = rw frame at goes.strictly in
-    grind arith
+cut_begun_1d before now new begun next frame goes same = let line = rw frame at goes.strictly in grind arith
 
 -- a two-dimensional line that is begun
-pub cut_begun_2d : (before now new : Context) (begun next : BitsAt) → now ≡ record before {
-  held = redrawn before.held [] White;
-  passed = 0;
-  cut = false;
-} → {passed later : ℕ} → GoesOn2d now.held.settings.strict now.held.settings.columns now.held.reference
-    (pen_of now.held (here begun)) (pen_of new.held (here next)) now.ticks new.ticks passed later → new.cut ≡ now.cut
+pub cut_begun_2d : (before now new : Context) (begun next : BitsAt)
+    → now ≡ record before { held = redrawn before.held [] White; passed = 0; cut = false } → {passed later : ℕ}
+    → GoesOn2d now.held.settings.strict now.held.settings.columns now.held.reference (pen_of now.held (here begun))
+    (pen_of new.held (here next)) now.ticks new.ticks passed later → new.cut ≡ now.cut
     → StrictSoFar (line_2d true before.held.settings.columns before.held.reference (here begun))
     (drawn_by (step_2d true before.held.settings.columns before.held.reference) (pen_of new.held (here next))) new.cut
-cut_begun_2d before now new begun next frame goes same =
-    let line = rw frame at goes.strictly in
-    grind arith
+cut_begun_2d before now new begun next frame goes same = let line = rw frame at goes.strictly in grind arith
 
 -- a line that is drawn
 pub cut_drawn_1d : (before now : Held) (cut : Bool) (line : Line) (at : Bits) → now ≡ redrawn before now.front now.color

@@ -1,8 +1,7 @@
 -- The turns of drawing, one after another.
-use Rattle.fax_reading.proofs.Names.{arith, common_steps, ◌≡◌, ℕ, suc, Bool, cond, leb, [], length, Result}
-use Rattle.fax_reading.proofs.Names.{Mode, Horizontal, DecodeError, UnexpectedEof, Step, Bits, mode_codes, read_code, Turn}
-use Rattle.fax_reading.proofs.Names.{repeated, Row, opposite, paint, run_from, Line, Pen, turn_behind, unless_fault, draw_run}
-use Rattle.fax_reading.proofs.Names.{draw_mode, draw_1d, draw_2d}
+use Rattle.fax_reading.proofs.Names.{arith, common_steps, ◌≡◌, ℕ, suc, Bool, cond, leb, [], length, Result, Mode, Horizontal}
+use Rattle.fax_reading.proofs.Names.{DecodeError, UnexpectedEof, Step, Bits, mode_codes, read_code, Turn, repeated, Row, opposite}
+use Rattle.fax_reading.proofs.Names.{paint, run_from, Line, Pen, turn_behind, unless_fault, draw_run, draw_mode, draw_1d, draw_2d}
 
 -- what comes of a value, or the line that a fault ends
 abbrev pub try : {A : Type 0} → Row → Result A DecodeError → (A → Step) → Step
@@ -10,9 +9,8 @@ try front result behind = turn_behind (unless_fault front result) behind
 
 -- a run that is read and painted, and a step after it
 abbrev pub run_then : Bool → ℕ → Pen → (Pen → Step) → Step
-run_then strict columns pen behind = try pen.front (run_from pen.color (0, pen.rest)) (λ run.
-    try pen.front (paint strict columns pen.front pen.color run.0) (λ front.
-    behind (record { front = front; color = opposite pen.color; rest = run.1 })))
+run_then strict columns pen behind = try pen.front (run_from pen.color (0, pen.rest)) (λ run. try pen.front (paint strict columns
+    pen.front pen.color run.0) (λ front. behind (record { front = front; color = opposite pen.color; rest = run.1 })))
 
 -- the step of a mode
 abbrev pub mode_step : Bool → ℕ → Row → Pen → Mode → Step

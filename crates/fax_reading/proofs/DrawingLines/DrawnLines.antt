@@ -1,14 +1,14 @@
 -- What a step of a line paints, and what that says of the finished line.
 use Rattle.fax_reading.proofs.Names.{common_steps, ◌≡◌, ◌≢◌, ℕ, zero, suc, ◌-◌, ◌<◌, ◌≤◌, Bool, true, false, cond, leb, [], ◌∷◌}
 use Rattle.fax_reading.proofs.Names.{◌++◌, length, replicate, append_assoc, w32, Option, Some, Result, Ok, Err, refl, sym, subst}
-use Rattle.fax_reading.proofs.Names.{ap, ◌∙◌, arith, ◌⊎◌, inl, inr, ◌↔◌, IsTrue, IfErr, OnOk, OnErr, SomeIff, ℤ, pos}
-use Rattle.fax_reading.proofs.Names.{◌+ℤ◌, false≢true, cases_lt, le-leb, lt-leb, nat_abs, FitsUnsigned, ints, length-append}
+use Rattle.fax_reading.proofs.Names.{ap, ◌∙◌, arith, ◌⊎◌, inl, inr, ◌↔◌, IsTrue, IfErr, OnOk, OnErr, SomeIff, ℤ, pos, ◌+ℤ◌}
+use Rattle.fax_reading.proofs.Names.{false≢true, cases_lt, le-leb, lt-leb, nat_abs, FitsUnsigned, ints, length-append}
 use Rattle.fax_reading.proofs.Names.{Contains-append_left, Contains-append_right, Color, Mode, Pass, Horizontal, Vertical}
-use Rattle.fax_reading.proofs.Names.{DecodeError, DecodeSettings, UnexpectedEof, OutOfMemory, kind_of, IsFault}
-use Rattle.fax_reading.proofs.Names.{front_of, HasBlack, StopsAtChange, DrawsLine, pen_of, front_after, DrawsStep, StoresChange}
-use Rattle.fax_reading.proofs.Names.{Step, step_of_run, step_of_mode, Bits, BitsAt, here, mode_codes, read_code, Context, Held}
-use Rattle.fax_reading.proofs.Names.{redrawn, Line, Pen, start, place_from, turn_behind, Turn, repeated, Row, is_black, opposite}
-use Rattle.fax_reading.proofs.Names.{right_of, b1, b2, paint, last_pixel, run_from}
+use Rattle.fax_reading.proofs.Names.{DecodeError, DecodeSettings, UnexpectedEof, OutOfMemory, kind_of, IsFault, front_of}
+use Rattle.fax_reading.proofs.Names.{HasBlack, StopsAtChange, DrawsLine, pen_of, front_after, DrawsStep, StoresChange, Step}
+use Rattle.fax_reading.proofs.Names.{step_of_run, step_of_mode, Bits, BitsAt, here, mode_codes, read_code, Context, Held, redrawn}
+use Rattle.fax_reading.proofs.Names.{Line, Pen, start, place_from, turn_behind, Turn, repeated, Row, is_black, opposite, right_of}
+use Rattle.fax_reading.proofs.Names.{b1, b2, paint, last_pixel, run_from, too_many_pixels}
 use Rattle.fax_bits.proofs.CodeWords.ReadRuns.{chosen, read_code_shorter, some_where}
 use Rattle.fax_reading.proofs.DrawingLines.Drawings.{try, run_then, mode_step, drawn_by, step_1d, step_2d, step_1d_is, step_2d_is}
 use Rattle.fax_reading.proofs.DrawingLines.Drawings.{horizontal_is}
@@ -16,7 +16,6 @@ use Rattle.fax_reading.proofs.DrawingLines.ReadLines.{draw_mode_next, modes_not_
 use Rattle.fax_reading.proofs.DrawingLines.ReadLines.{step_2d_shrinks, pen_left}
 use Rattle.fax_bits.proofs.Repetition.Repeated.{Shrinks, after_turn}
 use Rattle.fax_bits.proofs.ErrorKinds.{kind_weaker, of_fault_kind}
-use Rattle.fax_reading.proofs.Names.{too_many_pixels}
 
 -- ---- What painting yields.
 
@@ -76,9 +75,8 @@ pub record IsUnpainted (held : Held) (count : ℕ) (e : DecodeError) : Type 0 wh
   pub only : (e ≡ too_many_pixels) ⊎ (e ≡ OutOfMemory)
 
 -- what a result of painting says, if it is an error
-pub unpainted : (held : Held) (count : ℕ) (r : Result (Unit {0}) DecodeError) (e : DecodeError) → r ≡ Err e
-    → ((r ≡ Err too_many_pixels)
-    ↔ (paint held.settings.strict held.settings.columns held.front held.color count ≡ Err too_many_pixels))
+pub unpainted : (held : Held) (count : ℕ) (r : Result (Unit {0}) DecodeError) (e : DecodeError) → r ≡ Err e → ((r
+    ≡ Err too_many_pixels) ↔ (paint held.settings.strict held.settings.columns held.front held.color count ≡ Err too_many_pixels))
     → (r ≡ Err OutOfMemory → StoresChange held count) → IfErr r (λ e. (e ≡ too_many_pixels) ⊎ (e ≡ OutOfMemory))
     → IsUnpainted held count e
 unpainted held count r e is too_many memory only = grind (arith, common_steps)
@@ -179,8 +177,7 @@ keeps_either P b x y one other = grind arith
 
 step_2d_keeps : (P : Row → Type 0) → Stays P → (strict : Bool) (columns : ℕ) (reference : Row)
     → KeepsFront P (step_2d strict columns reference)
-step_2d_keeps P on strict columns reference pen holds =
-    let modes : Step = try pen.front (read_code mode_codes pen.rest)
+step_2d_keeps P on strict columns reference pen holds = let modes : Step = try pen.front (read_code mode_codes pen.rest)
     (λ mode. mode_step strict columns reference (record pen { rest = mode.1 }) mode.0) in
     subst (λ (step : Step). P (front_after step)) (sym (step_2d_is strict columns reference pen))
     (keeps_either P (leb columns (length pen.front)) (Turn.done (Line.whole pen.front pen.rest)) modes holds (try_keeps P
@@ -206,9 +203,8 @@ drawn_1d_keeps P on strict columns pen holds = keeps_on P (step_1d strict column
 
 pub drawn_2d_keeps : (P : Row → Type 0) → Stays P → (strict : Bool) (columns : ℕ) (reference : Row) (pen : Pen) → P pen.front
     → P (front_of (drawn_by (step_2d strict columns reference) pen))
-drawn_2d_keeps P on strict columns reference pen holds =
-    keeps_on P (step_2d strict columns reference) (step_2d_shrinks strict columns reference)
-    (step_2d_keeps P on strict columns reference) (suc (length pen.rest)) pen (omega arith) holds
+drawn_2d_keeps P on strict columns reference pen holds = keeps_on P (step_2d strict columns reference) (step_2d_shrinks strict
+    columns reference) (step_2d_keeps P on strict columns reference) (suc (length pen.rest)) pen (omega arith) holds
 
 -- ---- The rule of one step of a line.
 
@@ -240,11 +236,10 @@ line_mode strict columns reference pen mode rest open_row reads = line_open stri
 fails_by : (step : Pen → Step) → Shrinks step pen_left → ((P : Row → Type 0) → Stays P → KeepsFront P step)
     → (line : Line) (turn : Step) (e : DecodeError) (pen : Pen) → line ≡ after_turn (drawn_by step) turn
     → DrawsStep turn (Err e) pen → DrawsLine line (Err e) pen.front pen.rest
-fails_by step shrinks keeps line turn e pen is =
-    kind_weaker (kind_of e) (turn ≡ Turn.done (Line.broken pen.front e)) (StopsAtChange (front_after turn) pen.front) ⊥
-    (line ≡ Line.broken pen.front e) (StopsAtChange (front_of line) pen.front) ⊥ (λ draws. is ∙ rw draws refl)
-    (λ draws. subst (λ (l : Line). StopsAtChange (front_of l) pen.front) (sym is) (keeps_after (stopping_at pen.front) step
-    shrinks (keeps (stopping_at pen.front) (later_change pen.front)) turn draws)) (λ draws. draws)
+fails_by step shrinks keeps line turn e pen is = kind_weaker (kind_of e) (turn ≡ Turn.done (Line.broken pen.front e))
+    (StopsAtChange (front_after turn) pen.front) ⊥ (line ≡ Line.broken pen.front e) (StopsAtChange (front_of line) pen.front) ⊥
+    (λ draws. is ∙ rw draws refl) (λ draws. subst (λ (l : Line). StopsAtChange (front_of l) pen.front) (sym is) (keeps_after
+    (stopping_at pen.front) step shrinks (keeps (stopping_at pen.front) (later_change pen.front)) turn draws)) (λ draws. draws)
 
 pub line_1d_fails : (strict : Bool) (columns : ℕ) (line : Line) (step : Step) (e : DecodeError) (pen : Pen) → line
     ≡ after_turn (drawn_by (step_1d strict columns)) step → DrawsStep step (Err e) pen → DrawsLine line (Err e) pen.front pen.rest
@@ -286,12 +281,11 @@ open_by full n columns e said = grind (arith, false≢true, cases_lt)
 -- a mode that is read and drawn consumes bits
 pub mode_shorter : (strict : Bool) (columns : ℕ) (reference : Row) (pen t : Pen) (at : Bits) (mode : Mode) → read_code mode_codes
     at ≡ Ok (mode, pen.rest) → mode_step strict columns reference pen mode ≡ Turn.next t → length t.rest < length at
-mode_shorter strict columns reference pen t at mode reads draws =
-    omega (
-      arith,
-      draw_mode_next strict columns reference pen mode t draws,
-      read_code_shorter mode_codes at mode pen.rest modes_not_empty reads,
-    )
+mode_shorter strict columns reference pen t at mode reads draws = omega (
+  arith,
+  draw_mode_next strict columns reference pen mode t draws,
+  read_code_shorter mode_codes at mode pen.rest modes_not_empty reads,
+)
 
 -- ---- Two runs.
 

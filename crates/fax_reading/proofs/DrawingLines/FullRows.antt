@@ -1,7 +1,6 @@
 -- A whole line has all its pixels.
-use Rattle.fax_reading.proofs.Names.{arith, ◌≡◌, ◌≤◌, ℕ, suc, Bool, [], length, EncodingMode}
-use Rattle.fax_reading.proofs.Names.{line_by, UnexpectedEof, Bits, mode_codes, read_code, Turn, Row}
-use Rattle.fax_reading.proofs.Names.{Line, Pen, start, line_1d, line_2d, Step}
+use Rattle.fax_reading.proofs.Names.{arith, ◌≡◌, ◌≤◌, ℕ, suc, Bool, [], length, EncodingMode, line_by, UnexpectedEof, Bits}
+use Rattle.fax_reading.proofs.Names.{mode_codes, read_code, Turn, Row, Line, Pen, start, line_1d, line_2d, Step}
 use Rattle.fax_reading.proofs.DrawingLines.Drawings.{try, run_then, mode_step, step_unless_full, drawn_by, step_1d, step_2d}
 use Rattle.fax_reading.proofs.DrawingLines.Drawings.{step_1d_is, step_2d_is}
 use Rattle.fax_reading.proofs.DrawingLines.ReadLines.{EndsNoLine, full_by, try_goes_on, draw_run_goes_on, draw_mode_goes_on}
@@ -29,9 +28,8 @@ line_1d_full strict columns here = drawn_full columns (step_1d strict columns) (
 -- and so is a two-dimensional one
 pub line_2d_full : (strict : Bool) (columns : ℕ) (reference : Row) (here : Bits)
     → IsFull columns (line_2d strict columns reference here)
-line_2d_full strict columns reference here =
-    drawn_full columns (step_2d strict columns reference) (λ p. try p.front (read_code mode_codes p.rest)
-    (λ mode. mode_step strict columns reference (record p { rest = mode.1 }) mode.0)) (λ p. try_goes_on p.front
+line_2d_full strict columns reference here = drawn_full columns (step_2d strict columns reference) (λ p. try p.front (read_code
+    mode_codes p.rest) (λ mode. mode_step strict columns reference (record p { rest = mode.1 }) mode.0)) (λ p. try_goes_on p.front
     (read_code mode_codes p.rest) _ (λ mode. draw_mode_goes_on strict columns reference (record p { rest = mode.1 }) mode.0))
     (λ p. step_2d_is strict columns reference p) (start here)
 

@@ -1,9 +1,8 @@
 -- No line has more pixels than there are columns.
-use Rattle.fax_reading.proofs.Names.{common_steps, ℕ, ◌≤◌, suc, Bool, [], length, Result, IfOk, subst}
-use Rattle.fax_reading.proofs.Names.{arith, length-append, length-replicate, Color, Mode, Pass, Horizontal, Vertical, DecodeError}
-use Rattle.fax_reading.proofs.Names.{UnexpectedEof, EncodingMode, front_of, Bits, Turn, Row, paint}
-use Rattle.fax_reading.proofs.Names.{Line, Pen, Drawing, start, drawn, turn_behind, unless_fault, painted, run_here, mode_here}
-use Rattle.fax_reading.proofs.Names.{unless_full, draw_run, draw_mode, draw_1d, draw_2d, line_1d, line_2d, line_by}
+use Rattle.fax_reading.proofs.Names.{common_steps, ℕ, ◌≤◌, suc, Bool, [], length, Result, subst, arith, Mode, Pass, Horizontal}
+use Rattle.fax_reading.proofs.Names.{Vertical, DecodeError, UnexpectedEof, EncodingMode, front_of, Bits, Turn, Row, Line, Pen}
+use Rattle.fax_reading.proofs.Names.{Drawing, start, drawn, turn_behind, unless_fault, painted, run_here, mode_here, unless_full}
+use Rattle.fax_reading.proofs.Names.{draw_run, draw_mode, draw_1d, draw_2d, line_1d, line_2d, line_by}
 use Rattle.fax_bits.proofs.Repetition.Repeated.{repeated_keeps}
 
 -- a turn continues with what has a property, or with a line of at most this width
@@ -32,14 +31,10 @@ any_holds : {A : Type 0} (columns : ℕ) (front : Row) (result : Result A Decode
     → KeepsWidth columns Any (unless_fault front result)
 any_holds columns front result within = grind arith
 
-paint_within : (strict : Bool) (columns : ℕ) (front : Row) (color : Color) (n : ℕ) → length front ≤ columns
-    → IfOk (paint strict columns front color n) (IsWithin columns)
-paint_within strict columns front color n within = grind (arith, common_steps, length-append, length-replicate)
-
 module _ (strict : Bool) (columns : ℕ) where
   painted_within : (pen : Pen) (n : ℕ) → PenWithin columns pen
       → KeepsWidth columns (IsWithin columns) (painted strict columns pen n).turn
-  painted_within pen n within = grind (arith, common_steps, paint_within)
+  painted_within pen n within = grind (arith, common_steps)
 
   draw_run_within : (pen : Pen) → PenWithin columns pen → KeepsWidth columns (PenWithin columns)
       (draw_run strict columns pen).turn
@@ -70,9 +65,8 @@ module _ (strict : Bool) (columns : ℕ) where
 drawn_within : (columns : ℕ) (draw : Pen → Drawing Pen) → ((pen : Pen) → PenWithin columns pen
     → KeepsWidth columns (PenWithin columns)
     (draw pen).turn) → (pen : Pen) → PenWithin columns pen → length (front_of (drawn draw pen)) ≤ columns
-drawn_within columns draw holds pen within =
-    repeated_keeps (λ p. (draw p).turn) (Line.broken [] UnexpectedEof) (PenWithin columns)
-    (λ line. length (front_of line) ≤ columns) (omega arith)
+drawn_within columns draw holds pen within = repeated_keeps (λ p. (draw p).turn) (Line.broken [] UnexpectedEof)
+    (PenWithin columns) (λ line. length (front_of line) ≤ columns) (omega arith)
     (λ s t p e. subst (KeepsWidth columns (PenWithin columns)) e (holds s p))
     (λ s l p e. subst (KeepsWidth columns (PenWithin columns)) e (holds s p)) (suc (length pen.rest)) pen within
 

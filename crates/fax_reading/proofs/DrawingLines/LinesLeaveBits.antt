@@ -1,12 +1,11 @@
 -- What a line leaves is a suffix of the bits that it began with.
-use Rattle.fax_reading.proofs.Names.{arith, common_steps, ◌≡◌, ℕ, suc, Bool, cond, leb, [], ◌∷◌, ◌++◌, length}
-use Rattle.fax_reading.proofs.Names.{Result, Ok, Err, refl, sym, ap, subst, ◌∙◌, append_assoc, Color, DecodeError, UnexpectedEof}
-use Rattle.fax_reading.proofs.Names.{EncodingMode, Bits, read_code, Turn, Row, opposite, paint}
-use Rattle.fax_reading.proofs.Names.{codes_of, run_of_word, run_turn, run_from, Line, Pen, start, line_1d, line_2d, line_by, Step}
-use Rattle.fax_bits.proofs.CodeWords.ReadCodes.{read_code_found}
-use Rattle.fax_bits.proofs.Repetition.Repeated.{repeated_keeps}
+use Rattle.fax_reading.proofs.Names.{arith, common_steps, ◌≡◌, ℕ, suc, Bool, cond, leb, [], ◌∷◌, ◌++◌, length, Result, Ok, Err}
+use Rattle.fax_reading.proofs.Names.{refl, sym, ap, subst, ◌∙◌, append_assoc, Color, DecodeError, UnexpectedEof, EncodingMode}
+use Rattle.fax_reading.proofs.Names.{Bits, read_code, Turn, Row, opposite, paint, codes_of, run_of_word, run_turn, run_from, Line}
+use Rattle.fax_reading.proofs.Names.{Pen, start, line_1d, line_2d, line_by, Step}
 use Rattle.fax_reading.proofs.DrawingLines.Drawings.{try, run_then, step_1d, step_1d_is}
 use Rattle.fax_reading.proofs.DrawingLines.WhatFollows.{line_2d_found}
+use Rattle.fax_bits.proofs.{CodeWords.ReadCodes.read_code_found, Repetition.Repeated.repeated_keeps}
 
 -- the second bits are a suffix of the first
 abbrev pub LeavesBits : Bits → Bits → Type 0

@@ -44,9 +44,8 @@ step_1d_shrinks strict columns s t e =
 pub draw_mode_next : (strict : Bool) (columns : ℕ) (reference : Row) (pen : Pen) (mode : Mode) (t : Pen)
     → mode_step strict columns reference pen mode ≡ Turn.next t → pen_left t ≤ pen_left pen
 draw_mode_next strict columns reference pen Pass t e = grind (arith, common_steps, try_next)
-draw_mode_next strict columns reference pen Horizontal t e =
-    let a = draw_run_next strict columns pen (λ pen. run_then strict columns pen Turn.next) t
-    (horizontal_is strict columns reference pen ∙ e) in
+draw_mode_next strict columns reference pen Horizontal t e = let a = draw_run_next strict columns pen
+    (λ pen. run_then strict columns pen Turn.next) t (horizontal_is strict columns reference pen ∙ e) in
     grind (arith, common_steps, draw_run_next strict columns a.0 Turn.next t a.1, next_is)
 draw_mode_next strict columns reference pen (Vertical k) t e = grind (arith, common_steps, try_next)
 
@@ -91,9 +90,8 @@ draw_mode_goes_on strict columns reference pen Horizontal =
 draw_mode_goes_on strict columns reference pen (Vertical k) = grind (arith, common_steps, try_goes_on)
 
 -- the row and the bits that a step ends with are those of the pen, where the row is full
-pub full_by : (columns : ℕ) (pen : Pen) (step : Step) (row : Row) (rest : Bits) → EndsNoLine step
-    → step_unless_full columns pen step ≡ Turn.done (Line.whole row rest) → (columns ≤ length pen.front)
-    × (Line.whole pen.front pen.rest ≡ Line.whole row rest)
+pub full_by : (columns : ℕ) (pen : Pen) (step : Step) (row : Row) (rest : Bits) → EndsNoLine step → step_unless_full columns pen
+    step ≡ Turn.done (Line.whole row rest) → (columns ≤ length pen.front) × (Line.whole pen.front pen.rest ≡ Line.whole row rest)
 full_by columns pen step row rest g e = grind (arith, common_steps, chosen, leb-true)
 
 abbrev pub TookBits : ℕ → Line → Type 0

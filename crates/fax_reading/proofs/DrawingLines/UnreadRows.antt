@@ -6,9 +6,8 @@ use Rattle.fax_reading.proofs.Names.{Held, redrawn, TakesOneRow, Line, Row, row_
 use Rattle.fax_bits.proofs.ErrorKinds.{at_fault_kind, by_kind}
 use Rattle.fax_reading.proofs.DrawingLines.DrawnLines.{memory_has_black, last_black}
 
-module _ (line strict : Line) (row : Result (Row × Bits) DecodeError) (old new : Held) (held : new
-    ≡ redrawn old new.front new.color)
-    (rest : Bits) where
+module _ (line strict : Line) (row : Result (Row × Bits) DecodeError) (old new : Held)
+    (held : new ≡ redrawn old new.front new.color) (rest : Bits) where
   -- an allocation fails only if the line, or what is repaired of it, paints a black pixel
   wants_rest : HasBlack (front_of line) → TakesOneRow line strict row old new (Err OutOfMemory) rest
   wants_rest black = record { taken = tt; fault = λ f. absurd f; held = held; memory = λ k. black; not_refused = λ k. cc }
@@ -53,15 +52,11 @@ module _ (line strict : Line) (start : Bits) (old new : Held) (held : new ≡ re
       broken e draws fault = at_fault_kind (kind_of e) _ _ _ fault draws
 
       lenient : (e : DecodeError) → DrawsLine line (Err e) new.front rest → (old.settings.strict || not old.has_eols) ≡ false
-          → (IsRepairable new e → TakesOneRow line strict row old new (Err answer) rest)
-          → ((IsRepairable new e → ⊥) → ◌≡◌ {A = Result (Unit {0}) DecodeError} (Err answer) (Err e))
-          → TakesOneRow line strict row old new (Err answer) rest
-      lenient e draws is one two =
-          by_kind (λ e. DrawsLine line (Err e) new.front rest
-          → (IsRepairable new e → TakesOneRow line strict row old new (Err answer) rest)
-          → ((IsRepairable new e → ⊥) → ◌≡◌ {A = Result (Unit {0}) DecodeError} (Err answer) (Err e))
-          → TakesOneRow line strict row old new (Err answer) rest)
-          (λ e fault draws one two. one (repairs e fault is))
+          → (IsRepairable new e → TakesOneRow line strict row old new (Err answer) rest) → ((IsRepairable new e → ⊥)
+          → ◌≡◌ {A = Result (Unit {0}) DecodeError} (Err answer) (Err e)) → TakesOneRow line strict row old new (Err answer) rest
+      lenient e draws is one two = by_kind (λ e. DrawsLine line (Err e) new.front rest → (IsRepairable new e → TakesOneRow line
+          strict row old new (Err answer) rest) → ((IsRepairable new e → ⊥) → ◌≡◌ {A = Result (Unit {0}) DecodeError} (Err answer)
+          (Err e)) → TakesOneRow line strict row old new (Err answer) rest) (λ e fault draws one two. one (repairs e fault is))
           (λ draws one two. subst (λ (r : Result (Unit {0}) DecodeError). TakesOneRow line strict row old new r rest)
           (sym (two (λ r. r.fault))) (unread_row_wants_memory line strict row old new held rest draws))
           (λ draws one two. absurd draws) e draws one two

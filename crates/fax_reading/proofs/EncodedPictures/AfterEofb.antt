@@ -1,19 +1,16 @@
 -- What follows EOFB changes nothing.
 use Rattle.fax_reading.proofs.Names.{◌≡◌, ℕ, zero, suc, ◌+◌, ◌*◌, ◌/◌, ◌%◌, ◌<◌, Bool, true, false, cond, not, ◌&&◌, leb, [], ◌∷◌}
-use Rattle.fax_reading.proofs.Names.{◌++◌, length, take, Option, Some, None, Ok, refl, sym, ap, subst, ◌∙◌, append_assoc}
-use Rattle.fax_reading.proofs.Names.{arith, ◌⊎◌, inl, inr, or_parts, or_from, cond-false, cases_lt, length-append, length-take-le}
+use Rattle.fax_reading.proofs.Names.{◌++◌, length, take, Option, Some, None, Ok, refl, sym, ap, subst, ◌∙◌, append_assoc, arith}
+use Rattle.fax_reading.proofs.Names.{◌⊎◌, inl, inr, or_parts, or_from, cond-false, cases_lt, length-append, length-take-le}
 use Rattle.fax_reading.proofs.Names.{take-append-drop, drop_at, EncodingMode, Group4, DecodeSettings, Bits, AreWholeBytes, Turn}
-use Rattle.fax_reading.proofs.Names.{Reaches, Line, line_2d, after_eol, one_more, eols, eols_here, is_over, Progress, Ending}
+use Rattle.fax_reading.proofs.Names.{Reaches, Line, line_2d, after_eol, eols, eols_here, is_over, Progress, Ending}
 use Rattle.fax_reading.proofs.Names.{row_before, aligned, line_of_turn, row_of_line, ends_with, pass_gap, at_front, nothing_read}
 use Rattle.fax_reading.proofs.Names.{end_of, plain, AfterEofb, add_row_alone, row_behind, gap_and_row, for_t6, common_steps}
-use Rattle.fax_bits.proofs.BitReading.ZerosInWords.{prefix_of_prefix}
-use Rattle.fax_bits.proofs.CodeWords.ReadRuns.{chosen}
-use Rattle.fax_reading.proofs.{DrawingLines.WhatFollows.line_2d_found, EncodedPictures.Bodies.gap_at_eofb}
 use Rattle.fax_reading.proofs.EncodedPictures.PictureLines.{IsLineStart, between, plain_ends}
-use Rattle.fax_reading.proofs.Readings.GapsAndRows.{gap_unsought, t6_end}
-use Rattle.fax_reading.proofs.Readings.RowsAndGaps.{unless_over}
-use Rattle.fax_bits.proofs.BitReading.ConsecutiveEols.{eols-none}
-use Rattle.fax_bits.proofs.Repetition.Repeated.{next_is, not_next}
+use Rattle.fax_bits.proofs.{BitReading.ZerosInWords.prefix_of_prefix, CodeWords.ReadRuns.chosen}
+use Rattle.fax_bits.proofs.{BitReading.ConsecutiveEols.eols-none, Repetition.Repeated.next_is, Repetition.Repeated.not_next}
+use Rattle.fax_reading.proofs.{DrawingLines.WhatFollows.line_2d_found, EncodedPictures.Bodies.gap_at_eofb}
+use Rattle.fax_reading.proofs.{Readings.GapsAndRows.gap_unsought, Readings.GapsAndRows.t6_end, Readings.RowsAndGaps.unless_over}
 
 -- ---- EOLs.
 after_eol_found : (seen : ℕ) (here rest : Bits) → after_eol seen here ≡ Some rest → (w : Bits) × (here ≡ w ++ rest)
@@ -22,12 +19,9 @@ after_eol_found seen [] rest e = absurd cc
 after_eol_found seen (false ∷ here) rest e = let f = after_eol_found (suc seen) here rest e in
     (false ∷ f.0, ap (λ (x : Bits). false ∷ x) f.1, f.2)
 after_eol_found seen (true ∷ here) rest e = elim (chosen (leb 11 seen) _ _ _ e) [
-  | inl a ↦ let same : here ≡ rest = let f = a.1 in cc in (true ∷ [], ap (λ (x : Bits). true ∷ x) same, λ more. rw a.0 refl)
-  | inr a ↦ absurd (let f = a.1 in cc)
+  | inl a ↦ let same : here ≡ rest = cc in (true ∷ [], ap (λ (x : Bits). true ∷ x) same, λ more. rw a.0 refl)
+  | inr a ↦ absurd (cc)
 ]
-
-one_more_is : (found : ℕ × Bits) → one_more found ≡ (suc found.0, found.1)
-one_more_is (count, here) = refl
 
 -- the EOLs that were counted are a prefix, and are counted again whatever follows, if no EOL does or enough were asked
 -- for
@@ -37,33 +31,26 @@ EolsFound most here found = (w : Bits) × (here ≡ w ++ found.1)
 
 eols_are_found : (most : ℕ) (here : Bits) → EolsFound most here (eols most here)
 eols_are_found zero here = ([], refl, λ more or. refl)
-eols_are_found (suc most) here =
-    let by_after_eol : (o : Option Bits) → after_eol 0 here ≡ o → EolsFound (suc most) here (eols (suc most) here)
-    = λ o. elim o as (λ (o : Option Bits). after_eol 0 here ≡ o → EolsFound (suc most) here (eols (suc most) here)) [
+eols_are_found (suc most) here = let by_after_eol : (o : Option Bits) → after_eol 0 here ≡ o
+    → EolsFound (suc most) here (eols (suc most) here) = λ o. elim o
+    as (λ (o : Option Bits). after_eol 0 here ≡ o → EolsFound (suc most) here (eols (suc most) here)) [
       | None ↦ grind (arith, eols-none)
-      | Some rest ↦ λ e.
-          let one = after_eol_found 0 here rest e in
+      | Some rest ↦ λ e. let one = after_eol_found 0 here rest e in
           let on = eols_are_found most rest in
-          let found : eols (suc most) here ≡ (suc (eols most rest).0, (eols most rest).1) =
-          rw (e, eols) (one_more_is (eols most rest)) in
+          let found : eols (suc most) here ≡ (suc (eols most rest).0, (eols most rest).1) = rw (e, eols)
+          (grind (arith, common_steps)) in
           subst (EolsFound (suc most) here) (sym found) (
             one.0 ++ on.0,
             one.1 ∙ ap (λ (x : Bits). one.0 ++ x) on.1 ∙ sym (append_assoc one.0 on.0 (eols most rest).1),
-            λ more or.
-                let less : ((eols most rest).0 ≡ most) ⊎ (after_eol 0 more ≡ None) =
-                elim or [ inl same ↦ inl (omega arith) | inr none ↦ inr none ] in
-                let stands : after_eol 0 (one.0 ++ (on.0 ++ more)) ≡ Some (on.0 ++ more) = one.2 (on.0 ++ more) in
-                ap (eols (suc most)) (append_assoc one.0 on.0 more) ∙ rw (stands, eols) (ap one_more (on.2 more less)),
+            λ more or. grind (arith, common_steps, append_assoc one.0 on.0 more),
           )
-    ] in
-    by_after_eol (after_eol 0 here) refl
+    ] in by_after_eol (after_eol 0 here) refl
 
 -- ---- Alignment: only how many bits follow, modulo eight, matters.
 pub aligned_split : (b : Bool) (j : Bits) → (pad : Bits) × (j ≡ pad ++ cond b (aligned j) j)
     × ((more : Bits) → length more % 8 ≡ length (cond b (aligned j) j) % 8 → cond b (aligned (pad ++ more)) (pad ++ more) ≡ more)
 aligned_split false j = ([], refl, λ more e. refl)
-aligned_split true j =
-    let n : ℕ = length j % 8 in
+aligned_split true j = let n : ℕ = length j % 8 in
     grind (arith, common_steps, take-append-drop n j, length-take-le n j (omega arith), drop_at, length-append)
 
 -- ---- A row of a run, and the gap before it.
@@ -102,30 +89,21 @@ module _ (settings : DecodeSettings) (four : settings.encoding ≡ Group4) (bloc
       let split = aligned_split b j in
       let pad : Bits = split.0 in
       let then : Progress = record { rows = run.rows ++ row ∷ []; has_eols = run.has_eols; rest = cond b (aligned j) j } in
-      let at_start : (more : Bits) → IsLineStart (line.bits ++ more) = λ more.
-      grind (arith, append_assoc) in
+      let at_start : (more : Bits) → IsLineStart (line.bits ++ more) = λ more. grind (arith, append_assoc) in
       let moved : MoveFound settings run then = record {
         bits = eol.0 ++ (line.bits ++ pad);
-        is = eol.1 ∙ ap (λ (x : Bits). eol.0 ++ x) (line.is ∙ ap (λ (x : Bits). line.bits ++ x) split.1
-            ∙ sym (append_assoc line.bits pad then.rest)) ∙ sym (append_assoc eol.0 (line.bits ++ pad) then.rest);
+        is = eol.1 ∙ ap (λ (x : Bits). eol.0 ++ x) (grind (arith, common_steps, append_assoc))
+            ∙ sym (append_assoc eol.0 (line.bits ++ pad) then.rest);
         unsought = unsought;
-        again = λ more same.
-            let t2 : Bits = line.bits ++ (pad ++ more) in
+        again = λ more same. let t2 : Bits = line.bits ++ (pad ++ more) in
             let here : (eol.0 ++ (line.bits ++ pad)) ++ more ≡ eol.0 ++ t2 = append_assoc eol.0 (line.bits ++ pad) more
             ∙ ap (λ (x : Bits). eol.0 ++ x) (append_assoc line.bits pad more) in
             let run2 : Progress = record run { rest = (eol.0 ++ (line.bits ++ pad)) ++ more } in
-            let at : Progress = record run { rest = t2 } in
             let begins = at_start (pad ++ more) in
-            let counted2 : eols_here settings run2.rest ≡ (count, t2) =
-            counts_two run2.rest ∙ ap (eols 2) here ∙ eol.2 t2 (inr begins.no_eol) in
-            let over2 : is_over settings (length run.rows) (count, t2) ≡ false =
-            or_from _ _ (or_parts _ _ over).0 begins.open_end in
-            ap (row_behind settings) (gap_unsought settings run2 unsought ∙ ap (unless_over settings run2) counted2
-            ∙ cond-false (is_over settings (length run.rows) (count, t2)) (ends_with run2 (Ok t2)) (Turn.next at) over2)
-            ∙ ap (λ (l : Line). add_row_alone at (row_of_line settings run.has_eols t2 l)) (line_is run t2
-            ∙ line.again (pad ++ more)) ∙ ap (λ (x : Bits). Turn.next (record then { rest = x })) (split.2 more same);
-      } in
-      subst (MoveFound settings run) (next_is then after e) moved
+            let counted2 : eols_here settings run2.rest ≡ (count, t2) = counts_two run2.rest ∙ ap (eols 2) here
+            ∙ eol.2 t2 (inr begins.no_eol) in
+            grind (arith, common_steps, gap_unsought settings run2 unsought, line_is run t2, or_from, or_parts, cond-false);
+      } in subst (MoveFound settings run) (next_is then after e) moved
 
   by_eols : (run after : Progress) (found : ℕ × Bits) → run.has_eols ≡ false → eols 2 run.rest ≡ found
       → row_behind settings (unless_over settings run found) ≡ Turn.next after → MoveFound settings run after
@@ -163,8 +141,7 @@ module _ (settings : DecodeSettings) (four : settings.encoding ≡ Group4) (bloc
         one.bits ++ on.0,
         one.is ∙ ap (λ (x : Bits). one.bits ++ x) on.1 ∙ sym (append_assoc one.bits on.0 rest),
         λ more e.
-            let same : length (on.0 ++ more) % 8 ≡ length after.rest % 8 =
-            omega (arith, e, length-append on.0 more, ap length on.1, length-append on.0 rest) in
+            let same : length (on.0 ++ more) % 8 ≡ length after.rest % 8 = grind (arith, common_steps, length-append) in
             let (end, leads, over) = on.2 more e in
             subst (λ (x : Bits). Ends settings (record run { rest = x }) (ended_at last more))
             (sym (append_assoc one.bits on.0 more)) (
@@ -192,8 +169,7 @@ closed_plain settings last w rest four wide ends stream more is whole =
 begins_alike : (one two : Bits) (count : ℕ) (w rest : Bits) → AreWholeBytes one → AreWholeBytes two → one ≡ w ++ rest
     → (length w + 7) / 8 ≡ count → take (8 * count) two ≡ take (8 * count) one → (more : Bits) × (two ≡ w ++ more)
     × (length more % 8 ≡ length rest % 8)
-begins_alike one two count w rest whole_one whole_two is count_is same =
-    let step = take-append-drop (8 * count) one in
+begins_alike one two count w rest whole_one whole_two is count_is same = let step = take-append-drop (8 * count) one in
     let step2 = take-append-drop (8 * count) two in
     let step4 = prefix_of_prefix w rest in
     grind (arith, common_steps, append_assoc w, length-append w rest, length-append w, step4, step, step2)
@@ -206,15 +182,14 @@ plain_no_columns settings stream none = grind (arith, common_steps)
 pub after_eofb : AfterEofb
 after_eofb settings one two count are whole_one whole_two four block comes counted same = elim (cases_lt 0 settings.columns) [
   | inr none ↦ plain_no_columns settings two (omega arith) ∙ sym (plain_no_columns settings one (omega arith))
-  | inl wide ↦
-      let rest : Bits = (eols 2 comes.0.rest).1 in
+  | inl wide ↦ let rest : Bits = (eols 2 comes.0.rest).1 in
       let closes : eols 2 comes.0.rest ≡ (2, rest) = ap (λ (n : ℕ). (n, rest)) comes.2 in
       let same_settings : for_t6 settings ≡ settings = ap (λ (e : EncodingMode). record settings { encoding = e }) (sym four) in
       let comes_so = subst (λ (s : DecodeSettings). Reaches (gap_and_row s) (at_front one) comes.0) same_settings comes.1 in
       let found = closed_found settings four block wide (between [] one) comes.0 rest refl comes_so closes in
       let first : plain settings one
-      ≡ record { rows = comes.0.rows; outcome = Ok ((length found.0 + 7) / 8); has_eols = comes.0.has_eols } =
-      closed_plain settings comes.0 found.0 rest four wide found.2 one rest found.1 refl in
+      ≡ record { rows = comes.0.rows; outcome = Ok ((length found.0 + 7) / 8); has_eols = comes.0.has_eols } = closed_plain
+      settings comes.0 found.0 rest four wide found.2 one rest found.1 refl in
       let count_is : (length found.0 + 7) / 8 ≡ count = grind (arith, common_steps) in
       let front = begins_alike one two count found.0 rest whole_one whole_two found.1 count_is same in
       closed_plain settings comes.0 found.0 rest four wide found.2 two front.0 front.1 front.2 ∙ sym first

@@ -1,23 +1,18 @@
 -- Lines without EOLs are read as their rows, in every encoding: bodies of T.6 data, and of T.4 data that the limit ends.
-use Rattle.fax_reading.proofs.Names.{◌≡◌, ◌≢◌, ◌+◌, ◌%◌, ◌<◌, ◌≤◌, Bool, true, false, ◌&&◌, List, [], ◌∷◌, ◌++◌, length}
-use Rattle.fax_reading.proofs.Names.{replicate, Ok, sym, ap, subst, ◌∙◌, append_assoc, arith, inr, All, and_from}
-use Rattle.fax_reading.proofs.Names.{not_from_false, eq-eqb, ne_eqb, length-append, length-replicate, append-nil, All-head}
-use Rattle.fax_reading.proofs.Names.{All-tail, White, DecodeSettings, EncodingMode, Group4, Group3_1D, Group3_2D, Bits, Turn}
-use Rattle.fax_reading.proofs.Names.{Reaches, Row, Line, cond-true, eols, eols_here, Progress, row_before, limit_met}
-use Rattle.fax_reading.proofs.Names.{ends_with, line_here, pass_gap, ending_behind, end_of, EncodesLine, IsPicture, EncodesRows}
-use Rattle.fax_reading.proofs.Names.{Allows, gap_and_row, row_behind, ReadsLimitedRowsT4, common_steps}
-use Rattle.fax_reading.proofs.EncodedPictures.EncodedLines.{line_2d_again}
+use Rattle.fax_reading.proofs.Names.{◌≡◌, ◌≢◌, ◌+◌, ◌%◌, ◌<◌, ◌≤◌, Bool, true, false, List, [], ◌∷◌, ◌++◌, length, replicate, Ok}
+use Rattle.fax_reading.proofs.Names.{sym, ap, subst, ◌∙◌, append_assoc, arith, inr, All, length-append, length-replicate}
+use Rattle.fax_reading.proofs.Names.{append-nil, All-head, All-tail, White, DecodeSettings, EncodingMode, Group4, Group3_1D}
+use Rattle.fax_reading.proofs.Names.{Group3_2D, Bits, Turn, Reaches, Row, Line, cond-true, eols, eols_here, Progress, row_before}
+use Rattle.fax_reading.proofs.Names.{limit_met, ends_with, line_here, pass_gap, ending_behind, end_of, EncodesLine, IsPicture}
+use Rattle.fax_reading.proofs.Names.{EncodesRows, Allows, gap_and_row, row_behind, ReadsLimitedRowsT4, common_steps}
 use Rattle.fax_bits.proofs.BitReading.ConsecutiveEols.{eols-none}
 use Rattle.fax_reading.proofs.EncodedPictures.PictureLines.{IsLineStart, line_2d_starts, allows_sum, not_met, row_before_push}
 use Rattle.fax_reading.proofs.EncodedPictures.PictureLines.{plain_ends, fill, aligned_on, between, ended_with}
-use Rattle.fax_reading.proofs.EncodedPictures.PicturesT4.{line_t4_again, line_t4_starts}
-use Rattle.fax_reading.proofs.{Readings.TurnsMoveOn.eols_end}
+use Rattle.fax_reading.proofs.Readings.TurnsMoveOn.{eols_end}
 use Rattle.fax_reading.proofs.Readings.GapsAndRows.{gap_unsought, first_gap_t4, reaches_end}
+use Rattle.fax_reading.proofs.EncodedPictures.{EncodedLines.line_2d_again, PicturesT4.line_t4_again, PicturesT4.line_t4_starts}
 
 -- ---- No EOL is counted where there is none.
-
-with_true : (b : Bool) → (b && true) ≡ b
-with_true b = grind (arith, common_steps)
 
 -- ---- Gaps
 
@@ -26,11 +21,6 @@ module _ (settings : DecodeSettings) where
   gap_at_line : (rows : List Row) (here : Bits) → IsLineStart here → limit_met settings (length rows) ≡ false
       → pass_gap settings (between rows here) ≡ Turn.next (between rows here)
   gap_at_line rows here start open_limit = grind (arith, common_steps)
-
-  -- the limit ends the reading
-  pub gap_at_limit : (rows : List Row) (here : Bits) → limit_met settings (length rows) ≡ true
-      → pass_gap settings (between rows here) ≡ Turn.done (ended_with rows (eols_here settings here).1)
-  gap_at_limit rows here met = grind (arith, common_steps)
 
   -- so does EOFB
   pub gap_at_eofb : (run : Progress) (rest : Bits) → run.has_eols ≡ false → settings.encoding ≡ Group4
@@ -67,7 +57,7 @@ module _ (settings : DecodeSettings) (wide : 0 < settings.columns) (small : sett
       → line_here settings (row_before settings.columns rows) here ≡ Line.whole row (fill b line ++ tail)
       → gap_and_row settings (between rows here) ≡ Turn.next (between (rows ++ row ∷ []) tail)
   row_read rows here row line tail start open_limit whole read = ap (row_behind settings)
-      (gap_at_line settings rows here start open_limit) ∙ grind (arith, common_steps, between, fill, with_true)
+      (gap_at_line settings rows here start open_limit) ∙ grind (arith, common_steps, between, fill)
 
   module _ (encoding : EncodingMode) (same : settings.encoding ≡ encoding) where
     -- from a line's start, at a whole byte if lines are aligned, the lines are read and what follows is left
@@ -84,22 +74,19 @@ module _ (settings : DecodeSettings) (wide : 0 < settings.columns) (small : sett
         let rows1 : List Row = before ++ row ∷ [] in
         let row_len : length row ≡ settings.columns = All-head (λ row. length row ≡ settings.columns) row rows widths in
         let here : body ++ more ≡ line ++ (fill b line ++ tail) = grind (arith, common_steps, append_assoc, fill) in
-        let here2 : (line ++ fill b line) ++ tail ≡ body ++ more = append_assoc line (fill b line) tail ∙ sym here in
-        let whole2 : b ≡ true → length ((line ++ fill b line) ++ tail) % 8 ≡ 0 =
-        λ e. ap (λ (x : Bits). length x % 8) here2 ∙ whole e in
+        let whole2 : b ≡ true → length ((line ++ fill b line) ++ tail) % 8 ≡ 0 = grind (arith, common_steps) in
         let moved = row_read before (body ++ more) row line tail
         (subst IsLineStart (sym here) (line_starts encoding reference row line (fill b line ++ tail) same is row_len))
-        (not_met settings (length before + length (row ∷ rows)) (length before) limit (omega arith)) whole2 (ap (line_here
-        settings reference) here ∙ line_again encoding reference row line (fill b line ++ tail) same is ref_len row_len) in
+        (not_met settings (length before + length (row ∷ rows)) (length before) limit (omega arith)) whole2
+        (grind (arith, common_steps, line_again)) in
         let pushed : row_before settings.columns rows1 ≡ row = row_before_push settings.columns before row in
-        let count : length rows1 + length rows ≡ length before + length (row ∷ rows) =
-        omega (arith, length-append before (row ∷ [])) in
+        let count : length rows1 + length rows ≡ length before + length (row ∷ rows) = grind
+        (arith, common_steps, length-append) in
         let on = body_again rows1 rows next more (subst (Allows settings) (sym count) limit) (ap length pushed ∙ row_len)
         (All-tail (λ row. length row ≡ settings.columns) row rows widths) (aligned_on b line tail whole2)
         (subst (λ (r : Row). EncodesRows encoding b r rows next) (sym pushed) lines) in
-        Reaches.moves (between before (body ++ more)) (between rows1 tail) (between (before ++ row ∷ rows) more) moved
-        (subst (λ (rs : List Row). Reaches (gap_and_row settings) (between rows1 tail) (between rs more))
-        (append_assoc before (row ∷ []) rows) on)
+        Reaches.moves (between before (body ++ more)) (between rows1 tail)
+        (between (before ++ row ∷ rows) more) moved (grind (arith, common_steps, append_assoc))
 
     module _ (rows : List Row) (body more : Bits) (some : 0 < length rows) (limit : settings.rows ≡ length rows)
         (is : IsPicture settings.columns rows) (whole : b ≡ true → length (body ++ more) % 8 ≡ 0)
@@ -110,12 +97,9 @@ module _ (settings : DecodeSettings) (wide : 0 < settings.columns) (small : sett
       -- a limit of as many rows ends the lines
       pub body_end : ending_behind settings (pass_gap settings (between [] (body ++ more)))
           ≡ ended_with rows (eols_here settings more).1
-      body_end =
-          let met : limit_met settings (length rows) ≡ true
-          = grind (arith, common_steps, and_from, eq-eqb, ne_eqb, not_from_false) in
-          reaches_end settings wide (between [] (body ++ more)) (between rows more)
+      body_end = reaches_end settings wide (between [] (body ++ more)) (between rows more)
           (ended_with rows (eols_here settings more).1) (body_again [] rows body more (allows_sum settings (length rows) allows)
-          (length-replicate settings.columns false) is.1 whole lines) (gap_at_limit settings rows more met)
+          (length-replicate settings.columns false) is.1 whole lines) (grind (arith, common_steps))
 
       -- they begin where there is no EOL
       pub body_starts : IsLineStart (body ++ more)

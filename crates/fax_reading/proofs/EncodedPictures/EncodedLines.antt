@@ -1,16 +1,15 @@
 -- A two-dimensional line is read as the row that was encoded.
-use Rattle.fax_reading.proofs.PixelRows.ReferencePlaces.{opposite_twice}
 use Rattle.fax_reading.proofs.Names.{◌≡◌, ℕ, suc, ◌+◌, ◌-◌, ◌<◌, ◌≤◌, Bool, false, [], ◌++◌, length, take, replicate, Ok, refl}
 use Rattle.fax_reading.proofs.Names.{sym, ap, subst, ◌∙◌, append_assoc, arith, inl, inr, pos, ◌+ℤ◌, ℤ, cases_lt, length-take-le}
 use Rattle.fax_reading.proofs.Names.{append-nil, Color, White, Black, Mode, Pass, Horizontal, Vertical, Bits, mode_codes, Has}
 use Rattle.fax_reading.proofs.Names.{Turn, Row, is_black, opposite, pixel, pixel_before, is_change, right_of, b1, b2, a1, a2}
 use Rattle.fax_reading.proofs.Names.{run_from, Line, Pen, line_2d, Step, Spells, EncodesLine2D, common_steps}
-use Rattle.fax_reading.proofs.DrawingLines.ReadLines.{drawn2}
 use Rattle.fax_bits.proofs.Repetition.Repeated.{after_turn}
 use Rattle.fax_reading.proofs.DrawingLines.Drawings.{run_then, mode_step, drawn_by, step_2d, horizontal_is}
 use Rattle.fax_reading.proofs.EncodedPictures.EncodedRuns.{run_spelled, read_as, whole_run_painted, draws}
 use Rattle.fax_reading.proofs.PixelRows.ChangePlaces.{a1_next, a2_next, a2_least, b2_above, b1_right, b2_right, before_same}
 use Rattle.fax_reading.proofs.PixelRows.ChangePlaces.{pixels_same, at_change, take_painted}
+use Rattle.fax_reading.proofs.{PixelRows.ReferencePlaces.opposite_twice, DrawingLines.ReadLines.drawn2}
 
 -- a mode that is read is drawn
 pub mode_drawn : (strict : Bool) (columns : ℕ) (reference front : Row) (color : Color) (mode : Mode) (word rest here : Bits)
@@ -68,11 +67,8 @@ painted_to_place row front from p color at inside above within none =
 second_painted : (row front : Row) (p r : ℕ) (color : Color) → IsAt row front (suc p) color
     → length front ≡ p → p ≤ length row → p ≤ r → r ≤ length row → ((q : ℕ) → suc p ≤ q → q < r → is_change row q ≡ false)
     → front ++ replicate (r - p) (is_black color) ≡ take r row
-second_painted row front p r color at len p_within above within none = elim (cases_lt p r) [
-  | inl lt ↦ grind (arith, painted_to_place)
-  | inr ge ↦
-      grind (arith, append-nil)
-]
+second_painted row front p r color at len p_within above within none =
+    elim (cases_lt p r) [ inl lt ↦ grind (arith, painted_to_place) | inr ge ↦ grind (arith, append-nil) ]
 
 module _ (strict : Bool) (columns : ℕ) (reference row : Row) (wide : 0 < columns) (small : columns ≤ 4294967295)
     (ref_len : length reference ≡ columns) (row_len : length row ≡ columns) where
@@ -88,8 +84,8 @@ module _ (strict : Bool) (columns : ℕ) (reference row : Row) (wide : 0 < colum
   line_2d_from : (front : Row) (from : ℕ) (color : Color) (bits more : Bits) → EncodesLine2D reference row from color bits → IsAt
       row front from color → drawn_by step (record { front = front; color = color; rest = bits ++ more }) ≡ Line.whole row more
   line_2d_from front from color bits more EncodesLine2D.over at = grind (arith, common_steps)
-  line_2d_from front from color bits more (EncodesLine2D.pass from2 word {bits = next} inside has left_of steps) at =
-      let len = length_at row front from color (omega arith) at in
+  line_2d_from front from color bits more (EncodesLine2D.pass from2 word {bits = next} inside has left_of steps) at = let len =
+      length_at row front from color (omega arith) at in
       let one = a1_next row from in
       let p : ℕ = b2 reference from color in
       let above = b2_above reference from color (omega arith) in
@@ -97,14 +93,11 @@ module _ (strict : Bool) (columns : ℕ) (reference row : Row) (wide : 0 < colum
       (λ q ge lt. one.before q ge (omega arith)) in
       let same : pixel row p ≡ is_black color = pixels_same row from (a1 row from) (is_black color)
       (at.inside inside) one.before p (omega (arith, above.0, above.1)) left_of in
-      reads_on _ _ more (mode_drawn strict columns reference front color Pass word (next ++ more) _
-      (omega (arith, len)) has (append_assoc word next more) ∙ pass_drawn strict columns reference front color
-      (next ++ more) p (b2_right reference front from color len at.first) (omega (arith, len, above.0, above.1)) (omega arith))
-      (line_2d_from (front ++ replicate (p - length front) (is_black color)) (suc p) color next more steps (record {
-        painted = painted_at row _ p painted;
-        inside = λ le. same;
-        first = λ e. absurd (omega (arith, above.0, above.1));
-      }))
+      reads_on _ _ more (mode_drawn strict columns reference front color Pass word (next ++ more) _ (omega (arith, len)) has
+      (append_assoc word next more) ∙ pass_drawn strict columns reference front color (next ++ more) p
+      (b2_right reference front from color len at.first) (omega (arith, len, above.0, above.1)) (omega arith))
+      (line_2d_from (front ++ replicate (p - length front) (is_black color)) (suc p) color next more steps (record
+      { painted = painted_at row _ p painted; inside = λ le. same; first = λ e. absurd (omega (arith, above.0, above.1)) }))
   line_2d_from front from color bits more (EncodesLine2D.vertical from2 word k {bits = next} inside has exact steps) at =
       let len = length_at row front from color (omega arith) at in
       let one = a1_next row from in
@@ -124,9 +117,8 @@ module _ (strict : Bool) (columns : ℕ) (reference row : Row) (wide : 0 < colum
         inside = λ le. at_change row p color (one.change (omega arith)) before;
         first = λ e. white_first color (let z : p ≡ 0 = omega arith in rw z at before);
       }))
-  line_2d_from front from color bits more
-      (EncodesLine2D.horizontal from2 word {first = run1} {second = run2} {bits = next} inside has spells1 spells2 steps) at =
-      let len = length_at row front from color (omega arith) at in
+  line_2d_from front from color bits more (EncodesLine2D.horizontal from2 word {first = run1} {second = run2} {bits = next} inside
+      has spells1 spells2 steps) at = let len = length_at row front from color (omega arith) at in
       let one = a1_next row from in
       let two = a2_next row from in
       let p : ℕ = a1 row from in
@@ -142,26 +134,25 @@ module _ (strict : Bool) (columns : ℕ) (reference row : Row) (wide : 0 < colum
       let painted1 : front1 ≡ take p row = painted_to_place row front from p color at inside p_above p_within one.before in
       let len1 : length front1 ≡ p = ap length painted1 ∙ length-take-le p row p_within in
       let count1 : p - (from - 1) ≡ p - length front = omega (arith, len) in
-      let read1 =
-      run_read color (p - length front) run1 rest2 (subst (λ (n : ℕ). Spells color n run1) count1 spells1) (omega arith) in
+      let read1 = run_read color (p - length front) run1 rest2 (subst (λ (n : ℕ). Spells color n run1) count1 spells1)
+      (omega arith) in
       let read2 = run_read (opposite color) (r - p) run2 (next ++ more) spells2 (omega arith) in
       let turned : p < length row → pixel row p ≡ is_black (opposite color) = λ lt. at_change row p color (one.change lt)
       (before_same row from p (is_black color) (at.inside inside) one.before p p_above (omega arith)) in
       let at1 : IsAt row front1 (suc p) (opposite color) = grind (arith, painted_at, white_first) in
-      let painted2 : front2 ≡ take r row =
-      second_painted row front1 p r (opposite color) at1 len1 p_within r_above r_within two.before in
+      let painted2 : front2 ≡ take r row = second_painted row front1 p r
+      (opposite color) at1 len1 p_within r_above r_within two.before in
       reads_on _ (record { front = front2; color = color; rest = next ++ more }) more
-      (mode_drawn strict columns reference front color Horizontal word (run1 ++ rest2) _ (omega (arith, len)) has here ∙ sym
-      (horizontal_is strict columns reference (record { front = front; color = color; rest = run1 ++ rest2 })) ∙ draws strict
-      columns front color (run1 ++ rest2) (p - length front) rest2 front1 (λ pen. run_then strict columns pen Turn.next) read1
-      (whole_run_painted strict columns front color (p - length front) (omega (arith, len))) ∙ draws strict columns front1
-      (opposite color) rest2 (r - p) (next ++ more) front2 Turn.next read2
+      (mode_drawn strict columns reference front color Horizontal word (run1 ++ rest2) _ (omega (arith, len)) has here
+      ∙ sym (horizontal_is strict columns reference (record { front = front; color = color; rest = run1 ++ rest2 })) ∙ draws
+      strict columns front color (run1 ++ rest2) (p - length front) rest2 front1 (λ pen. run_then strict columns pen Turn.next)
+      read1 (whole_run_painted strict columns front color (p - length front) (omega (arith, len)))
+      ∙ draws strict columns front1 (opposite color) rest2 (r - p) (next ++ more) front2 Turn.next read2
       (whole_run_painted strict columns front1 (opposite color) (r - p) (omega (arith, len1)))
       ∙ ap (λ (c : Color). Turn.next (record { front = front2; color = c; rest = next ++ more })) (opposite_twice color))
       (line_2d_from front2 (suc r) color next more steps (record {
         painted = painted_at row front2 r painted2;
-        inside = λ le.
-            let r_over : suc p ≤ r = two.above (omega arith) in
+        inside = λ le. let r_over : suc p ≤ r = two.above (omega arith) in
             at_change row r (opposite color) (two.change (omega arith)) (before_same row (suc p) r (is_black (opposite color))
             (turned (omega arith)) two.before r r_over (omega arith)) ∙ ap is_black (opposite_twice color);
         first = λ e. absurd (let r_over : suc p ≤ r = two.above (omega arith) in omega arith);

@@ -43,13 +43,11 @@ run_has_words color zero n lt = let word = terminating_word color n lt in (
   word.0,
   subst (λ (m : ℕ). Spells color m word.0) (let e : n ≡ 64 * zero + n = omega arith in e) (Spells.terminating n word.0 word.1 lt),
 )
-run_has_words color (suc times) n lt =
-    let rest = run_has_words color times n lt in
-    let word = makeup_word color in (
-      word.0 ++ rest.0,
-      subst (λ (m : ℕ). Spells color m (word.0 ++ rest.0)) (let e : 64 + (64 * times + n) ≡ 64 * suc times + n = omega arith in e)
-          (Spells.makeup 64 word.0 word.1 (omega arith) rest.1),
-    )
+run_has_words color (suc times) n lt = let rest = run_has_words color times n lt in let word = makeup_word color in (
+  word.0 ++ rest.0,
+  subst (λ (m : ℕ). Spells color m (word.0 ++ rest.0)) (let e : 64 + (64 * times + n) ≡ 64 * suc times + n = omega arith in
+      e) (Spells.makeup 64 word.0 word.1 (omega arith) rest.1),
+)
 
 -- a run of any length is spelled by make-up words of 64 and a terminating word
 pub every_run_spelled : (color : Color) (n : ℕ) → (bits : Bits) × Spells color n bits
@@ -69,20 +67,17 @@ replicate-push (suc n) pixel row = ap (λ (r : Row). pixel ∷ r) (replicate-pus
 -- a row that begins with some pixels of a colour
 line_1d_exists : (color : Color) (n : ℕ) (row : Row) → 0 < n + length row → (bits : Bits)
     × EncodesLine1D color (replicate n (is_black color) ++ row) bits
-line_1d_exists color n [] some =
-    let run = every_run_spelled color n in
+line_1d_exists color n [] some = let run = every_run_spelled color n in
     (run.0 ++ [], EncodesLine1D.run n run.0 run.1 some (λ rest e. absurd cc) EncodesLine1D.over)
 line_1d_exists color n (pixel ∷ row) some = elim (pixel_or color pixel) [
-  | inl same ↦
-      grind (arith, line_1d_exists color (suc n) row (omega arith), replicate-push)
-  | inr other ↦
-      let run = every_run_spelled color n in
+  | inl same ↦ grind (arith, line_1d_exists color (suc n) row (omega arith), replicate-push)
+  | inr other ↦ let run = every_run_spelled color n in
       let next = line_1d_exists (opposite color) 1 row (omega arith) in
       let is : is_black (opposite color) ∷ row ≡ pixel ∷ row = ap (λ (p : Bool). p ∷ row) (sym other) in (
         run.0 ++ next.0,
         EncodesLine1D.run n run.0 run.1 some
-            (λ rest e. colors_differ color (sym other ∙ (let heads : pixel ≡ is_black color = cc in heads)))
-            (subst (λ (r : Row). EncodesLine1D (opposite color) r next.0) is next.1),
+            (λ rest e. colors_differ color (sym other ∙ (let heads : pixel ≡ is_black color = cc in
+            heads))) (subst (λ (r : Row). EncodesLine1D (opposite color) r next.0) is next.1),
       )
 ]
 
@@ -149,8 +144,7 @@ pub every_picture_has_an_encoding : EveryPictureHasAnEncoding
 every_picture_has_an_encoding columns rows is = (
   λ aligned. let body = rows_exist columns is.0 Group4 aligned (replicate columns false) rows is.1 in
       (body.0 ++ eol 0 ++ eol 0, (body.0, is, body.1, refl)),
-  λ encoding some.
-      let lines = lines_exist columns is.0 encoding (replicate columns false) rows is.1 in
+  λ encoding some. let lines = lines_exist columns is.0 encoding (replicate columns false) rows is.1 in
       let closing = closing_exists encoding 6 in
       (lines.0 ++ closing.0, (lines.0, closing.0, some, is, lines.1, closing.1, refl)),
   λ encoding aligned. rows_exist columns is.0 encoding aligned (replicate columns false) rows is.1,
@@ -198,8 +192,7 @@ length-highest_first order front = grind (arith, common_steps)
 -- the byte whose bits these are
 byte_of : (order : BitOrder) (front : Bits) → length front ≡ 8 → bits_of_byte order (value (highest_first order front)) ≡ front
 byte_of HighestFirst front eight = subst (λ (n : ℕ). low_bits n (value front) ≡ front) eight (low_bits_value front)
-byte_of LowestFirst front eight =
-    let back : Bits = reverse front in
+byte_of LowestFirst front eight = let back : Bits = reverse front in
     grind (arith, common_steps, length-reverse front, low_bits_value back, reverse-reverse front)
 
 -- one byte more
@@ -215,8 +208,7 @@ bytes_of order (suc n) bits e =
     let f = cut_front 8 bits (omega (arith, e)) in
     let on = bytes_of order n f.1 (omega (arith, e, ap length f.2, length-append f.0 f.1, f.3)) in
     let first : Bits = highest_first order f.0 in
-    let small : value first < 256 =
-    subst (λ (k : ℕ). value first < 2 ^ k) (length-highest_first order f.0 ∙ f.3) (value_below first) in (
+    let small : value first < 256 = grind (arith, common_steps, length-highest_first, value_below) in (
       value first ∷ on.0,
       All-cons (λ byte. byte < 256) (value first) on.0 small on.1,
       bits_more order f.0 f.1 bits (value first) on.0 (byte_of order f.0 f.3) on.2 f.2,
@@ -224,8 +216,7 @@ bytes_of order (suc n) bits e =
 
 -- the law
 pub bytes_begin_with_any_bits : BytesBeginWithAnyBits
-bytes_begin_with_any_bits order bits =
-    let missing : ℕ = 7 - (length bits + 7) % 8 in
+bytes_begin_with_any_bits order bits = let missing : ℕ = 7 - (length bits + 7) % 8 in
     let more : Bits = replicate missing false in
     let whole = bytes_of order ((length bits + 7) / 8) (bits ++ more)
     (omega (arith, length-append bits more, length-replicate missing false)) in

@@ -6,16 +6,15 @@ use Rattle.fax_reading.proofs.Names.{aligned, at_end, limit_met, end_of, plain, 
 
 -- settings for a closed picture: the end of the block is looked for, and there is no limit
 abbrev pub closed_settings : EncodingMode → ℕ → Bool → DecodeSettings
-closed_settings encoding columns aligned =
-    record {
-      columns = columns;
-      rows = 0;
-      end_of_block = true;
-      end_of_line = false;
-      rows_are_byte_aligned = aligned;
-      encoding = encoding;
-      strict = false;
-    }
+closed_settings encoding columns aligned = record {
+  columns = columns;
+  rows = 0;
+  end_of_block = true;
+  end_of_line = false;
+  rows_are_byte_aligned = aligned;
+  encoding = encoding;
+  strict = false;
+}
 
 -- ---- There is no EOL at a mode word.
 abbrev pub begins_no_eol : ℕ → Bits → Bool

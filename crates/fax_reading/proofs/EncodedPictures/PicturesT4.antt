@@ -1,27 +1,23 @@
 -- A T.4 picture is read again.
-use Rattle.fax_bits.proofs.BitReading.PlainEols.{few_keep_the_tag}
-use Rattle.fax_reading.proofs.Names.{◌≡◌, ◌≢◌, ℕ, zero, suc, ◌+◌, ◌<◌, ◌≤◌, Bool, true, false, cond, ◌&&◌, List, []}
-use Rattle.fax_reading.proofs.Names.{◌∷◌, ◌++◌, length, replicate, Some, None, Ok, Err, refl, sym, ap, subst, ◌∙◌, append_assoc}
-use Rattle.fax_reading.proofs.Names.{arith, inl, inr, All, and_right, and_from, not_from_false, or_from, cond-false, eq-eqb}
-use Rattle.fax_reading.proofs.Names.{ne_eqb, length-append, length-replicate, append-nil, All-head, All-tail, Color, White}
-use Rattle.fax_reading.proofs.Names.{UnexpectedEof, EncodingMode, Group3_1D, Group3_2D, Group4, DecodeSettings, Bits, Turn}
-use Rattle.fax_reading.proofs.Names.{repeated, Row, codes_of, Line, line_1d, line_2d, after_eol, one_more, eols, all_eols}
-use Rattle.fax_reading.proofs.Names.{past_tag, eols_with_tags, tagged_eols, is_over, cond-true}
-use Rattle.fax_reading.proofs.Names.{Progress, Ending, row_before, aligned, at_end, limit_met, line_here, eols_here, after_line}
-use Rattle.fax_reading.proofs.Names.{move_on, end_of, Spells, EncodesLine1D, EncodesLine2D, EncodesLine, eol, tag_of}
-use Rattle.fax_reading.proofs.Names.{IsPicture, EncodesRowsWithEols, ClosesWithEols, PictureT4, each_word, ReadsPictureT4}
-use Rattle.fax_reading.proofs.Names.{ReadsLimitedPictureT4, OnePictureT4, Allows, common_steps}
-use Rattle.fax_reading.proofs.EncodedPictures.EncodedLines.{line_2d_again}
-use Rattle.fax_bits.proofs.BitReading.ZerosInWords.{each_word_at}
-use Rattle.fax_reading.proofs.EncodedPictures.EncodedRuns.{line_1d_again}
+use Rattle.fax_reading.proofs.Names.{◌≡◌, ◌≢◌, ℕ, zero, suc, ◌+◌, ◌<◌, ◌≤◌, Bool, true, false, cond, ◌&&◌, List, [], ◌∷◌, ◌++◌}
+use Rattle.fax_reading.proofs.Names.{length, replicate, Some, None, Ok, Err, refl, sym, ap, subst, ◌∙◌, append_assoc, arith, inl}
+use Rattle.fax_reading.proofs.Names.{inr, All, and_right, or_from, cond-false, ne_eqb, All-head}
+use Rattle.fax_reading.proofs.Names.{length-append, length-replicate, append-nil, All-tail, Color, White, UnexpectedEof, Group4}
+use Rattle.fax_reading.proofs.Names.{EncodingMode, Group3_1D, Group3_2D, DecodeSettings, Bits, Turn, repeated, Row, codes_of, eol}
+use Rattle.fax_reading.proofs.Names.{Line, line_1d, line_2d, after_eol, one_more, eols, all_eols, past_tag, eols_with_tags}
+use Rattle.fax_reading.proofs.Names.{tagged_eols, is_over, cond-true, Progress, Ending, row_before, aligned, at_end}
+use Rattle.fax_reading.proofs.Names.{line_here, eols_here, after_line, move_on, end_of, Spells, EncodesLine1D, EncodesLine2D}
+use Rattle.fax_reading.proofs.Names.{EncodesLine, tag_of, IsPicture, EncodesRowsWithEols, ClosesWithEols, PictureT4, each_word}
+use Rattle.fax_reading.proofs.Names.{ReadsPictureT4, ReadsLimitedPictureT4, OnePictureT4, Allows, common_steps}
 use Rattle.fax_bits.proofs.Repetition.Repeated.{after_turn}
 use Rattle.fax_reading.proofs.EncodedPictures.PictureLines.{closed_settings, begins_no_eol, no_eol_at_word, bits_at_word}
 use Rattle.fax_reading.proofs.EncodedPictures.PictureLines.{IsLineStart, not_met, row_before_push, plain_ends}
-use Rattle.fax_reading.proofs.Readings.GapsAndRows.{first_gap_t4, ending_t4}
 use Rattle.fax_reading.proofs.Readings.RowsAndGaps.{after_row, after_whole-is}
-use Rattle.fax_reading.proofs.Readings.TurnsMoveOn.{eols_end}
 use Rattle.fax_bits.proofs.BitReading.ConsecutiveEols.{eols-none, one_more-count, eol_of, eols_with_tags-some}
 use Rattle.fax_bits.proofs.BitReading.ConsecutiveEols.{eols_with_tags-none, last_tag_count}
+use Rattle.fax_bits.proofs.BitReading.{PlainEols.few_keep_the_tag, ZerosInWords.each_word_at}
+use Rattle.fax_reading.proofs.EncodedPictures.{EncodedLines.line_2d_again, EncodedRuns.line_1d_again}
+use Rattle.fax_reading.proofs.Readings.{GapsAndRows.first_gap_t4, GapsAndRows.ending_t4, TurnsMoveOn.eols_end}
 
 -- ---- What a line begins with.
 codes_miss : (color : Color) → each_word (begins_no_eol 0) (codes_of color) ≡ true
@@ -113,8 +109,7 @@ tagged_eols_closing : (n most : ℕ) (closing more : Bits) → ClosesWithEols Gr
     → n ≤ (eols_with_tags most (closing ++ more)).0
 tagged_eols_closing zero most closing more is le = omega arith
 tagged_eols_closing (suc n) zero closing more is le = absurd (omega arith)
-tagged_eols_closing (suc n) (suc most) closing more (fill, next, then, is) le =
-    let step = tagged_eols_closing n most next more in
+tagged_eols_closing (suc n) (suc most) closing more (fill, next, then, is) le = let step = tagged_eols_closing n most next more in
     grind (arith, common_steps, one_more-count, tag_after, tagged_eols_behind, tagged_eols_more, step)
 
 -- the six EOLs of RTC are counted
@@ -165,28 +160,23 @@ module _ (settings : DecodeSettings) (wide : 0 < settings.columns) (small : sett
   line_t4_starts Group3_2D reference row line more matches (rest, inl is) row_len = grind (arith, common_steps)
   line_t4_starts Group3_2D reference row line more matches (rest, inr is) row_len = grind (arith, common_steps, line_2d_after_tag)
 
-  tag_starts : (reference row : Row) (line more : Bits) → EncodesLine Group3_2D reference row line → length row ≡ settings.columns
-      → past_tag (line ++ more) ≡ line ++ more
-  tag_starts reference row line more given row_len = grind (arith, common_steps, common_steps, line_1d_starts)
-
   -- one EOL is counted before a line
   pub eol_before : (encoding : EncodingMode) (reference row : Row) (fill : ℕ) (line more : Bits) → Matches encoding settings
       → EncodesLine encoding reference row line
       → length row ≡ settings.columns → eols_here settings (eol fill ++ (line ++ more)) ≡ (1, line ++ more)
-  eol_before encoding reference row fill line more matches is row_len =
-      grind (
-        arith,
-        common_steps,
-        eols_here_one,
-        eols_here_two,
-        line_t4_starts,
-        one_eol,
-        eols_with_tags-none,
-        length-eol,
-        few_keep_the_tag,
-        tagged_eols_more,
-        tag_starts,
-      )
+  eol_before encoding reference row fill line more matches is row_len = grind (
+    arith,
+    common_steps,
+    eols_here_one,
+    eols_here_two,
+    line_t4_starts,
+    one_eol,
+    eols_with_tags-none,
+    length-eol,
+    few_keep_the_tag,
+    tagged_eols_more,
+    line_1d_starts,
+  )
 
   -- ---- The lines of a picture.
   abbrev with_eols : List Row → Bits → Progress
@@ -218,7 +208,6 @@ module _ (settings : DecodeSettings) (wide : 0 < settings.columns) (small : sett
         let row2_len : length row2 ≡ settings.columns = All-head (λ row. length row ≡ settings.columns) row2 rows widths2 in
         let rest : Bits = line_2d ++ (next2 ++ tail) in
         let after : Bits = eol fill ++ rest in
-        let here : line ++ (next ++ tail) ≡ line ++ after = grind (arith, common_steps, append_assoc) in
         let read : line_here settings (row_before settings.columns before) (line ++ (next ++ tail)) ≡ Line.whole row after
         = grind (arith, common_steps, line_t4_again) in
         let rows1 : List Row = before ++ row ∷ [] in
@@ -236,11 +225,6 @@ module _ (settings : DecodeSettings) (wide : 0 < settings.columns) (small : sett
   six_stop : (rows : List Row) (here : Bits) → settings.end_of_block ≡ true → 6 ≤ (eols_here settings here).0
       → after_row settings (with_eols rows here) ≡ Turn.done (ended_with_eols rows (eols_here settings here).1)
   six_stop rows here block six = grind (arith, common_steps, cond-false, ne_eqb, cond-true, eols_end)
-
-  -- and so does the limit
-  limit_stops : (rows : List Row) (here : Bits) → limit_met settings (length rows) ≡ true
-      → after_row settings (with_eols rows here) ≡ Turn.done (ended_with_eols rows (eols_here settings here).1)
-  limit_stops rows here met = grind (arith, common_steps)
 
   -- data of Group 3 are read as such
   pub end_of_three : (encoding : EncodingMode) (bits : Bits) → Matches encoding settings
@@ -285,10 +269,8 @@ module _ (settings : DecodeSettings) (wide : 0 < settings.columns) (small : sett
   pub limited_t4_end : (encoding : EncodingMode) (rows : List Row) (lines more : Bits) → Matches encoding settings
       → settings.rows ≡ length rows → 0 < length rows → IsPicture settings.columns rows → EncodesRowsWithEols encoding (replicate
       settings.columns false) rows lines → end_of settings (lines ++ more) ≡ ended_with_eols rows (eols_here settings more).1
-  limited_t4_end encoding rows lines more matches limit some is_picture are =
-      let met : limit_met settings (length rows) ≡ true = grind (arith, common_steps, and_from, eq-eqb, ne_eqb, not_from_false) in
-      lines_t4_end encoding rows lines more (eols_here settings more).1 matches some is_picture are (inr (omega arith))
-      (limit_stops rows more met)
+  limited_t4_end encoding rows lines more matches limit some is_picture are = lines_t4_end encoding rows lines more
+      (eols_here settings more).1 matches some is_picture are (inr (omega arith)) (grind (arith, common_steps))
 
 -- ---- Over whole data.
 pub closed_picture_t4 : ReadsPictureT4
@@ -304,14 +286,13 @@ limited_picture_t4 settings rows bits stream are begins =
 one_picture_at : (settings : DecodeSettings) (encoding : EncodingMode) (rows others : List Row) (bits more : Bits)
     → settings.columns ≤ 4294967295 → Matches encoding settings → settings.end_of_block ≡ true → settings.rows ≡ 0
     → PictureT4 encoding settings.columns rows bits → PictureT4 encoding settings.columns others (bits ++ more) → rows ≡ others
-one_picture_at settings encoding rows others bits more small matches block none one two =
-    grind (
-      arith,
-      append-nil two.1,
-      append_assoc one.0 one.1 more,
-      closed_t4_end settings one.3.0 small encoding rows one.0 one.1 more matches block one.2 one.3 one.4 one.5 (inl none),
-      closed_t4_end settings two.3.0 small encoding others two.0 two.1,
-    )
+one_picture_at settings encoding rows others bits more small matches block none one two = grind (
+  arith,
+  append-nil two.1,
+  append_assoc one.0 one.1 more,
+  closed_t4_end settings one.3.0 small encoding rows one.0 one.1 more matches block one.2 one.3 one.4 one.5 (inl none),
+  closed_t4_end settings two.3.0 small encoding others two.0 two.1,
+)
 
 -- the law
 pub one_picture_t4 : OnePictureT4

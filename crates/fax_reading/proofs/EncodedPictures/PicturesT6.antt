@@ -14,12 +14,11 @@ pub picture_t6_reaches : (settings : DecodeSettings) (rows : List Row) (bits mor
     → settings.columns ≤ 4294967295 → Allows settings (length rows) → (settings.rows_are_byte_aligned ≡ true
     → length (bits ++ more) % 8 ≡ 0) → PictureT6 settings.columns settings.rows_are_byte_aligned rows bits
     → Reaches (gap_and_row settings) (between [] (bits ++ more)) (between rows (eol 0 ++ (eol 0 ++ more)))
-picture_t6_reaches settings rows bits more four small limit whole pic =
-    let body : Bits = pic.0 in
+picture_t6_reaches settings rows bits more four small limit whole pic = let body : Bits = pic.0 in
     let here : bits ++ more ≡ body ++ (eol 0 ++ (eol 0 ++ more)) = grind (arith, common_steps, append_assoc) in
-    let read = body_again settings pic.1.0 small Group4 four [] rows body
-    (eol 0 ++ (eol 0 ++ more)) (allows_sum settings (length rows) limit) (length-replicate settings.columns false) pic.1.1
-    (λ e. ap (λ (x : Bits). length x % 8) (sym here) ∙ whole e) pic.2 in
+    let read = body_again settings pic.1.0 small Group4 four [] rows body (eol 0 ++ (eol 0 ++ more))
+    (allows_sum settings (length rows) limit)
+    (length-replicate settings.columns false) pic.1.1 (λ e. ap (λ (x : Bits). length x % 8) (sym here) ∙ whole e) pic.2 in
     subst (λ (x : Bits). Reaches (gap_and_row settings) (between [] x) (between rows (eol 0 ++ (eol 0 ++ more)))) (sym here) read
 
 -- and so it is read as its rows, whatever follows
@@ -27,11 +26,10 @@ pub picture_t6_end : (settings : DecodeSettings) (rows : List Row) (bits more : 
     → settings.end_of_block ≡ true → settings.columns ≤ 4294967295
     → Allows settings (length rows) → (settings.rows_are_byte_aligned ≡ true → length (bits ++ more) % 8 ≡ 0)
     → PictureT6 settings.columns settings.rows_are_byte_aligned rows bits → end_of settings (bits ++ more) ≡ ended_with rows more
-picture_t6_end settings rows bits more four block small limit whole pic =
-    let wide : 0 < settings.columns = pic.1.0 in
+picture_t6_end settings rows bits more four block small limit whole pic = let wide : 0 < settings.columns = pic.1.0 in
     let tail : Bits = eol 0 ++ (eol 0 ++ more) in
-    t6_end settings wide (bits ++ more) (between rows tail) (ended_with rows more) four (picture_t6_reaches settings
-    rows bits more four small limit whole pic) (gap_at_eofb settings (between rows tail) more refl four block (eofb_stands more))
+    t6_end settings wide (bits ++ more) (between rows tail) (ended_with rows more) four (picture_t6_reaches settings rows bits
+    more four small limit whole pic) (gap_at_eofb settings (between rows tail) more refl four block (eofb_stands more))
 
 -- Such data are among those that `AfterEofb` is about.
 pub picture_t6_comes : (settings : DecodeSettings) (rows : List Row) (bits more : Bits) → settings.columns ≤ 4294967295
@@ -42,12 +40,11 @@ picture_t6_comes settings rows bits more small limit whole pic =
 
 -- the law
 pub closed_picture_t6 : ReadsPictureT6
-closed_picture_t6 settings rows bits stream are all begins =
-    let more : Bits = begins.begins.0 in
+closed_picture_t6 settings rows bits stream are all begins = let more : Bits = begins.begins.0 in
     let is : stream ≡ bits ++ more = begins.begins.1 in
     let whole : AreWholeBytes (bits ++ more) = subst AreWholeBytes is all in
-    let count : (length stream - length more + 7) / 8 ≡ (length bits + 7) / 8 =
-    omega (arith, ap length is, length-append bits more) in
+    let count : (length stream - length more + 7) / 8 ≡ (length bits + 7) / 8 = omega
+    (arith, ap length is, length-append bits more) in
     plain_ends settings stream (ended_with rows more) more begins.picture.1.0 (ap (end_of settings) is ∙ picture_t6_end settings
     rows bits more begins.encoding begins.end_of_block (omega (arith, are.columns)) begins.limit (λ e. whole) begins.picture) refl
     ∙ ap {B = Reading} (λ (k : ℕ). record { rows = rows; outcome = Ok k; has_eols = false }) count

@@ -99,11 +99,10 @@ eols-more more (suc most) here settled = by_after_eol (λ rest. eols-more more m
         → eols most (rest ++ more) ≡ count_then_more more (eols most rest)) → (o : Option Bits) → after_eol 0 here ≡ o
         → eols (suc most) (here ++ more) ≡ count_then_more more (eols (suc most) here)
     by_after_eol on None e = grind (arith, common_steps, eols-none, after_eol-more)
-    by_after_eol on (Some rest) e =
-        let stepped : eols (suc most) here ≡ one_more (eols most rest) = eols-some most here rest e in
+    by_after_eol on (Some rest) e = let stepped : eols (suc most) here ≡ one_more (eols most rest) = eols-some most here rest e in
         let inside : (most ≤ (eols most rest).0) ⊎ (holds_one (eols most rest).1 ≡ true) = grind arith in
-        eols-some most (here ++ more) (rest ++ more) (eol-more more here rest e)
-        ∙ ap one_more (on rest inside) ∙ one_then_more more (eols most rest) ∙ sym (ap (count_then_more more) stepped)
+        eols-some most (here ++ more) (rest ++ more) (eol-more more here rest e) ∙ ap one_more (on rest inside)
+        ∙ one_then_more more (eols most rest) ∙ sym (ap (count_then_more more) stepped)
 
 pub all_eols-more : (more here : Bits) → holds_one (all_eols here).1 ≡ true
     → all_eols (here ++ more) ≡ count_then_more more (all_eols here)
@@ -113,8 +112,7 @@ all_eols-more more here one = grind (arith, common_steps, eols_enough, length-ap
 pub eols_may_come : (most : ℕ) (here : Bits) → (eols most here).0 < most → holds_one (eols most here).1 ≡ false
     → eols most (here ++ bytes_of_eol) ≡ (suc (eols most here).0, [])
 eols_may_come zero here few none = absurd (omega arith)
-eols_may_come (suc most) here few none =
-    grind (arith, eols_may_come most, eols-none, eols-some, eol_may_come, eol-more)
+eols_may_come (suc most) here few none = grind (arith, eols_may_come most, eols-none, eols-some, eol_may_come, eol-more)
 
 pub all_eols_may_come : (here : Bits) → holds_one (all_eols here).1 ≡ false
     → all_eols (here ++ bytes_of_eol) ≡ (suc (all_eols here).0, [])

@@ -31,10 +31,6 @@ one_behind_past here one = grind (arith, eol_holds_one)
 one_in_eol : (here rest : Bits) → after_eol 0 (past_tag here) ≡ Some rest → holds_one (behind_one here) ≡ true
 one_in_eol here rest f = grind (arith, eol_holds_one)
 
--- where no one is left behind the tag, an EOL may come
-tag_may_come : (here : Bits) → holds_one (behind_one here) ≡ false → after_eol 0 (past_tag (here ++ bytes_of_eol)) ≡ Some []
-tag_may_come here none = grind (arith, eol_may_come)
-
 -- ---- The EOLs after an EOL
 -- the EOLs behind a tag
 abbrev tagged_past : ℕ → Bits → ℕ × Bits
@@ -47,16 +43,14 @@ tagged_past-more more zero here one = ap (λ (rest : Bits). (0, rest)) (past_tag
 tagged_past-more more (suc most) here one = by_after_eol (λ rest. tagged_past-more more most rest) (after_eol 0 (past_tag here))
     refl
   where
-    by_after_eol : ((rest : Bits) → holds_one (behind_one (tagged_past most rest).1) ≡ true
-        → tagged_past most (rest ++ more) ≡ count_then_more more (tagged_past most rest)) → (o : Option Bits)
-        → after_eol 0 (past_tag here) ≡ o
+    by_after_eol : ((rest : Bits) → holds_one (behind_one (tagged_past most rest).1) ≡ true → tagged_past most (rest ++ more)
+        ≡ count_then_more more (tagged_past most rest)) → (o : Option Bits) → after_eol 0 (past_tag here) ≡ o
         → tagged_past (suc most) (here ++ more) ≡ count_then_more more (tagged_past (suc most) here)
     by_after_eol on None e =
         grind (arith, common_steps, eols_with_tags-none, after_eol-more, one_behind_one, past_tag-more, one_behind_past)
-    by_after_eol on (Some rest) e =
-        let is = eols_with_tags-some most (past_tag here) rest e in
-        let left : holds_one (behind_one (tagged_past most rest).1) ≡ true =
-        sym (ap (λ (found : ℕ × Bits). holds_one (behind_one found.1)) is) ∙ one in
+    by_after_eol on (Some rest) e = let is = eols_with_tags-some most (past_tag here) rest e in
+        let left : holds_one (behind_one (tagged_past most rest).1) ≡ true = sym
+        (ap (λ (found : ℕ × Bits). holds_one (behind_one found.1)) is) ∙ one in
         ap (eols_with_tags (suc most)) (past_tag-more more here (one_in_eol here rest e))
         ∙ eols_with_tags-some most (past_tag here ++ more) (rest ++ more) (eol-more more (past_tag here) rest e)
         ∙ ap one_more (on rest left) ∙ one_then_more more (tagged_past most rest) ∙ sym (ap (count_then_more more) is)
@@ -69,10 +63,9 @@ tagged_past_may_come (suc most) here few none = by_after_eol (λ rest. tagged_pa
     (after_eol 0 (past_tag here)) refl
   where
     by_after_eol : ((rest : Bits) → (tagged_past most rest).0 < most → holds_one (behind_one (tagged_past most rest).1) ≡ false
-        → tagged_past most (rest ++ bytes_of_eol) ≡ (suc (tagged_past most rest).0, [])) → (o : Option Bits)
-        → after_eol 0 (past_tag here) ≡ o
-        → tagged_past (suc most) (here ++ bytes_of_eol) ≡ (suc (tagged_past (suc most) here).0, [])
-    by_after_eol on None e = grind (arith, common_steps, eols_with_tags-none, eols_with_tags-some, tag_may_come)
+        → tagged_past most (rest ++ bytes_of_eol) ≡ (suc (tagged_past most rest).0, [])) → (o : Option Bits) → after_eol 0
+        (past_tag here) ≡ o → tagged_past (suc most) (here ++ bytes_of_eol) ≡ (suc (tagged_past (suc most) here).0, [])
+    by_after_eol on None e = grind (arith, common_steps, eols_with_tags-none, eols_with_tags-some, eol_may_come)
     by_after_eol on (Some rest) e = grind (arith, common_steps, eols_with_tags-some, past_tag-more, one_in_eol, eol-more)
 
 -- ---- The EOLs here
@@ -100,44 +93,33 @@ last_tag-more more found one = grind arith
 -- where a one is left behind the tag, more bits make no difference
 pub tagged_eols-more : (more here : Bits) → holds_one (behind_line_tag (tagged_eols here)) ≡ true
     → tagged_eols (here ++ more) ≡ count_then_more more (tagged_eols here)
-tagged_eols-more more here one =
-    let most = suc (length (here ++ more)) in
+tagged_eols-more more here one = let most = suc (length (here ++ more)) in
     let long = length-append here more in
-    let fewer : eols_with_tags most here ≡ all_tagged here =
-    count_same counts_tagged most (length here) here (omega (arith, long)) (omega arith) in
-    let all : eols_with_tags most (here ++ more) ≡ all_tagged (here ++ more) =
-    count_same counts_tagged most (length (here ++ more)) (here ++ more) (omega arith) (omega arith) in
-    let left : holds_one (behind_first_tag (all_tagged here)) ≡ true =
-    sym (ap holds_one (last_tag_tested (all_tagged here))) ∙ one in
-    let counted : all_tagged (here ++ more) ≡ count_then_more more (all_tagged here) =
-    grind (
-      arith,
-      common_steps,
-      eols_with_tags-none,
-      after_eol-more,
-      eols_with_tags-some,
-      eol-more,
-      tagged_past-more,
-      one_then_more,
-    ) in
+    let fewer : eols_with_tags most here ≡ all_tagged here = count_same counts_tagged most (length here) here
+    (omega (arith, long)) (omega arith) in
+    let all : eols_with_tags most (here ++ more) ≡ all_tagged (here ++ more) = count_same counts_tagged most
+    (length (here ++ more)) (here ++ more) (omega arith) (omega arith) in
+    let left : holds_one (behind_first_tag (all_tagged here)) ≡ true = sym (ap holds_one (last_tag_tested (all_tagged here)))
+    ∙ one in
+    let counted : all_tagged (here ++ more) ≡ count_then_more more (all_tagged here) = grind
+    (arith, common_steps, eols_with_tags-none, after_eol-more, eols_with_tags-some, eol-more, tagged_past-more, one_then_more) in
     ap pass_last_tag counted ∙ last_tag-more more (all_tagged here) left
 
 -- where none is, an EOL more may come
 pub tagged_eols_may_come : (here : Bits) → holds_one (behind_line_tag (tagged_eols here)) ≡ false
     → tagged_eols (here ++ bytes_of_eol) ≡ (suc (tagged_eols here).0, [])
-tagged_eols_may_come here none =
-    grind (
-      arith,
-      common_steps,
-      length-append here bytes_of_eol,
-      count_same counts_tagged,
-      counts_tagged,
-      last_tag_tested (all_tagged here),
-      tagged_at_most (length here) here,
-      eols_with_tags-none,
-      eols_with_tags-some,
-      eol_may_come,
-      eol-more,
-      tagged_past_may_come,
-      last_tag_count (all_tagged here),
-    )
+tagged_eols_may_come here none = grind (
+  arith,
+  common_steps,
+  length-append here bytes_of_eol,
+  count_same counts_tagged,
+  counts_tagged,
+  last_tag_tested (all_tagged here),
+  tagged_at_most (length here) here,
+  eols_with_tags-none,
+  eols_with_tags-some,
+  eol_may_come,
+  eol-more,
+  tagged_past_may_come,
+  last_tag_count (all_tagged here),
+)

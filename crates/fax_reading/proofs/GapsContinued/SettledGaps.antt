@@ -1,10 +1,9 @@
 -- Gaps with more bits behind.
-use Rattle.fax_reading.proofs.Names.{common_steps, ◌≡◌, ◌≢◌, ℕ, suc, Bool, true, false, not, ◌&&◌, ◌||◌, cond, leb, []}
-use Rattle.fax_reading.proofs.Names.{◌++◌, length, Option, Some, None, Ok, Err, refl, sym, ap, ◌∙◌, inl, inr, arith}
-use Rattle.fax_reading.proofs.Names.{length-append, and_parts, or_parts, cases_Bool, not-false, leb-true, ne_eqb, AreWholeBytes}
-use Rattle.fax_reading.proofs.Names.{Bits, after_eol, eols, all_eols, tagged_eols, next_eol, DecodeSettings}
-use Rattle.fax_reading.proofs.Names.{InvalidCode, EncodingMode, Group4, Group3_1D, Group3_2D, Gap, Held}
-use Rattle.fax_reading.proofs.Names.{eols_by, eols_here, behind_eols, from_next_eol, misses_eol}
+use Rattle.fax_reading.proofs.Names.{common_steps, ◌≡◌, ◌≢◌, ℕ, suc, Bool, true, false, not, ◌&&◌, ◌||◌, cond, leb, [], ◌++◌}
+use Rattle.fax_reading.proofs.Names.{length, Option, Some, None, Ok, Err, refl, sym, ap, ◌∙◌, inl, inr, arith, length-append}
+use Rattle.fax_reading.proofs.Names.{and_parts, or_parts, cases_Bool, not-false, leb-true, ne_eqb, AreWholeBytes, Bits, after_eol}
+use Rattle.fax_reading.proofs.Names.{eols, all_eols, tagged_eols, next_eol, DecodeSettings, InvalidCode, EncodingMode, Group4}
+use Rattle.fax_reading.proofs.Names.{Group3_1D, Group3_2D, Gap, Held, eols_by, eols_here, behind_eols, from_next_eol, misses_eol}
 use Rattle.fax_reading.proofs.Names.{gap_behind_row, at_gap, at_front, first_gap, repairs_behind}
 use Rattle.std.proofs.lemmas.Bool.{or_cases, leb-false}
 use Rattle.fax_reading.specs.GapsContinued.{holds_one, behind_line_tag, eols_are_settled, eols_here_are_settled}
@@ -37,11 +36,8 @@ eols_here-more more settings here settled = by_encoding settings.encoding settin
     by_encoding Group3_1D block is = all_eols-more more here (sym (settled_1d block (all_eols here)) ∙ is)
     by_encoding Group3_2D block is = tagged_eols-more more here (sym (settled_2d block (tagged_eols here)) ∙ is)
     by_encoding Group4 false is = all_eols-more more here (sym (settled_t6 false (all_eols here)) ∙ is)
-    by_encoding Group4 true is = eols-more more 2 here
-        (elim (or_cases (leb 2 (eols 2 here).0) (holds_one (eols 2 here).1) (sym (settled_t6 true (eols 2 here)) ∙ is)) [
-          | inl both ↦ inl (leb-true 2 (eols 2 here).0 both)
-          | inr one ↦ inr one
-        ])
+    by_encoding Group4 true is = eols-more more 2 here (elim (or_cases (leb 2 (eols 2 here).0) (holds_one (eols 2 here).1)
+        (sym (settled_t6 true (eols 2 here)) ∙ is)) [ inl both ↦ inl (leb-true 2 (eols 2 here).0 both) | inr one ↦ inr one ])
 
 -- where they aren't settled, an EOL more may come
 eols_here_may_come : (settings : DecodeSettings) (here : Bits) → eols_here_are_settled settings here ≡ false
@@ -76,9 +72,8 @@ behind_eols-end settings taken has_eols count = grind (arith, common_steps)
 
 -- ---- The gap
 -- whether an EOL is missed
-misses_eol-more : (more : Bits) (settings : DecodeSettings) (taken : ℕ) (has_eols : Bool) (here : Bits)
-    → eols_here_are_settled settings here ≡ true
-    → misses_eol settings taken has_eols (here ++ more) ≡ misses_eol settings taken has_eols here
+misses_eol-more : (more : Bits) (settings : DecodeSettings) (taken : ℕ) (has_eols : Bool) (here : Bits) → eols_here_are_settled
+    settings here ≡ true → misses_eol settings taken has_eols (here ++ more) ≡ misses_eol settings taken has_eols here
 misses_eol-more more settings taken has_eols here settled = grind (arith, eols_here-more)
 
 -- a gap that passes the test is the same with more bits behind
@@ -102,17 +97,15 @@ gap_settled settings taken has_eols here passes more = by_missed (misses_eol set
         ≡ gap_before more (cond b (Gap.over (Err InvalidCode)) (from_next_eol settings taken here (next_eol here)))
     by_strict b is = grind (arith, by_next)
 
-    by_missed : (b : Bool) → misses_eol settings taken has_eols here ≡ b
-        → (not (misses_eol settings taken has_eols here) || settings.strict || next_eols_are_settled settings (next_eol here))
-        ≡ true
+    by_missed : (b : Bool) → misses_eol settings taken has_eols here ≡ b → (not (misses_eol settings taken has_eols here)
+        || settings.strict || next_eols_are_settled settings (next_eol here)) ≡ true
         → gap_behind_row settings taken has_eols (here ++ more) ≡ gap_before more (gap_behind_row settings taken has_eols here)
     by_missed true e is = grind (arith, common_steps, misses_eol-more, parts, by_strict)
     by_missed false e is = grind (arith, common_steps, misses_eol-more, parts, eols_here-more, behind_eols-more)
 
 -- behind one that doesn't, an EOL may come with which the data ends
-pub gap_may_end : (settings : DecodeSettings) (taken : ℕ) (has_eols : Bool) (here : Bits)
-    → gap_is_settled settings taken has_eols here ≡ false
-    → gap_behind_row settings taken has_eols (here ++ bytes_of_eol) ≡ Gap.over (Ok [])
+pub gap_may_end : (settings : DecodeSettings) (taken : ℕ) (has_eols : Bool) (here : Bits) → gap_is_settled settings taken has_eols
+    here ≡ false → gap_behind_row settings taken has_eols (here ++ bytes_of_eol) ≡ Gap.over (Ok [])
 gap_may_end settings taken has_eols here fails = by_eols (eols_here_are_settled settings here) refl fails
   where
     by_next : (o : Option Bits) → next_eol here ≡ o → next_eols_are_settled settings o ≡ false
@@ -148,9 +141,8 @@ gap_passes : (settings : DecodeSettings) (taken : ℕ) (has_eols : Bool) (here :
 gap_passes settings taken has_eols here settled = grind (arith, common_steps, cases_Bool, gap_unsettled)
 
 -- whether an EOL is missed is the same at a settled gap
-missed_settled : (settings : DecodeSettings) (taken : ℕ) (has_eols : Bool) (here more : Bits)
-    → gap_is_settled settings taken has_eols here ≡ true
-    → misses_eol settings taken has_eols (here ++ more) ≡ misses_eol settings taken has_eols here
+missed_settled : (settings : DecodeSettings) (taken : ℕ) (has_eols : Bool) (here more : Bits) → gap_is_settled settings taken
+    has_eols here ≡ true → misses_eol settings taken has_eols (here ++ more) ≡ misses_eol settings taken has_eols here
 missed_settled settings taken has_eols here more passes = grind (arith, common_steps, misses_eol-more, and_parts)
 
 -- so what is counted is the same

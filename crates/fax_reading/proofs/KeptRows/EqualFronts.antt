@@ -4,11 +4,10 @@ use Rattle.fax_reading.proofs.Names.{length, Option, Some, None, refl, sym, ap, 
 use Rattle.fax_reading.proofs.Names.{false≢true, Bits, after_eol, all_eols, eols, one_more, past_tag, pass_last_tag, tagged_eols}
 use Rattle.fax_reading.proofs.Names.{EncodingMode, Group4, Group3_1D, Group3_2D, eols_by}
 use Rattle.fax_bits.proofs.BitReading.ZerosInWords.{holds_a_one}
-use Rattle.fax_reading.proofs.DamagedLines.LinesByEols.{past_shorter}
-use Rattle.fax_reading.proofs.DamagedLines.PastEol.{past}
 use Rattle.fax_bits.proofs.BitReading.ConsecutiveEols.{all_eols-some, all_eols-none, all_tagged, all_tagged-some, all_tagged-none}
-use Rattle.fax_bits.proofs.BitReading.ConsecutiveEols.{after_eol_shorter, length-one_more, count_shorter, counts_plain}
+use Rattle.fax_bits.proofs.BitReading.ConsecutiveEols.{after_eol_shorter, count_shorter, counts_plain}
 use Rattle.fax_bits.proofs.BitReading.ConsecutiveEols.{counts_tagged, eols-some, eols-none, past_tag_shorter}
+use Rattle.fax_reading.proofs.DamagedLines.{LinesByEols.past_shorter, PastEol.past}
 
 -- ---- The bits of a line contain a one
 
@@ -88,8 +87,7 @@ module _ (x y : Bits) where
     where
       by_after_eol : ((here : Bits) (n : ℕ) → eols most (here ++ x) ≡ (n, more ++ x) → eols most (here ++ y) ≡ (n, more ++ y))
           → (o : Option Bits) → after_eol 0 (bits ++ x) ≡ o → eols (suc most) (bits ++ y) ≡ (count, more ++ y)
-      by_after_eol on None f =
-          let same = same_bits count bits more (sym (eols-none (suc most) (bits ++ x) f) ∙ e) in
+      by_after_eol on None f = let same = same_bits count bits more (sym (eols-none (suc most) (bits ++ x) f) ∙ e) in
           eols-none (suc most) (bits ++ y) (no_eol_front 0 bits (ap holds_a_one same.1 ∙ one) f) ∙ rw (same.0, same.1) refl
       by_after_eol on (Some rest) f =
           let fewer = one_fewer count (more ++ x) (eols most rest) (sym (eols-some most (bits ++ x) rest f) ∙ e) in
@@ -106,20 +104,17 @@ module _ (x y : Bits) where
   all_front_for (suc n) bits more count lt e one =
       by_after_eol (λ here k small f. all_front_for n here more k small f one) (after_eol 0 (bits ++ x)) refl
     where
-      by_after_eol : ((here : Bits) (k : ℕ) → length here < n → all_eols (here ++ x) ≡ (k, more ++ x)
-          → all_eols (here ++ y) ≡ (k, more ++ y))
-          → (o : Option Bits) → after_eol 0 (bits ++ x) ≡ o → all_eols (bits ++ y) ≡ (count, more ++ y)
-      by_after_eol on None f =
-          let same = same_bits count bits more (sym (all_eols-none (bits ++ x) f) ∙ e) in
+      by_after_eol : ((here : Bits) (k : ℕ) → length here < n → all_eols (here ++ x) ≡ (k, more ++ x) → all_eols (here ++ y)
+          ≡ (k, more ++ y)) → (o : Option Bits) → after_eol 0 (bits ++ x) ≡ o → all_eols (bits ++ y) ≡ (count, more ++ y)
+      by_after_eol on None f = let same = same_bits count bits more (sym (all_eols-none (bits ++ x) f) ∙ e) in
           all_eols-none (bits ++ y) (no_eol_front 0 bits (ap holds_a_one same.1 ∙ one) f) ∙ rw (same.0, same.1) refl
-      by_after_eol on (Some rest) f =
-          let fewer = one_fewer count (more ++ x) (all_eols rest) (sym (all_eols-some (bits ++ x) rest f) ∙ e) in
-          let le : length x ≤ length rest =
-          omega (arith, not_shorter fewer.0 more (all_eols rest) fewer.2, count_shorter counts_plain (length rest) rest) in
+      by_after_eol on (Some rest) f = let fewer = one_fewer count (more ++ x) (all_eols rest)
+          (sym (all_eols-some (bits ++ x) rest f) ∙ e) in
+          let le : length x ≤ length rest = omega
+          (arith, not_shorter fewer.0 more (all_eols rest) fewer.2, count_shorter counts_plain (length rest) rest) in
           let left = after_eol_front 0 bits rest f le in
-          all_eols-some (bits ++ y) (left.0 ++ y) left.3
-          ∙ ap one_more (on left.0 fewer.0 (omega (arith, left.1, lt)) (ap all_eols (sym left.2) ∙ fewer.2))
-          ∙ ap (λ (n : ℕ). (n, more ++ y)) (sym fewer.1)
+          all_eols-some (bits ++ y) (left.0 ++ y) left.3 ∙ ap one_more (on left.0 fewer.0 (omega (arith, left.1, lt))
+          (ap all_eols (sym left.2) ∙ fewer.2)) ∙ ap (λ (n : ℕ). (n, more ++ y)) (sym fewer.1)
 
   pub all_front : (bits more : Bits) (count : ℕ) → all_eols (bits ++ x) ≡ (count, more ++ x) → holds_a_one more ≡ true
       → all_eols (bits ++ y) ≡ (count, more ++ y)
@@ -134,15 +129,14 @@ module _ (x y : Bits) where
 
   tag_front : (here more : Bits) (count : ℕ) → all_tagged (past_tag (here ++ x)) ≡ (count, more ++ x)
       → one_behind_tag more ≡ true → TagAlike here
-  tag_front [] more count e one = absurd (
-      omega (
-        arith,
-        past_tag_shorter x,
-        count_shorter counts_tagged (length (past_tag x)) (past_tag x),
-        ap (λ (f : ℕ × Bits). length f.1) e,
-        length-append more x,
-        one_is_a_bit more one,
-      ))
+  tag_front [] more count e one = absurd (omega (
+    arith,
+    past_tag_shorter,
+    count_shorter counts_tagged (length (past_tag x)) (past_tag x),
+    ap (λ (f : ℕ × Bits). length f.1) e,
+    length-append more x,
+    one_is_a_bit,
+  ))
     where
       one_is_a_bit : (bits : Bits) → one_behind_tag bits ≡ true → 0 < length bits
       one_is_a_bit bits e = grind (arith, false≢true)
@@ -150,22 +144,18 @@ module _ (x y : Bits) where
   tag_front (true ∷ here) more count e one = by_after_eol (after_eol 0 (here ++ x)) refl
     where
       by_after_eol : (o : Option Bits) → after_eol 0 (here ++ x) ≡ o → TagAlike (true ∷ here)
-      by_after_eol None f =
-          let tagged : past_tag (true ∷ here ++ x) ≡ true ∷ here ++ x = rw (f, past_tag) refl in
+      by_after_eol None f = let tagged : past_tag (true ∷ here ++ x) ≡ true ∷ here ++ x = rw (f, past_tag) refl in
           let none : all_tagged (true ∷ here ++ x) ≡ (0, true ∷ here ++ x) = all_tagged-none (true ∷ here ++ x) refl in
           let same = same_bits count (true ∷ here) more (sym none ∙ ap all_tagged (sym tagged) ∙ e) in
           grind (arith, no_eol_front)
-      by_after_eol (Some rest) f =
-          let tagged : past_tag (true ∷ here ++ x) ≡ here ++ x = rw (f, past_tag) refl in
+      by_after_eol (Some rest) f = let tagged : past_tag (true ∷ here ++ x) ≡ here ++ x = rw (f, past_tag) refl in
           let counted : all_tagged (here ++ x) ≡ one_more (all_tagged (past_tag rest)) = all_tagged-some (here ++ x) rest f in
           let long : length (more ++ x) ≤ length rest = omega (
             arith,
             ap (λ (f : ℕ × Bits). length f.1) (sym counted ∙ ap all_tagged (sym tagged) ∙ e),
-            length-one_more (all_tagged (past_tag rest)),
             count_shorter counts_tagged (length (past_tag rest)) (past_tag rest),
-            past_tag_shorter rest,
-          ) in
-          grind (arith, after_eol_front, length-append)
+            past_tag_shorter,
+          ) in grind (arith, after_eol_front, length-append)
 
   tagged_front_for : (n : ℕ) (bits more : Bits) (count : ℕ) → length bits < n → all_tagged (bits ++ x) ≡ (count, more ++ x)
       → one_behind_tag more ≡ true → all_tagged (bits ++ y) ≡ (count, more ++ y)
@@ -173,27 +163,18 @@ module _ (x y : Bits) where
   tagged_front_for (suc n) bits more count lt e one =
       by_after_eol (λ here k small f. tagged_front_for n here more k small f one) (after_eol 0 (bits ++ x)) refl
     where
-      by_after_eol : ((here : Bits) (k : ℕ) → length here < n → all_tagged (here ++ x) ≡ (k, more ++ x)
-          → all_tagged (here ++ y) ≡ (k, more ++ y))
-          → (o : Option Bits) → after_eol 0 (bits ++ x) ≡ o → all_tagged (bits ++ y) ≡ (count, more ++ y)
-      by_after_eol on None f =
-          let same = same_bits count bits more (sym (all_tagged-none (bits ++ x) f) ∙ e) in
+      by_after_eol : ((here : Bits) (k : ℕ) → length here < n → all_tagged (here ++ x) ≡ (k, more ++ x) → all_tagged (here ++ y)
+          ≡ (k, more ++ y)) → (o : Option Bits) → after_eol 0 (bits ++ x) ≡ o → all_tagged (bits ++ y) ≡ (count, more ++ y)
+      by_after_eol on None f = let same = same_bits count bits more (sym (all_tagged-none (bits ++ x) f) ∙ e) in
           grind (arith, all_tagged-none, no_eol_front, one_from_tag)
-      by_after_eol on (Some rest) f =
-          let fewer =
-          one_fewer count (more ++ x) (all_tagged (past_tag rest)) (sym (all_tagged-some (bits ++ x) rest f) ∙ e) in
-          let le : length x ≤ length rest = omega (
-            arith,
-            not_shorter fewer.0 more (all_tagged (past_tag rest)) fewer.2,
-            count_shorter counts_tagged (length (past_tag rest)) (past_tag rest),
-            past_tag_shorter rest,
-          ) in
+      by_after_eol on (Some rest) f = let fewer = one_fewer count (more ++ x) (all_tagged (past_tag rest))
+          (sym (all_tagged-some (bits ++ x) rest f) ∙ e) in
+          let le : length x ≤ length rest = omega
+          (arith, not_shorter, count_shorter counts_tagged (length (past_tag rest)) (past_tag rest), past_tag_shorter) in
           let left = after_eol_front 0 bits rest f le in
-          let counted : all_tagged (past_tag (left.0 ++ x)) ≡ (fewer.0, more ++ x) =
-          ap (λ (b : Bits). all_tagged (past_tag b)) (sym left.2) ∙ fewer.2 in
+          let counted : all_tagged (past_tag (left.0 ++ x)) ≡ (fewer.0, more ++ x) = grind (arith, common_steps) in
           let tag = tag_front left.0 more fewer.0 counted one in
-          all_tagged-some (bits ++ y) (left.0 ++ y) left.3
-          ∙ ap (λ (b : Bits). one_more (all_tagged b)) tag.3
+          all_tagged-some (bits ++ y) (left.0 ++ y) left.3 ∙ ap (λ (b : Bits). one_more (all_tagged b)) tag.3
           ∙ ap one_more (on tag.0 fewer.0 (omega (arith, left.1, tag.1, lt)) (ap all_tagged (sym tag.2) ∙ counted))
           ∙ ap (λ (n : ℕ). (n, more ++ y)) (sym fewer.1)
 
@@ -218,13 +199,10 @@ module _ (x y : Bits) where
     where
       either_way : (b : Bool) → leb 6 n ≡ b → IsPair (cond b (n, here) (n, true ∷ here)) count (more ++ x)
           → IsPair (pass_last_tag other) count (more ++ y)
-      either_way true six f =
-          let same : n ≡ count = ap (λ (f : ℕ × Bits). f.0) f in
-          let raw : IsPair (n, true ∷ here) count (true ∷ more ++ x) =
-          ap {B = ℕ × Bits} (λ (f : ℕ × Bits). (f.0, true ∷ f.1)) f in
+      either_way true six f = let same : n ≡ count = ap (λ (f : ℕ × Bits). f.0) f in
+          let raw : IsPair (n, true ∷ here) count (true ∷ more ++ x) = grind (arith, common_steps) in
           ap pass_last_tag (alike (true ∷ more) count (one_from_tag more one) raw) ∙ rw (← same, six) refl
-      either_way false few f =
-          let same : n ≡ count = ap (λ (f : ℕ × Bits). f.0) f in
+      either_way false few f = let same : n ≡ count = ap (λ (f : ℕ × Bits). f.0) f in
           ap pass_last_tag (alike more count one f) ∙ few_stay count more one (ap (leb 6) (sym same) ∙ few)
 
   pub tagged_front : (bits more : Bits) (count : ℕ) → IsPair (tagged_eols (bits ++ x)) count (more ++ x)

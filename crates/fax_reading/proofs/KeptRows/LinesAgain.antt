@@ -2,16 +2,14 @@
 use Rattle.fax_reading.proofs.Names.{common_steps, ◌≡◌, ℕ, zero, suc, ◌<◌, Bool, true, false, leb, List, [], ◌∷◌, ◌++◌, length}
 use Rattle.fax_reading.proofs.Names.{refl, sym, ap, ◌∙◌, append_assoc, arith, inl, inr, le-leb, cond-false, length-append}
 use Rattle.fax_reading.proofs.Names.{false≢true, append_cancel_right, EncodingMode, Group4, Group3_1D, Group3_2D, Bits, Turn, Row}
-use Rattle.fax_reading.proofs.Names.{Line, Pen, Step, start, line_1d, line_2d, line_by, line_found, AreWords, joined}
+use Rattle.fax_reading.proofs.Names.{Line, Pen, Step, start, line_1d, line_by, line_found, AreWords, joined}
 use Rattle.fax_bits.proofs.BitReading.ZerosInWords.{holds_a_one, word_one}
-use Rattle.fax_bits.proofs.CodeWords.ReadRuns.{chosen}
-use Rattle.fax_reading.proofs.CodeWords.WordsFound.{words_synchronised}
 use Rattle.fax_reading.proofs.DrawingLines.Drawings.{run_then, drawn_by, step_1d, step_1d_is}
 use Rattle.fax_reading.proofs.DrawingLines.ReadLines.{pen_left, drawn1, step_1d_shrinks, full_by, draw_run_goes_on, TookBits}
 use Rattle.fax_reading.proofs.DrawingLines.ReadLines.{line_1d_took_bits, line_2d_took_bits}
 use Rattle.fax_reading.proofs.DrawingLines.WhatFollows.{next_carries, draw_run_carries, line_2d_found}
-use Rattle.fax_reading.proofs.KeptRows.EqualFronts.{one_in_line}
-use Rattle.fax_bits.proofs.Repetition.Repeated.{after_turn, not_next}
+use Rattle.fax_bits.proofs.{CodeWords.ReadRuns.chosen, Repetition.Repeated.after_turn, Repetition.Repeated.not_next}
+use Rattle.fax_reading.proofs.{CodeWords.WordsFound.words_synchronised, KeptRows.EqualFronts.one_in_line}
 
 -- ---- A whole line is read again, whatever follows
 
@@ -30,39 +28,34 @@ drawn_again (suc fuel) strict columns pen row rest lt e =
         ≡ after_turn (drawn_by (step_1d strict columns)) (step_1d strict columns p)
     rule = drawn1 strict columns
 
-    by_step : ((t : Pen) → pen_left t < fuel → drawn_by (step_1d strict columns) t ≡ Line.whole row rest
-        → DrawnAgain strict columns t row rest) → (turn : Step) → step_1d strict columns pen ≡ turn
-        → DrawnAgain strict columns pen row rest
+    by_step : ((t : Pen) → pen_left t < fuel → drawn_by (step_1d strict columns) t ≡ Line.whole row rest → DrawnAgain strict
+        columns t row rest) → (turn : Step) → step_1d strict columns pen ≡ turn → DrawnAgain strict columns pen row rest
     by_step on (Turn.next t) a =
         let x = chosen (leb columns (length pen.front)) _ _ _ (sym (step_1d_is strict columns pen) ∙ a) in
         elim x [
           | inl full ↦ absurd (not_next _ t full.1)
-          | inr open_end ↦
-              let run = draw_run_carries strict columns Turn.next next_carries pen t open_end.1 in
+          | inr open_end ↦ let run = draw_run_carries strict columns Turn.next next_carries pen t open_end.1 in
               let more = on t (omega (arith, step_1d_shrinks strict columns pen t a, lt))
               (sym (ap (after_turn (drawn_by (step_1d strict columns))) a) ∙ sym (rule pen) ∙ e) in (
                 run.0 ++ more.0,
                 run.1 ∙ ap (λ (b : Bits). run.0 ++ b) more.1 ∙ sym (append_assoc run.0 more.0 rest),
-                λ others.
-                    let step : step_1d strict columns (record pen { rest = run.0 ++ (more.0 ++ others) })
-                    ≡ Turn.next (record t { rest = more.0 ++ others }) =
-                    grind (arith, step_1d_is, cond-false) in
+                λ others. let step : step_1d strict columns (record pen { rest = run.0 ++ (more.0 ++ others) }) ≡ Turn.next
+                    (record t { rest = more.0 ++ others }) = grind (arith, step_1d_is, cond-false) in
                     ap (λ (b : Bits). drawn_by (step_1d strict columns) (record pen { rest = b }))
                     (append_assoc run.0 more.0 others) ∙ rule (record pen { rest = run.0 ++ (more.0 ++ others) })
                     ∙ ap (after_turn (drawn_by (step_1d strict columns))) step ∙ more.2 others,
               )
         ]
-    by_step on (Turn.done line) a =
-        grind (
-          arith,
-          common_steps,
-          rule,
-          full_by columns pen (run_then strict columns pen Turn.next) row rest,
-          draw_run_goes_on strict columns pen Turn.next,
-          step_1d_is strict columns pen,
-          step_1d_is strict columns,
-          le-leb columns (length pen.front),
-        )
+    by_step on (Turn.done line) a = grind (
+      arith,
+      common_steps,
+      rule,
+      full_by columns pen (run_then strict columns pen Turn.next) row rest,
+      draw_run_goes_on strict columns pen Turn.next,
+      step_1d_is strict columns pen,
+      step_1d_is strict columns,
+      le-leb columns (length pen.front),
+    )
 
 -- what was read of a line, and that it is read again
 abbrev pub ReadAgain : EncodingMode → Bool → ℕ → Row → Bits → Row → Bits → Type 0
@@ -115,21 +108,16 @@ words_consumed : (words : List Bits) (bits rest : Bits) → AreWords words → b
     → length rest < length (bits ++ rest) → holds_a_one bits ≡ true
 words_consumed words bits rest are is took = grind (arith, common_steps, append_cancel_right, one_in_words, length-append)
 
-pub one_in_whole : (encoding : EncodingMode) (strict : Bool) (columns : ℕ) (reference : Row) (bits rest : Bits) (row : Row)
-    → 0 < columns → line_by encoding strict columns reference (bits ++ rest) ≡ Line.whole row rest
-    → one_in_line encoding bits ≡ true
-one_in_whole Group3_1D strict columns reference bits rest row wide e =
-    words_consumed (line_found Group3_1D strict columns reference (bits ++ rest)) bits rest
-    (words_synchronised.before_eol Group3_1D strict columns reference (bits ++ rest)).are
+pub one_in_whole : (encoding : EncodingMode) (strict : Bool) (columns : ℕ) (reference : Row) (bits rest : Bits) (row : Row) → 0
+    < columns → line_by encoding strict columns reference (bits ++ rest) ≡ Line.whole row rest → one_in_line encoding bits ≡ true
+one_in_whole Group3_1D strict columns reference bits rest row wide e = words_consumed (line_found Group3_1D strict columns
+    reference (bits ++ rest)) bits rest (words_synchronised.before_eol Group3_1D strict columns reference (bits ++ rest)).are
     (words_synchronised.to_the_end Group3_1D strict columns reference row (bits ++ rest) rest e)
-    (took_bits (line_1d strict columns (bits ++ rest)) (length (bits ++ rest)) row rest
-    (line_1d_took_bits strict columns (bits ++ rest) wide) e)
-one_in_whole Group4 strict columns reference bits rest row wide e =
-    words_consumed (line_found Group4 strict columns reference (bits ++ rest)) bits rest
-    (words_synchronised.before_eol Group4 strict columns reference (bits ++ rest)).are
+    (grind (arith, common_steps, took_bits, line_1d_took_bits))
+one_in_whole Group4 strict columns reference bits rest row wide e = words_consumed (line_found Group4 strict columns reference
+    (bits ++ rest)) bits rest (words_synchronised.before_eol Group4 strict columns reference (bits ++ rest)).are
     (words_synchronised.to_the_end Group4 strict columns reference row (bits ++ rest) rest e)
-    (took_bits (line_2d strict columns reference (bits ++ rest)) (length (bits ++ rest)) row rest
-    (line_2d_took_bits strict columns reference (bits ++ rest) wide) e)
+    (grind (arith, common_steps, took_bits, line_2d_took_bits))
 one_in_whole Group3_2D strict columns reference [] [] row wide e = absurd cc
 one_in_whole Group3_2D strict columns reference [] (true ∷ rest) row wide e =
     grind (arith, common_steps, took_bits, line_1d_took_bits)

@@ -1,35 +1,30 @@
 -- Data that begin with the same bits have the same rows before the first line that may differ.
-use Rattle.fax_reading.proofs.Names.{◌≡◌, ℕ, suc, ◌%◌, ◌<◌, ◌≤◌, Bool, true, false, not, ◌&&◌, ◌||◌, List, [], ◌∷◌}
-use Rattle.fax_reading.proofs.Names.{◌++◌, length, take, drop, replicate, Option, Some, None, refl, sym, ap, subst, ◌∙◌}
-use Rattle.fax_reading.proofs.Names.{append_assoc, append_cancel_left, append_cancel_right, arith, ◌⊎◌, inl, inr, cases_Bool}
-use Rattle.fax_reading.proofs.Names.{cond-true, cond-false, false≢true, length-append, take-append-drop, or_parts, not-false}
-use Rattle.fax_reading.proofs.Names.{EncodingMode, Group4, Group3_1D, Group3_2D, DecodeSettings, Bits, IsPrefix, Turn, repeated}
-use Rattle.fax_reading.proofs.Names.{Reaches, Row, repaired, Line, after_eol, all_eols, eols_here, misses_eol}
-use Rattle.fax_reading.proofs.Names.{limit_met, at_end, Progress, Ending, Move, row_before, behind_row, line_by, line_here}
-use Rattle.fax_reading.proofs.Names.{DecodeError, UnexpectedEof, Err, after_line, move_on, at_front, first_line, first_gap}
-use Rattle.fax_reading.proofs.Names.{ending_behind, end_of, plain, RowsBefore, common_steps}
-use Rattle.fax_bits.proofs.BitReading.ZerosInWords.{holds_a_one, prefix_of_prefix}
+use Rattle.fax_reading.proofs.Names.{◌≡◌, ℕ, suc, ◌%◌, ◌<◌, ◌≤◌, Bool, true, false, not, ◌&&◌, ◌||◌, List, [], ◌∷◌, ◌++◌, length}
+use Rattle.fax_reading.proofs.Names.{take, drop, replicate, Option, Some, None, refl, sym, ap, subst, ◌∙◌, append_assoc, arith}
+use Rattle.fax_reading.proofs.Names.{append_cancel_left, append_cancel_right, ◌⊎◌, inl, inr, cases_Bool, cond-true, cond-false}
+use Rattle.fax_reading.proofs.Names.{false≢true, length-append, take-append-drop, or_parts, not-false, EncodingMode, Group4, Bits}
+use Rattle.fax_reading.proofs.Names.{Group3_1D, Group3_2D, DecodeSettings, IsPrefix, Turn, repeated, Reaches, Row, repaired, Line}
+use Rattle.fax_reading.proofs.Names.{after_eol, all_eols, eols_here, misses_eol, limit_met, at_end, Progress, Ending, Move, Err}
+use Rattle.fax_reading.proofs.Names.{row_before, behind_row, line_by, line_here, DecodeError, UnexpectedEof, after_line, move_on}
+use Rattle.fax_reading.proofs.Names.{at_front, first_line, first_gap, ending_behind, end_of, plain, RowsBefore, common_steps}
 use Rattle.fax_bits.proofs.CodeWords.ReadRuns.{chosen}
-use Rattle.fax_reading.proofs.DamagedLines.EolsAlike.{Closes, line_alike}
-use Rattle.fax_reading.proofs.DamagedLines.DamageByK.{take_front}
-use Rattle.fax_reading.proofs.DamagedLines.LinesBeforeEol.{LineAlike}
-use Rattle.fax_reading.proofs.DamagedLines.LineTails.{eol_closes}
 use Rattle.fax_reading.proofs.DamagedLines.PastEol.{past, past-eol, past_is, eols_here-none, next_eol_leaves}
-use Rattle.fax_reading.proofs.DamagedLines.RunsAlike.{run_at, eols_past}
 use Rattle.fax_reading.proofs.DamagedLines.SoughtTurns.{sought, found_next, eols_here_same, sought_done, row_past, move_sought}
 use Rattle.fax_reading.proofs.EncodedPictures.AfterEofb.{aligned_split}
 use Rattle.fax_reading.proofs.KeptRows.EqualFronts.{one_in_line, one_in_bits, past_front, all_front, eols_by_front}
 use Rattle.fax_reading.proofs.KeptRows.LinesAgain.{line_again, one_in_whole, one_stays, one_there}
 use Rattle.fax_reading.proofs.KeptRows.TurnsLeave.{after_row_leaves, reached_leaves}
 use Rattle.fax_bits.proofs.Repetition.Repeated.{after_turn, repeated_turn, repeated_same, next_is, not_next}
-use Rattle.fax_reading.proofs.Readings.RowsAndGaps.{unless_over, after_row, pass_gap-is, after_whole-is}
-use Rattle.fax_reading.proofs.Readings.RowsAndGaps.{after_damage-is, unmissed}
+use Rattle.fax_reading.proofs.Readings.RowsAndGaps.{unless_over, after_row, pass_gap-is, after_whole-is, after_damage-is}
+use Rattle.fax_reading.proofs.Readings.RowsAndGaps.{unmissed}
 use Rattle.fax_reading.proofs.Readings.GapsAndRows.{plain_is}
 use Rattle.fax_reading.proofs.Readings.TurnsAddRows.{Keeps, after_row_keeps, first_gap_keeps, turn_extends, repeated_adds}
 use Rattle.fax_reading.proofs.Readings.TurnsAddRows.{move_adds}
 use Rattle.fax_reading.proofs.Readings.TurnsMoveOn.{left_to_read, left_below, move_shrinks, unless_over_next, unless_over_open}
 use Rattle.fax_reading.proofs.Readings.TurnsMoveOn.{eols_here_counted}
-use Rattle.fax_bits.proofs.BitReading.ConsecutiveEols.{next_eol_found}
+use Rattle.fax_bits.proofs.BitReading.{ZerosInWords.holds_a_one, ZerosInWords.prefix_of_prefix, ConsecutiveEols.next_eol_found}
+use Rattle.fax_reading.proofs.DamagedLines.{EolsAlike.Closes, EolsAlike.line_alike, DamageByK.take_front}
+use Rattle.fax_reading.proofs.DamagedLines.{LinesBeforeEol.LineAlike, LineTails.eol_closes, RunsAlike.run_at, RunsAlike.eols_past}
 
 -- ---- The gap
 
@@ -52,8 +47,7 @@ past_there settings lenient rows here t e seeks = by_limit (cases_Bool (limit_me
 
     by_past : limit_met settings (length rows) ≡ false → (o : Option Bits) → past 0 here ≡ o
         → (after : Bits) × (past 0 here ≡ Some after) × (length t.rest ≤ length after)
-    by_past short (Some after) f =
-        let next = row_past settings lenient rows here after short f in
+    by_past short (Some after) f = let next = row_past settings lenient rows here after short f in
         let same = unless_over_next settings run t (eols_here settings next.0) (sym next.3 ∙ e) in
         (after, f, omega (arith, ap (λ (p : Progress). length p.rest) same, eols_past settings next.0 after next.2))
     by_past short None f =
@@ -82,20 +76,17 @@ module _ (settings : DecodeSettings) (x y : Bits) where
   eols_from_front : (found other left more : Bits) (count : ℕ) → after_eol 0 found ≡ Some (left ++ x)
       → after_eol 0 other ≡ Some (left ++ y) → eols_here settings found ≡ (count, more ++ x)
       → one_in_line settings.encoding more ≡ true → eols_here settings other ≡ (count, more ++ y)
-  eols_from_front found other left more count e f counted one =
-      let eol : Bits = replicate 11 false ++ true ∷ left in
-      eols_here_same settings other (eol ++ y) (left ++ y) f refl ∙ eols_by_front x y settings.encoding
-      settings.end_of_block eol more count (eols_here_same settings (eol ++ x) found (left ++ x) refl e ∙ counted) one
+  eols_from_front found other left more count e f counted one = let eol : Bits = replicate 11 false ++ true ∷ left in
+      eols_here_same settings other (eol ++ y) (left ++ y) f refl ∙ eols_by_front x y settings.encoding settings.end_of_block eol
+      more count (eols_here_same settings (eol ++ x) found (left ++ x) refl e ∙ counted) one
 
   -- after the same rows, and EOLs that are here or not sought
   counted_front : (rows : List Row) (has_eols : Bool) (bits more : Bits) (t : Progress) → t.rest ≡ more ++ x
       → one_in_line settings.encoding more ≡ true
       → unless_over settings (run_at rows has_eols (bits ++ x)) (eols_here settings (bits ++ x)) ≡ Turn.next t
-      → (eols_here settings (bits ++ y) ≡ ((eols_here settings (bits ++ x)).0, more ++ y))
-      × (unless_over settings (run_at rows has_eols (bits ++ y)) (eols_here settings (bits ++ y))
-      ≡ Turn.next (run_at rows has_eols (more ++ y)))
-  counted_front rows has_eols bits more t rest_is one e =
-      let count : ℕ = (eols_here settings (bits ++ x)).0 in
+      → (eols_here settings (bits ++ y) ≡ ((eols_here settings (bits ++ x)).0, more ++ y)) × (unless_over settings
+      (run_at rows has_eols (bits ++ y)) (eols_here settings (bits ++ y)) ≡ Turn.next (run_at rows has_eols (more ++ y)))
+  counted_front rows has_eols bits more t rest_is one e = let count : ℕ = (eols_here settings (bits ++ x)).0 in
       let same = unless_over_next settings (run_at rows has_eols (bits ++ x)) t (eols_here settings (bits ++ x)) e in
       let left_is : (eols_here settings (bits ++ x)).1 ≡ more ++ x = ap (λ (p : Progress). p.rest) same ∙ rest_is in
       let counted : eols_here settings (bits ++ x) ≡ (count, more ++ x) = ap (λ (b : Bits). (count, b)) left_is in
@@ -104,49 +95,43 @@ module _ (settings : DecodeSettings) (x y : Bits) where
 
   -- the gap leads to the same line in both, if its bits have a one among the equal ones
   pub gap_front : (rows : List Row) (has_eols : Bool) (bits more : Bits) (t : Progress) → t.has_eols ≡ has_eols
-      → t.rest ≡ more ++ x
-      → one_in_line settings.encoding more ≡ true → after_row settings (run_at rows has_eols (bits ++ x)) ≡ Turn.next t
-      → after_row settings (run_at rows has_eols (bits ++ y)) ≡ Turn.next (run_at rows has_eols (more ++ y))
-  gap_front rows false bits more t seeks rest_is one e =
-      cond-false (misses_eol settings (length rows) false (bits ++ y)) _ _ (unmissed settings (length rows) (bits ++ y))
-      ∙ (counted_front rows false bits more t rest_is one
-      (sym (cond-false (misses_eol settings (length rows) false (bits ++ x)) _ _ (unmissed settings (length rows) (bits ++ x)))
-      ∙ e)).1
+      → t.rest ≡ more ++ x → one_in_line settings.encoding more ≡ true → after_row settings (run_at rows has_eols (bits ++ x))
+      ≡ Turn.next t → after_row settings (run_at rows has_eols (bits ++ y)) ≡ Turn.next (run_at rows has_eols (more ++ y))
+  gap_front rows false bits more t seeks rest_is one e = cond-false (misses_eol settings (length rows) false (bits ++ y))
+      _ _ (unmissed settings (length rows) (bits ++ y)) ∙ (counted_front rows false bits more t rest_is one (sym
+      (cond-false (misses_eol settings (length rows) false (bits ++ x)) _ _ (unmissed settings (length rows) (bits ++ x))) ∙ e)).1
   gap_front rows true bits more t seeks rest_is one e = by_strict (cases_Bool settings.strict)
     where
       by_strict : (settings.strict ≡ true) ⊎ (settings.strict ≡ false)
           → after_row settings (run_at rows true (bits ++ y)) ≡ Turn.next (run_at rows true (more ++ y))
       by_strict (inl strict) = elim (chosen (misses_eol settings (length rows) true (bits ++ x)) _ _ _ e) [
         | inl missed ↦ absurd (not_next _ t (sym (cond-true settings.strict _ _ strict) ∙ missed.1))
-        | inr counted ↦
-            let other = counted_front rows true bits more t rest_is one counted.1 in
-            grind (
-              arith,
-              unless_over_open,
-              eols_here_counted,
-              unless_over_next,
-              length-append,
-              some_bits,
-              one_in_bits,
-              not_missed,
-              open_bits,
-              cond-false,
-            )
+        | inr counted ↦ let other = counted_front rows true bits more t rest_is one counted.1 in grind (
+          arith,
+          unless_over_open,
+          eols_here_counted,
+          unless_over_next,
+          length-append,
+          some_bits,
+          one_in_bits,
+          not_missed,
+          open_bits,
+          cond-false,
+        )
       ]
-      by_strict (inr lenient) =
-          let there = past_there settings lenient rows (bits ++ x) t e seeks in
+      by_strict (inr lenient) = let there = past_there settings lenient rows (bits ++ x) t e seeks in
           let left = past_front x y 0 bits there.1.0 there.1.1
           (omega (arith, there.1.2, ap length rest_is, length-append more x)) in
-          let one_x = row_past settings lenient rows
-          (bits ++ x) (left.0 ++ x) there.0 (there.1.1 ∙ ap (λ (b : Bits). Some b) left.2) in
+          let one_x = row_past settings lenient rows (bits ++ x)
+          (left.0 ++ x) there.0 (there.1.1 ∙ ap (λ (b : Bits). Some b) left.2) in
           let one_y = row_past settings lenient rows (bits ++ y) (left.0 ++ y) there.0 left.3 in
           let count : ℕ = (eols_here settings one_x.0).0 in
           let same = unless_over_next settings (sought rows (bits ++ x)) t (eols_here settings one_x.0) (sym one_x.3 ∙ e) in
           let left_is : (eols_here settings one_x.0).1 ≡ more ++ x = ap (λ (p : Progress). p.rest) same ∙ rest_is in
           let counted : eols_here settings one_x.0 ≡ (count, more ++ x) = ap (λ (b : Bits). (count, b)) left_is in
           let other = eols_from_front one_x.0 one_y.0 left.0 more count one_x.2 one_y.2 counted one in
-          one_y.3 ∙ ap (unless_over settings (sought rows (bits ++ y))) other
-          ∙ unless_front rows true (bits ++ x) (bits ++ y) more count t (some_bits more (one_in_bits settings.encoding more one))
+          one_y.3 ∙ ap (unless_over settings (sought rows (bits ++ y))) other ∙ unless_front rows true (bits ++ x)
+          (bits ++ y) more count t (some_bits more (one_in_bits settings.encoding more one))
           (ap (unless_over settings (sought rows (bits ++ x))) (sym counted) ∙ sym one_x.3 ∙ e)
 
   -- ---- The line
@@ -156,12 +141,11 @@ module _ (settings : DecodeSettings) (x y : Bits) where
     -- the bits after a row, aligned or not
     behind_front : (has_eols : Bool) (bits : Bits) → length x ≤ length (behind_row settings has_eols (bits ++ x)) → (left : Bits)
         × (behind_row settings has_eols (bits ++ x) ≡ left ++ x) × (behind_row settings has_eols (bits ++ y) ≡ left ++ y)
-    behind_front has_eols bits le =
-        let al : Bool = settings.rows_are_byte_aligned && not has_eols in
+    behind_front has_eols bits le = let al : Bool = settings.rows_are_byte_aligned && not has_eols in
         let behind : Bits = behind_row settings has_eols (bits ++ x) in
         let split = aligned_split al (bits ++ x) in
-        let long :
-        length split.0 ≤ length bits = omega (arith, le, ap length split.1, length-append split.0 behind, length-append bits x) in
+        let long : length split.0 ≤ length bits = omega
+        (arith, le, ap length split.1, length-append split.0 behind, length-append bits x) in
         let left = prefix_of_prefix split.0 behind bits x split.1 long in
         let is : behind ≡ left.0 ++ x = grind (arith, append_cancel_left, append_assoc) in
         let other : bits ++ y ≡ split.0 ++ (left.0 ++ y) = ap (λ (b : Bits). b ++ y) left.1 ∙ append_assoc split.0 left.0 y in
@@ -204,8 +188,7 @@ module _ (settings : DecodeSettings) (x y : Bits) where
     -- the zeros of the next EOL are among the equal bits
     closes_front : (bits left : Bits) → past 0 (bits ++ x) ≡ Some (left ++ x) → (front : Bits) × Closes front
         × (bits ≡ front ++ true ∷ left)
-    closes_front bits left e =
-        let next = found_next (bits ++ x) (left ++ x) e in
+    closes_front bits left e = let next = found_next (bits ++ x) (left ++ x) e in
         let before = next_eol_leaves (bits ++ x) next.0 next.1 in
         let f = eol_closes before.0 next.0 (left ++ x) next.2 in
         let whole : bits ++ x ≡ (f.0 ++ true ∷ left) ++ x = before.1 ∙ f.2 ∙ sym (append_assoc f.0 (true ∷ left) x) in
@@ -216,27 +199,25 @@ module _ (settings : DecodeSettings) (x y : Bits) where
     other_broken u v front fault line alike = grind arith
 
     -- a broken line that is repaired
-    sought_broken : settings.strict ≡ false → (rows : List Row) (bits : Bits) (t : Progress) → t.has_eols ≡ true
-        → length x ≤ length t.rest → move_on settings (sought rows (bits ++ x)) ≡ Turn.next t → (front : Row)
-        (fault : DecodeError) → line_here settings (row_before settings.columns rows) (bits ++ x) ≡ Line.broken front fault
-        → TurnFound rows true bits
-    sought_broken lenient rows bits t seeks le e front fault is =
-        let above : Row = row_before settings.columns rows in
+    sought_broken : settings.strict ≡ false → (rows : List Row) (bits : Bits) (t : Progress) → t.has_eols ≡ true → length x
+        ≤ length t.rest → move_on settings (sought rows (bits ++ x)) ≡ Turn.next t → (front : Row) (fault : DecodeError)
+        → line_here settings (row_before settings.columns rows) (bits ++ x) ≡ Line.broken front fault → TurnFound rows true bits
+    sought_broken lenient rows bits t seeks le e front fault is = let above : Row = row_before settings.columns rows in
         let row : Row = repaired settings.columns front in
         let moved = repaired_turn rows (bits ++ x) front fault lenient is in
         let next = past_there settings lenient (rows ++ row ∷ []) (bits ++ x) t (sym moved ∙ e) seeks in
         let left = past_front x y 0 bits next.1.0 next.1.1 (omega (arith, le, next.1.2)) in
         let closes = closes_front bits left.0 (next.1.1 ∙ ap (λ (b : Bits). Some b) left.2) in
         let line : Bool → Bits → Line = λ strict here. line_by settings.encoding strict settings.columns above here in
-        let shape : (z : Bits) → bits ++ z ≡ closes.0 ++ (true ∷ left.0 ++ z) =
-        λ z. ap (λ (b : Bits). b ++ z) closes.2 ∙ append_assoc closes.0 (true ∷ left.0) z in
-        let read : (z : Bits) → line false (closes.0 ++ (true ∷ left.0 ++ z)) ≡ line_here settings above (bits ++ z) =
-        grind arith in
+        let shape : (z : Bits) → bits ++ z ≡ closes.0 ++ (true ∷ left.0 ++ z) = λ z. ap (λ (b : Bits). b ++ z) closes.2
+        ∙ append_assoc closes.0 (true ∷ left.0) z in
+        let read : (z : Bits)
+        → line false (closes.0 ++ (true ∷ left.0 ++ z)) ≡ line_here settings above (bits ++ z) = grind arith in
         let alike = subst (λ (l : Line). LineAlike (true ∷ left.0 ++ x) (true ∷ left.0 ++ y) l
         (line false (closes.0 ++ (true ∷ left.0 ++ y)))) (read x ∙ is)
         (line_alike settings.encoding settings.columns above (true ∷ left.0 ++ x) (true ∷ left.0 ++ y) closes.0 closes.1) in
-        let other = other_broken (true ∷ left.0 ++ x) (true ∷ left.0 ++ y) front fault
-        (line false (closes.0 ++ (true ∷ left.0 ++ y))) alike in
+        let other = other_broken (true ∷ left.0 ++ x)
+        (true ∷ left.0 ++ y) front fault (line false (closes.0 ++ (true ∷ left.0 ++ y))) alike in
         record {
           row = row;
           left = bits;
@@ -249,42 +230,37 @@ module _ (settings : DecodeSettings) (x y : Bits) where
         → length x ≤ length t.rest → move_on settings (run_at rows has_eols (bits ++ x)) ≡ Turn.next t → (front : Row)
         (fault : DecodeError) → line_here settings (row_before settings.columns rows) (bits ++ x) ≡ Line.broken front fault
         → TurnFound rows has_eols bits
-    broken_found rows has_eols bits t seeks le e front fault is =
-        elim (chosen (settings.strict || not has_eols) _ _ _ (sym (after_damage-is settings (run_at rows has_eols (bits ++ x))
-        front fault) ∙ sym (ap (after_line settings (run_at rows has_eols (bits ++ x))) is) ∙ e)) [
+    broken_found rows has_eols bits t seeks le e front fault is = elim (chosen (settings.strict || not has_eols)
+        _ _ _ (sym (after_damage-is settings (run_at rows has_eols (bits ++ x)) front fault)
+        ∙ sym (ap (after_line settings (run_at rows has_eols (bits ++ x))) is) ∙ e)) [
           | inl over ↦ absurd (not_next _ t over.1)
-          | inr added ↦
-              let parts = or_parts settings.strict (not has_eols) added.0 in
+          | inr added ↦ let parts = or_parts settings.strict (not has_eols) added.0 in
               grind (arith, common_steps, not-false has_eols parts.1, sought_broken parts.0 rows bits t)
         ]
 
     -- the turn in both
-    pub turn_found : (rows : List Row) (has_eols : Bool) (bits : Bits) (t : Progress) → t.has_eols ≡ has_eols
-        → length x ≤ length t.rest → move_on settings (run_at rows has_eols (bits ++ x)) ≡ Turn.next t
-        → TurnFound rows has_eols bits
+    pub turn_found : (rows : List Row) (has_eols : Bool) (bits : Bits) (t : Progress) → t.has_eols ≡ has_eols → length x
+        ≤ length t.rest → move_on settings (run_at rows has_eols (bits ++ x)) ≡ Turn.next t → TurnFound rows has_eols bits
     turn_found rows has_eols bits t seeks le e = by_line (line_here settings above (bits ++ x)) refl
       where
         above : Row
         above = row_before settings.columns rows
 
         by_line : (line : Line) → line_here settings above (bits ++ x) ≡ line → TurnFound rows has_eols bits
-        by_line (Line.whole row rest) is =
-            let moved = whole_turn rows has_eols (bits ++ x) rest row is in
+        by_line (Line.whole row rest) is = let moved = whole_turn rows has_eols (bits ++ x) rest row is in
             let again = line_again settings.encoding settings.strict settings.columns above (bits ++ x) row rest is in
             let behind : Bits = behind_row settings has_eols rest in
             let more = after_row_leaves settings (run_at (rows ++ row ∷ []) has_eols behind) t (sym moved ∙ e) in
             let shorter : length behind ≤ length rest = grind (arith, common_steps, aligned_split, length-append) in
-            let long : length x ≤ length behind =
-            omega (arith, le, ap length more.0.1, length-append more.0.0 t.rest) in
-            let read : length again.0 ≤ length bits =
-            omega (arith, long, shorter, ap length again.1, length-append again.0 rest, length-append bits x) in
+            let long : length x ≤ length behind = omega (arith, le, ap length more.0.1, length-append more.0.0 t.rest) in
+            let read : length again.0 ≤ length bits = omega
+            (arith, long, shorter, ap length again.1, length-append again.0 rest, length-append bits x) in
             let kept = prefix_of_prefix again.0 rest bits x again.1 read in
             let rest_is : rest ≡ kept.0 ++ x = grind (arith, append_cancel_left, append_assoc) in
-            let long_so : length x ≤ length (behind_row settings has_eols (kept.0 ++ x)) =
-            subst (λ (b : Bits). length x ≤ length (behind_row settings has_eols b)) rest_is long in
+            let long_so : length x ≤ length (behind_row settings has_eols (kept.0 ++ x)) = subst
+            (λ (b : Bits). length x ≤ length (behind_row settings has_eols b)) rest_is long in
             let left = behind_front has_eols kept.0 long_so in
-            let other : line_here settings above (bits ++ y) ≡ Line.whole row (kept.0 ++ y) =
-            grind (arith, append_assoc) in
+            let other : line_here settings above (bits ++ y) ≡ Line.whole row (kept.0 ++ y) = grind (arith, append_assoc) in
             record {
               row = row;
               left = left.0;
@@ -327,33 +303,30 @@ module _ (settings : DecodeSettings) (x y : Bits) where
       rows_stay s last bits (Reaches.moves from after end e reaches) seeks at rest_is =
           let leaves = reached_leaves settings after end reaches in
           let first = reached_leaves settings from after (Reaches.moves from after after e (Reaches.stays after)) in
-          let has : after.has_eols ≡ from.has_eols =
-          still_sought from.has_eols after.has_eols end.has_eols seeks first.1 leaves.1 in
+          let has : after.has_eols
+          ≡ from.has_eols = still_sought from.has_eols after.has_eols end.has_eols seeks first.1 leaves.1 in
           let left_is : after.rest ≡ leaves.0.0 ++ x = leaves.0.1 ∙ ap (λ (b : Bits). leaves.0.0 ++ b) at in
           let on = rows_stay after end leaves.0.0 reaches (seeks ∙ sym has) at left_is in
-          let moved : move_on settings (run_at from.rows from.has_eols (bits ++ x)) ≡ Turn.next after =
-          ap (λ (b : Bits). move_on settings (run_at from.rows from.has_eols b)) (sym rest_is) ∙ e in
+          let moved : move_on settings (run_at from.rows from.has_eols (bits ++ x)) ≡ Turn.next after = ap
+          (λ (b : Bits). move_on settings (run_at from.rows from.has_eols b)) (sym rest_is) ∙ e in
           let found = turn_found from.rows from.has_eols bits after has
           (omega (arith, ap length left_is, length-append leaves.0.0 x)) moved in
           let rows : List Row = from.rows ++ found.row ∷ [] in
-          let added : after_row settings (run_at rows from.has_eols (found.left ++ x))
-          ≡ Turn.next after = sym found.here ∙ moved in
+          let added : after_row settings (run_at rows from.has_eols (found.left ++ x)) ≡ Turn.next after = sym found.here
+          ∙ moved in
           let rows_are : after.rows ≡ rows = rows_added (run_at rows from.has_eols (found.left ++ x)) after added in
-          let turned : rest_end (run_at from.rows from.has_eols (bits ++ y))
-          ≡ after_turn rest_end (after_row settings (run_at rows from.has_eols (found.left ++ y))) =
-          turn_is (run_at from.rows from.has_eols (bits ++ y)) ∙ ap (after_turn rest_end) found.there in (
+          let turned : rest_end (run_at from.rows from.has_eols (bits ++ y)) ≡ after_turn rest_end
+          (after_row settings (run_at rows from.has_eols (found.left ++ y))) = turn_is
+          (run_at from.rows from.has_eols (bits ++ y)) ∙ ap (after_turn rest_end) found.there in (
             inr found.one,
             subst (λ (q : Ending). IsPrefix end.rows q.rows) (sym turned) (elim on.0 [
-              | inl same ↦ subst (λ (r : List Row). IsPrefix r (after_turn rest_end
-                  (after_row settings (run_at rows from.has_eols (found.left ++ y)))).rows)
-                  (sym rows_are ∙ ap (λ (p : Progress). p.rows) same)
+              | inl same ↦ subst (λ (r : List Row). IsPrefix r (after_turn rest_end (after_row settings
+                  (run_at rows from.has_eols (found.left ++ y)))).rows) (sym rows_are ∙ ap (λ (p : Progress). p.rows) same)
                   (turn_extends rest_end grows rows (after_row settings (run_at rows from.has_eols (found.left ++ y)))
                   (after_row_keeps settings (run_at rows from.has_eols (found.left ++ y))))
-              | inr one ↦
-                  let goes : after_row settings (run_at rows from.has_eols (found.left ++ y))
-                  ≡ Turn.next (run_at after.rows after.has_eols (leaves.0.0 ++ y)) =
-                  gap_front rows from.has_eols found.left leaves.0.0 after has left_is one added
-                  ∙ ap {B = Move} (λ (h : Bool). Turn.next (run_at rows h (leaves.0.0 ++ y))) (sym has)
+              | inr one ↦ let goes : after_row settings (run_at rows from.has_eols (found.left ++ y)) ≡ Turn.next
+                  (run_at after.rows after.has_eols (leaves.0.0 ++ y)) = gap_front rows from.has_eols found.left leaves.0.0 after
+                  has left_is one added ∙ ap {B = Move} (λ (h : Bool). Turn.next (run_at rows h (leaves.0.0 ++ y))) (sym has)
                   ∙ ap {B = Move} (λ (r : List Row). Turn.next (run_at r after.has_eols (leaves.0.0 ++ y))) (sym rows_are) in
                   subst (λ (m : Move). IsPrefix end.rows (after_turn rest_end m).rows) (sym goes) on.1
             ]),
@@ -372,24 +345,20 @@ first_front settings x y front bits first rest_is one begins = by_encoding setti
 
     group3 : first_line settings (front ++ x) ≡ first
         → first_line settings (front ++ y) ≡ run_at first.rows first.has_eols (bits ++ y)
-    group3 is =
-        let count : ℕ = (all_eols (front ++ x)).0 in
-        grind (arith, common_steps, all_front x y front bits count, in_bits)
+    group3 is = let count : ℕ = (all_eols (front ++ x)).0 in grind (arith, common_steps, all_front x y front bits count, in_bits)
 
-    by_encoding : (encoding : EncodingMode) → settings.encoding ≡ encoding
-        → first_gap encoding settings (front ++ x) ≡ Turn.next first
-        → first_gap encoding settings (front ++ y) ≡ Turn.next (run_at first.rows first.has_eols (bits ++ y))
+    by_encoding : (encoding : EncodingMode) → settings.encoding ≡ encoding → first_gap encoding settings (front ++ x)
+        ≡ Turn.next first → first_gap encoding settings (front ++ y) ≡ Turn.next (run_at first.rows first.has_eols (bits ++ y))
     by_encoding Group3_1D same e = ap {B = Move} (λ (p : Progress). Turn.next p) (group3 (next_is _ first e))
     by_encoding Group3_2D same e = ap {B = Move} (λ (p : Progress). Turn.next p) (group3 (next_is _ first e))
-    by_encoding Group4 same e =
-        let gap : after_row settings
-        (at_front (front ++ x)) ≡ Turn.next first = sym (pass_gap-is settings (at_front (front ++ x))) ∙ e in
-        let unsought : first.has_eols ≡ false = elim
-        (after_row_leaves settings (at_front (front ++ x)) first gap).1 [ inl f ↦ f | inr f ↦ f ] in
+    by_encoding Group4 same e = let gap : after_row settings (at_front (front ++ x)) ≡ Turn.next first = sym
+        (pass_gap-is settings (at_front (front ++ x))) ∙ e in
+        let unsought : first.has_eols
+        ≡ false = elim (after_row_leaves settings (at_front (front ++ x)) first gap).1 [ inl f ↦ f | inr f ↦ f ] in
         let none : first.rows ≡ [] = subst (Keeps []) gap (after_row_keeps settings (at_front (front ++ x))) in
         pass_gap-is settings (at_front (front ++ y)) ∙ gap_front settings x y [] false front bits first unsought rest_is one gap
-        ∙ ap {B = Move} (λ (h : Bool). Turn.next (run_at [] h (bits ++ y)))
-        (sym unsought) ∙ ap {B = Move} (λ (r : List Row). Turn.next (run_at r first.has_eols (bits ++ y))) (sym none)
+        ∙ ap {B = Move} (λ (h : Bool). Turn.next (run_at [] h (bits ++ y))) (sym unsought)
+        ∙ ap {B = Move} (λ (r : List Row). Turn.next (run_at r first.has_eols (bits ++ y))) (sym none)
 
 -- rows that are the first of some
 first_rows : (rows all : List Row) (index : ℕ) → IsPrefix rows all → length rows ≡ index
@@ -434,23 +403,20 @@ rows_before settings one whole_one two place index whole_two same reads =
     -- the rows up to the line are rows of whatever continues the equal bits
     kept_by : {bits : Bits} (z : Bits) → length x % 8 ≡ length z % 8 → bits ≡ front ++ z
         → IsPrefix last.rows (end_of settings bits).rows
-    kept_by {bits} z as_many is =
-        let leaves = reached_leaves settings first last reads.reaches in
+    kept_by {bits} z as_many is = let leaves = reached_leaves settings first last reads.reaches in
         let rest_is : first.rest ≡ leaves.0.0 ++ x = leaves.0.1 ∙ ap (λ (b : Bits). leaves.0.0 ++ b) reads.place_is in
         let late : Ending = record { rows = first.rows; has_eols = first.has_eols; outcome = Err UnexpectedEof } in
-        let on = rows_stay settings x z as_many reads.wide late first last leaves.0.0 reads.reaches reads.sought
-        reads.place_is rest_is in
-        let begins : first_gap settings.encoding settings (front ++ x) ≡ Turn.next first =
-        ap (first_gap settings.encoding settings) (sym one_is) ∙ reads.begins in
+        let on = rows_stay settings x z as_many reads.wide late first last leaves.0.0 reads.reaches reads.sought reads.place_is
+        rest_is in
+        let begins : first_gap settings.encoding settings (front ++ x) ≡ Turn.next first = ap
+        (first_gap settings.encoding settings) (sym one_is) ∙ reads.begins in
         let s : Progress = run_at first.rows first.has_eols (leaves.0.0 ++ z) in
         elim on.0 [
-          | inl none ↦
-              let empty : last.rows ≡ [] = grind (arith, first_gap_keeps) in
+          | inl none ↦ let empty : last.rows ≡ [] = grind (arith, first_gap_keeps) in
               ((end_of settings bits).rows, ap (λ (r : List Row). r ++ (end_of settings bits).rows) (sym empty))
-          | inr one ↦
-              let ends : end_of settings bits ≡ rest_end settings x z as_many reads.wide late s =
-              ap (end_of settings) is ∙ ap (ending_behind settings) (first_front settings x z front leaves.0.0 first rest_is one
-              begins) ∙ repeated_same (move_on settings) late left_to_read (move_shrinks settings reads.wide)
-              (suc (suc (length s.rest))) (suc (left_to_read s)) s (left_below s) (omega arith) in
+          | inr one ↦ let ends : end_of settings bits ≡ rest_end settings x z as_many reads.wide late s = ap (end_of settings)
+              is ∙ ap (ending_behind settings) (first_front settings x z front leaves.0.0 first rest_is one begins)
+              ∙ repeated_same (move_on settings) late left_to_read (move_shrinks settings reads.wide) (suc (suc (length s.rest)))
+              (suc (left_to_read s)) s (left_below s) (omega arith) in
               subst (λ (e : Ending). IsPrefix last.rows e.rows) (sym ends) on.1
         ]

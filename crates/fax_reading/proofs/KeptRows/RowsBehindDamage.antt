@@ -1,20 +1,17 @@
 -- Data that are the same from an EOL on have the same rows behind the next, whatever comes before.
-use Rattle.fax_reading.proofs.Names.{common_steps, ◌≡◌, ℕ, zero, suc, ◌<◌, ◌≤◌, Bool, true, false, List, [], ◌∷◌}
-use Rattle.fax_reading.proofs.Names.{◌++◌, length, take, drop, Option, Some, None, Ok, Err, refl, sym, ap, subst, ◌∙◌}
-use Rattle.fax_reading.proofs.Names.{append_assoc, append_cancel_right, append-nil, arith, ◌⊎◌, inl, inr, cond-true, cond-false}
-use Rattle.fax_reading.proofs.Names.{length-append, length-drop, take-append-drop, DecodeError, EncodingMode, Group4}
-use Rattle.fax_reading.proofs.Names.{Group3_1D, Group3_2D, DecodeSettings, Bits, AreWholeBytes, Turn, Reaches, Row, Line}
-use Rattle.fax_reading.proofs.Names.{after_eol, all_eols, one_more, past_tag, pass_last_tag, eols_by, eols_here}
-use Rattle.fax_reading.proofs.Names.{is_over, limit_met, at_end, Progress, Ending, Move, row_before, row_of, line_by, line_here}
-use Rattle.fax_reading.proofs.Names.{move_on, first_line, end_of, plain, MakesNoRtc, PutsInStep, ComesTo}
-use Rattle.fax_reading.proofs.Names.{AreInStep, RowsBehind, IsEolAt, or_parts, false≢true}
+use Rattle.fax_reading.proofs.Names.{common_steps, ◌≡◌, ℕ, zero, suc, ◌<◌, ◌≤◌, Bool, true, false, List, [], ◌∷◌, ◌++◌, length}
+use Rattle.fax_reading.proofs.Names.{take, drop, Option, Some, None, Ok, Err, refl, sym, ap, subst, ◌∙◌, append_assoc}
+use Rattle.fax_reading.proofs.Names.{append_cancel_right, append-nil, arith, ◌⊎◌, inl, inr, cond-true, cond-false, length-append}
+use Rattle.fax_reading.proofs.Names.{length-drop, take-append-drop, DecodeError, EncodingMode, Group4, Group3_1D, Group3_2D}
+use Rattle.fax_reading.proofs.Names.{DecodeSettings, Bits, AreWholeBytes, Turn, Reaches, Row, Line, after_eol, all_eols}
+use Rattle.fax_reading.proofs.Names.{past_tag, eols_by, eols_here, is_over, limit_met, at_end, Progress, Ending}
+use Rattle.fax_reading.proofs.Names.{Move, row_before, row_of, line_by, line_here, move_on, first_line, end_of, plain, MakesNoRtc}
+use Rattle.fax_reading.proofs.Names.{PutsInStep, ComesTo, AreInStep, RowsBehind, IsEolAt, or_parts, false≢true}
 use Rattle.fax_reading.proofs.Readings.GapsAndRows.{late, goes, ending_goes, end_t4, plain_is}
 use Rattle.fax_reading.proofs.DamagedLines.LineTails.{drop_front, eol_closes, line_past_by}
 use Rattle.fax_reading.proofs.DamagedLines.EolsAlike.{Closes, RestAlike, PastAlike, closes_inside, inside_after, leaves_after}
 use Rattle.fax_reading.proofs.DamagedLines.EolsAlike.{leaves_length, after_shorter, past_alike, all_eols_alike, eols_found}
 use Rattle.fax_reading.proofs.DamagedLines.EolsAlike.{tagged_found, last_tag_alike, last_tag_few, line_alike}
-use Rattle.fax_reading.proofs.DamagedLines.LinesBeforeEol.{Inside, LineAlike}
-use Rattle.fax_reading.proofs.DamagedLines.LinesByEols.{seeks}
 use Rattle.fax_reading.proofs.DamagedLines.PastEol.{past, past_is, then_after}
 use Rattle.fax_bits.proofs.BitReading.ConsecutiveEols.{all_tagged, all_eols-some, all_tagged-some, all_tagged-none}
 use Rattle.fax_bits.proofs.BitReading.ConsecutiveEols.{next_eol_found, last_tag_count, one_more-count, count_some, counts_plain}
@@ -26,6 +23,7 @@ use Rattle.fax_reading.proofs.DrawingLines.LinesLeaveBits.{LeavesBits, leaves_tr
 use Rattle.fax_bits.proofs.Repetition.Repeated.{Follows, after_turn, repeated_turn, repeated_follows, reaches_on}
 use Rattle.fax_reading.proofs.Readings.RowsAndGaps.{unless_over, after_row}
 use Rattle.fax_reading.proofs.Readings.TurnsMoveOn.{left_to_read, move_shrinks, eols_here_counted}
+use Rattle.fax_reading.proofs.DamagedLines.{LinesBeforeEol.Inside, LinesBeforeEol.LineAlike, LinesByEols.seeks}
 
 -- the same bits follow
 with_tail : (bits rest z : Bits) → LeavesBits bits rest → LeavesBits (bits ++ true ∷ z) (rest ++ true ∷ z)
@@ -35,8 +33,7 @@ with_tail bits rest z leaves = grind (arith, common_steps, append_assoc)
 
 module _ (settings : DecodeSettings) (group3 : IsGroup3 settings.encoding) (lenient : settings.strict ≡ false)
     (unlimited : settings.rows ≡ 0) (x after next : Bits) (tail : IsTail settings after x) (next_is : after_eol 0 next
-    ≡ Some after)
-    (stays : (reference : Row) → past 0 (rest_of (line_here settings reference x) x) ≡ Some after) where
+    ≡ Some after) (stays : (reference : Row) → past 0 (rest_of (line_here settings reference x) x) ≡ Some after) where
   open_limit : (n : ℕ) → limit_met settings n ≡ false
   open_limit n = rw unlimited refl
 
@@ -48,14 +45,8 @@ module _ (settings : DecodeSettings) (group3 : IsGroup3 settings.encoding) (leni
   -- after the row of a state, where the EOL is the next
   behind_row_of : (s : Progress) (rows : List Row) (u : Bits) → move_on settings s ≡ after_row settings (sought rows u)
       → past 0 u ≡ Some after → ComesBehind s
-  behind_row_of s rows u e f =
-      let found = row_past settings lenient rows u after (open_limit (length rows)) f in (
-        s,
-        rows,
-        u,
-        Reaches.stays s,
-        grind (arith, common_steps, eols_here_same settings found.0 next after found.2 next_is),
-      )
+  behind_row_of s rows u e f = let found = row_past settings lenient rows u after (open_limit (length rows)) f in
+      (s, rows, u, Reaches.stays s, grind (arith, common_steps, eols_here_same settings found.0 next after found.2 next_is))
 
   -- at the line
   from_there : (rows : List Row) → ComesBehind (sought rows x)
@@ -84,15 +75,14 @@ module _ (settings : DecodeSettings) (group3 : IsGroup3 settings.encoding) (leni
         by_encoding : (encoding : EncodingMode) (block : Bool) → settings.encoding ≡ encoding → IsGroup3 encoding
             → RestAlike x x more (eols_by encoding block found).1 (eols_by encoding block found).1
         by_encoding Group3_1D block same is = (eols_found x x tail.none tail.none more found found e e).1
-        by_encoding Group3_2D block same is =
-            grind (
-              arith,
-              common_steps,
-              last_tag_count (all_tagged found),
-              few,
-              last_tag_alike x x tail.none tail.none (tail.tag same) (tail.tag same) more,
-              tagged_found x x tail.none tail.none (tail.tag same) (tail.tag same) more found found e e,
-            )
+        by_encoding Group3_2D block same is = grind (
+          arith,
+          common_steps,
+          last_tag_count (all_tagged found),
+          few,
+          last_tag_alike x x tail.none tail.none (tail.tag same) (tail.tag same) more,
+          tagged_found x x tail.none tail.none (tail.tag same) (tail.tag same) more found found e e,
+        )
         by_encoding Group4 block same (inl is) = absurd cc
         by_encoding Group4 block same (inr is) = absurd cc
 
@@ -101,33 +91,31 @@ module _ (settings : DecodeSettings) (group3 : IsGroup3 settings.encoding) (leni
         → ComesBehind (sought rows (bits ++ true ∷ x))
 
     -- after a row whose line ended before the EOL before the line
-    row_ahead : (n : ℕ) → Ahead n → (s : Progress) (rows : List Row) (bits : Bits) → length bits ≤ n → Inside bits
-        → LeavesBits whole (bits ++ true ∷ x) → move_on settings s ≡ after_row settings (sought rows (bits ++ true ∷ x))
-        → ComesBehind s
+    row_ahead : (n : ℕ) → Ahead n → (s : Progress) (rows : List Row) (bits : Bits) → length bits ≤ n → Inside bits → LeavesBits
+        whole (bits ++ true ∷ x) → move_on settings s ≡ after_row settings (sought rows (bits ++ true ∷ x)) → ComesBehind s
     row_ahead n on s rows bits le inside leaves e =
         by_past (past 0 (bits ++ true ∷ x)) (past 0 (bits ++ true ∷ x)) refl (past_alike x x 0 bits)
       where
         by_past : (o p : Option Bits) → past 0 (bits ++ true ∷ x) ≡ o → PastAlike x x bits o p → ComesBehind s
-        by_past o p f (inl (before, more, is, g, h)) =
-            let found = row_past settings lenient rows (bits ++ true ∷ x) (more ++ true ∷ x) (open_limit (length rows)) (f ∙ g) in
+        by_past o p f (inl (before, more, is, g, h)) = let found = row_past settings lenient rows (bits ++ true ∷ x)
+            (more ++ true ∷ x) (open_limit (length rows)) (f ∙ g) in
             let there : LeavesBits whole found.0 = leaves_trans whole (bits ++ true ∷ x) found.0 leaves found.1 in
             let few = no_rtc found.0 there
             (omega (arith, after_eol_shorter 0 found.0 (more ++ true ∷ x) found.2, length-append more (true ∷ x))) in
             let behind : LeavesBits bits more = leaves_after bits before more is in
             elim (counted found.0 more there found.2) [
-              | inl (a, left, keeps, at, at2) ↦
-                  let turn = not_over rows (bits ++ true ∷ x) (eols_here settings found.0) few (ap at_end at ∙ not_end a x) in
-                  let further : LeavesBits whole (a ++ true ∷ x) = leaves_trans whole
-                  (bits ++ true ∷ x) (a ++ true ∷ x) leaves (with_tail bits a x (leaves_trans bits more a behind left)) in
-                  goes_on s
-                  (sought rows (a ++ true ∷ x)) (e ∙ found.3 ∙ turn ∙ ap {B = Move} (λ (b : Bits). Turn.next (sought rows b)) at)
+              | inl (a, left, keeps, at, at2) ↦ let turn = not_over rows (bits ++ true ∷ x)
+                  (eols_here settings found.0) few (ap at_end at ∙ not_end a x) in
+                  let further : LeavesBits whole (a ++ true ∷ x) = leaves_trans whole (bits ++ true ∷ x)
+                  (a ++ true ∷ x) leaves (with_tail bits a x (leaves_trans bits more a behind left)) in
+                  goes_on s (sought rows (a ++ true ∷ x))
+                  (e ∙ found.3 ∙ turn ∙ ap {B = Move} (λ (b : Bits). Turn.next (sought rows b)) at)
                   (on rows a (omega (arith, leaves_length more a left, after_shorter bits before more is, le))
                   (keeps (inside_after bits before more inside is)) further)
-              | inr (at, at2) ↦
-                  let turn = not_over rows
-                  (bits ++ true ∷ x) (eols_here settings found.0) few (ap at_end at ∙ not_past_end x after tail.next) in
-                  goes_on s (sought rows x)
-                  (e ∙ found.3 ∙ turn ∙ ap {B = Move} (λ (b : Bits). Turn.next (sought rows b)) at) (from_there rows)
+              | inr (at, at2) ↦ let turn = not_over rows (bits ++ true ∷ x)
+                  (eols_here settings found.0) few (ap at_end at ∙ not_past_end x after tail.next) in
+                  goes_on s (sought rows x) (e ∙ found.3 ∙ turn ∙ ap {B = Move} (λ (b : Bits). Turn.next (sought rows b)) at)
+                  (from_there rows)
             ]
         by_past o p f (inr (inl (g, h))) =
             let found = row_past settings lenient rows (bits ++ true ∷ x) x (open_limit (length rows)) (f ∙ g) in
@@ -152,26 +140,22 @@ module _ (settings : DecodeSettings) (group3 : IsGroup3 settings.encoding) (leni
         read_is : read (bits ++ true ∷ x) ≡ line_by settings.encoding false settings.columns above (bits ++ true ∷ x)
         read_is = grind (arith, common_steps)
 
-        moved : move_on settings (sought rows (bits ++ true ∷ x)) ≡ after_row settings
-            (sought (rows ++ row_of settings.columns (read (bits ++ true ∷ x)) ∷ []) (rest_of (read (bits ++ true ∷ x))
-            (bits ++ true ∷ x)))
+        moved : move_on settings (sought rows (bits ++ true ∷ x)) ≡ after_row settings (sought (rows
+            ++ row_of settings.columns (read (bits ++ true ∷ x)) ∷ []) (rest_of (read (bits ++ true ∷ x)) (bits ++ true ∷ x)))
         moved = move_sought settings lenient rows (bits ++ true ∷ x)
 
         by_line : Ahead n → (line : Line) → read (bits ++ true ∷ x) ≡ line → LineAlike (true ∷ x) (true ∷ x) line line
             → LineLeaves (bits ++ true ∷ x) line → ComesBehind (sought rows (bits ++ true ∷ x))
-        by_line on (Line.whole row rest) is (same, (a, inside, at, at2)) left =
-            let split : bits ++ true ∷ x ≡
-            (left.0 ++ a) ++ true ∷ x = left.1 ∙ ap (λ (b : Bits). left.0 ++ b) at ∙ sym (append_assoc left.0 a (true ∷ x)) in
+        by_line on (Line.whole row rest) is (same, (a, inside, at, at2)) left = let split : bits ++ true ∷ x
+            ≡ (left.0 ++ a) ++ true ∷ x = left.1 ∙ ap (λ (b : Bits). left.0 ++ b) at ∙ sym (append_assoc left.0 a (true ∷ x)) in
             let suffix : LeavesBits bits a = (left.0, append_cancel_right bits (left.0 ++ a) (true ∷ x) split) in
             row_ahead n on (sought rows (bits ++ true ∷ x)) (rows ++ row ∷ []) a (omega (arith, leaves_length bits a suffix, lt))
-            inside (leaves_trans whole (bits ++ true ∷ x) (a ++ true ∷ x) leaves (with_tail bits a x suffix)) (moved ∙
-            ap (λ (l : Line). after_row settings (sought (rows ++ row_of settings.columns l ∷ []) (rest_of l (bits ++ true ∷ x))))
-            is ∙ ap (λ (b : Bits). after_row settings (sought (rows ++ row ∷ []) b)) at)
-        by_line on (Line.broken front fault) is alike left =
-            row_ahead n on (sought rows (bits ++ true ∷ x)) (rows ++ row_of settings.columns (Line.broken front fault) ∷ [])
-            bits (omega arith) (closes_inside bits closes) leaves
-            (moved ∙ ap (λ (l : Line). after_row settings (sought (rows ++ row_of settings.columns l ∷ [])
-            (rest_of l (bits ++ true ∷ x)))) is)
+            inside (leaves_trans whole (bits ++ true ∷ x) (a ++ true ∷ x) leaves (with_tail bits a x suffix)) (moved ∙ ap
+            (λ (l : Line). after_row settings (sought (rows ++ row_of settings.columns l ∷ []) (rest_of l (bits ++ true ∷ x)))) is
+            ∙ ap (λ (b : Bits). after_row settings (sought (rows ++ row ∷ []) b)) at)
+        by_line on (Line.broken front fault) is alike left = row_ahead n on (sought rows (bits ++ true ∷ x)) (rows ++ row_of
+            settings.columns (Line.broken front fault) ∷ []) bits (omega arith) (closes_inside bits closes) leaves (moved ∙ ap (λ
+            (l : Line). after_row settings (sought (rows ++ row_of settings.columns l ∷ []) (rest_of l (bits ++ true ∷ x)))) is)
 
 -- ---- Two readings from the same bits on
 
@@ -212,28 +196,19 @@ module _ (settings : DecodeSettings) (here line behind : Bits) (step : PutsInSte
     (group3 : IsGroup3 settings.encoding) where
   -- the EOLs behind the first are none
   line_alone : (after_eol 0 line ≡ None) × (settings.encoding ≡ Group3_2D → past_tag line ≡ line)
-  line_alone = by_encoding settings.encoding settings.end_of_block group3 step.alone
-    where
-      none_counted : (o : Option Bits) (bits : Bits) (count : ℕ) → after_eol 0 bits ≡ o
-          → ((rest : Bits) → after_eol 0 bits ≡ Some rest → 0 < count) → count ≡ 0 → after_eol 0 bits ≡ None
-      none_counted o bits count e some zeros = grind arith
-
-      by_encoding : (encoding : EncodingMode) (block : Bool) → IsGroup3 encoding → eols_by encoding block here ≡ (1, line)
-          → (after_eol 0 line ≡ None) × (encoding ≡ Group3_2D → past_tag line ≡ line)
-      by_encoding Group3_1D block is e =
-          let more : one_more (all_eols line) ≡ (1, line) = sym (all_eols-some here line step.eol) ∙ e in (
-            none_counted (after_eol 0 line) line (all_eols line).0 refl (λ rest f. count_some counts_plain line rest f)
-                (omega (arith, one_more-count (all_eols line), ap (λ (f : ℕ × Bits). f.0) more)),
-            λ other. absurd cc,
-          )
-      by_encoding Group3_2D block is e =
-          let tagged : ℕ × Bits = all_tagged (past_tag line) in
-          let more : pass_last_tag (one_more tagged) ≡ (1, line) =
-          ap pass_last_tag (sym (all_tagged-some here line step.eol)) ∙ e in
-          let zero : tagged.0 ≡ 0 = grind (arith, last_tag_count, one_more-count) in
-          grind (arith, all_tagged-none, last_tag_few, none_counted, count_some, counts_tagged)
-      by_encoding Group4 block (inl is) e = absurd cc
-      by_encoding Group4 block (inr is) e = absurd cc
+  line_alone = grind (
+    arith,
+    common_steps,
+    all_eols-some,
+    count_some,
+    counts_plain,
+    one_more-count,
+    all_tagged-some,
+    last_tag_count,
+    all_tagged-none,
+    last_tag_few,
+    counts_tagged,
+  )
 
   next_behind_line : past 0 line ≡ Some step.after
   next_behind_line = past_is line ∙ ap then_after step.next_is ∙ step.after_is
@@ -258,9 +233,8 @@ module _ (settings : DecodeSettings) (here line behind : Bits) (step : PutsInSte
   module _ (lenient : settings.strict ≡ false) (unlimited : settings.rows ≡ 0) where
     -- the reading of some data comes behind the EOL after the line
     pub comes_behind : (bits : Bits) (place : ℕ) → drop place bits ≡ here → (settings.end_of_line ≡ true) ⊎ IsEolAt bits
-        → MakesNoRtc settings bits line
-        → ComesBehind settings group3 lenient unlimited line step.after step.next step_tail step.after_is step_stays
-        (first_line settings bits)
+        → MakesNoRtc settings bits line → ComesBehind settings group3 lenient unlimited line step.after step.next step_tail
+        step.after_is step_stays (first_line settings bits)
     comes_behind bits place at sought_by no_rtc = elim (all_eols_alike line line step_tail.none step_tail.none front.0).1 [
       | inl (rest, left, keeps, e, f) ↦ subst (ComesBehind settings group3 lenient unlimited line step.after step.next step_tail
           step.after_is step_stays) (sym (first_is (rest ++ true ∷ line) (ap (λ (b : Bits). (all_eols b).1) bits_is ∙ e)))
@@ -360,15 +334,13 @@ rows_behind settings one whole_one two line behind to to2 whole_two alike = by_o
         → InStep settings alike.unlimited a b (length behind) (goes settings alike.wide) (sought a behind) (sought b behind)
     pair a b open_end = grind (arith, append-nil, or_parts, false≢true)
 
-    comes_over : (bits : Bits) (rows : List Row)
-        → end_of settings bits ≡ record { rows = rows; has_eols = true; outcome = Ok behind }
-        → ComesTo settings bits behind (length rows)
+    comes_over : (bits : Bits) (rows : List Row) → end_of settings bits
+        ≡ record { rows = rows; has_eols = true; outcome = Ok behind } → ComesTo settings bits behind (length rows)
     comes_over bits rows e = grind (arith, plain_is)
 
     by_over : (over : Bool) → is_over settings 0 found ≡ over → AreInStep settings one two behind
         (plain settings one).rows (plain settings two).rows (plain settings one).outcome (plain settings two).outcome
-    by_over over e =
-        let (mid, a, u, reaches, turn) = these in
+    by_over over e = let (mid, a, u, reaches, turn) = these in
         let (mid2, b, v, reaches2, turn2) = those in
         let moved = turn_is mid a u turn in
         let moved2 = turn_is mid2 b v turn2 in
@@ -385,30 +357,26 @@ rows_behind settings one whole_one two line behind to to2 whole_two alike = by_o
             → (is_over settings 0 found ≡ false → Reaches (move_on settings) (first_line settings two) (sought b behind))
             → AreInStep settings one two behind (plain settings one).rows (plain settings two).rows
             (plain settings one).outcome (plain settings two).outcome
-        either_way true over a b u v ends ends2 reaches reaches2 =
-            let end = over_end one a u over ends in
+        either_way true over a b u v ends ends2 reaches reaches2 = let end = over_end one a u over ends in
             let end2 = over_end two b v over ends2 in
             in_step settings alike.wide one two behind a b whole_one whole_two short_one short_two (comes_over one a end)
             (comes_over two b end2) alike.unlimited (
               ([], ap (λ (q : Ending). q.rows) end ∙ sym (append-nil a), ap (λ (q : Ending). q.rows) end2 ∙ sym (append-nil b)),
               inr (behind, ap (λ (q : Ending). q.outcome) end, ap (λ (q : Ending). q.outcome) end2, omega arith),
             )
-        either_way false open_end a b u v ends ends2 reaches reaches2 =
-            let end : end_of settings one ≡ goes settings alike.wide (sought a behind) =
-            ends ∙ ap (after_turn (goes settings alike.wide)) (line_next a u open_end) in
-            let end2 : end_of settings two ≡ goes settings alike.wide (sought b behind) =
-            ends2 ∙ ap (after_turn (goes settings alike.wide)) (line_next b v open_end) in
+        either_way false open_end a b u v ends ends2 reaches reaches2 = let end : end_of settings one ≡ goes settings alike.wide
+            (sought a behind) = ends ∙ ap (after_turn (goes settings alike.wide)) (line_next a u open_end) in
+            let end2 : end_of settings two ≡ goes settings alike.wide (sought b behind) = ends2
+            ∙ ap (after_turn (goes settings alike.wide)) (line_next b v open_end) in
             let both = repeated_follows (move_on settings) (late settings alike.wide) left_to_read
             (move_shrinks settings alike.wide) (move_on settings) (late settings alike.wide) left_to_read
-            (move_shrinks settings alike.wide)
-            (InStep settings alike.unlimited a b (length behind) (goes settings alike.wide))
+            (move_shrinks settings alike.wide) (InStep settings alike.unlimited a b (length behind) (goes settings alike.wide))
             (EndInStep settings alike.unlimited a b (length behind) (goes settings alike.wide))
             (moves_in_step settings alike.unlimited a b (length behind) (goes settings alike.wide))
             (suc (left_to_read (sought a behind))) (suc (left_to_read (sought b behind))) (sought a behind) (sought b behind)
             (omega arith) (omega arith) (pair a b open_end) in
             in_step settings alike.wide one two behind a b whole_one whole_two short_one short_two
             (inl (sought a behind, reaches open_end, refl, refl)) (inl (sought b behind, reaches2 open_end, refl, refl))
-            alike.unlimited (subst (λ (q : Ending). EndInStep settings alike.unlimited a b (length behind)
-            (goes settings alike.wide) q (end_of settings two)) (sym end)
-            (subst (λ (q : Ending). EndInStep settings alike.unlimited a b (length behind) (goes settings alike.wide)
-            (goes settings alike.wide (sought a behind)) q) (sym end2) both))
+            alike.unlimited (subst (λ (q : Ending). EndInStep settings alike.unlimited a b (length behind) (goes settings
+            alike.wide) q (end_of settings two)) (sym end) (subst (λ (q : Ending). EndInStep settings alike.unlimited a b
+            (length behind) (goes settings alike.wide) (goes settings alike.wide (sought a behind)) q) (sym end2) both))

@@ -1,27 +1,21 @@
 -- An EOL and the line behind it, as they are tested.
-use Rattle.fax_reading.proofs.Names.{common_steps, ◌≡◌, ℕ, ◌+◌, ◌-◌, ◌*◌, ◌<◌, ◌≤◌, ◌⊎◌, ◌↔◌, Bool, true, false, leb, [], ◌∷◌}
-use Rattle.fax_reading.proofs.Names.{length, Option, Some, None, Result, Ok, Err, refl, sym, ap, subst, ◌∙◌}
-use Rattle.fax_reading.proofs.Names.{arith, inl, inr, IsTrue, min, cond-true, cond-false, lt-leb, le-leb, leb-true}
-use Rattle.fax_reading.proofs.Names.{length-append, length-replicate, Color, DecodeError, EncodingMode, Group4, Group3_1D}
-use Rattle.fax_reading.proofs.Names.{Group3_2D, DecodeSettings, Bits, after_eol, next_eol, all_eols, one_more, past_tag}
-use Rattle.fax_reading.proofs.Names.{pass_last_tag, eols_by, eols_here, is_end_of_block, read_run, opposite, run_found}
-use Rattle.fax_reading.proofs.Names.{Turn, Row, Line, Pen, line_1d, line_by, line_here, EndsBefore, ModesEndBefore, ComesBefore1D}
-use Rattle.fax_reading.proofs.Names.{EndsByWords, TellsStep, IsInStepFrom, AreWholeBytes, MakesNoRtc, RowsFollow, drop}
-use Rattle.fax_reading.proofs.Names.{length-drop, looked, looked_ahead, tag_tests, most_for_lines}
-use Rattle.fax_reading.proofs.KeptRows.RowsBehindDamage.{rows_behind}
-use Rattle.fax_bits.proofs.BitReading.ZeroRuns.{looked_eol}
+use Rattle.fax_reading.proofs.Names.{common_steps, ◌≡◌, ℕ, ◌+◌, ◌-◌, ◌*◌, ◌<◌, ◌≤◌, ◌⊎◌, ◌↔◌, Bool, true, false, leb, [], ◌∷◌, Ok}
+use Rattle.fax_reading.proofs.Names.{length, Option, Some, None, Result, Err, refl, sym, ap, subst, ◌∙◌, arith, inl, inr, IsTrue}
+use Rattle.fax_reading.proofs.Names.{min, cond-true, cond-false, lt-leb, le-leb, leb-true, length-append, length-replicate, Color}
+use Rattle.fax_reading.proofs.Names.{DecodeError, EncodingMode, Group4, Group3_1D, Group3_2D, DecodeSettings, Bits, after_eol}
+use Rattle.fax_reading.proofs.Names.{next_eol, all_eols, one_more, past_tag, eols_by, eols_here, is_end_of_block}
+use Rattle.fax_reading.proofs.Names.{read_run, opposite, run_found, Turn, Row, Line, Pen, line_1d, line_by, line_here, EndsBefore}
+use Rattle.fax_reading.proofs.Names.{ModesEndBefore, ComesBefore1D, EndsByWords, TellsStep, IsInStepFrom, AreWholeBytes, drop}
+use Rattle.fax_reading.proofs.Names.{RowsFollow, length-drop, looked, looked_ahead, tag_tests, most_for_lines}
 use Rattle.fax_reading.proofs.Work.EolsPassed.{few_tag_tests, looked_ahead_most}
 use Rattle.fax_bits.proofs.BitReading.ConsecutiveEols.{after_eol_shorter, next_eol_found, all_eols-some, all_eols-none}
 use Rattle.fax_bits.proofs.BitReading.ConsecutiveEols.{all_tagged, all_tagged-some, all_tagged-none, last_tag_count}
-use Rattle.fax_reading.proofs.CodeWords.WordsFound.{run_stands}
-use Rattle.fax_reading.proofs.DamagedLines.AnyReference.{modes_read}
-use Rattle.fax_reading.proofs.DamagedLines.EolsAlike.{last_tag_few}
-use Rattle.fax_reading.proofs.DamagedLines.RunsAlike.{IsGroup3}
 use Rattle.fax_reading.proofs.DrawingLines.Drawings.{run_then, drawn_by, step_1d, step_1d_is}
-use Rattle.fax_reading.proofs.DrawingLines.ReadLines.{drawn1}
 use Rattle.fax_reading.proofs.EncodedPictures.PicturesT4.{eols_here_two}
-use Rattle.fax_bits.proofs.Repetition.Repeated.{after_turn}
-use Rattle.fax_reading.proofs.Work.WordsPay.{stands_count}
+use Rattle.fax_reading.proofs.{KeptRows.RowsBehindDamage.rows_behind, CodeWords.WordsFound.run_stands}
+use Rattle.fax_reading.proofs.{DamagedLines.AnyReference.modes_read, DamagedLines.EolsAlike.last_tag_few}
+use Rattle.fax_reading.proofs.{DamagedLines.RunsAlike.IsGroup3, DrawingLines.ReadLines.drawn1, Work.WordsPay.stands_count}
+use Rattle.fax_bits.proofs.{BitReading.ZeroRuns.looked_eol, Repetition.Repeated.after_turn}
 
 -- ---- Runs that are passed
 
@@ -61,8 +55,7 @@ runs_whole columns begun passed color here full (front, long, is) =
 pub runs_broken : (columns : ℕ) (begun : Bits) (passed : ℕ) (color : Color) (here : Bits) (fault : DecodeError)
     → passed < columns → RunsPassed columns begun passed color here → read_run color here ≡ Err fault
     → (row : Row) (rest : Bits) → line_1d false columns begun ≡ Line.whole row rest → ⊥
-runs_broken columns begun passed color here fault few (front, long, is) read row rest e =
-    grind (arith, common_steps, run_is_next)
+runs_broken columns begun passed color here fault few (front, long, is) read row rest e = grind (arith, common_steps, run_is_next)
 
 -- the words of a run are no more than the bits that it takes
 run_counted : (color : Color) (here : Bits) (r : Result (ℕ × Bits) DecodeError) → read_run color here ≡ r → (n : ℕ) (rest : Bits)
@@ -79,15 +72,11 @@ no_run_work color here =
 
 -- ---- Where a line ends
 
-same_rest : (row other : Row) (rest end : Bits) → Line.whole row rest ≡ Line.whole other end → rest ≡ end
-same_rest row other rest end e = cc
-
 -- a whole line that ends here
-pub whole_before : (columns : ℕ) (after here rest : Bits) (row : Row) (before : Bool)
-    → line_1d false columns here ≡ Line.whole row rest → (IsTrue before ↔ (length after + 12 ≤ length rest))
-    → IsTrue before ↔ EndsBefore columns after here
+pub whole_before : (columns : ℕ) (after here rest : Bits) (row : Row) (before : Bool) → line_1d false columns here
+    ≡ Line.whole row rest → (IsTrue before ↔ (length after + 12 ≤ length rest)) → IsTrue before ↔ EndsBefore columns after here
 whole_before columns after here rest row before whole is = (
-  λ t other end e. subst (λ (b : Bits). length after + 12 ≤ length b) (same_rest row other rest end (sym whole ∙ e)) (is.0 t),
+  λ t other end e. subst (λ (b : Bits). length after + 12 ≤ length b) (grind (arith, common_steps)) (is.0 t),
   λ ends. is.1 (ends row rest whole),
 )
 
@@ -97,9 +86,8 @@ pub places_before : (bits : Bits) (place end : ℕ) → place ≤ length bits �
 places_before bits place end within there = grind (arith, common_steps, leb-true, length-drop, le-leb)
 
 -- a broken line
-pub broken_before : (columns : ℕ) (after here : Bits)
-    → ((row : Row) (rest : Bits) → line_1d false columns here ≡ Line.whole row rest → ⊥)
-    → IsTrue true ↔ EndsBefore columns after here
+pub broken_before : (columns : ℕ) (after here : Bits) → ((row : Row) (rest : Bits)
+    → line_1d false columns here ≡ Line.whole row rest → ⊥) → IsTrue true ↔ EndsBefore columns after here
 broken_before columns after here broken = (λ t row rest e. absurd (broken row rest e), λ ends. refl)
 
 -- whatever row it is read against, a line ends where its runs or modes do
@@ -114,9 +102,8 @@ ends_any Group3_2D columns after (false ∷ line) ends reference row rest e =
 ends_any Group4 columns after line ends reference row rest e = ends rest (modes_read false columns reference line row rest e)
 
 pub words_end : (encoding : EncodingMode) (columns : ℕ) (after line : Bits) → IsGroup3 encoding
-    → ((reference row : Row) (rest : Bits) → line_by encoding false columns reference line ≡ Line.whole row rest
-    → length after + 12 ≤ length rest)
-    → (encoding ≡ Group3_2D → (modes : Bits) → line ≡ false ∷ modes → ModesEndBefore after modes)
+    → ((reference row : Row) (rest : Bits) → line_by encoding false columns reference line ≡ Line.whole row rest → length after
+    + 12 ≤ length rest) → (encoding ≡ Group3_2D → (modes : Bits) → line ≡ false ∷ modes → ModesEndBefore after modes)
     → EndsByWords encoding columns after line
 words_end Group3_1D columns after line is ends modes = ends []
 words_end Group3_2D columns after [] is ends modes = tt
@@ -165,13 +152,9 @@ one_raw here line e = by_after_eol (after_eol 0 here) refl
   where
     by_after_eol : (o : Option Bits) → after_eol 0 here ≡ o → IsAlone here line
     by_after_eol None f = absurd (not_one here line (sym (all_tagged-none here f) ∙ e))
-    by_after_eol (Some rest) f =
-        let behind = none_tagged (past_tag rest) line
+    by_after_eol (Some rest) f = let behind = none_tagged (past_tag rest) line
         (one_is_none line (all_tagged (past_tag rest)) (sym (all_tagged-some here rest f) ∙ e)) in
         grind (arith)
-
-raw_is : (line : Bits) (found : ℕ × Bits) → pass_last_tag found ≡ (1, line) → found ≡ (1, line)
-raw_is line (count, rest) e = grind (arith, common_steps, last_tag_count, last_tag_few)
 
 pub one_alone : (settings : DecodeSettings) (here line : Bits) → IsGroup3 settings.encoding
     → eols_here settings here ≡ (1, line) → IsAlone here line
@@ -180,7 +163,7 @@ one_alone settings here line group3 e = by_encoding settings.encoding settings.e
     by_encoding : (encoding : EncodingMode) (block : Bool) → IsGroup3 encoding → eols_by encoding block here ≡ (1, line)
         → IsAlone here line
     by_encoding Group3_1D block is f = one_plain here line f
-    by_encoding Group3_2D block is f = one_raw here line (raw_is line (all_tagged here) f)
+    by_encoding Group3_2D block is f = one_raw here line (grind (arith, common_steps, last_tag_count, last_tag_few))
     by_encoding Group4 block (inl is) f = absurd cc
     by_encoding Group4 block (inr is) f = absurd cc
 
@@ -206,8 +189,7 @@ pub unreferred_by : (settings : DecodeSettings) (next behind : Bits) (count : �
     → NeedsNoReference settings count behind
 unreferred_by settings next behind count (inl one) counted tag = one_dimensional settings count behind one
 unreferred_by settings next behind count (inr two) counted tag =
-    before_tag settings count behind two (subst (λ (c : ℕ × Bits). ((settings.end_of_block ≡ true) × (6 ≤ c.0))
-    ⊎ (((line : Bits) × (c.1 ≡ true ∷ line)) ⊎ (c.1 ≡ []))) (sym (eols_here_two settings next two) ∙ counted) (tag two).1)
+    before_tag settings count behind two (grind (arith, common_steps, eols_here_two))
 
 -- ---- The tests together
 
@@ -215,31 +197,20 @@ pub told_by : (settings : DecodeSettings) (here line next after behind : Bits) (
     → settings.strict ≡ false → eols_here settings here ≡ (1, line) → next_eol line ≡ Some next → after_eol 0 next ≡ Some after
     → EndsByWords settings.encoding settings.columns after line → eols_here settings next ≡ (count, behind)
     → (settings.encoding ≡ Group3_2D → ComesBefore1D settings next) → TellsStep settings here line behind
-told_by settings here line next after behind count group3 lenient alone next_is after_is ends counted tag =
-    record {
-      step =
-          grind (
-            arith,
-            common_steps,
-            one_alone settings here line group3 alone,
-            ends_any settings.encoding settings.columns after line ends,
-            unreferred_by settings next behind count group3 counted tag,
-          );
-      modes = modes_end settings.encoding settings.columns after line ends;
-      tag = tag;
-    }
-
--- a step ends its line as the words tell
-step_ends : (settings : DecodeSettings) (here line behind : Bits) → IsGroup3 settings.encoding → settings.strict ≡ false
-    → (told : TellsStep settings here line behind) → EndsByWords settings.encoding settings.columns told.step.after line
-step_ends settings here line behind group3 lenient told =
-    words_end settings.encoding settings.columns told.step.after line group3
-    (subst (λ (s : Bool). (reference row : Row) (rest : Bits)
-    → line_by settings.encoding s settings.columns reference line ≡ Line.whole row rest
-    → length told.step.after + 12 ≤ length rest) lenient told.step.ends) told.modes
+told_by settings here line next after behind count group3 lenient alone next_is after_is ends counted tag = record {
+  step = grind (
+    arith,
+    common_steps,
+    one_alone settings here line group3 alone,
+    ends_any settings.encoding settings.columns after line ends,
+    unreferred_by settings next behind count group3 counted tag,
+  );
+  modes = modes_end settings.encoding settings.columns after line ends;
+  tag = tag;
+}
 
 same_bits : (o : Option Bits) (one two : Bits) → o ≡ Some one → o ≡ Some two → one ≡ two
-same_bits o one two e f = let both : ◌≡◌ {A = Option Bits} (Some one) (Some two) = sym e ∙ f in cc
+same_bits o one two e f = cc
 
 -- the EOL behind the line is the next one
 pub step_next : (settings : DecodeSettings) (here line next other behind : Bits) → eols_here settings here ≡ (1, line)
@@ -252,25 +223,22 @@ pub no_step_beyond : (settings : DecodeSettings) (here line next after : Bits) �
     → (EndsByWords settings.encoding settings.columns after line → ⊥) → (other behind : Bits)
     → TellsStep settings here other behind → ⊥
 no_step_beyond settings here line next after group3 lenient alone next_is after_is beyond other behind told =
-    grind (arith, step_ends settings here other behind group3 lenient told)
+    grind (arith, common_steps, words_end)
 
 -- ---- What the tests count
 
 -- EOLs
-pub eols_work : (encoding : EncodingMode) (here rest : Bits) (before now : ℕ)
-    → now + 2 * length rest ≤ before + 2 * length here + tag_tests encoding + looked_ahead encoding rest
-    → now + length rest ≤ before + 2 * length here + 3
+pub eols_work : (encoding : EncodingMode) (here rest : Bits) (before now : ℕ) → now + 2 * length rest ≤ before + 2 * length here
+    + tag_tests encoding + looked_ahead encoding rest → now + length rest ≤ before + 2 * length here + 3
 eols_work encoding here rest before now work = omega (arith, work, few_tag_tests encoding, looked_ahead_most encoding rest)
 
 -- an EOL, the line behind it, and the next EOL
 pub line_test_work : (settings : DecodeSettings) (here line next after : Bits) (begun at_line sought read now : ℕ)
-    → IsGroup3 settings.encoding → eols_here settings here ≡ (1, line) → next_eol line ≡ Some next
-    → after_eol 0 next ≡ Some after → at_line + length line ≤ begun + 2 * length here + 3
-    → sought + length next ≡ at_line + length line + looked next → read ≡ sought + looked next
-    → now ≤ read + length line + 1 → now + 2 * length next + 3 ≤ begun + most_for_lines (length here)
-line_test_work
-    settings here line next after begun at_line sought read now group3 alone next_is after_is first skipped passed tested =
-    grind (
+    → IsGroup3 settings.encoding → eols_here settings here ≡ (1, line) → next_eol line ≡ Some next → after_eol 0 next ≡ Some after
+    → at_line + length line ≤ begun + 2 * length here + 3 → sought + length next ≡ at_line + length line + looked next → read
+    ≡ sought + looked next → now ≤ read + length line + 1 → now + 2 * length next + 3 ≤ begun + most_for_lines (length here)
+line_test_work settings here line next after begun at_line sought read now group3 alone next_is after_is first skipped passed
+    tested = grind (
       arith,
       looked_eol 0 next after after_is,
       after_eol_shorter 0 here line (one_alone settings here line group3 alone).0,
@@ -285,10 +253,9 @@ same_place : (bits : Bits) (place other : ℕ) → place ≤ length bits → oth
 same_place bits place other within there e =
     omega (arith, within, there, ap length e, length-drop place bits, length-drop other bits)
 
-pub step_found : (settings : DecodeSettings) (bits line : Bits) (to found : ℕ) → IsGroup3 settings.encoding
-    → settings.strict ≡ false → settings.rows ≡ 0 → 0 < settings.columns → to ≤ length bits → found ≤ length bits
-    → TellsStep settings (drop to bits) line (drop found bits) → (place : ℕ)
-    → (Some found ≡ Some place) ↔ IsInStepFrom settings bits to place
+pub step_found : (settings : DecodeSettings) (bits line : Bits) (to found : ℕ) → IsGroup3 settings.encoding → settings.strict
+    ≡ false → settings.rows ≡ 0 → 0 < settings.columns → to ≤ length bits → found ≤ length bits → TellsStep settings
+    (drop to bits) line (drop found bits) → (place : ℕ) → (Some found ≡ Some place) ↔ IsInStepFrom settings bits to place
 step_found settings bits line to found group3 lenient unlimited wide within there told place =
     grind (arith, common_steps, same_place)
 
@@ -300,16 +267,4 @@ no_step_found settings bits to none place = (λ e. absurd cc, λ given. absurd (
 pub rows_follow : (settings : DecodeSettings) (bits : Bits) (to place : ℕ) → AreWholeBytes bits
     → IsInStepFrom settings bits to place → RowsFollow settings bits to place
 rows_follow settings bits to place whole given two line to2 whole_two same eol sought sought_too no_rtc no_rtc_too =
-    let line_is : line ≡ given.line = same_bits (after_eol 0 (drop to bits)) line given.line eol given.told.step.eol in
-    rows_behind settings bits whole two given.line (drop place bits) to to2 whole_two (record {
-      encoding = given.encoding;
-      lenient = given.lenient;
-      unlimited = given.unlimited;
-      wide = given.wide;
-      same = same;
-      step = given.told.step;
-      sought = sought;
-      sought_too = sought_too;
-      no_rtc = subst (MakesNoRtc settings bits) line_is no_rtc;
-      no_rtc_too = subst (MakesNoRtc settings two) line_is no_rtc_too;
-    })
+    rows_behind settings bits whole two given.line (drop place bits) to to2 whole_two (grind (arith, common_steps))

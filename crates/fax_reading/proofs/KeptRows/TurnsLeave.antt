@@ -5,14 +5,12 @@ use Rattle.fax_reading.proofs.Names.{append_assoc, ◌⊎◌, inl, inr, take-app
 use Rattle.fax_reading.proofs.Names.{Group3_1D, Group3_2D, Bits, Turn, Reaches, Row, Line, repaired, after_eol, next_eol}
 use Rattle.fax_reading.proofs.Names.{past_tag, pass_last_tag, eols_with_tags, eols_by, eols_here, one_more, Progress, row_before}
 use Rattle.fax_reading.proofs.Names.{aligned, with_row, behind_row, line_here, misses_eol, after_line, move_on}
-use Rattle.fax_bits.proofs.CodeWords.ReadRuns.{chosen}
-use Rattle.fax_reading.proofs.DamagedLines.LineTails.{after_eol_is}
-use Rattle.fax_reading.proofs.DamagedLines.PastEol.{next_eol_leaves}
 use Rattle.fax_reading.proofs.DrawingLines.LinesLeaveBits.{LeavesBits, leaves_trans, LineLeaves, line_by_leaves}
-use Rattle.fax_bits.proofs.Repetition.Repeated.{not_next}
 use Rattle.fax_reading.proofs.Readings.RowsAndGaps.{seek_from, unless_over, after_row, row_added, after_whole-is, after_damage-is}
 use Rattle.fax_reading.proofs.Readings.TurnsMoveOn.{unless_over_next}
 use Rattle.fax_bits.proofs.BitReading.ConsecutiveEols.{CountsEols, counts_plain, counts_tagged}
+use Rattle.fax_bits.proofs.{CodeWords.ReadRuns.chosen, Repetition.Repeated.not_next}
+use Rattle.fax_reading.proofs.DamagedLines.{LineTails.after_eol_is, PastEol.next_eol_leaves}
 
 -- ---- EOLs
 
@@ -41,11 +39,9 @@ module _ {pass : Bits → Bits} {count : ℕ → Bits → ℕ × Bits} (counts :
       by_after_eol : ((rest : Bits) → LeavesBits rest (count most rest).1) → (o : Option Bits) → after_eol 0 here ≡ o
           → LeavesBits here (count (suc most) here).1
       by_after_eol on None e = grind (arith, common_steps)
-      by_after_eol on (Some rest) e =
-          subst (λ (found : ℕ × Bits). LeavesBits here found.1) (sym (counts.some most here rest e))
-          (one_more_leaves here (count most (pass rest)) (leaves_trans here rest (count most (pass rest)).1
-          (after_eol_leaves here rest e) (leaves_trans rest (pass rest) (count most (pass rest)).1 (passes rest)
-          (on (pass rest)))))
+      by_after_eol on (Some rest) e = subst (λ (found : ℕ × Bits). LeavesBits here found.1) (sym (counts.some most here rest e))
+          (one_more_leaves here (count most (pass rest)) (leaves_trans here rest (count most (pass rest)).1 (after_eol_leaves here
+          rest e) (leaves_trans rest (pass rest) (count most (pass rest)).1 (passes rest) (on (pass rest)))))
 
 last_tag_leaves : (here : Bits) (found : ℕ × Bits) → LeavesBits here found.1 → LeavesBits here (pass_last_tag found).1
 last_tag_leaves here (count, []) leaves = leaves
@@ -85,14 +81,11 @@ seek_leaves settings run t (Some found) e f = counted_leaves settings run t foun
 
 pub after_row_leaves : (settings : DecodeSettings) (run t : Progress) → after_row settings run ≡ Turn.next t
     → TurnLeavesBits run.has_eols run.rest t
-after_row_leaves settings run t e =
-    elim (chosen (misses_eol settings (length run.rows) run.has_eols run.rest) _ _ _ e) [
-      | inl missed ↦ elim (chosen settings.strict _ _ _ missed.1) [
-        | inl over ↦ absurd (not_next _ t over.1)
-        | inr seeks ↦ seek_leaves settings run t (next_eol run.rest) refl seeks.1
-      ]
-      | inr counted ↦ counted_leaves settings run t run.rest ([], refl) counted.1
-    ]
+after_row_leaves settings run t e = elim (chosen (misses_eol settings (length run.rows) run.has_eols run.rest) _ _ _ e) [
+  | inl missed ↦ elim (chosen settings.strict _ _ _ missed.1)
+      [ inl over ↦ absurd (not_next _ t over.1) | inr seeks ↦ seek_leaves settings run t (next_eol run.rest) refl seeks.1 ]
+  | inr counted ↦ counted_leaves settings run t run.rest ([], refl) counted.1
+]
 
 behind_leaves : (b : Bool) (rest : Bits) → LeavesBits rest (cond b (aligned rest) rest)
 behind_leaves true rest = (take (length rest % 8) rest, sym (take-append-drop (length rest % 8) rest))
@@ -119,8 +112,7 @@ line_leaves settings s t (Line.broken front fault) leaves e =
     ]
 
 turn_leaves : (settings : DecodeSettings) (s t : Progress) → move_on settings s ≡ Turn.next t → TurnLeavesBits s.has_eols s.rest t
-turn_leaves settings s t e =
-    let above : Row = row_before settings.columns s.rows in
+turn_leaves settings s t e = let above : Row = row_before settings.columns s.rows in
     line_leaves settings s t (line_here settings above s.rest)
     (line_by_leaves settings.encoding settings.strict settings.columns above s.rest) e
 
@@ -128,11 +120,10 @@ turn_leaves settings s t e =
 pub reached_leaves : (settings : DecodeSettings) (s last : Progress) → Reaches (move_on settings) s last
     → TurnLeavesBits s.has_eols s.rest last
 reached_leaves settings s last (Reaches.stays same) = (([], refl), inl refl)
-reached_leaves settings s last (Reaches.moves from after end e reaches) =
-    grind (
-      arith,
-      common_steps,
-      reached_leaves settings after end reaches,
-      turn_leaves settings from after e,
-      leaves_trans from.rest after.rest end.rest,
-    )
+reached_leaves settings s last (Reaches.moves from after end e reaches) = grind (
+  arith,
+  common_steps,
+  reached_leaves settings after end reaches,
+  turn_leaves settings from after e,
+  leaves_trans from.rest after.rest end.rest,
+)

@@ -99,15 +99,13 @@ pub take_painted : (row : Row) (a n : ℕ) (c : Bool) → a + n ≤ length row �
     → take (a + n) row ≡ take a row ++ replicate n c
 take_painted row zero zero c le same = refl
 take_painted [] zero (suc n) c le same = absurd (omega arith)
-take_painted (x ∷ row) zero (suc n) c le same =
-    let s : 0 + suc n ≡ suc (0 + n) = omega arith in
+take_painted (x ∷ row) zero (suc n) c le same = let s : 0 + suc n ≡ suc (0 + n) = omega arith in
     let head : x ≡ c = same 0 (omega arith) (omega arith) in
-    let tail : take (0 + n) row ≡ replicate n c =
-    take_painted row 0 n c (omega arith) (λ q ge lt. same (suc q) (omega arith) (omega arith)) in
+    let tail : take (0 + n) row ≡ replicate n c = take_painted row 0 n c (omega arith)
+    (λ q ge lt. same (suc q) (omega arith) (omega arith)) in
     rw (s, head, tail) refl
 take_painted [] (suc a) n c le same = absurd (omega arith)
-take_painted (x ∷ row) (suc a) n c le same =
-    let s : suc a + n ≡ suc (a + n) = omega arith in
-    let tail : take (a + n) row ≡ take a row ++ replicate n c =
-    take_painted row a n c (omega arith) (λ q ge lt. same (suc q) (omega arith) (omega arith)) in
+take_painted (x ∷ row) (suc a) n c le same = let s : suc a + n ≡ suc (a + n) = omega arith in
+    let tail : take (a + n) row ≡ take a row ++ replicate n c = take_painted row a n c (omega arith)
+    (λ q ge lt. same (suc q) (omega arith) (omega arith)) in
     rw (s, tail) refl

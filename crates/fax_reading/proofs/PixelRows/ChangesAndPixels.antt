@@ -1,9 +1,8 @@
 -- Lawful lists of changes and rows of pixels correspond one to one, and what painting does to both.
 use Rattle.fax_reading.proofs.Names.{◌≡◌, ℕ, zero, suc, ◌+◌, ◌-◌, ◌%◌, ◌<◌, ◌≤◌, eqb, Bool, true, false, cond, not, List, [], ◌∷◌}
-use Rattle.fax_reading.proofs.Names.{◌++◌, length, get_or, replicate, refl, sym, arith, append_assoc, length-append}
-use Rattle.fax_reading.proofs.Names.{add-one, beq, range_with_len, filter, length-replicate, replicate-append-replicate, Row}
-use Rattle.fax_reading.proofs.Names.{pixel, pixel_before, is_change, changes, AscendFrom, AreChanges, pixels_from, pixels}
-use Rattle.fax_reading.proofs.Names.{last_pixel, continued, common_steps}
+use Rattle.fax_reading.proofs.Names.{◌++◌, length, replicate, refl, sym, arith, append_assoc, length-append, add-one, beq}
+use Rattle.fax_reading.proofs.Names.{range_with_len, filter, length-replicate, replicate-append-replicate, Row, pixel, is_change}
+use Rattle.fax_reading.proofs.Names.{changes, AscendFrom, AreChanges, pixels_from, pixels, last_pixel, continued, common_steps}
 use Rattle.fax_reading.proofs.PixelRows.RowChanges.{changes_from, changes_from-append, changes_from-same}
 
 -- ---- Ascending positions.
@@ -75,15 +74,11 @@ abbrev pub turned_at : Bool → List ℕ → Bool
 turned_at color [] = color
 turned_at color (place ∷ places) = turned_at (not color) places
 
--- comparing the other colour is the other comparison
-beq-not : (a b color : Bool) → b ≡ not a → beq a (not color) ≡ beq b color
-beq-not a b color e = grind (arith, common_steps)
-
 -- after an even number of changes the colour is the same, and else the other one
 pub turned_at-even : (color : Bool) (places : List ℕ) → turned_at color places ≡ beq (eqb (length places % 2) 0) color
 turned_at-even true [] = refl
 turned_at-even false [] = refl
-turned_at-even color (place ∷ places) = grind (arith, common_steps, beq-not, turned_at-even (not color) places)
+turned_at-even color (place ∷ places) = grind (arith, common_steps, turned_at-even (not color) places)
 
 -- each lawful change is followed by a pixel, so the last pixel has the colour after all of them
 pub last_pixel-pixels_from : (place : ℕ) (color : Bool) (width : ℕ) (places : List ℕ) → AscendFrom place width places
@@ -110,24 +105,22 @@ pub pixels_from-wider : (place : ℕ)
     (color : Bool) (width more : ℕ) (places : List ℕ) → place ≤ width → AscendFrom place width places → pixels_from place color
     (width + more) places ≡ pixels_from place color width places ++ replicate more (turned_at color places)
 pixels_from-wider place color width more [] le ascend = grind (arith, common_steps, replicate-append-replicate)
-pixels_from-wider place color width more (change ∷ places) le ascend =
-    grind (
-      arith,
-      append_assoc,
-      pixels_from-wider change (not color) width more places (omega arith) (AscendFrom-here change width places ascend.2),
-    )
+pixels_from-wider place color width more (change ∷ places) le ascend = grind (
+  arith,
+  append_assoc,
+  pixels_from-wider change (not color) width more places (omega arith) (AscendFrom-here change width places ascend.2),
+)
 
 -- the same if the last change may equal the width
 pub pixels_from-on : (place : ℕ) (color : Bool)
     (width more : ℕ) (places : List ℕ) → place ≤ width → AscendFrom place (suc width) places → pixels_from place color
     (width + more) places ≡ pixels_from place color width places ++ replicate more (turned_at color places)
 pixels_from-on place color width more [] le ascend = grind (arith, common_steps, replicate-append-replicate)
-pixels_from-on place color width more (change ∷ places) le ascend =
-    grind (
-      arith,
-      append_assoc,
-      pixels_from-on change (not color) width more places (omega arith) (AscendFrom-here change (suc width) places ascend.2),
-    )
+pixels_from-on place color width more (change ∷ places) le ascend = grind (
+  arith,
+  append_assoc,
+  pixels_from-on change (not color) width more places (omega arith) (AscendFrom-here change (suc width) places ascend.2),
+)
 
 -- so painting pixels of the last colour adds no change
 pub pixels-same : (width more : ℕ) (places : List ℕ) → AreChanges width places
@@ -153,21 +146,6 @@ AreChanges-push width more places some ascend = AscendFrom-push 0 width more pla
 
 -- ---- The changes of a row by recursion are its changes.
 
--- what is left of the pixel after a front
-pixel_before-next : (before : Bool) (front row : Row) (place : ℕ) → place ≡ length front
-    → get_or (before ∷ front ++ row) place false ≡ last_pixel before front
-pixel_before-next before [] row place e = rw e refl
-pixel_before-next before (x ∷ front) row place e = rw e (pixel_before-next x front row (length front) refl)
-
--- the pixel to the left, with a white one put before the row
-pixel_before-shift : (row : Row) (place : ℕ) → pixel_before row place ≡ get_or (false ∷ row) place false
-pixel_before-shift row place = grind (arith, common_steps)
-
--- the pixel after a front is a change where it differs from the front's last
-is_change-next : (front : Row) (here : Bool) (row : Row)
-    → is_change (front ++ here ∷ row) (length front) ≡ not (beq (last_pixel false front) here)
-is_change-next front here row = grind (arith, common_steps, pixel_before-next, pixel_before-shift)
-
 -- a position is listed where the pixel differs
 listed : (differs : Bool) (x y : Bool) (place : ℕ) (places others : List ℕ) → differs ≡ not (beq x y) → places ≡ others
     → cond differs (place ∷ places) places ≡ cond (beq x y) others (place ∷ others)
@@ -177,9 +155,8 @@ listed differs x y place places others e same = grind (arith, common_steps)
 changes-rest : (front row : Row) → filter (is_change (front ++ row)) (range_with_len (length front) (length row))
     ≡ changes_from (length front) (last_pixel false front) row
 changes-rest front [] = refl
-changes-rest front (here ∷ row) =
-    let step = changes-rest (front ++ here ∷ []) row in
-    grind (arith, common_steps, add-one, append_assoc, is_change-next, last_pixel-append, length-append, listed, step)
+changes-rest front (here ∷ row) = let step = changes-rest (front ++ here ∷ []) row in
+    grind (arith, common_steps, add-one, append_assoc, last_pixel-append, length-append, listed, step)
 
 -- the changes of a row, by recursion
 pub changes-recursive : (row : Row) → changes row ≡ changes_from 0 false row
@@ -191,16 +168,15 @@ changes-recursive row = changes-rest [] row
 pub changes_from-pixels_from : (place : ℕ) (color : Bool) (width : ℕ) (places : List ℕ) → AscendFrom place width places
     → changes_from place color (pixels_from place color width places) ≡ places
 changes_from-pixels_from place color width [] ascend = changes_from-same place (width - place) color
-changes_from-pixels_from place color width (change ∷ places) ascend =
-    grind (
-      arith,
-      length-replicate,
-      pixels_from-first,
-      changes_from-append,
-      changes_from-same,
-      last_pixel-same,
-      changes_from-pixels_from (suc change) (not color) width places ascend.2,
-    )
+changes_from-pixels_from place color width (change ∷ places) ascend = grind (
+  arith,
+  length-replicate,
+  pixels_from-first,
+  changes_from-append,
+  changes_from-same,
+  last_pixel-same,
+  changes_from-pixels_from (suc change) (not color) width places ascend.2,
+)
 
 -- the changes of a row of lawful changes are these
 pub changes-pixels : (width : ℕ) (places : List ℕ) → AreChanges width places → changes (pixels width places) ≡ places

@@ -1,10 +1,9 @@
 -- Pixels painted at the end of a front, and what the tests of the code that paints them mean.
 use Rattle.fax_reading.proofs.Names.{◌≡◌, ◌≢◌, ℕ, ◌-◌, ◌%◌, ◌<◌, ◌≤◌, ◌⊎◌, eqb, min, Bool, true, false, not, List, ◌++◌, length}
-use Rattle.fax_reading.proofs.Names.{replicate, Ok, Err, arith, beq, lt-ltb, le-ltb, false≢true, Color, White}
-use Rattle.fax_reading.proofs.Names.{AreChanges, pixels, is_black, paint, last_pixel, Held, StoresChange, common_steps}
+use Rattle.fax_reading.proofs.Names.{replicate, Ok, Err, arith, beq, lt-ltb, le-ltb, false≢true, Color, White, AreChanges, pixels}
+use Rattle.fax_reading.proofs.Names.{is_black, paint, last_pixel, Held, StoresChange, common_steps, too_many_pixels}
 use Rattle.fax_reading.proofs.PixelRows.ChangesAndPixels.{length-pixels, last_pixel-odd}
 use Rattle.std.specs.Bool.{IsTrue}
-use Rattle.fax_reading.proofs.Names.{too_many_pixels}
 
 -- ---- The last pixel's colour, as the code tests it.
 

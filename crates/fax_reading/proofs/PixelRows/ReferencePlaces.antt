@@ -1,15 +1,14 @@
 -- b1 and b2 among the changes that a reference row is made of.
 use Rattle.fax_reading.proofs.Names.{opposite, ◌≡◌, ℕ, zero, suc, ◌+◌, ◌-◌, ◌%◌, ◌<◌, ◌≤◌, ◌⊎◌, ◌↔◌, Bool, true, false, not, ◌&&◌}
-use Rattle.fax_reading.proofs.Names.{ltb, leb, List, [], ◌∷◌, length, get_or, replicate, refl, sym, ap, ◌∙◌, arith, inl}
-use Rattle.fax_reading.proofs.Names.{inr, beq, and-false, filter, lt-ltb, le-leb, le-ltb, lt-leb, false≢true, cases_lt, cases_eq}
-use Rattle.fax_reading.proofs.Names.{cond-true, cond-false, length-replicate, get_or-replicate, get_or_append_left}
-use Rattle.fax_reading.proofs.Names.{get_or-append_right, get_or_past, get_or_default_zero, Color, White, Row, AscendFrom}
-use Rattle.fax_reading.proofs.Names.{AreChanges, pixels_from, pixels, pixel, pixel_before, is_change, is_black, right_of}
-use Rattle.fax_reading.proofs.Names.{least_below, b1, b2, right_of_painted, passed_changes, common_steps}
-use Rattle.fax_reading.proofs.PixelRows.RowChanges.{same_beq}
+use Rattle.fax_reading.proofs.Names.{ltb, leb, List, [], ◌∷◌, length, get_or, replicate, refl, sym, ap, ◌∙◌, arith, inl, inr, beq}
+use Rattle.fax_reading.proofs.Names.{and-false, filter, lt-ltb, le-leb, le-ltb, lt-leb, false≢true, cases_lt, cases_eq, cond-true}
+use Rattle.fax_reading.proofs.Names.{cond-false, length-replicate, get_or-replicate, get_or_append_left, get_or-append_right}
+use Rattle.fax_reading.proofs.Names.{get_or_past, get_or_default_zero, Color, White, Row, AscendFrom, AreChanges, pixels_from}
+use Rattle.fax_reading.proofs.Names.{pixels, pixel, pixel_before, is_change, is_black, right_of, least_below, b1, b2}
+use Rattle.fax_reading.proofs.Names.{right_of_painted, passed_changes, common_steps}
 use Rattle.fax_reading.proofs.PixelRows.ChangePlaces.{IsLeast, is_least, b2_above}
-use Rattle.fax_reading.proofs.PixelRows.ChangesAndPixels.{length-pixels}
 use Rattle.std.specs.Bool.{IsTrue}
+use Rattle.fax_reading.proofs.PixelRows.{RowChanges.same_beq, ChangesAndPixels.length-pixels}
 
 -- there is one least position
 least_unique : (bound : ℕ) (test : ℕ → Bool) (p q : ℕ) → IsLeast 0 bound test p → IsLeast 0 bound test q → p ≡ q
@@ -115,9 +114,7 @@ module _ (columns : ℕ) (places : List ℕ) (ascend : AreChanges columns places
 
   -- a pixel is turned by the changes up to it
   pixel_is : (p j : ℕ) → p < columns → IsSplit places (suc p) j → pixel row p ≡ turned j false
-  pixel_is p j lt split =
-      let e : p - 0 ≡ p = omega arith in
-      grind (arith, pixels_from-pixel)
+  pixel_is p j lt split = let e : p - 0 ≡ p = omega arith in grind (arith, pixels_from-pixel)
 
   -- and the pixel before a position by those left of it
   before_is : (p j : ℕ) → p ≤ columns → IsSplit places p j → pixel_before row p ≡ turned j false
@@ -139,8 +136,7 @@ module _ (columns : ℕ) (places : List ℕ) (ascend : AreChanges columns places
 
   -- each of the positions is a changing element
   change_there : (j : ℕ) → j < length places → is_change row (get_or places j 0) ≡ true
-  change_there j lt =
-      let p : ℕ = get_or places j 0 in
+  change_there j lt = let p : ℕ = get_or places j 0 in
       let left : get_or places j 0 < columns = below j lt in
       let u = before_is p j (omega arith) (split_at j lt) in
       let v = pixel_is p (suc j) left (split_after j lt) ∙ turned-not j false in
@@ -177,26 +173,15 @@ module _ (columns : ℕ) (places : List ℕ) (ascend : AreChanges columns places
   })
     where
       before : (p : ℕ) → p < change index → test p ≡ false
-      before p lt =
-          let split = split_of places p in
-          elim (change_or_none p split.0 (omega (arith, end_within index)) split.1) [
-            | inl e ↦ none p e
-            | inr at ↦ grind (arith, cases_lt, cases_eq, get_or_default_zero, order)
-          ]
+      before p lt = let split = split_of places p in
+          elim (change_or_none p split.0 (omega (arith, end_within index)) split.1)
+          [ inl e ↦ none p e | inr at ↦ grind (arith, cases_lt, cases_eq, get_or_default_zero, order) ]
 
   -- the next change after the one at an index is the one at the next index
   pub next_change : (index : ℕ) → least_below (length row) (is_right_of (change index)) ≡ change (suc index)
   next_change index = least_is (is_right_of (change index)) (suc index) (λ p e. rw e (and-false _))
-      (λ lt. grind (arith, common_steps, change_there, get_or_default_zero, lt-ltb, order)) (λ j lt l. grind (
-        arith,
-        common_steps,
-        le-ltb,
-        below j l,
-        in_list_if_below index,
-        get_or_default_zero,
-        order j index,
-        cases_eq j index,
-      ))
+      (λ lt. grind (arith, common_steps, change_there, get_or_default_zero, lt-ltb, order)) (λ j lt l. grind
+      (arith, common_steps, le-ltb, below j l, in_list_if_below index, get_or_default_zero, order j index, cases_eq j index))
 
   -- a1 is the change of the first index right of a0
   pub a1_is : (from first : ℕ) → IsSplit places from first
@@ -266,16 +251,14 @@ module _ (columns : ℕ) (places : List ℕ) (from first : ℕ) (color : Color) 
     (whiteness : IsTrue white ↔ (color ≡ White)) where
   -- the first change right of a0 is b1, where it turns the colour to the other one
   pub b1_first : not (beq even white) ≡ false → b1 (pixels columns places) from color ≡ get_or places first columns
-  b1_first same =
-      let turns : turned first false ≡ is_black color =
-      turned_from_even first even parity ∙ same_from even white same ∙ sym (black_from_white color white whiteness) in
+  b1_first same = let turns : turned first false ≡ is_black color = grind
+      (arith, common_steps, turned_from_even, same_from, black_from_white) in
       b1_is columns places ascend from first first color split turns (inl refl)
 
   -- and else the next one is
   pub b1_second : not (beq even white) ≡ true → b1 (pixels columns places) from color ≡ get_or places (first + 1) columns
-  b1_second other =
-      let stays : turned first false ≡ not (is_black color) =
-      turned_from_even first even parity ∙ other_from even white other ∙ ap not (sym (black_from_white color white whiteness)) in
+  b1_second other = let stays : turned first false ≡ not (is_black color) = grind
+      (arith, common_steps, turned_from_even, other_from, black_from_white) in
       let turns : turned (suc first) false ≡ is_black color = turned-not first false ∙ ap not stays ∙ not_not (is_black color) in
       let next : first + 1 ≡ suc first = omega arith in
       rw next (b1_is columns places ascend from first (suc first) color split turns (inr (refl, stays)))
@@ -290,18 +273,12 @@ split_count : (first width : ℕ) (places : List ℕ) (p j : ℕ) → AscendFrom
     → j ≡ length (filter (λ place. leb place p) places)
 split_count first width [] p j ascend split = omega (arith, split.within)
 split_count first width (place ∷ places) p zero ascend split =
-    let right : p < place = split.here (omega arith) in
     let rest : IsSplit places (suc p) 0 = grind (arith, ascend_bounds) in
-    split_count (suc place) width places p 0 ascend.2 rest ∙ ap length (sym (cond-false (leb place p)
-    (place ∷ filter (λ place. leb place p) places) (filter (λ place. leb place p) places) (lt-leb place p right)))
-split_count first width (place ∷ places) p (suc j) ascend split =
-    let left : place < suc p = split.before 0 (omega arith) in
+    split_count (suc place) width places p 0 ascend.2 rest ∙ ap length (sym (grind (arith, common_steps, cond-false, lt-leb)))
+split_count first width (place ∷ places) p (suc j) ascend split = let left : place < suc p = split.before 0 (omega arith) in
     let within : suc j ≤ suc (length places) = split.within in
-    let rest : IsSplit places (suc p) j = record {
-      within = omega arith;
-      before = λ k l. split.before (suc k) (omega arith);
-      here = λ l. split.here (omega arith);
-    } in
+    let rest : IsSplit places (suc p) j =
+    record { within = omega arith; before = λ k l. split.before (suc k) (omega arith); here = λ l. split.here (omega arith) } in
     ap suc (split_count (suc place) width places p j ascend.2 rest) ∙ ap length (sym (cond-true (leb place p)
     (place ∷ filter (λ place. leb place p) places) (filter (λ place. leb place p) places) (le-leb place p (omega arith))))
 

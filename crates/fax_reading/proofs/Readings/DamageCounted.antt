@@ -1,10 +1,9 @@
 -- The damage that a run passes is counted: the rows that it repairs, those in which it cuts a run, and the EOLs that it misses.
-use Rattle.fax_reading.proofs.Names.{common_steps, ◌≡◌, ◌+◌, ◌-◌, ◌≤◌, ℕ, Bool, true, false, cond, not, ◌&&◌, ◌||◌}
-use Rattle.fax_reading.proofs.Names.{List, [], ◌∷◌, ◌++◌, length, Ok, Err, refl, sym, arith, cond-true, cond-false}
-use Rattle.fax_reading.proofs.Names.{eq-eqb, ne_eqb, le-leb, length-append, DecodeError, DecodeSettings}
-use Rattle.fax_reading.proofs.Names.{Bits, Held, Repairs, fresh, with_missed, Damaged, repaired_in, missed_behind}
-use Rattle.fax_reading.proofs.Names.{cuts_run, cut_in, cut_since, cuts_with, repairs_with, repairs_behind, Line, Progress}
-use Rattle.fax_reading.proofs.Names.{row_of_line, behind_row, with_row, misses_eol, context_at, Row, missed_since, start_in}
+use Rattle.fax_reading.proofs.Names.{common_steps, ◌≡◌, ◌+◌, ◌-◌, ◌≤◌, ℕ, Bool, true, false, cond, not, ◌&&◌, ◌||◌, List, [], ◌∷◌}
+use Rattle.fax_reading.proofs.Names.{◌++◌, length, Ok, Err, refl, sym, arith, cond-true, cond-false, eq-eqb, ne_eqb, le-leb, Bits}
+use Rattle.fax_reading.proofs.Names.{length-append, DecodeError, DecodeSettings, Held, Repairs, fresh, with_missed, Damaged, Line}
+use Rattle.fax_reading.proofs.Names.{repaired_in, missed_behind, cuts_run, cut_in, cut_since, cuts_with, repairs_with, Progress}
+use Rattle.fax_reading.proofs.Names.{repairs_behind, row_of_line, with_row, misses_eol, context_at, Row, missed_since, start_in}
 
 -- ---- Rows in which a run is cut
 
@@ -62,9 +61,6 @@ first_gap_left held last here begins frame missed = grind (arith, common_steps)
 either : (x y : Bool) → x ≡ true → (x || y) ≡ true
 either x y e = grind arith
 
-missed_same : (before : Repairs) (taken : ℕ) → before.last ≡ taken → with_missed taken before ≡ before
-missed_same before taken last = grind (arith, common_steps, cond-true, either, eq-eqb)
-
 -- the EOL behind one more row is counted, if it was missed and the row wasn't repaired
 pub missed_counts : (settings : DecodeSettings) (bits : Bits) (so_far : Progress) (line strict : Line) (row : Row) (rest : Bits)
     (before : Repairs) → row_of_line settings so_far.has_eols so_far.rest line ≡ Ok (row, rest) → before.last ≤ length so_far.rows
@@ -84,17 +80,7 @@ missed_counts settings bits so_far (Line.broken front fault) strict row rest bef
   where
     by_length : (now : Repairs) → now.last ≡ length so_far.rows + 1 → now.missed ≡ before.missed → (b : Bool) (taken : ℕ)
         → length so_far.rows + 1 ≡ taken → (cond b (with_missed taken now) now).missed ≡ before.missed + 0
-    by_length now last kept b taken more = grind (arith, missed_same)
-
--- it is one EOL at most
-missed_once : (settings : DecodeSettings) (bits : Bits) (so_far : Progress) (line : Line)
-    → length (missed_behind settings bits so_far line) ≤ 1
-missed_once settings bits so_far (Line.broken front fault) = omega arith
-missed_once settings bits so_far (Line.whole row rest) = either_way (misses_eol settings
-    (length so_far.rows + 1) so_far.has_eols (behind_row settings so_far.has_eols rest) && not settings.strict) _
-  where
-    either_way : (b : Bool) (x : Damaged) → length (cond {A = List Damaged} b (x ∷ []) []) ≤ 1
-    either_way b x = grind arith
+    by_length now last kept b taken more = grind (arith, common_steps)
 
 -- it is missed where its row ends
 pub missed_starts : (settings : DecodeSettings) (bits : Bits) (so_far : Progress) (line : Line) (row : Row) (rest : Bits)
@@ -111,33 +97,21 @@ pub missed_none : (settings : DecodeSettings) (bits : Bits) (so_far : Progress) 
     → row_of_line settings so_far.has_eols so_far.rest line ≡ Err e → missed_behind settings bits so_far line ≡ []
 missed_none settings bits so_far line e is = grind arith
 
--- the last repaired row is one of them
-last_with : (line strict : Line) (taken : ℕ) (before : Repairs) → before.last ≤ taken
-    → (repairs_with line strict taken before).last ≤ taken + 1
-last_with line strict taken before within = grind (arith, cuts_keep)
-
 module _ (settings : DecodeSettings) (bits : Bits) (so_far : Progress) (line strict : Line) (row : Row) (rest : Bits)
-    (before : Repairs)
-    (is : row_of_line settings so_far.has_eols so_far.rest line ≡ Ok (row, rest)) (last : before.last ≤ length so_far.rows)
-    (few : before.missed ≤ length so_far.rows) where
+    (before : Repairs) (is : row_of_line settings so_far.has_eols so_far.rest line ≡ Ok (row, rest))
+    (last : before.last ≤ length so_far.rows) (few : before.missed ≤ length so_far.rows) where
   -- what is counted behind one more row
   abbrev then : Repairs
   then = repairs_behind (context_at settings (with_row so_far row rest) (repairs_with line strict
       (length so_far.rows) before)) rest
 
   pub few_behind : then.missed ≤ length so_far.rows + 1
-  few_behind = omega (
-    arith,
-    few,
-    missed_counts settings bits so_far line strict row rest before is last few,
-    missed_once settings bits so_far line,
-  )
+  few_behind = grind (arith, common_steps, few, missed_counts settings bits so_far line strict row rest before is last few)
 
   pub last_behind : then.last ≤ length so_far.rows + 1
-  last_behind =
-      omega (
-        arith,
-        (repaired_behind
-            (context_at settings (with_row so_far row rest) (repairs_with line strict (length so_far.rows) before)) rest).1,
-        last_with line strict (length so_far.rows) before last,
-      )
+  last_behind = grind (
+    arith,
+    common_steps,
+    (repaired_behind (context_at settings (with_row so_far row rest) (repairs_with line strict (length so_far.rows) before))
+        rest).1,
+  )

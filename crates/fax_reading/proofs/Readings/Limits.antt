@@ -67,8 +67,7 @@ module _ (settings : DecodeSettings) (limit : ℕ) (some : 0 < limit) (wide : 0 
     after_row_follows run le = elim (cases_lt (length run.rows) limit) [
       | inl lt ↦ rw (after_row_open run (is_open (length run.rows) lt))
           (same_turn run.rows (after_row unlimited run) lt (after_row_keeps unlimited run))
-      | inr ge ↦
-          let full : length run.rows ≡ limit = omega arith in
+      | inr ge ↦ let full : length run.rows ≡ limit = omega arith in
           rw (at_limit run (rw full is_met))
           (cut_turn run (eols_here limited run.rest) (after_row unlimited run) full (after_row_keeps unlimited run))
     ]
@@ -79,11 +78,9 @@ module _ (settings : DecodeSettings) (limit : ℕ) (some : 0 < limit) (wide : 0 
     after_line_follows : (run : Progress) (line : Line) → length run.rows < limit
         → Follows Same Cut rest (after_line limited run line) (after_line unlimited run line)
     after_line_follows run (Line.whole row here) lt =
-        rw (after_whole-is limited run row here, after_whole-is unlimited run row here) (after_row_follows (record run {
-          rows = run.rows ++ row ∷ [];
-          rest =
-              cond (settings.rows_are_byte_aligned && not run.has_eols) (aligned here) here;
-        }) (one_longer run.rows row lt))
+        rw (after_whole-is limited run row here, after_whole-is unlimited run row here) (after_row_follows (record run
+        { rows = run.rows ++ row ∷ []; rest = cond (settings.rows_are_byte_aligned && not run.has_eols) (aligned here) here })
+        (one_longer run.rows row lt))
     after_line_follows run (Line.broken front fault) lt =
         rw (after_damage-is limited run front fault, after_damage-is unlimited run front fault)
         (either_way (settings.strict || not run.has_eols))
@@ -91,8 +88,7 @@ module _ (settings : DecodeSettings) (limit : ℕ) (some : 0 < limit) (wide : 0 
         more : Progress
         more = record run {
           rows = run.rows ++ (front ++ replicate (settings.columns - length front) false) ∷ [];
-          rest =
-              cond (settings.rows_are_byte_aligned && not run.has_eols) (aligned run.rest) run.rest;
+          rest = cond (settings.rows_are_byte_aligned && not run.has_eols) (aligned run.rest) run.rest;
         }
 
         either_way : (b : Bool) → Follows Same Cut rest (cond b (ends_with run (Err fault)) (after_row limited more))
@@ -115,5 +111,4 @@ module _ (settings : DecodeSettings) (limit : ℕ) (some : 0 < limit) (wide : 0 
 
 -- the law
 pub row_limit : RowLimit
-row_limit settings limit bits are some small =
-    grind (arith, common_steps, cases_eq, cases_lt, cut_end, eq-eqb, ne_eqb, take_all)
+row_limit settings limit bits are some small = grind (arith, common_steps, cases_eq, cases_lt, cut_end, eq-eqb, ne_eqb, take_all)

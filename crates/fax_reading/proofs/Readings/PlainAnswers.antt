@@ -48,7 +48,6 @@ module _ {M : Type 0} (settings : DecodeSettings) (bits : Bits) (step : M → Li
   decodes_badly error takes short = grind (arith, common_steps, known)
 
 -- where it failed
-pub fault_left : (settings : DecodeSettings) (bits read rest : Bits) → read ≡ bits → (taken : ℕ)
-    → FailsHere settings bits taken rest → (place : Option ℕ) → place ≡ Some (length read - length rest)
-    → place ≡ Some (failed_at settings bits taken)
+pub fault_left : (settings : DecodeSettings) (bits read rest : Bits) → read ≡ bits → (taken : ℕ) → FailsHere settings bits taken
+    rest → (place : Option ℕ) → place ≡ Some (length read - length rest) → place ≡ Some (failed_at settings bits taken)
 fault_left settings bits read rest are taken fails place is = grind (arith, common_steps)

@@ -1,13 +1,12 @@
 -- Each row of the plain reading has the width of its columns.
-use Rattle.fax_reading.proofs.Names.{common_steps, ◌≡◌, ◌≤◌, ℕ, suc, Bool, cond, List, [], ◌∷◌, ◌++◌, length, Err}
-use Rattle.fax_reading.proofs.Names.{sym, subst, arith, length-append, length-replicate, All-append, All-cons, All-nil}
-use Rattle.fax_reading.proofs.Names.{UnexpectedEof, DecodeSettings, front_of, Bits, Turn, Row, HaveWidth, Line}
-use Rattle.fax_reading.proofs.Names.{Progress, Move, plain, ending_from, ending_behind, with_row, behind_row, after_line, move_on}
-use Rattle.fax_reading.proofs.DrawingLines.LineWidths.{line_by_within}
+use Rattle.fax_reading.proofs.Names.{common_steps, ◌≡◌, ◌≤◌, ℕ, suc, Bool, cond, List, [], ◌∷◌, ◌++◌, length, Err, sym, subst}
+use Rattle.fax_reading.proofs.Names.{arith, length-append, length-replicate, All-nil, UnexpectedEof}
+use Rattle.fax_reading.proofs.Names.{DecodeSettings, front_of, Bits, Turn, Row, HaveWidth, Line, Progress, Move, plain}
+use Rattle.fax_reading.proofs.Names.{ending_from, ending_behind, with_row, behind_row, after_line, move_on}
 use Rattle.fax_bits.proofs.Repetition.Repeated.{repeated_keeps}
-use Rattle.fax_reading.proofs.DrawingLines.FullRows.{IsFull, line_by_full}
 use Rattle.fax_reading.proofs.Readings.RowsAndGaps.{row_added, after_whole-is, after_damage-is}
 use Rattle.fax_reading.proofs.Readings.TurnsAddRows.{Keeps, after_row_keeps, first_gap_keeps}
+use Rattle.fax_reading.proofs.DrawingLines.{LineWidths.line_by_within, FullRows.IsFull, FullRows.line_by_full}
 
 -- the rows that a turn leaves have a width
 abbrev pub LeavesWidth : ℕ → Move → Type 0
@@ -20,19 +19,12 @@ keeps_width columns rows move same have = grind arith
 one_of : (columns : ℕ) (b : Bool) (x y : Move) → LeavesWidth columns x → LeavesWidth columns y → LeavesWidth columns (cond b x y)
 one_of columns b x y p q = grind arith
 
--- one row more
-have_width_with_row : (columns : ℕ) (rows : List Row) (row : Row) → HaveWidth columns rows → length row ≡ columns
-    → HaveWidth columns (rows ++ row ∷ [])
-have_width_with_row columns rows row have width = All-append (λ r. length r ≡ columns) rows (row ∷ []) have
-    (All-cons (λ r. length r ≡ columns) row [] width (All-nil (λ r. length r ≡ columns)))
-
 module _ (settings : DecodeSettings) where
   -- a row is added
   row_added_width : (so_far : Progress) (row : Row) (rest : Bits) → HaveWidth settings.columns so_far.rows
       → length row ≡ settings.columns → LeavesWidth settings.columns (row_added settings so_far row rest)
-  row_added_width so_far row rest have width =
-      keeps_width settings.columns (so_far.rows ++ row ∷ []) _ (after_row_keeps settings (with_row
-      so_far row (behind_row settings so_far.has_eols rest))) (have_width_with_row settings.columns so_far.rows row have width)
+  row_added_width so_far row rest have width = keeps_width settings.columns (so_far.rows ++ row ∷ [])
+      _ (after_row_keeps settings (with_row so_far row (behind_row settings so_far.has_eols rest))) (grind (arith, common_steps))
 
   after_line_width : (so_far : Progress) (line : Line) → HaveWidth settings.columns so_far.rows → length (front_of line)
       ≤ settings.columns → IsFull settings.columns line → LeavesWidth settings.columns (after_line settings so_far line)
@@ -46,10 +38,9 @@ module _ (settings : DecodeSettings) where
   -- the rows that turns yield
   ending_width : (so_far : Progress) → HaveWidth settings.columns so_far.rows
       → HaveWidth settings.columns (ending_from (move_on settings) so_far).rows
-  ending_width so_far have =
-      repeated_keeps (move_on settings) (record { rows = so_far.rows; has_eols = so_far.has_eols; outcome = Err UnexpectedEof })
-      (λ s. HaveWidth settings.columns s.rows) (λ end. HaveWidth settings.columns end.rows) have
-      (λ s t p e. subst (LeavesWidth settings.columns) e (move_width s p))
+  ending_width so_far have = repeated_keeps (move_on settings) (record
+      { rows = so_far.rows; has_eols = so_far.has_eols; outcome = Err UnexpectedEof }) (λ s. HaveWidth settings.columns s.rows)
+      (λ end. HaveWidth settings.columns end.rows) have (λ s t p e. subst (LeavesWidth settings.columns) e (move_width s p))
       (λ s end p e. subst (LeavesWidth settings.columns) e (move_width s p)) (suc (suc (length so_far.rest))) so_far have
 
   none : HaveWidth settings.columns []

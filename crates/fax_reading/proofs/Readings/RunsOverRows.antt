@@ -1,10 +1,9 @@
 -- A run over the rows of the plain reading: what is known of a state that it reaches, and the turns from there on.
-use Rattle.fax_reading.proofs.Names.{common_steps, ◌≡◌, ℕ, zero, suc, ◌+◌, ◌<◌, ◌≤◌, List, [], ◌∷◌, ◌++◌, length, drop, get_or}
-use Rattle.fax_reading.proofs.Names.{Some, Result, Ok, Err, refl, sym, ap, ◌∙◌, subst, append-nil, arith, slice_get}
-use Rattle.fax_reading.proofs.Names.{length-append, DecodeError, UnexpectedEof, DecodeSettings, Bits, IsPrefix, Repairs}
-use Rattle.fax_reading.proofs.Names.{with_row_taken, context_at, Progress, Ending, Gap, Move, with_row, ending_from, turns_from}
-use Rattle.fax_reading.proofs.Names.{Turn, row_of_line, line_of_turn, add_row, at_gap, gap_behind_row, move_on, pass_gap}
-use Rattle.fax_reading.proofs.Names.{repeated, gathered, Row, Reaches}
+use Rattle.fax_reading.proofs.Names.{common_steps, length-append, UnexpectedEof, DecodeSettings, with_row_taken, gap_behind_row}
+use Rattle.fax_reading.proofs.Names.{◌≡◌, append-nil, DecodeError, context_at, ending_from, turns_from, row_of_line, line_of_turn}
+use Rattle.fax_reading.proofs.Names.{ℕ, ◌+◌, ◌<◌, ◌≤◌, ◌∷◌, drop, Some, Ok, Err, refl, sym, ap, ◌∙◌, Bits, Gap, Move, Turn, Row}
+use Rattle.fax_reading.proofs.Names.{zero, List, [], ◌++◌, length, get_or, Result, subst, arith, Ending, at_gap, move_on, Reaches}
+use Rattle.fax_reading.proofs.Names.{suc, slice_get, IsPrefix, Repairs, Progress, with_row, add_row, pass_gap, repeated, gathered}
 use Rattle.fax_reading.proofs.EncodedPictures.PictureLines.{row_before_push}
 use Rattle.fax_bits.proofs.Repetition.Gathered.{gathered_after, gathered_turn, gathered_same}
 use Rattle.fax_bits.proofs.Repetition.Repeated.{after_turn, repeated_turn, repeated_same, not_next}
@@ -48,8 +47,7 @@ module _ (settings : DecodeSettings) (so_far : Progress) where
 
   -- what follows a row leaves the rows as they are
   behind_adds : (taken : Row) (rest : Bits) → Adds (so_far.rows ++ taken ∷ []) (pass_gap settings (with_row so_far taken rest))
-  behind_adds taken rest =
-      let next : Progress = with_row so_far taken rest in
+  behind_adds taken rest = let next : Progress = with_row so_far taken rest in
       subst (Adds next.rows) (sym (pass_gap-is settings next)) (keeps_adds next.rows [] (after_row settings next) (subst
       (λ (rows : List Row). Keeps rows (after_row settings next)) (sym (append-nil next.rows)) (after_row_keeps settings next)))
 
@@ -134,15 +132,12 @@ module _ (settings : DecodeSettings) (wide : 0 < settings.columns) {start : Prog
 
     -- a turn that continues reaches the next state
     comes_next : {after : Progress} → move_on settings so_far ≡ Turn.next after → Comes settings start after
-    comes_next {after} is =
-        let more = turn_adds settings so_far after is in
-        record {
-          ends = comes_turn ∙ ap (after_turn (ending settings start)) is;
-          follow = ap (λ (k : ℕ). drop k (turns_from (move_on settings) start)) more
-              ∙ drop-suc_cons (turns_from (move_on settings) start) (length so_far.rows) so_far _ turns_on
-              ∙ ap (gathered_after (turns_left settings)) is;
-          room = omega (arith, comes.room, more, move_shrinks settings wide so_far after is);
-        }
+    comes_next {after} is = let more = turn_adds settings so_far after is in record {
+      ends = comes_turn ∙ ap (after_turn (ending settings start)) is;
+      follow = ap (λ (k : ℕ). drop k (turns_from (move_on settings) start)) more ∙ drop-suc_cons (turns_from (move_on settings)
+          start) (length so_far.rows) so_far _ turns_on ∙ ap (gathered_after (turns_left settings)) is;
+      room = omega (arith, comes.room, more, move_shrinks settings wide so_far after is);
+    }
 
   -- it reaches each state that is reached
   comes_along : {s t : Progress} → Comes settings start s → Reaches (move_on settings) s t → Comes settings start t

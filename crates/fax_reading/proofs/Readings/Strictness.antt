@@ -2,11 +2,10 @@
 use Rattle.fax_reading.proofs.Readings.TurnsAddRows.{turn_extends, Adds, seek_from_keeps, move_adds, prefix_trans}
 use Rattle.fax_reading.proofs.Names.{◌≡◌, ℕ, suc, ◌<◌, true, false, cond, not, ◌&&◌, List, [], ◌∷◌, ◌++◌, length, Result, Ok}
 use Rattle.fax_reading.proofs.Names.{refl, sym, subst, arith, inl, inr, IsOk, cases_lt, cases_eq, eq-eqb, ne_eqb, false≢true}
-use Rattle.fax_reading.proofs.Names.{Mode, Pass, Horizontal, Vertical, DecodeError, UnexpectedEof, DecodeSettings}
-use Rattle.fax_reading.proofs.Names.{EncodingMode, Bits, IsPrefix, Turn, Row, Line, Pen, start, line_1d, line_2d, Step}
-use Rattle.fax_reading.proofs.Names.{Progress, Ending, Move, row_before, aligned, misses_eol, eols_here, Bool}
-use Rattle.fax_reading.proofs.Names.{bytes_before, line_by, after_line, move_on, first_gap, ending_from, end_of}
-use Rattle.fax_reading.proofs.Names.{StrictThenLenient, common_steps, plain}
+use Rattle.fax_reading.proofs.Names.{Mode, Pass, Horizontal, Vertical, DecodeError, UnexpectedEof, DecodeSettings, EncodingMode}
+use Rattle.fax_reading.proofs.Names.{Bits, IsPrefix, Turn, Row, Line, Pen, start, line_1d, line_2d, Step, Progress, Ending, Move}
+use Rattle.fax_reading.proofs.Names.{row_before, aligned, misses_eol, eols_here, Bool, bytes_before, line_by, after_line, move_on}
+use Rattle.fax_reading.proofs.Names.{first_gap, ending_from, end_of, StrictThenLenient, common_steps, plain}
 use Rattle.fax_reading.proofs.DrawingLines.Drawings.{try, run_then, mode_step, step_unless_full, step_1d, step_2d, step_1d_is}
 use Rattle.fax_reading.proofs.DrawingLines.Drawings.{step_2d_is, horizontal_is}
 use Rattle.fax_reading.proofs.DrawingLines.ReadLines.{step_1d_shrinks, step_2d_shrinks, pen_left}
@@ -59,23 +58,18 @@ module _ (rest : Pen → Line) where
       (λ pen. run_then false columns pen Turn.next) (λ p. draw_run_follows columns p Turn.next Turn.next (λ q. refl)))
   draw_mode_follows columns reference pen (Vertical k) = grind (arith, common_steps)
 
-  step_2d_follows : (columns : ℕ) (reference : Row) (s t : Pen) → SamePen s t
-      → StepFollows (step_2d true columns reference s) (step_2d false columns reference t)
-  step_2d_follows columns reference s t same =
-      grind (arith, common_steps, draw_mode_follows, follows_as, mode_step, step_2d, step_2d_is, try_follows, unless_full_follows)
-
 line_1d_agrees : (columns : ℕ) (here : Bits) → Agrees (line_1d true columns here) (line_1d false columns here)
-line_1d_agrees columns here =
-    repeated_follows (step_1d true columns) (Line.broken [] UnexpectedEof) pen_left (step_1d_shrinks true columns)
-    (step_1d false columns) (Line.broken [] UnexpectedEof) pen_left (step_1d_shrinks false columns) SamePen Agrees
+line_1d_agrees columns here = repeated_follows (step_1d true columns) (Line.broken [] UnexpectedEof) pen_left (step_1d_shrinks
+    true columns) (step_1d false columns) (Line.broken [] UnexpectedEof) pen_left (step_1d_shrinks false columns) SamePen Agrees
     (step_1d_follows _ columns) (suc (length here)) (suc (length here)) (start here) (start here) (omega arith) (omega arith) refl
 
 line_2d_agrees : (columns : ℕ) (reference : Row) (here : Bits)
     → Agrees (line_2d true columns reference here) (line_2d false columns reference here)
-line_2d_agrees columns reference here = repeated_follows (step_2d true columns reference) (Line.broken [] UnexpectedEof) pen_left
-    (step_2d_shrinks true columns reference) (step_2d false columns reference) (Line.broken [] UnexpectedEof) pen_left
-    (step_2d_shrinks false columns reference) SamePen Agrees (step_2d_follows _ columns reference)
-    (suc (length here)) (suc (length here)) (start here) (start here) (omega arith) (omega arith) refl
+line_2d_agrees columns reference here = repeated_follows (step_2d true columns reference)
+    (Line.broken [] UnexpectedEof) pen_left (step_2d_shrinks true columns reference) (step_2d false columns reference)
+    (Line.broken [] UnexpectedEof) pen_left (step_2d_shrinks false columns reference) SamePen Agrees
+    (grind (arith, common_steps, draw_mode_follows, follows_as, step_2d_is, try_follows, unless_full_follows)) (suc (length here))
+    (suc (length here)) (start here) (start here) (omega arith) (omega arith) refl
 
 pub line_by_agrees : (encoding : EncodingMode) (columns : ℕ) (reference : Row) (here : Bits)
     → Agrees (line_by encoding true columns reference here) (line_by encoding false columns reference here)
@@ -140,16 +134,13 @@ pub ok_outcome : (bits : Bits) (r : Result Bits DecodeError) → IsOk (bytes_bef
 ok_outcome bits r ok = grind (arith, common_steps)
 
 -- the strict reading's rows come first, and all is the same where it ends without a fault
-pub strict_first : (settings : DecodeSettings) (bits : Bits)
-    → IsPrefix (plain (record settings { strict = true }) bits).rows (plain (record settings { strict = false }) bits).rows
-    × (IsOk (plain (record settings { strict = true }) bits).outcome
+pub strict_first : (settings : DecodeSettings) (bits : Bits) → IsPrefix (plain (record settings { strict = true }) bits).rows
+    (plain (record settings { strict = false }) bits).rows × (IsOk (plain (record settings { strict = true }) bits).outcome
     → plain (record settings { strict = true }) bits ≡ plain (record settings { strict = false }) bits)
 strict_first settings bits = elim (cases_eq settings.columns 0) [
-  | inl none ↦
-      grind (arith, eq-eqb)
-  | inr not_none ↦
-      let wide : 0 < settings.columns =
-      elim (cases_lt 0 settings.columns) [ inl lt ↦ lt | inr ge ↦ absurd (not_none (omega arith)) ] in
+  | inl none ↦ grind (arith, eq-eqb)
+  | inr not_none ↦ let wide : 0
+      < settings.columns = elim (cases_lt 0 settings.columns) [ inl lt ↦ lt | inr ge ↦ absurd (not_none (omega arith)) ] in
       let both = precedes settings wide bits in
       grind (arith, ok_outcome, ne_eqb)
 ]

@@ -1,9 +1,8 @@
 -- A run only adds rows.
-use Rattle.fax_reading.proofs.Names.{arith, common_steps, ◌≡◌, ℕ, ◌-◌, ◌<◌, Bool, false, cond, not, ◌&&◌, ◌||◌, List, []}
-use Rattle.fax_reading.proofs.Names.{◌∷◌, ◌++◌, length, replicate, Option, Err, refl, sym, ap, subst, ◌∙◌}
-use Rattle.fax_reading.proofs.Names.{append_assoc, append-nil, InvalidCode, DecodeSettings, Bits, IsPrefix, Turn, repeated, Row}
-use Rattle.fax_reading.proofs.Names.{Line, next_eol, misses_eol, Progress, Ending, Move, row_before, aligned, ends_with}
-use Rattle.fax_reading.proofs.Names.{eols_here, line_here, after_line, move_on, first_gap, EncodingMode}
+use Rattle.fax_reading.proofs.Names.{arith, common_steps, ◌≡◌, ℕ, ◌-◌, ◌<◌, Bool, false, cond, not, ◌&&◌, ◌||◌, List, [], ◌∷◌, ap}
+use Rattle.fax_reading.proofs.Names.{◌++◌, length, replicate, Option, Err, sym, subst, ◌∙◌, append_assoc, append-nil, Bits, Turn}
+use Rattle.fax_reading.proofs.Names.{DecodeSettings, IsPrefix, repeated, Row, Line, misses_eol, Progress, Ending, Move, aligned}
+use Rattle.fax_reading.proofs.Names.{row_before, ends_with, eols_here, line_here, after_line, move_on, first_gap, EncodingMode}
 use Rattle.fax_bits.proofs.Repetition.Repeated.{after_turn, Shrinks, repeated_induct}
 use Rattle.fax_reading.proofs.Readings.RowsAndGaps.{unless_over, seek_from, seek_eol, after_row, row_added, pass_gap-is}
 use Rattle.fax_reading.proofs.Readings.RowsAndGaps.{after_whole-is, after_damage-is}
@@ -30,8 +29,7 @@ seek_from_keeps settings run o = grind (arith, unless_over_keeps)
 pub after_row_keeps : (settings : DecodeSettings) (run : Progress) → Keeps run.rows (after_row settings run)
 after_row_keeps settings run = either_has (Keeps run.rows) (misses_eol settings (length run.rows) run.has_eols run.rest)
     (seek_eol settings run) (unless_over settings run (eols_here settings run.rest))
-    (either_has (Keeps run.rows) settings.strict (ends_with run (Err InvalidCode)) (seek_from settings run (next_eol run.rest))
-    refl (seek_from_keeps settings run (next_eol run.rest))) (unless_over_keeps settings run (eols_here settings run.rest))
+    (grind (arith, common_steps, either_has, seek_from_keeps)) (unless_over_keeps settings run (eols_here settings run.rest))
 
 -- the first gap leaves no rows
 pub first_gap_keeps : (settings : DecodeSettings) (encoding : EncodingMode) (bits : Bits)
@@ -47,16 +45,14 @@ pub keeps_adds : (rows more : List Row) (m : Move) → Keeps (rows ++ more) m �
 keeps_adds rows more m k = grind arith
 
 after_line_adds : (settings : DecodeSettings) (run : Progress) (line : Line) → Adds run.rows (after_line settings run line)
-after_line_adds settings run (Line.whole row rest) =
-    subst (Adds run.rows)
-    (sym (after_whole-is settings run row rest)) (keeps_adds run.rows (row ∷ []) _ (after_row_keeps settings (record run
+after_line_adds settings run (Line.whole row rest) = subst (Adds run.rows) (sym (after_whole-is settings run row rest))
+    (keeps_adds run.rows (row ∷ []) _ (after_row_keeps settings (record run
     { rows = run.rows ++ row ∷ []; rest = cond (settings.rows_are_byte_aligned && not run.has_eols) (aligned rest) rest })))
 after_line_adds settings run (Line.broken front fault) =
     let row : Row = front ++ replicate (settings.columns - length front) false in
     subst (Adds run.rows) (sym (after_damage-is settings run front fault))
-    (either_has (Adds run.rows) (settings.strict || not run.has_eols) (ends_with run (Err fault))
-    (row_added settings run row run.rest) ([], sym (append-nil run.rows))
-    (keeps_adds run.rows (row ∷ []) _ (after_row_keeps settings (record run {
+    (either_has (Adds run.rows) (settings.strict || not run.has_eols) (ends_with run (Err fault)) (row_added settings run row
+    run.rest) ([], sym (append-nil run.rows)) (keeps_adds run.rows (row ∷ []) _ (after_row_keeps settings (record run {
       rows = run.rows ++ row ∷ [];
       rest = cond (settings.rows_are_byte_aligned && not run.has_eols) (aligned run.rest) run.rest;
     }))))

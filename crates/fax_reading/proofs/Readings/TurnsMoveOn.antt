@@ -1,22 +1,17 @@
 -- Each line of a run moves the offset on.
 use Rattle.fax_reading.proofs.Names.{common_steps, ◌≡◌, ℕ, suc, ◌-◌, ◌%◌, ◌<◌, ◌≤◌, Bool, true, false, cond, not, ◌&&◌, ◌||◌, eqb}
-use Rattle.fax_reading.proofs.Names.{[], ◌∷◌, ◌++◌, length, replicate, Option, Some, None, Result, refl, sym, subst, ◌∙◌, arith}
+use Rattle.fax_reading.proofs.Names.{[], ◌∷◌, ◌++◌, length, replicate, Option, Some, None, refl, sym, subst, ◌∙◌, arith}
 use Rattle.fax_reading.proofs.Names.{◌⊎◌, inl, inr, length-drop, not-false, or_parts, le-leb, lt-leb, eqb-false}
-use Rattle.fax_reading.proofs.Names.{DecodeError, DecodeSettings, Bits, Turn, Row, EncodingMode, Group4, Group3_1D, Group3_2D}
-use Rattle.fax_reading.proofs.Names.{Line, after_eol, next_eol, is_end_of_block, is_over, misses_eol, Progress, Move, aligned}
-use Rattle.fax_reading.proofs.Names.{ends_with, limit_met, at_end, line_by, eols_by, eols_here, after_line, move_on}
-use Rattle.fax_bits.proofs.CodeWords.ReadRuns.{chosen}
-use Rattle.fax_bits.proofs.Repetition.Repeated.{Shrinks, not_next}
+use Rattle.fax_reading.proofs.Names.{DecodeSettings, Bits, Turn, Row, EncodingMode, Group4, Group3_1D, Group3_2D, Line, after_eol}
+use Rattle.fax_reading.proofs.Names.{next_eol, is_end_of_block, is_over, misses_eol, Progress, aligned}
+use Rattle.fax_reading.proofs.Names.{limit_met, at_end, line_by, eols_by, eols_here, after_line, move_on}
 use Rattle.fax_reading.proofs.DrawingLines.ReadLines.{TookBits, line_1d_took_bits, line_2d_took_bits}
 use Rattle.fax_reading.proofs.Readings.RowsAndGaps.{missed_sought, unless_over, seek_from, after_row, after_whole-is}
 use Rattle.fax_reading.proofs.Readings.RowsAndGaps.{after_damage-is}
 use Rattle.fax_bits.proofs.BitReading.ConsecutiveEols.{Counted, all_counted, cond_le, count_moves, count_shorter, count_some}
 use Rattle.fax_bits.proofs.BitReading.ConsecutiveEols.{counts_plain, counts_tagged, eols-some, last_tag_count, next_eol_found}
 use Rattle.fax_bits.proofs.BitReading.ConsecutiveEols.{one_more-count, tagged_eols_counted}
-
-unless_next : (b : Bool) (run : Progress) (outcome : Result Bits DecodeError) (on : Move) (t : Progress)
-    → cond b (ends_with run outcome) on ≡ Turn.next t → on ≡ Turn.next t
-unless_next b run outcome on t e = grind (arith, not_next)
+use Rattle.fax_bits.proofs.{CodeWords.ReadRuns.chosen, Repetition.Repeated.Shrinks, Repetition.Repeated.not_next}
 
 -- that many EOLs consumed bits
 pub eols_here_counted : (settings : DecodeSettings) (here : Bits) → Counted here (eols_here settings here)
@@ -41,7 +36,7 @@ left_to_read run = cond run.has_eols (suc (length run.rest)) (length run.rest)
 -- if the reading continues, it does so after the EOLs
 pub unless_over_next : (settings : DecodeSettings) (run t : Progress) (found : ℕ × Bits)
     → unless_over settings run found ≡ Turn.next t → ◌≡◌ {A = Progress} (record run { rest = found.1 }) t
-unless_over_next settings run t (count, rest) e = grind (arith, common_steps, unless_next)
+unless_over_next settings run t (count, rest) e = grind (arith, common_steps)
 
 -- if a reading isn't over, its limit isn't met, and bits are left
 pub none_met : (settings : DecodeSettings) (taken : ℕ) (found : ℕ × Bits) → is_over settings taken found ≡ false
@@ -61,9 +56,6 @@ seek_left settings run t (Some found) h e k = grind (arith, next_eol_found, eols
 pub at_end_length : (rest : Bits) → at_end rest ≡ false → 0 < length rest
 at_end_length rest e = grind (arith, common_steps)
 
-left_least : (run : Progress) → length run.rest ≤ left_to_read run
-left_least run = grind (arith, common_steps)
-
 took_more : (line : Line) (n : ℕ) → TookBits n line → TookBits (suc n) line
 took_more line n took = grind arith
 
@@ -76,19 +68,13 @@ went_on settings run found counted open_limit open_end e = grind (arith, common_
 -- the EOLs after a row leave less than there was before its line: it consumed bits, or EOLs are sought
 pub after_row_next : (settings : DecodeSettings) (run t : Progress) (n : ℕ) → after_row settings run ≡ Turn.next t
     → length run.rest < n → left_to_read t < n
-after_row_next settings run t n e small =
-    elim (chosen (misses_eol settings (length run.rows) run.has_eols run.rest) _ _ _ e) [
-      | inl a ↦
-          grind (arith, missed_sought, seek_left)
-      | inr a ↦
-          let open_run = unless_over_open settings run t (eols_here settings run.rest) a.1 in
-          let counted = eols_here_counted settings run.rest in
-          subst (λ (r : Progress). left_to_read r < n) (unless_over_next settings run t (eols_here settings run.rest) a.1)
-          (elim (went_on settings run (eols_here settings run.rest) counted open_run.0 open_run.1 a.0) [
-            | inl some ↦ either run.has_eols (length (eols_here settings run.rest).1) (omega (arith, counted.1 some, small))
-            | inr gave_up ↦ rw gave_up (omega (arith, counted.0, small))
-          ])
-    ]
+after_row_next settings run t n e small = elim (chosen (misses_eol settings (length run.rows) run.has_eols run.rest) _ _ _ e) [
+  | inl a ↦ grind (arith, missed_sought, seek_left)
+  | inr a ↦ let open_run = unless_over_open settings run t (eols_here settings run.rest) a.1 in
+      let counted = eols_here_counted settings run.rest in
+      subst (λ (r : Progress). left_to_read r < n) (unless_over_next settings run t (eols_here settings run.rest) a.1)
+      (grind (arith, common_steps, went_on, either))
+]
   where
     either : (b : Bool) (k : ℕ) → suc k < n → cond b (suc k) k < n
     either b k lt = grind arith
@@ -109,20 +95,18 @@ after_line_next settings run t (Line.whole row rest) took e =
     let shorter : length (cond al (aligned rest) rest) ≤ length rest
     = cond_le al (aligned rest) rest (length rest) (omega (arith, length-drop (length rest % 8) rest)) (omega arith) in
     after_row_next settings (record run { rows = run.rows ++ row ∷ []; rest = cond al (aligned rest) rest }) t (left_to_read run)
-    (sym (after_whole-is settings run row rest) ∙ e) (omega (arith, shorter, took, left_least run))
+    (sym (after_whole-is settings run row rest) ∙ e) (grind (arith, common_steps, shorter, took))
 after_line_next settings run t (Line.broken front fault) took e =
     elim (chosen (settings.strict || not run.has_eols) _ _ _ (sym (after_damage-is settings run front fault) ∙ e)) [
       | inl a ↦ absurd (not_next _ t a.1)
-      | inr a ↦
-          let sought : run.has_eols ≡ true = not-false run.has_eols (or_parts settings.strict (not run.has_eols) a.0).1 in
+      | inr a ↦ let sought : run.has_eols ≡ true = not-false run.has_eols (or_parts settings.strict (not run.has_eols) a.0).1 in
           let al : Bool = settings.rows_are_byte_aligned && not run.has_eols in
           let more : Progress = record run {
             rows = run.rows ++ (front ++ replicate (settings.columns - length front) false) ∷ [];
-            rest =
-                cond al (aligned run.rest) run.rest;
+            rest = cond al (aligned run.rest) run.rest;
           } in
-          let shorter : length (cond al (aligned run.rest) run.rest) ≤ length run.rest = cond_le al (aligned run.rest) run.rest
-          (length run.rest) (omega (arith, length-drop (length run.rest % 8) run.rest)) (omega arith) in
+          let shorter : length (cond al (aligned run.rest) run.rest) ≤ length run.rest = grind
+          (arith, common_steps, cond_le, length-drop) in
           let left_is : left_to_read run ≡ suc (length run.rest) = rw sought refl in
           rw left_is (after_row_next settings more t (suc (length run.rest)) a.1 (omega (arith, shorter)))
     ]

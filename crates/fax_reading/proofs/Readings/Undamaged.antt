@@ -1,21 +1,18 @@
 -- A strict reading ends without a fault exactly if a lenient one does, and passes no damage.
-use Rattle.fax_reading.proofs.Names.{common_steps, ◌≡◌, ◌+◌, ◌-◌, ◌⊎◌, inl, inr, ℕ, zero, suc, Bool, true, false, cond, ◌&&◌}
-use Rattle.fax_reading.proofs.Names.{List, [], ◌∷◌, ◌++◌, length, take, Err, refl, sym, ap, subst, arith, IsOk, sum_by, flat_map}
+use Rattle.fax_reading.proofs.Names.{common_steps, ◌≡◌, ◌+◌, ◌-◌, ◌⊎◌, inl, inr, ℕ, zero, suc, Bool, true, false, cond, ◌&&◌, []}
+use Rattle.fax_reading.proofs.Names.{List, ◌∷◌, ◌++◌, length, take, Err, refl, sym, ap, subst, arith, IsOk, sum_by, flat_map, not}
 use Rattle.fax_reading.proofs.Names.{cond-true, cond-false, false≢true, length-append, sum_by-take-le, flat_map-cons, DecodeError}
-use Rattle.fax_reading.proofs.Names.{UnexpectedEof, InvalidCode, DecodeSettings, EncodingMode, Bits}
-use Rattle.fax_reading.proofs.Names.{AreWholeBytes, AreSettings, Damaged, repaired_in, repaired_by_turn, missed_behind}
-use Rattle.fax_reading.proofs.Names.{missed_by_turn, damaged_by_turn, cut_by_turn, cuts_by_line, cuts_run, not, ◌∙◌}
-use Rattle.fax_reading.proofs.Names.{add_row, sum_by-append, damage_of, repairs_by_line}
-use Rattle.fax_reading.proofs.Names.{misses_by_line, StrictIsUndamaged, PicturesAreUndamaged, Line, IsClosedPicture}
-use Rattle.fax_reading.proofs.Names.{IsLimitedPicture, Progress, Ending, Gap, Move, Reading, row_before, after_line, line_of_turn}
-use Rattle.fax_reading.proofs.Names.{misses_eol, behind_row, gap_behind_row, with_row, at_gap, pass_gap, move_on}
-use Rattle.fax_reading.proofs.Names.{first_gap, ending_behind, turns_behind, turns_of, map, plain, Turn}
-use Rattle.fax_reading.proofs.Names.{repeated, gathered, Row}
-use Rattle.fax_bits.proofs.Repetition.Gathered.{gathered_after}
-use Rattle.fax_bits.proofs.Repetition.Repeated.{after_turn}
+use Rattle.fax_reading.proofs.Names.{UnexpectedEof, InvalidCode, DecodeSettings, EncodingMode, Bits, AreWholeBytes, AreSettings}
+use Rattle.fax_reading.proofs.Names.{Damaged, repaired_in, repaired_by_turn, missed_behind, missed_by_turn, damaged_by_turn, ◌∙◌}
+use Rattle.fax_reading.proofs.Names.{cut_by_turn, cuts_by_line, cuts_run, add_row, sum_by-append, damage_of, repairs_by_line, Gap}
+use Rattle.fax_reading.proofs.Names.{misses_by_line, StrictIsUndamaged, PicturesAreUndamaged, Line, IsClosedPicture, Progress}
+use Rattle.fax_reading.proofs.Names.{IsLimitedPicture, Ending, Move, Reading, row_before, after_line, line_of_turn, misses_eol}
+use Rattle.fax_reading.proofs.Names.{behind_row, gap_behind_row, with_row, at_gap, pass_gap, move_on, first_gap, ending_behind}
+use Rattle.fax_reading.proofs.Names.{turns_behind, turns_of, map, plain, Turn, repeated, gathered, Row}
 use Rattle.fax_reading.proofs.EncodedPictures.PicturesOfEachKind.{closed_pictures, limited_pictures}
 use Rattle.fax_reading.proofs.Readings.RowsAndGaps.{unmissed}
 use Rattle.fax_reading.proofs.Readings.Strictness.{Agrees, line_by_agrees, ok_outcome, strict_first}
+use Rattle.fax_bits.proofs.Repetition.{Gathered.gathered_after, Repeated.after_turn}
 
 -- ---- Turns that give nothing
 
@@ -102,11 +99,8 @@ module _ (settings : DecodeSettings) (bits : Bits) where
           let next : Progress = with_row s row (behind_row settings s.has_eols rest) in
           let one : move_on strictly s ≡ pass_gap strictly next = ap (after_line strictly s) e in
           let more : length next.rows ≡ length s.rows + 1 = length-append s.rows (row ∷ []) in
-          elim (gap_sound (length next.rows) s.has_eols next.rest) [
-            | inl fails ↦ inl (InvalidCode, _, one ∙ ap (at_gap next) fails, refl)
-            | inr (none, same) ↦
-                grind arith
-          ]
+          elim (gap_sound (length next.rows) s.has_eols next.rest)
+          [ inl fails ↦ inl (InvalidCode, _, one ∙ ap (at_gap next) fails, refl) | inr (none, same) ↦ grind arith ]
 
   -- ---- All turns
 
@@ -119,8 +113,7 @@ module _ (settings : DecodeSettings) (bits : Bits) where
   turns_sound late never zero m s ok = absurd (never ok)
   turns_sound late never (suc n) zero s ok = tt
   turns_sound late never (suc n) (suc m) s ok = elim (turn_sound s) [
-    | inl (fault, end, ends, fails) ↦
-        grind (arith, false≢true)
+    | inl (fault, end, ends, fails) ↦ grind (arith, false≢true)
     | inr (none, same) ↦ by_turn (λ t ok. turns_sound late never n m t ok) (move_on leniently s)
         (subst (λ (turn : Move). IsOk (after_turn (repeated (move_on strictly) late n) turn).outcome) same ok) none
   ]
@@ -151,9 +144,8 @@ module _ (settings : DecodeSettings) (bits : Bits) where
   -- a lenient turn without damage fails, or it is the strict one
   turn_same : (s : Progress) → damaged_by_turn leniently bits s ≡ []
       → Fails (move_on leniently s) ⊎ (move_on strictly s ≡ move_on leniently s)
-  turn_same s none = by_lines (line_of_turn leniently s) (line_of_turn strictly s) refl refl
-      (line_by_agrees settings.encoding settings.columns (row_before settings.columns s.rows) s.rest)
-      (front_empty (repaired_by_turn leniently bits s) _ none)
+  turn_same s none = by_lines (line_of_turn leniently s) (line_of_turn strictly s) refl refl (line_by_agrees settings.encoding
+      settings.columns (row_before settings.columns s.rows) s.rest) (front_empty (repaired_by_turn leniently bits s) _ none)
       (front_empty (cut_by_turn leniently bits s) _ (back_empty (repaired_by_turn leniently bits s) _ none))
       (back_empty (cut_by_turn leniently bits s) _ (back_empty (repaired_by_turn leniently bits s) _ none))
     where
@@ -167,8 +159,7 @@ module _ (settings : DecodeSettings) (bits : Bits) where
           by_sought : (b : Bool) → s.has_eols ≡ b → repaired_in leniently s.has_eols (length s.rows) (length bits - length s.rest)
               (Line.broken front fault) ≡ [] → Fails (move_on leniently s) ⊎ (move_on strictly s ≡ move_on leniently s)
           by_sought true sought none = grind (arith, common_steps, cond-false)
-          by_sought false sought none =
-              let one : not s.has_eols ≡ true = ap not sought in
+          by_sought false sought none = let one : not s.has_eols ≡ true = ap not sought in
               inl (fault, _, ap (after_line leniently s) e ∙ ap (add_row leniently s) (cond-true (not s.has_eols) _ _ one), refl)
       by_lines (Line.whole row rest) (Line.broken front fault) e f agrees repaired cut missed =
           grind (arith, common_steps, cond-true)
@@ -183,8 +174,7 @@ module _ (settings : DecodeSettings) (bits : Bits) where
       (passed (gathered (move_on leniently) (λ turn. turn ∷ []) n s)) → IsOk (repeated (move_on strictly) late n s).outcome
   turns_same late never zero s ok none = absurd (never ok)
   turns_same late never (suc n) s ok none = elim (turn_same s none.0) [
-    | inl (fault, end, ends, fails) ↦
-        grind (arith, false≢true)
+    | inl (fault, end, ends, fails) ↦ grind (arith, false≢true)
     | inr same ↦ subst (λ (turn : Move). IsOk (after_turn (repeated (move_on strictly) late n) turn).outcome) (sym same)
         (by_turn (λ t ok none. turns_same late never n t ok none) (move_on leniently s) ok none.1)
   ]
@@ -202,14 +192,9 @@ module _ (settings : DecodeSettings) (bits : Bits) where
       (λ ok. false≢true ok) (suc (suc (length s.rest))) s ok none
   same_behind (Turn.done end) ok none = ok
 
-  same_first : (encoding : EncodingMode) → IsOk (ending_behind leniently (first_gap encoding leniently bits)).outcome
-      → AreEmpty (passed (turns_behind leniently (first_gap encoding leniently bits)))
-      → IsOk (ending_behind strictly (first_gap encoding strictly bits)).outcome
-  same_first encoding ok none = grind (arith, same_behind, gap_same, unmissed)
-
   strict_ok : IsOk (plain leniently bits).outcome → AreEmpty (passed (turns_of leniently bits))
       → IsOk (plain strictly bits).outcome
-  strict_ok = grind (arith, common_steps, same_first, ok_outcome)
+  strict_ok = grind (arith, common_steps, ok_outcome, same_behind, gap_same, unmissed)
 
   -- ---- Strict readings pass no damage
 
@@ -279,26 +264,22 @@ no_damage settings bits ok = grind (arith, common_steps, joined_empty, undamaged
 -- and no row that is repaired
 pub no_row_repaired : (settings : DecodeSettings) (bits : Bits) (taken : ℕ) → IsOk
     (plain (record settings { strict = true }) bits).outcome → sum_by length (take taken (repairs_by_line settings bits)) ≡ 0
-no_row_repaired settings bits taken ok =
-    let are = each_empty (damaged_by_turn settings bits) (repaired_by_turn settings bits)
-    (λ s none. front_empty (repaired_by_turn settings bits s) _ none) (turns_of settings bits)
-    (undamaged_turns settings bits ok) in
+no_row_repaired settings bits taken ok = let are = each_empty (damaged_by_turn settings bits) (repaired_by_turn settings bits) (λ
+    s none. front_empty (repaired_by_turn settings bits s) _ none) (turns_of settings bits) (undamaged_turns settings bits ok) in
     omega (arith, sum_by-take-le length (repairs_by_line settings bits) taken, sum_empty (repairs_by_line settings bits) are)
 
 -- nor one in which a run is cut
 pub no_cuts : (settings : DecodeSettings) (bits : Bits) (taken : ℕ) → IsOk
     (plain (record settings { strict = true }) bits).outcome → sum_by length (take taken (cuts_by_line settings bits)) ≡ 0
-no_cuts settings bits taken ok =
-    let are = each_empty (damaged_by_turn settings bits) (cut_by_turn settings bits) (λ s none.
-    front_empty (cut_by_turn settings bits s) _ (back_empty (repaired_by_turn settings bits s) _ none)) (turns_of settings bits)
-    (undamaged_turns settings bits ok) in
+no_cuts settings bits taken ok = let are = each_empty (damaged_by_turn settings bits) (cut_by_turn settings bits)
+    (λ s none. front_empty (cut_by_turn settings bits s) _ (back_empty (repaired_by_turn settings bits s) _ none))
+    (turns_of settings bits) (undamaged_turns settings bits ok) in
     omega (arith, sum_by-take-le length (cuts_by_line settings bits) taken, sum_empty (cuts_by_line settings bits) are)
 
 -- nor EOL that is missed
 pub no_misses : (settings : DecodeSettings) (bits : Bits) (taken : ℕ) → IsOk
     (plain (record settings { strict = true }) bits).outcome → sum_by length (take taken (misses_by_line settings bits)) ≡ 0
-no_misses settings bits taken ok =
-    let are = each_empty (damaged_by_turn settings bits) (missed_by_turn settings bits)
+no_misses settings bits taken ok = let are = each_empty (damaged_by_turn settings bits) (missed_by_turn settings bits)
     (λ s none. back_empty (cut_by_turn settings bits s) _ (back_empty (repaired_by_turn settings bits s) _ none))
     (turns_of settings bits) (undamaged_turns settings bits ok) in
     omega (arith, sum_by-take-le length (misses_by_line settings bits) taken, sum_empty (misses_by_line settings bits) are)
@@ -328,9 +309,8 @@ limited_strictly settings rows bits (IsLimitedPicture.of_t4_with_eols stream p) 
 
 pub closed_strict : (settings : DecodeSettings) (rows : List Row) (count : ℕ) (bits : Bits) → AreSettings settings → AreWholeBytes
     bits → IsClosedPicture settings rows count bits → IsOk (plain (record settings { strict = true }) bits).outcome
-closed_strict settings rows count bits are whole picture =
-    subst IsOk (sym (closed_pictures (record settings { strict = true }) rows count bits (strict_are settings are) whole
-    (closed_strictly settings rows count bits picture)).1) refl
+closed_strict settings rows count bits are whole picture = subst IsOk (sym (closed_pictures (record settings { strict = true })
+    rows count bits (strict_are settings are) whole (closed_strictly settings rows count bits picture)).1) refl
 
 pub limited_strict : (settings : DecodeSettings) (rows : List Row) (bits : Bits) → AreSettings settings → AreWholeBytes bits
     → IsLimitedPicture settings rows bits → IsOk (plain (record settings { strict = true }) bits).outcome

@@ -1,18 +1,15 @@
 -- A row has no more changes than its line found words, and a repaired one no more than one besides.
-use Rattle.fax_reading.proofs.Names.{common_steps, ◌≡◌, ℕ, zero, suc, ◌+◌, ◌-◌, ◌<◌, ◌≤◌, Bool, false, cond, leb, List, []}
-use Rattle.fax_reading.proofs.Names.{◌∷◌, ◌++◌, length, replicate, Result, Ok, Err, refl, ap, ◌∙◌, arith, append-nil, pos}
-use Rattle.fax_reading.proofs.Names.{◌+ℤ◌, length-append, Color, Mode, Pass, Horizontal, Vertical, DecodeError, UnexpectedEof}
-use Rattle.fax_reading.proofs.Names.{EncodingMode, Step, front_of, Bits, mode_codes, read_code}
-use Rattle.fax_reading.proofs.Names.{Line, Pen, Drawing, start, turn_behind, words_behind, unless_fault, mode_here, place_from}
-use Rattle.fax_reading.proofs.Names.{draw_run, draw_mode, draw_1d, draw_2d, line_1d, line_2d, found_1d, found_2d, line_found}
-use Rattle.fax_reading.proofs.Names.{◌>>=◌, line_by, Turn, repeated, gathered, Row, changes, opposite, b1, right_of, paint}
-use Rattle.fax_reading.proofs.Names.{repaired, white_row, run_from, word_found, run_found}
-use Rattle.fax_reading.proofs.{DrawingLines.CountedLines.words_run, DrawingLines.Drawings.try}
-use Rattle.fax_bits.proofs.CodeWords.RunWords.{one_word}
+use Rattle.fax_reading.proofs.Names.{common_steps, ◌≡◌, ℕ, zero, suc, ◌+◌, ◌-◌, ◌<◌, ◌≤◌, Bool, false, cond, leb, List, [], ◌∷◌}
+use Rattle.fax_reading.proofs.Names.{◌++◌, length, replicate, Result, Ok, Err, refl, ap, ◌∙◌, arith, append-nil, pos, ◌+ℤ◌, Color}
+use Rattle.fax_reading.proofs.Names.{length-append, Mode, Pass, Horizontal, Vertical, DecodeError, UnexpectedEof, EncodingMode}
+use Rattle.fax_reading.proofs.Names.{Step, front_of, Bits, mode_codes, read_code, Line, Pen, Drawing, start, turn_behind, draw_1d}
+use Rattle.fax_reading.proofs.Names.{words_behind, unless_fault, mode_here, place_from, draw_run, draw_mode, draw_2d, line_1d, b1}
+use Rattle.fax_reading.proofs.Names.{line_2d, found_1d, found_2d, line_found, ◌>>=◌, line_by, Turn, repeated, gathered, Row}
+use Rattle.fax_reading.proofs.Names.{changes, opposite, right_of, paint, repaired, white_row, run_from, word_found, run_found}
 use Rattle.fax_reading.proofs.PixelRows.ChangesAndPixels.{changes-recursive}
-use Rattle.fax_bits.proofs.CodeWords.ReadRuns.{chosen, run_shorter}
-use Rattle.fax_reading.proofs.CodeWords.WordsFound.{run_stands}
 use Rattle.fax_reading.proofs.PixelRows.RowChanges.{changes_from, changes_from-append, changes_from-same}
+use Rattle.fax_reading.proofs.{DrawingLines.CountedLines.words_run, DrawingLines.Drawings.try, CodeWords.WordsFound.run_stands}
+use Rattle.fax_bits.proofs.CodeWords.{RunWords.one_word, ReadRuns.chosen, ReadRuns.run_shorter}
 
 -- how many changes a row has
 abbrev count : Row → ℕ
@@ -23,8 +20,7 @@ one_at_most same place none is = grind arith
 
 -- painting adds one change at most
 count_painted : (front : Row) (n : ℕ) (color : Bool) → count (front ++ replicate n color) ≤ suc (count front)
-count_painted front n color =
-    grind (arith, append-nil, changes_from-append, length-append, one_at_most, changes_from-same)
+count_painted front n color = grind (arith, append-nil, changes_from-append, length-append, one_at_most, changes_from-same)
 
 count_paint : (strict : Bool) (columns : ℕ) (front : Row) (color : Color) (n : ℕ) (new : Row)
     → paint strict columns front color n ≡ Ok new → count new ≤ suc (count front)
@@ -90,10 +86,9 @@ behind_run_count strict columns n words (Turn.done line) few = omega (arith, few
 mode_count : (strict : Bool) (columns : ℕ) (reference : Row) (pen : Pen) (mode : Mode) → StepCount (count pen.front
     + suc (length (draw_mode strict columns reference pen mode).words)) (draw_mode strict columns reference pen mode).turn
 mode_count strict columns reference pen Pass = grind (arith, step_more, try_count, count_paint)
-mode_count strict columns reference pen Horizontal =
-    step_more (count pen.front + length (draw_mode strict columns reference pen Horizontal).words) _
-    (draw_mode strict columns reference pen Horizontal).turn (omega arith) (behind_run_count strict columns (count pen.front)
-    (draw_run strict columns pen).words (draw_run strict columns pen).turn (run_count strict columns pen))
+mode_count strict columns reference pen Horizontal = step_more (count pen.front + length (draw_mode strict columns reference pen
+    Horizontal).words) _ (draw_mode strict columns reference pen Horizontal).turn (omega arith) (behind_run_count strict columns
+    (count pen.front) (draw_run strict columns pen).words (draw_run strict columns pen).turn (run_count strict columns pen))
 mode_count strict columns reference pen (Vertical k) =
     let paints : ℕ → Step = λ place. try pen.front (paint strict columns pen.front pen.color (place - length pen.front))
     (λ front. Turn.next (record { front = front; color = opposite pen.color; rest = pen.rest })) in
@@ -145,21 +140,19 @@ pen_count step gives each (suc n) pen = grind (arith, pen_count step gives each 
 
 line_1d_count : (strict : Bool) (columns : ℕ) (here : Bits)
     → LineCount (length (found_1d strict columns here)) (line_1d strict columns here)
-line_1d_count strict columns here =
-    omega (
-      arith,
-      pen_count (λ pen. (draw_1d strict columns pen).turn) (λ pen. (draw_1d strict columns pen).words)
-          (step_1d_count strict columns) (suc (length here)) (start here),
-    )
+line_1d_count strict columns here = omega (
+  arith,
+  pen_count (λ pen. (draw_1d strict columns pen).turn) (λ pen. (draw_1d strict columns pen).words) (step_1d_count strict columns)
+      (suc (length here)) (start here),
+)
 
 line_2d_count : (strict : Bool) (columns : ℕ) (reference : Row) (here : Bits)
     → LineCount (length (found_2d strict columns reference here)) (line_2d strict columns reference here)
-line_2d_count strict columns reference here =
-    omega (
-      arith,
-      pen_count (λ pen. (draw_2d strict columns reference pen).turn) (λ pen. (draw_2d strict columns reference pen).words)
-          (step_2d_count strict columns reference) (suc (length here)) (start here),
-    )
+line_2d_count strict columns reference here = omega (
+  arith,
+  pen_count (λ pen. (draw_2d strict columns reference pen).turn) (λ pen. (draw_2d strict columns reference pen).words)
+      (step_2d_count strict columns reference) (suc (length here)) (start here),
+)
 
 -- the row of a line, or the front of a broken one, has no more changes than the line finds words
 pub changes_found : (encoding : EncodingMode) (strict : Bool) (columns : ℕ) (reference : Row) (here : Bits) → length (changes

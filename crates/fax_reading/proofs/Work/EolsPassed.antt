@@ -1,19 +1,16 @@
 -- The EOLs that are consumed before a line, and the bits that are examined ahead of it.
 use Rattle.fax_reading.proofs.Names.{common_steps, ◌<◌, ◌≡◌, ℕ, ◌+◌, ◌*◌, ◌≤◌, Bool, true, false, [], ◌∷◌, ◌++◌, length}
-use Rattle.fax_reading.proofs.Names.{replicate, drop, Option, Some, None, Result, Ok, Err, refl, sym, ap, ◌∙◌, arith, ◌⊎◌}
-use Rattle.fax_reading.proofs.Names.{inl, inr, false≢true, length-append, length-replicate, DecodeError, InvalidCode}
-use Rattle.fax_reading.proofs.Names.{EncodingMode, Group4, Group3_1D, Group3_2D, DecodeSettings, Bits, after_eol, next_eol}
-use Rattle.fax_reading.proofs.Names.{eols_with_tags, eols, is_over, misses_eol, Gap, at_end, limit_met, eols_by, eols_here}
-use Rattle.fax_reading.proofs.Names.{behind_eols, from_next_eol, gap_behind_row, gap_said, looked, looked_ahead, tag_tests, IfOk}
-use Rattle.fax_reading.proofs.Names.{OnErr}
-use Rattle.fax_reading.proofs.DamagedLines.PastEol.{eols_here-none}
-use Rattle.fax_bits.proofs.BitReading.ZeroRuns.{looked_eol}
-use Rattle.fax_bits.proofs.CodeWords.ReadRuns.{chosen}
-use Rattle.fax_reading.proofs.DamagedLines.LineTails.{zeros_of_eol}
-use Rattle.fax_reading.proofs.{Readings.RowsAndGaps.missed_sought, Readings.TurnsMoveOn.none_met}
+use Rattle.fax_reading.proofs.Names.{replicate, drop, Option, Some, None, Result, Ok, Err, refl, sym, ap, ◌∙◌, arith, ◌⊎◌, inl}
+use Rattle.fax_reading.proofs.Names.{inr, false≢true, length-append, length-replicate, DecodeError, InvalidCode, EncodingMode}
+use Rattle.fax_reading.proofs.Names.{Group4, Group3_1D, Group3_2D, DecodeSettings, Bits, after_eol, next_eol, eols_with_tags}
+use Rattle.fax_reading.proofs.Names.{eols, is_over, misses_eol, Gap, at_end, limit_met, eols_by, eols_here, behind_eols}
+use Rattle.fax_reading.proofs.Names.{from_next_eol, gap_behind_row, gap_said, looked, looked_ahead, tag_tests, IfOk, OnErr}
+use Rattle.fax_reading.proofs.Readings.RowsAndGaps.{missed_sought}
+use Rattle.fax_reading.proofs.Readings.TurnsMoveOn.{none_met, eols_here_counted, eols_here_some}
 use Rattle.fax_bits.proofs.BitReading.ConsecutiveEols.{length-one_more, count_shorter, count_past, counts_plain, counts_tagged}
 use Rattle.fax_bits.proofs.BitReading.ConsecutiveEols.{eols-some, last_tag_shorter, next_eol_found}
-use Rattle.fax_reading.proofs.Readings.TurnsMoveOn.{eols_here_counted, eols_here_some}
+use Rattle.fax_reading.proofs.DamagedLines.{PastEol.eols_here-none, LineTails.zeros_of_eol}
+use Rattle.fax_bits.proofs.{BitReading.ZeroRuns.looked_eol, CodeWords.ReadRuns.chosen}
 
 -- ---- An EOL here or further on
 
@@ -60,13 +57,12 @@ eols_here_past settings here after e = by_encoding settings.encoding settings.en
     by_encoding Group3_1D block = count_past counts_plain here after e
     by_encoding Group3_2D block =
         omega (arith, last_tag_shorter (eols_with_tags (length here) here), count_past counts_tagged here after e)
-    by_encoding Group4 true =
-        omega (
-          arith,
-          ap (λ (found : ℕ × Bits). length found.1) (eols-some 1 here after e),
-          length-one_more (eols 1 after),
-          count_shorter counts_plain 1 after,
-        )
+    by_encoding Group4 true = omega (
+      arith,
+      ap (λ (found : ℕ × Bits). length found.1) (eols-some 1 here after e),
+      length-one_more (eols 1 after),
+      count_shorter counts_plain 1 after,
+    )
     by_encoding Group4 false = count_past counts_plain here after e
 
 -- if none is counted, the offset doesn't change
@@ -83,15 +79,10 @@ over_no_line : (outcome : Result Bits DecodeError) (h : Bool) (rest : Bits)
 over_no_line outcome h rest e = cc
 
 -- a line follows EOLs neither at the limit nor at the end
-behind_line : (settings : DecodeSettings) (taken : ℕ) (h k : Bool) (found : ℕ × Bits) (rest : Bits)
-    → behind_eols settings taken h found ≡ Gap.line_at k rest
-    → (h ≡ k) × (found.1 ≡ rest) × (limit_met settings taken ≡ false) × (at_end found.1 ≡ false)
-behind_line settings taken h k (count, here) rest e =
-    elim (chosen (is_over settings taken (count, here)) _ _ _ e) [
-      | inl a ↦ absurd (over_no_line (Ok here) k rest a.1)
-      | inr a ↦
-          grind (arith, lines_same, none_met)
-    ]
+behind_line : (settings : DecodeSettings) (taken : ℕ) (h k : Bool) (found : ℕ × Bits) (rest : Bits) → behind_eols settings taken h
+    found ≡ Gap.line_at k rest → (h ≡ k) × (found.1 ≡ rest) × (limit_met settings taken ≡ false) × (at_end found.1 ≡ false)
+behind_line settings taken h k (count, here) rest e = elim (chosen (is_over settings taken (count, here)) _ _ _ e)
+    [ inl a ↦ absurd (over_no_line (Ok here) k rest a.1) | inr a ↦ grind (arith, lines_same, none_met) ]
 
 -- The line follows the EOLs here.
 record AfterEols (settings : DecodeSettings) (taken : ℕ) (h k : Bool) (here rest : Bits) : Type 0 where
@@ -119,14 +110,10 @@ record GivenUp (h k : Bool) (here rest : Bits) : Type 0 where
 line_behind : (settings : DecodeSettings) (taken : ℕ) (h k : Bool) (here rest : Bits) → gap_behind_row settings taken h here
     ≡ Gap.line_at k rest → AfterEols settings taken h k here rest ⊎ (AfterNextEol settings h k here rest ⊎ GivenUp h k here rest)
 line_behind settings taken h k here rest e = elim (chosen (misses_eol settings taken h here) _ _ _ e) [
-  | inl a ↦
-      let sought = missed_sought settings taken h here a.0 in
-      elim (chosen settings.strict _ _ _ a.1) [
-        | inl b ↦ absurd (over_no_line (Err InvalidCode) k rest b.1)
-        | inr b ↦ inr (by_next_eol sought (next_eol here) refl b.1)
-      ]
-  | inr a ↦
-      grind (arith, common_steps, behind_line settings taken h k (eols_here settings here) rest a.1)
+  | inl a ↦ let sought = missed_sought settings taken h here a.0 in
+      elim (chosen settings.strict _ _ _ a.1)
+      [ inl b ↦ absurd (over_no_line (Err InvalidCode) k rest b.1) | inr b ↦ inr (by_next_eol sought (next_eol here) refl b.1) ]
+  | inr a ↦ grind (arith, common_steps, behind_line settings taken h k (eols_here settings here) rest a.1)
 ]
   where
     by_next_eol : h ≡ true → (o : Option Bits) → next_eol here ≡ o → from_next_eol settings taken here o ≡ Gap.line_at k rest
@@ -140,15 +127,13 @@ pub line_past_eol : (settings : DecodeSettings) (taken : ℕ) (here rest : Bits)
     ≡ Gap.line_at true rest → (after : Bits) × EolWithin here after × (length rest ≤ length after)
 line_past_eol settings taken here rest e = elim (line_behind settings taken true true here rest e) [
   | inl is ↦ by_after_eol is (after_eol 0 here) refl
-  | inr (inl is) ↦
-      grind (arith, common_steps, next_eol_within here is.found is.next, eols_here_past settings is.found)
+  | inr (inl is) ↦ grind (arith, common_steps, next_eol_within here is.found is.next, eols_here_past settings is.found)
   | inr (inr is) ↦ absurd (false≢true (sym is.given_up))
 ]
   where
     by_after_eol : AfterEols settings taken true true here rest → (o : Option Bits) → after_eol 0 here ≡ o
         → (after : Bits) × EolWithin here after × (length rest ≤ length after)
-    by_after_eol is (Some after) f =
-        grind (arith, common_steps, eol_within here after f, eols_here_past settings here after f)
+    by_after_eol is (Some after) f = grind (arith, common_steps, eol_within here after f, eols_here_past settings here after f)
     by_after_eol is None f = grind (arith, common_steps, eols_here-none, false≢true)
 
 -- if EOLs are no longer sought, the line is here
@@ -177,9 +162,8 @@ line_without_eols settings taken k here rest e = (
 
 -- so none are sought after a gap, whatever it says
 pub unsought_after : (settings : DecodeSettings) (taken : ℕ) (before has_eols : Bool) (here rest : Bits)
-    (answer : Result Bool DecodeError) → before ≡ false
-    → gap_behind_row settings taken before here ≡ gap_said answer has_eols rest
-    → IfOk answer (λ over. over ≡ true → has_eols ≡ before) → OnErr answer (has_eols ≡ before) → has_eols ≡ false
+    (answer : Result Bool DecodeError) → before ≡ false → gap_behind_row settings taken before here ≡ gap_said answer has_eols
+    rest → IfOk answer (λ over. over ≡ true → has_eols ≡ before) → OnErr answer (has_eols ≡ before) → has_eols ≡ false
 unsought_after settings taken before has_eols here rest (Ok true) unsought said given_up same = given_up refl ∙ unsought
 unsought_after settings taken before has_eols here rest (Ok false) unsought said given_up same = (line_without_eols
     settings taken has_eols here rest (ap (λ (b : Bool). gap_behind_row settings taken b here) (sym unsought) ∙ said)).0
@@ -228,8 +212,7 @@ looked_to_eol here after eol = rw eol.place (by_fill eol.fill)
 -- found.
 pub sought_looks : (settings : DecodeSettings) (here found : Bits) → next_eol here ≡ Some found
     → looked here + looked found + 2 * length (eols_here settings found).1 ≤ length here + length found
-sought_looks settings here found next =
-    let eol = next_eol_within here found next in
+sought_looks settings here found next = let eol = next_eol_within here found next in
     omega (arith, (looked_to_eol here eol.0 eol.2).0, looked_eol 0 found eol.0 eol.1, eols_here_past settings found eol.0 eol.1)
 
 -- if an EOL is here or further on, no bit after it is examined ahead

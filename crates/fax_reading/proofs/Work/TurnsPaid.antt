@@ -1,9 +1,8 @@
 -- What a turn counts is paid by the bits that it consumes, or by ceasing to seek EOLs, which happens once.
 use Rattle.fax_reading.proofs.Names.{common_steps, ◌≡◌, ◌≢◌, ℕ, ◌+◌, ◌*◌, ◌<◌, ◌≤◌, Bool, true, false, not, ◌&&◌, cond, [], ◌∷◌}
-use Rattle.fax_reading.proofs.Names.{length, Result, Ok, Err, refl, ap, arith, false≢true, DecodeError}
-use Rattle.fax_reading.proofs.Names.{DecodeSettings, EncodingMode, Group4, Group3_1D, Group3_2D, Bits, Line, line_found, Gap}
-use Rattle.fax_reading.proofs.Names.{behind_row, gap_behind_row, line_by, line_here, row_of_line, Row, looked_ahead, IsPaidUpTo}
-use Rattle.fax_reading.proofs.Names.{found_here}
+use Rattle.fax_reading.proofs.Names.{length, Result, Ok, Err, refl, ap, arith, false≢true, DecodeError, DecodeSettings}
+use Rattle.fax_reading.proofs.Names.{EncodingMode, Group4, Group3_1D, Group3_2D, Bits, Line, line_found, Gap, behind_row}
+use Rattle.fax_reading.proofs.Names.{gap_behind_row, line_by, line_here, row_of_line, Row, looked_ahead, IsPaidUpTo, found_here}
 use Rattle.fax_reading.proofs.Readings.RowsAndGaps.{behind_with_eols}
 use Rattle.fax_reading.proofs.Work.EolsPassed.{length-within, line_past_eol, line_given_up, line_behind_shorter}
 use Rattle.fax_reading.proofs.Work.EolsPassed.{line_without_eols, looked_ahead_most, looked_ahead_to_eol}
@@ -71,14 +70,12 @@ turn_pays settings h taken reference here rest next row wide is gap = by_line_he
 
     by_line_here : (line : Line) → line_here settings reference here ≡ line → row_of_line settings h here line ≡ Ok (row, rest)
         → PaysLine settings.encoding here next found
-    by_line_here (Line.whole whole behind) e given =
-        let same : behind_row settings h behind ≡ rest = ap rest_of_row given in
+    by_line_here (Line.whole whole behind) e given = let same : behind_row settings h behind ≡ rest = ap rest_of_row given in
         further_pays settings.encoding here behind next found
         (whole_pays settings.encoding settings.strict settings.columns reference here whole behind wide e)
         (omega (arith, ap length same, behind_shorter settings h behind, line_behind_shorter settings taken h h rest next gap))
     by_line_here (Line.broken front fault) e given =
-        let stands : gap_behind_row settings taken true here ≡ Gap.line_at true next
-        = grind arith in
+        let stands : gap_behind_row settings taken true here ≡ Gap.line_at true next = grind arith in
         let (after, eol, behind) = line_past_eol settings taken here next stands in
         grind (arith, common_steps, found_before_eol, length-within, looked_ahead_to_eol)
 
@@ -121,21 +118,18 @@ module _ (settings : DecodeSettings) (wide : 0 < settings.columns) (begun bits g
     turn_goes_on taken k next last stored gap few kept given_up enough = by_k h k refl refl
       where
         same : (b : Bool) → h ≡ b → k ≡ b → IsPaidUpTo begun bits giving_up settings.encoding b last stored next
-        same b h_is k_is =
-            grind (arith, common_steps, turn_pays settings h taken reference here rest next row wide is, row_fits)
+        same b h_is k_is = grind (arith, common_steps, turn_pays settings h taken reference here rest next row wide is, row_fits)
 
         by_k : (a b : Bool) → h ≡ a → k ≡ b → IsPaidUpTo begun bits giving_up settings.encoding b last stored next
         by_k true true h_is k_is = same true h_is k_is
         by_k false false h_is k_is = same false h_is k_is
-        by_k true false h_is k_is =
-            grind (
-              arith,
-              common_steps,
-              row_fits,
-              found_fits,
-              looked_ahead_most settings.encoding here,
-              false≢true,
-              line_given_up settings taken rest next,
-            )
-        by_k false true h_is k_is =
-            grind (arith, common_steps, false≢true, line_without_eols settings taken true rest next)
+        by_k true false h_is k_is = grind (
+          arith,
+          common_steps,
+          row_fits,
+          found_fits,
+          looked_ahead_most settings.encoding here,
+          false≢true,
+          line_given_up settings taken rest next,
+        )
+        by_k false true h_is k_is = grind (arith, common_steps, false≢true, line_without_eols settings taken true rest next)

@@ -30,16 +30,15 @@ looked_word (false ∷ word) more e = omega (arith, looked_word word more e)
 -- an EOL at or after a line's start, its tag included, ends past each word
 pub stands_before_eol : (tag : Bool) (here : Bits) (found : List Bits) (rest fill after : Bits) → WordsStand here found rest
     → tag ∷ here ≡ fill ++ replicate 11 false ++ true ∷ after → length after < length rest
-stands_before_eol tag here found rest fill after stands e =
-    grind (
-      arith,
-      common_steps,
-      cases_lt (length after) (length rest),
-      length-append (joined found) rest,
-      length-append (fill ++ replicate 11 false) (true ∷ after),
-      prefix_of_prefix (fill ++ replicate 11 false) (true ∷ after) (tag ∷ joined found) rest,
-      no_eleven_in tag found stands.words,
-    )
+stands_before_eol tag here found rest fill after stands e = grind (
+  arith,
+  common_steps,
+  cases_lt (length after) (length rest),
+  length-append (joined found) rest,
+  length-append (fill ++ replicate 11 false) (true ∷ after),
+  prefix_of_prefix (fill ++ replicate 11 false) (true ∷ after) (tag ∷ joined found) rest,
+  no_eleven_in tag found stands.words,
+)
 
 -- ---- What a line pays.
 
@@ -65,15 +64,13 @@ whole_paid here line found end row rest stands ends took e = grind (arith, commo
 
 pub line_1d_paid : (strict : Bool) (columns : ℕ) (here : Bits) (row : Row) (rest : Bits) → 0 < columns
     → line_1d strict columns here ≡ Line.whole row rest → LineIsPaid here rest (found_1d strict columns here)
-line_1d_paid strict columns here row rest wide e =
-    let stands = line_1d_stands strict columns here in
-    whole_paid here (line_1d strict columns here) (found_1d strict columns here) stands.0 row rest stands.1 stands.2
-    (line_1d_took_bits strict columns here wide) e
+line_1d_paid strict columns here row rest wide e = let stands = line_1d_stands strict columns here in
+    whole_paid here (line_1d strict columns here)
+    (found_1d strict columns here) stands.0 row rest stands.1 stands.2 (line_1d_took_bits strict columns here wide) e
 
 pub line_2d_paid : (strict : Bool) (columns : ℕ) (reference : Row) (here : Bits) (row : Row) (rest : Bits) → 0 < columns
     → line_2d strict columns reference here ≡ Line.whole row rest → LineIsPaid here rest (found_2d strict columns reference here)
-line_2d_paid strict columns reference here row rest wide e =
-    let stands = line_2d_stands strict columns reference here in
+line_2d_paid strict columns reference here row rest wide e = let stands = line_2d_stands strict columns reference here in
     whole_paid here (line_2d strict columns reference here) (found_2d strict columns reference here) stands.0 row rest stands.1
     stands.2 (line_2d_took_bits strict columns reference here wide) e
 
@@ -81,17 +78,13 @@ line_2d_paid strict columns reference here row rest wide e =
 pub found_within : (encoding : EncodingMode) (strict : Bool) (columns : ℕ) (reference : Row) (here : Bits)
     → length (line_found encoding strict columns reference here) ≤ length here
 found_within Group3_2D strict columns reference [] = omega arith
-found_within Group3_2D strict columns reference (true ∷ here) =
-    let stands = line_1d_stands strict columns here in
+found_within Group3_2D strict columns reference (true ∷ here) = let stands = line_1d_stands strict columns here in
     omega (arith, stands_count here (found_1d strict columns here) stands.0 stands.1)
-found_within Group3_2D strict columns reference (false ∷ here) =
-    let stands = line_2d_stands strict columns reference here in
+found_within Group3_2D strict columns reference (false ∷ here) = let stands = line_2d_stands strict columns reference here in
     omega (arith, stands_count here (found_2d strict columns reference here) stands.0 stands.1)
-found_within Group3_1D strict columns reference here =
-    let stands = line_1d_stands strict columns here in
+found_within Group3_1D strict columns reference here = let stands = line_1d_stands strict columns here in
     omega (arith, stands_count here (found_1d strict columns here) stands.0 stands.1)
-found_within Group4 strict columns reference here =
-    let stands = line_2d_stands strict columns reference here in
+found_within Group4 strict columns reference here = let stands = line_2d_stands strict columns reference here in
     omega (arith, stands_count here (found_2d strict columns reference here) stands.0 stands.1)
 
 -- there is no EOL at the end of the data
@@ -118,13 +111,11 @@ found_before_eol Group3_2D strict columns reference (false ∷ here) fill after 
       stands_count here (found_2d strict columns reference here) stands.0 stands.1,
       stands_before_eol false here (found_2d strict columns reference here) stands.0 fill after stands.1 e,
     )
-found_before_eol Group3_1D strict columns reference here fill after e =
-    let stands = line_1d_stands strict columns here in
+found_before_eol Group3_1D strict columns reference here fill after e = let stands = line_1d_stands strict columns here in
     let before = stands_before_eol true here (found_1d strict columns here) stands.0 (true ∷ fill) after stands.1
     (ap (λ (x : Bits). true ∷ x) e) in
     omega (arith, stands_count here (found_1d strict columns here) stands.0 stands.1, before)
-found_before_eol Group4 strict columns reference here fill after e =
-    let stands = line_2d_stands strict columns reference here in
+found_before_eol Group4 strict columns reference here fill after e = let stands = line_2d_stands strict columns reference here in
     let before = stands_before_eol true here (found_2d strict columns reference here) stands.0 (true ∷ fill) after stands.1
     (ap (λ (x : Bits). true ∷ x) e) in
     omega (arith, stands_count here (found_2d strict columns reference here) stands.0 stands.1, before)

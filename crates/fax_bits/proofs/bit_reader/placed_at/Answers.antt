@@ -3,8 +3,7 @@ use Rattle.fax_bits.proofs.BitReading.WindowWords.{filled, filled_behind}
 use Rattle.fax_bits.proofs.bit_reader.placed_at.Goals as goal
 
 pub invariant_of-result : goal.invariant_of-result
-invariant_of-result c =
-    let order = c.args.order in
+invariant_of-result c = let order = c.args.order in
     let bytes = c.args.«data».now in
     let place = c.args.place in
     let word = c.word_at-ahead.result in

@@ -1,13 +1,9 @@
-use Rattle.fax_bits.proofs.Names.{eqb-true}
-use Rattle.fax_bits.proofs.Names.{◌≡◌, ◌-◌, ◌≤◌, arith, Bits, bits_in}
-use Rattle.fax_bits.proofs.BitReading.BitLists.{length-bits_in}
-use Rattle.fax_bits.proofs.BitReading.FilledWindows.{all_behind}
-use Rattle.fax_bits.proofs.BitReading.WindowWords.{filled}
+use Rattle.fax_bits.proofs.Names.{eqb-true, ◌≡◌, ◌-◌, ◌≤◌, arith, Bits, bits_in}
+use Rattle.fax_bits.proofs.BitReading.{BitLists.length-bits_in, FilledWindows.all_behind, WindowWords.filled}
 use Rattle.fax_bits.proofs.bit_reader.scanner_over.Goals as goal
 
 pub invariant_of-result : goal.invariant_of-result
-invariant_of-result c =
-    let order = c.args.order in
+invariant_of-result c = let order = c.args.order in
     let bytes = c.args.«data».now in
     let place = c.args.place in
     let word = c.args.word in

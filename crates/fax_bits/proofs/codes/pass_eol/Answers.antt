@@ -1,5 +1,4 @@
-use Rattle.fax_bits.proofs.Names.{cond-true, cond-false, ◌∙◌, arith, le-leb, lt-leb, drop_min}
-use Rattle.fax_bits.proofs.Names.{count_leading_zeros}
+use Rattle.fax_bits.proofs.Names.{cond-true, cond-false, ◌∙◌, arith, le-leb, lt-leb, drop_min, count_leading_zeros}
 use Rattle.fax_bits.proofs.BitReading.PlainEols.{word_says}
 use Rattle.fax_bits.proofs.codes.pass_eol.Goals as goal
 
@@ -14,8 +13,7 @@ returns-then-zeros-lt11-clause-ticks c =
     omega (arith, says.1, c.tick_times.ensures)
 
 pub returns-clause-eol : goal.returns-clause-eol
-returns-clause-eol c =
-    let at = c.args.reader.now in
+returns-clause-eol c = let at = c.args.reader.now in
     let n = count_leading_zeros 32 c.peek_u32.result in
     let says = word_says at c.peek_u32.result c.peek_u32.type_inv c.peek_u32.ensures c.if-zeros-ge32.false in
     grind (arith, drop_min, cond-true, le-leb)

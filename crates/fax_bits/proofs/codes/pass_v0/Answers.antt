@@ -5,8 +5,7 @@ use Rattle.fax_bits.proofs.CodeWords.LookedUpModes.{mode_stands, read_is_told, v
 use Rattle.fax_bits.proofs.codes.pass_v0.Goals as goal
 
 pub returns-clause-mode : goal.returns-clause-mode
-returns-clause-mode c =
-    let at = c.args.reader.now in
+returns-clause-mode c = let at = c.args.reader.now in
     let told = c.mode_of-mode.ensures.told ∙ ap mode_told (peeked_seven at c.peek_u32.result c.peek_u32.ensures) in
     let v0 : c.mode_of-mode.result.0 ≡ Some (Vertical (pos 0)) = c.if-not-is_v0.ensures.v0 refl in
     let there : 0 < length (here at) = v0_there (here at) (sym v0 ∙ ap (λ (t : Option Mode × ℕ). t.0) told) in
@@ -14,16 +13,14 @@ returns-clause-mode c =
     λ e. rw (v0, one) at (mode_stands at c.mode_of-mode.result told (omega (arith, there, one)))
 
 pub returns-clause-passed : goal.returns-clause-passed
-returns-clause-passed c =
-    let at = c.args.reader.now in
+returns-clause-passed c = let at = c.args.reader.now in
     let told = c.mode_of-mode.ensures.told ∙ ap mode_told (peeked_seven at c.peek_u32.result c.peek_u32.ensures) in
     let v0 : c.mode_of-mode.result.0 ≡ Some (Vertical (pos 0)) = c.if-not-is_v0.ensures.v0 refl in
     let there : 0 < length (here at) = v0_there (here at) (sym v0 ∙ ap (λ (t : Option Mode × ℕ). t.0) told) in
     grind (arith, min, length-drop)
 
 pub returns-then-not-is_v0-clause-other : goal.returns-then-not-is_v0-clause-other
-returns-then-not-is_v0-clause-other c = λ e rest read.
-    let at = c.args.reader.now in
+returns-then-not-is_v0-clause-other c = λ e rest read. let at = c.args.reader.now in
     let told = c.mode_of-mode.ensures.told ∙ ap mode_told (peeked_seven at c.peek_u32.result c.peek_u32.ensures) in
     c.if-not-is_v0.ensures.other refl
     (ap (λ (t : Option Mode × ℕ). t.0) told ∙ read_is_told (here at) rest (Vertical (pos 0)) read)

@@ -1,20 +1,16 @@
-use Rattle.fax_bits.proofs.Names.{◌≡◌, ◌≢◌, ◌+◌, ◌<◌, ◌≤◌, ◌∙◌, Err, refl, length, min, arith}
-use Rattle.fax_bits.proofs.Names.{err_from_is_err_and, DecodeError, UnexpectedEof, BitsAt, here, moved, codes_of, read_code}
-use Rattle.fax_bits.proofs.Names.{run_from, run_found, common_steps}
-use Rattle.fax_bits.proofs.CodeWords.WordsHere.{run_ends_by_one}
-use Rattle.fax_bits.proofs.CodeWords.ReadCodes.{read_code_missed}
-use Rattle.fax_bits.proofs.CodeWords.ReadRuns.{read_code_shorter, words_not_empty, run_fails, run_goes_on}
+use Rattle.fax_bits.proofs.Names.{◌≡◌, ◌≢◌, ◌+◌, ◌<◌, ◌≤◌, ◌∙◌, Err, refl, length, min, arith, err_from_is_err_and, DecodeError}
+use Rattle.fax_bits.proofs.Names.{UnexpectedEof, BitsAt, here, moved, codes_of, read_code, run_from, run_found, common_steps}
+use Rattle.fax_bits.proofs.CodeWords.ReadRuns.{read_code_shorter, words_not_empty, run_fails, run_goes_on, some_where}
 use Rattle.fax_bits.proofs.CodeWords.RunWords.{run_found_on, run_found_missed}
-use Rattle.fax_bits.proofs.CodeWords.ReadRuns.{some_where}
 use Rattle.fax_bits.proofs.bit_reader.BitReader.decode_words.Goals.{in-Some+else-is_whole}
 use Rattle.fax_bits.proofs.bit_reader.BitReader.decode_words.Goals.{in-None+in_ok-run-in-None+else-run-lt64}
+use Rattle.fax_bits.proofs.CodeWords.{WordsHere.run_ends_by_one, ReadCodes.read_code_missed}
 use Rattle.fax_bits.proofs.bit_reader.BitReader.decode_words.Goals as goal
 
 pub words-smaller : goal.words-smaller
 words-smaller c = elim c.match-read_two_words.branch [
   | in-Some+else-is_whole w ↦ rw (w.self-is) w.in-Some.ensures.shorter
-  | in-None+in_ok-run-in-None+else-run-lt64 w ↦
-      let old = here c.read_two_words.new.self in
+  | in-None+in_ok-run-in-None+else-run-lt64 w ↦ let old = here c.read_two_words.new.self in
       let shorter = read_code_shorter (codes_of c.args.color) old w.in_ok-run-in-None.run' (here w.decode_word.new.self)
       (words_not_empty c.args.color) w.in_ok-run-in-None.ensures.word in
       rw (w.self-is, ← w.in-None.ensures.left.0) shorter
@@ -22,18 +18,15 @@ words-smaller c = elim c.match-read_two_words.branch [
 
 pub words-preserved : goal.words-preserved
 words-preserved c = elim c.match-read_two_words.branch [
-  | in-Some+else-is_whole w ↦
-      grind arith
-  | in-None+in_ok-run-in-None+else-run-lt64 w ↦
-      grind (arith, some_where, run_found_on, run_goes_on)
+  | in-Some+else-is_whole w ↦ grind arith
+  | in-None+in_ok-run-in-None+else-run-lt64 w ↦ grind (arith, some_where, run_found_on, run_goes_on)
 ]
 
 pub returns-in_err-consume-clause-run : goal.returns-in_err-consume-clause-run
-returns-in_err-consume-clause-run c =
-    let at : BitsAt = c.words.self in
+returns-in_err-consume-clause-run c = let at : BitsAt = c.words.self in
     let missing : length at.bits < at.place + c.word_behind-last.result.1 = c.in_err-consume.ensures.end.0 refl in
-    let cut : read_code (codes_of c.args.color) (here (moved 0 at)) ≡ Err UnexpectedEof =
-    c.word_behind-last.ensures.cut (omega (arith, missing)) in
+    let cut : read_code (codes_of c.args.color)
+    (here (moved 0 at)) ≡ Err UnexpectedEof = c.word_behind-last.ensures.cut (omega (arith, missing)) in
     let none : at.place + 0 ≡ at.place = omega arith in
     grind (arith, err_from_is_err_and, run_fails)
 
@@ -52,8 +45,7 @@ returns-then-last-lt64-clause-run c =
     c.word_behind-last.result.1 word c.if-last-lt64.true (omega (arith, c.words.invariant, c.if-last-lt64.true)))
 
 pub returns-in_err-run-in-None-clause-ticks : goal.returns-in_err-run-in-None-clause-ticks
-returns-in_err-run-in-None-clause-ticks c =
-    let e : DecodeError = c.in_err-run-in-None.field-0.0 in
+returns-in_err-run-in-None-clause-ticks c = let e : DecodeError = c.in_err-run-in-None.field-0.0 in
     let left = c.in-None.ensures.left in
     let old = here c.words.self in
     let word : read_code (codes_of c.args.color) old ≡ Err e = rw (← left.0) c.in_err-run-in-None.ensures.word in
@@ -69,10 +61,8 @@ goes_on : (c : goal.After-decode_long_run) → (run_from c.args.color (0, here c
     + length (run_found c.args.color (c.match-read_two_words.total, here c.match-read_two_words.self))
     ≡ c.args.ticks.now + length (run_found c.args.color (0, here c.args.self.now)))
 goes_on c = elim c.match-read_two_words.branch [
-  | in-Some+else-is_whole w ↦
-      grind arith
-  | in-None+in_ok-run-in-None+else-run-lt64 w ↦
-      grind (arith, some_where, run_found_on, run_goes_on)
+  | in-Some+else-is_whole w ↦ grind arith
+  | in-None+in_ok-run-in-None+else-run-lt64 w ↦ grind (arith, some_where, run_found_on, run_goes_on)
 ]
 
 pub returns-then-total-gt40960-clause-run : goal.returns-then-total-gt40960-clause-run

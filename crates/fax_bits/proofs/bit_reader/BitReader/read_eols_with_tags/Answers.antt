@@ -4,8 +4,7 @@ use Rattle.fax_bits.proofs.BitReading.ConsecutiveEols.{after_eol_shorter, past_t
 use Rattle.fax_bits.proofs.bit_reader.BitReader.read_eols_with_tags.Goals as goal
 
 pub eols-preserved : goal.eols-preserved
-eols-preserved c =
-    let now = here c.eols.self in
+eols-preserved c = let now = here c.eols.self in
     let after = here c.read_eols.new.self in
     let some : 0 < c.read_eols.result = omega (arith, c.if-read_eols-eq0.false) in
     let read = one_eol_read now after c.read_eols.result c.read_eols.ensures.eols in

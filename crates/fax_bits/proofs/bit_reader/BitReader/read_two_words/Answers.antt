@@ -20,8 +20,7 @@ second : (c : goal.After-tick_times) → IsWordHere c.args.color (moved c.word_b
     c.word_behind-second.result.0 c.word_behind-second.result.1
 second c = c.word_behind-second.ensures.word c.if-second-eq4095.false (omega (arith, both_within c))
 
-fits : (c : goal.After-tick_times)
-    → c.args.total + c.word_behind-first.result.0 + c.word_behind-second.result.0 ≤ 4294967295
+fits : (c : goal.After-tick_times) → c.args.total + c.word_behind-first.result.0 + c.word_behind-second.result.0 ≤ 4294967295
 fits c = omega (arith, c.requires.below, c.word_behind-first.ensures.below, c.word_behind-second.ensures.below)
 
 long : (c : goal.After-tick_times) → 64 ≤ c.word_behind-first.result.0
@@ -37,14 +36,11 @@ returns-clause-last c = λ short.
     rw (moved_past_both c, c.tick_times.ensures) (ends.0, omega (arith, ends.1))
 
 pub returns-clause-on : goal.returns-clause-on
-returns-clause-on c = λ long_too.
-    rw (moved_past_both c, c.tick_times.ensures) (run_on_two c.args.color c.args.self.now c.args.total
-    c.word_behind-first.result.0
-    c.word_behind-first.result.1 c.word_behind-second.result.0 c.word_behind-second.result.1 (first c) (second c) (long c)
-    (fits c) c.args.ticks.now (not_below _ long_too))
+returns-clause-on c = λ long_too. rw (moved_past_both c, c.tick_times.ensures) (run_on_two c.args.color c.args.self.now
+    c.args.total c.word_behind-first.result.0 c.word_behind-first.result.1 c.word_behind-second.result.0
+    c.word_behind-second.result.1 (first c) (second c) (long c) (fits c) c.args.ticks.now (not_below _ long_too))
 
 pub returns-clause-shorter : goal.returns-clause-shorter
-returns-clause-shorter c =
-    rw (moved_past_both c) (shorter_behind_two c.args.color c.args.self.now c.args.total c.word_behind-first.result.0
-    c.word_behind-first.result.1 c.word_behind-second.result.0 c.word_behind-second.result.1 (first c) (second c) (long c)
-    (fits c))
+returns-clause-shorter c = rw (moved_past_both c)
+    (shorter_behind_two c.args.color c.args.self.now c.args.total c.word_behind-first.result.0 c.word_behind-first.result.1
+    c.word_behind-second.result.0 c.word_behind-second.result.1 (first c) (second c) (long c) (fits c))

@@ -1,13 +1,11 @@
-use Rattle.fax_bits.proofs.Names.{common_steps, arith}
-use Rattle.fax_bits.proofs.Names.{◌≡◌, ℕ, Option, Some, pos, refl, sym, ap, ◌∙◌, false≢true, Mode, Vertical, here, mode_codes}
-use Rattle.fax_bits.proofs.Names.{padded, mode_told, telling_bits}
+use Rattle.fax_bits.proofs.Names.{common_steps, arith, ◌≡◌, ℕ, Option, Some, pos, refl, sym, ap, ◌∙◌, false≢true, Mode, Vertical}
+use Rattle.fax_bits.proofs.Names.{here, mode_codes, padded, mode_told, telling_bits}
 use Rattle.fax_bits.proofs.BitReading.BitPlaces.{passed_on, bits_enough}
 use Rattle.fax_bits.proofs.CodeWords.LookedUpModes.{mode_is_read}
 use Rattle.fax_bits.proofs.bit_reader.BitScanner.pass_v0.Goals as goal
 
 pub returns-in-Ok-clause-mode : goal.returns-in-Ok-clause-mode
-returns-in-Ok-clause-mode c = λ e.
-    let at = c.args.self.now in
+returns-in-Ok-clause-mode c = λ e. let at = c.args.self.now in
     let bits = telling_bits mode_codes (padded 7 (here at)) in
     let told = c.mode_of-mode.ensures.told ∙ ap mode_told c.seven.ensures.bits in
     let v0 : c.mode_of-mode.result.0 ≡ Some (Vertical (pos 0)) = c.if-not-is_v0.ensures.v0 refl in

@@ -7,8 +7,7 @@ use Rattle.fax_bits.proofs.CodeWords.LookedUp.{some_bits_tell}
 use Rattle.fax_bits.proofs.bit_reader.BitScanner.read_word.Goals as goal
 
 pub returns-in_err-consume-clause-word : goal.returns-in_err-consume-clause-word
-returns-in_err-consume-clause-word c =
-    let color = c.args.color in
+returns-in_err-consume-clause-word c = let color = c.args.color in
     let at = c.args.self.now in
     let seen = padded (lookup_bits color) (here at) in
     let width = high_bits color seen c.entry_here-entry.result c.entry_here-entry.ensures in
@@ -17,8 +16,7 @@ returns-in_err-consume-clause-word c =
     grind (arith, err_from_is_err_and, looked_up_cut)
 
 pub returns-then-run-eq-LOOKUP_INVALID-clause-word : goal.returns-then-run-eq-LOOKUP_INVALID-clause-word
-returns-then-run-eq-LOOKUP_INVALID-clause-word c =
-    let color = c.args.color in
+returns-then-run-eq-LOOKUP_INVALID-clause-word c = let color = c.args.color in
     let at = c.args.self.now in
     let seen = padded (lookup_bits color) (here at) in
     let entry = c.entry_here-entry.result in
@@ -46,14 +44,13 @@ pub returns-then-run-lt64-clause-ticks : goal.returns-then-run-lt64-clause-ticks
 returns-then-run-lt64-clause-ticks c = search rules
 
 pub returns-clause-word : goal.returns-clause-word
-returns-clause-word c =
-    let color = c.args.color in
+returns-clause-word c = let color = c.args.color in
     let at = c.args.self.now in
     let seen = padded (lookup_bits color) (here at) in
     let entry = c.entry_here-entry.result in
     let width = high_bits color seen entry c.entry_here-entry.ensures in
-    let run : bit_and entry 4095 ≡ run_or_none (codes_of color) seen =
-    and_mask entry 12 ∙ low_twelve color seen entry c.entry_here-entry.ensures in
+    let run : bit_and entry 4095 ≡ run_or_none (codes_of color) seen = and_mask entry 12
+    ∙ low_twelve color seen entry c.entry_here-entry.ensures in
     let enough = bits_enough at c.from.result (telling_bits (codes_of color) seen) (c.from.ensures ∙ width)
     (λ lt. false≢true (c.in_ok-consume.ensures.end.1 lt)) in
     grind (arith, common_steps, passed_on, looked_up_found)

@@ -1,7 +1,5 @@
-use Rattle.fax_bits.proofs.Names.{common_steps}
-use Rattle.fax_bits.proofs.Names.{arith}
-use Rattle.fax_bits.proofs.BitReading.FilledWindows.{scanned}
-use Rattle.fax_bits.proofs.{BitReading.PeekedBits.first_index, CodeWords.LookedUp.few_bits}
+use Rattle.fax_bits.proofs.Names.{common_steps, arith}
+use Rattle.fax_bits.proofs.{BitReading.FilledWindows.scanned, BitReading.PeekedBits.first_index, CodeWords.LookedUp.few_bits}
 use Rattle.fax_bits.proofs.bit_reader.BitScanner.run_index.Goals as goal
 
 pub returns-clause-bits : goal.returns-clause-bits

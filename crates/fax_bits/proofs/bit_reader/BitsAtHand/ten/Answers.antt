@@ -1,6 +1,5 @@
 use Rattle.fax_bits.proofs.Names.{arith, common_steps}
-use Rattle.fax_bits.proofs.{BitReading.BitPlaces.bits_at, BitReading.PeekedBits.first_ten}
-use Rattle.fax_bits.proofs.BitReading.BitLists.{length-bits_in}
+use Rattle.fax_bits.proofs.BitReading.{BitPlaces.bits_at, PeekedBits.first_ten, BitLists.length-bits_in}
 use Rattle.fax_bits.proofs.bit_reader.BitsAtHand.ten.Goals as goal
 
 pub returns-clause-bits : goal.returns-clause-bits

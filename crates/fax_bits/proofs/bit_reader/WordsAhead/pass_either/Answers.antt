@@ -1,6 +1,5 @@
 use Rattle.fax_bits.proofs.Names.{arith}
-use Rattle.fax_bits.proofs.BitReading.BitLists.{length-bits_in}
-use Rattle.fax_bits.proofs.BitReading.PlacedBits.{placed_passed}
+use Rattle.fax_bits.proofs.BitReading.{BitLists.length-bits_in, PlacedBits.placed_passed}
 use Rattle.fax_bits.proofs.bit_reader.WordsAhead.pass_either.Goals as goal
 
 pub invariant_of-self : goal.invariant_of-self

@@ -1,5 +1,4 @@
-use Rattle.fax_bits.proofs.Names.{common_steps}
-use Rattle.fax_bits.proofs.Names.{arith, and_mask}
+use Rattle.fax_bits.proofs.Names.{common_steps, arith, and_mask}
 use Rattle.fax_bits.proofs.BitReading.GroupRows.{row_first_width, bits_for_each, few_in_part, four_words}
 use Rattle.fax_bits.proofs.mode_groups.ModeGroup.first_width.Goals as goal
 

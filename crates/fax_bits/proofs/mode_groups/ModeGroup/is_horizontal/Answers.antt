@@ -9,5 +9,4 @@ returns-clause-horizontal c = λ same. numbered_one (first_mode c.args.self)
 
 pub returns-clause-other : goal.returns-clause-other
 returns-clause-other c = λ same first. false≢true (sym same
-    ∙ sym (rw (← c.self.view_is) (first_horizontal c.self.inside.bits c.self.invariant))
-    ∙ ap (λ m. eqb (mode_number m) 1) first)
+    ∙ sym (rw (← c.self.view_is) (first_horizontal c.self.inside.bits c.self.invariant)) ∙ ap (λ m. eqb (mode_number m) 1) first)
