@@ -97,7 +97,8 @@ pub struct DecoderContext {
     tables: Tables,
     /// Whether the last line with many changes suits drawing by groups: it has few bits for each.
     suits_groups: bool,
-    /// Whether the last line that began in horizontal mode, below a row of one change or none, is likely to have no other mode.
+    /// Whether the last line that began in horizontal mode, below a row of one change or none, seemed to have no other mode. It
+    /// decides nothing but which code draws the next such line.
     is_filled_by_runs: bool,
     ticks: Ticks,
 }
@@ -1349,7 +1350,7 @@ impl DecoderContext {
         }
     }
 
-    /// Notes that plain calls draw another mode than a horizontal one.
+    /// Notes that plain calls draw a mode that isn't horizontal.
     #[inline(always)]
     fn note_other_mode(&mut self)
         ensures { self.new ≡ self.old }
