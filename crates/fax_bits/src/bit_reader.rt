@@ -733,10 +733,29 @@ impl<'a> BitsAtHand<'a> {
     }
 
     /// Fills the window with all bits that are left, if there are sixteen at least, and at most as many as it has room for;
-    /// otherwise nothing changes. This is a call, so that the loops that draw modes have their values in registers.
+    /// otherwise nothing changes.
+    #[inline(always)]
+    pub fn refill_with_last(&mut self) -> bool
+        ensures same { self.new.at ≡ self.old.at }
+        ensures enough { result ≡ true → 16 ≤ self.new.left }
+        ensures most { result ≡ true → self.new.left ≤ 64 }
+        ensures all { result ≡ true → self.new.at.place + self.new.left ≡ length self.new.at.bits }
+        ensures unchanged { result ≡ false → self.new ≡ self.old }
+    {
+        // A copy, so that this window's fields are values of the caller.
+        let mut last = self.copy();
+        if !last.take_last() {
+            return false;
+        }
+        *self = last;
+        true
+    }
+
+    /// Fills the window as `refill_with_last` does. This is a call, so that the loops that draw modes have their values in
+    /// registers.
     #[cold]
     #[inline(never)]
-    pub fn refill_with_last(&mut self) -> bool
+    fn take_last(&mut self) -> bool
         ensures same { self.new.at ≡ self.old.at }
         ensures enough { result ≡ true → 16 ≤ self.new.left }
         ensures most { result ≡ true → self.new.left ≤ 64 }

@@ -1334,10 +1334,11 @@ pub(crate) fn draw_modes(
         }
         if !can_go_on(hand, row) {
             if hand.left() < 16 && has_room_for_window(row) {
-                // A copy, so that the line's fields are values of this call.
+                // Copies, so that the fields of the line and of the window are values of this call.
                 let last = *line;
-                return draw_last_modes(
-                    hand,
+                let mut bits = hand.copy();
+                let end = draw_last_modes(
+                    &mut bits,
                     row,
                     &last,
                     reached.painted,
@@ -1345,6 +1346,8 @@ pub(crate) fn draw_modes(
                     reached.color,
                     ticks,
                 );
+                *hand = bits;
+                return end;
             }
             return reached;
         }

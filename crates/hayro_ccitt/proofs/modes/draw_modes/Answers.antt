@@ -1,6 +1,6 @@
 use Rattle.hayro_ccitt.proofs.Names.{common_steps}
 use Rattle.std.specs.Prelude.{vec_len}
-use Rattle.hayro_ccitt.proofs.Names.{◌∙◌, ◌≡◌, refl, ap, arith, length, BitsAt}
+use Rattle.hayro_ccitt.proofs.Names.{◌∙◌, ◌≡◌, refl, ap, arith, length, BitsAt, AtHand}
 use Rattle.hayro_ccitt.proofs.DrawingLines.UsualModes.{draws_on, same_place_drawn, same_row_drawn}
 use Rattle.hayro_ccitt.proofs.modes.draw_modes.Goals as goal
 
@@ -32,4 +32,5 @@ pub returns-then-has_room_for_window-clause-drawn : goal.returns-then-has_room_f
 returns-then-has_room_for_window-clause-drawn c =
     let made = c.can_go_on.ensures in
     let drawn = draws_on c.rooms.invariant.drawn refl refl c.draw_own_row-reached.ensures.drawn in
-    draws_on drawn made.same made.same_row c.draw_last_modes.ensures.drawn
+    let copied = ap (λ (h : AtHand). h.at) c.copy-bits.ensures in
+    draws_on drawn (copied ∙ made.same) made.same_row c.draw_last_modes-end.ensures.drawn

@@ -1,6 +1,6 @@
 use Rattle.fax_bits.proofs.Names.{arith}
 use Rattle.fax_bits.proofs.BitReading.BitLists.{length-bits_in}
-use Rattle.fax_bits.proofs.bit_reader.BitsAtHand.refill_with_last.Goals as goal
+use Rattle.fax_bits.proofs.bit_reader.BitsAtHand.take_last.Goals as goal
 
 pub returns-clause-all : goal.returns-clause-all
 returns-clause-all c = λ e.
