@@ -732,47 +732,6 @@ impl<'a> BitsAtHand<'a> {
         true
     }
 
-    /// Fills the window with all bits that are left, if there are sixteen at least, and at most as many as it has room for;
-    /// otherwise nothing changes.
-    #[inline(always)]
-    pub fn refill_with_last(&mut self) -> bool
-        ensures same { self.new.at ≡ self.old.at }
-        ensures enough { result ≡ true → 16 ≤ self.new.left }
-        ensures most { result ≡ true → self.new.left ≤ 64 }
-        ensures all { result ≡ true → self.new.at.place + self.new.left ≡ length self.new.at.bits }
-        ensures unchanged { result ≡ false → self.new ≡ self.old }
-    {
-        // A copy, so that this window's fields are values of the caller.
-        let mut last = self.copy();
-        if !last.take_last() {
-            return false;
-        }
-        *self = last;
-        true
-    }
-
-    /// Fills the window as `refill_with_last` does. This is a call, so that the loops that draw modes have their values in
-    /// registers.
-    #[cold]
-    #[inline(never)]
-    fn take_last(&mut self) -> bool
-        ensures same { self.new.at ≡ self.old.at }
-        ensures enough { result ≡ true → 16 ≤ self.new.left }
-        ensures most { result ≡ true → self.new.left ≤ 64 }
-        ensures all { result ≡ true → self.new.at.place + self.new.left ≡ length self.new.at.bits }
-        ensures unchanged { result ≡ false → self.new ≡ self.old }
-    {
-        let end = self.data.len() * 8;
-        let left = end - (self.limit - self.left);
-        if left < 16 || left > 64 {
-            return false;
-        }
-        self.window = last_bits(self.data, self.order, left);
-        self.limit = end;
-        self.left = left;
-        true
-    }
-
     /// Consumes `n` bits of the window.
     #[inline(always)]
     pub fn pass(&mut self, n: usize)

@@ -65,36 +65,23 @@ fn has_room_for_window(row: &Vec<u32>) -> bool
     row.len() + 64 <= row.capacity()
 }
 
-/// Fills the window, with the last bits of the data if no more are left, and makes room for its changes. Returns false if it
-/// can't be filled with sixteen bits at least, or there is no room.
+/// Fills the window if it has fewer than 32 bits; returns false if it can't be filled, or there is no room for its changes.
 #[inline(always)]
 pub(crate) fn has_mode(hand: &mut BitsAtHand<'_>, row: &mut Vec<u32>) -> bool
+    requires room { vec_len row.old + hand.old.left ≤ vec_capacity row.old }
     ensures same { hand.new.at ≡ hand.old.at }
     ensures same_row { row.new.items ≡ row.old.items }
-    ensures enough { result ≡ true → 16 ≤ hand.new.left }
+    ensures enough { result ≡ true → 32 ≤ hand.new.left }
     ensures room { result ≡ true → vec_len row.new + hand.new.left ≤ vec_capacity row.new }
     ensures space { vec_capacity row.new ≤ max (vec_capacity row.old) (room_for (vec_len row.old)) }
 {
-    if !hand.refill() && !hand.refill_with_last() {
+    if hand.left() >= 32 {
+        return true;
+    }
+    if !hand.refill() {
         return false;
     }
     has_room_for_window(row) || make_room(row)
-}
-
-/// Makes room for the changes of a window if there is none, or else fills a window that has fewer than 16 bits with the last bits
-/// of the data. Returns false if neither can be done, or need be.
-#[inline(always)]
-fn can_go_on(hand: &mut BitsAtHand<'_>, row: &mut Vec<u32>) -> bool
-    ensures same { hand.new.at ≡ hand.old.at }
-    ensures same_row { row.new.items ≡ row.old.items }
-    ensures room { result ≡ true → vec_len row.new + hand.new.left ≤ vec_capacity row.new }
-    ensures space { vec_capacity row.new ≤ max (vec_capacity row.old) (room_for (vec_len row.old)) }
-{
-    if has_room_for_window(row) {
-        return hand.left() < 16 && hand.refill_with_last();
-    }
-    // A window has at most 64 bits.
-    hand.left() <= 64 && make_room(row)
 }
 
 /// Fills the window if it has fewer than 16 bits; returns false if it can't be filled, or there is no room for its changes.
@@ -217,7 +204,7 @@ fn draw_v0_below(
 /// Returns whether the next two bits are ones: V0 twice.
 #[inline(always)]
 fn has_two_v0(hand: &BitsAtHand<'_>) -> bool
-    requires enough { 7 ≤ hand.now.left }
+    requires enough { 16 ≤ hand.now.left }
     ensures two { result ≡ true → (next : AtHand) → next.at ≡ moved 1 hand.now.at → next.left + 1 ≡ hand.now.left
         → IsNextMode (Mode.Vertical (pos 0)) 1 next }
 {
@@ -238,7 +225,7 @@ fn draw_v0(
     ticks: &mut Ticks,
 ) -> Stroke
     requires mode { IsNextMode (Mode.Vertical (pos 0)) 1 hand.old }
-    requires enough { 7 ≤ hand.old.left }
+    requires enough { 16 ≤ hand.old.left }
     requires can { CanDraw line.now stroke hand.old row.old }
     ensures drawn { DrawsMode line.now stroke hand.old row.old ticks.old result hand.new row.new ticks.new }
     ensures kept { KeepsRoom hand.old row.old hand.new row.new }
@@ -618,7 +605,7 @@ fn draw_vertical(
 ) -> Option<Stroke>
     requires mode { IsNextMode read.0 read.1 hand.old }
     requires v0 { read.0 ≡ Mode.Vertical (pos 0) → read.1 ≡ 1 }
-    requires enough { 7 ≤ hand.old.left }
+    requires enough { 16 ≤ hand.old.left }
     requires can { CanDraw line.now stroke hand.old row.old }
     ensures drawn { DrawsSome line.now stroke hand.old row.old ticks.old result hand.new row.new ticks.new }
     ensures kept { KeepsRoom hand.old row.old hand.new row.new }
@@ -1263,50 +1250,6 @@ fn draw_own_row(
     reached
 }
 
-/// Draws vertical modes one at a time, while they are of the usual kind and seven bits are in the window. Returns the stroke
-/// that is reached then. This is a call, for the last bits of the data; it is given the stroke's fields, so that they are
-/// values of the caller.
-#[cold]
-#[inline(never)]
-fn draw_last_modes(
-    hand: &mut BitsAtHand<'_>,
-    row: &mut Vec<u32>,
-    line: &CodingLine<'_>,
-    painted: u32,
-    index: usize,
-    color: Color,
-    ticks: &mut Ticks,
-) -> Stroke
-    requires can { CanDraw line.now (record { painted = painted; index = index; color = color }) hand.old row.old }
-    ensures drawn { Draws line.now (record { painted = painted; index = index; color = color }) hand.old row.old ticks.old
-        result hand.new row.new ticks.new }
-    ensures same_bits { hand.new.at.bits ≡ hand.old.at.bits }
-    ensures longer { vec_len row.old ≤ vec_len row.new }
-    ensures space { vec_capacity row.new ≡ vec_capacity row.old }
-{
-    let mut now = Stroke {
-        painted,
-        index,
-        color,
-    };
-    'modes: while hand.left() >= 7 {
-        let (mode, width) = mode_at_hand(hand);
-        let Some(mode) = mode else {
-            return now;
-        };
-        match draw_vertical(hand, row, line, now, (mode, width), ticks) {
-            None => return now,
-            Some(next) => {
-                if next.painted == line.columns {
-                    return next;
-                }
-                now = next;
-            }
-        }
-    }
-    now
-}
-
 /// Draws modes from a line's start on, while they are of the usual kind, and makes room as it is needed. Returns the stroke
 /// that is reached then.
 #[inline(always)]
@@ -1326,29 +1269,20 @@ pub(crate) fn draw_modes(
         index: 0,
         color: Color::White,
     };
-    // Each time the room doubles, or the last bits come into the window.
+    // Each time the room doubles.
     'rooms: for _ in 0..32 {
         let reached = draw_own_row(hand, row, line, now, ticks);
         if reached.painted == line.columns {
             return reached;
         }
-        if !can_go_on(hand, row) {
-            if hand.left() < 16 && has_room_for_window(row) {
-                // Copies, so that the fields of the line and of the window are values of this call.
-                let last = *line;
-                let mut bits = hand.copy();
-                let end = draw_last_modes(
-                    &mut bits,
-                    row,
-                    &last,
-                    reached.painted,
-                    reached.index,
-                    reached.color,
-                    ticks,
-                );
-                *hand = bits;
-                return end;
-            }
+        // A window has at most 64 bits.
+        if hand.left() > 64 {
+            return reached;
+        }
+        if has_room_for_window(row) {
+            return reached;
+        }
+        if !make_room(row) {
             return reached;
         }
         now = reached;

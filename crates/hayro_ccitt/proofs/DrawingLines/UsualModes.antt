@@ -47,11 +47,6 @@ pub same_row_drawn : {A : Type 0} {line : CodingLine} {a b : Stroke} {hand rest 
     → Draws line a hand row m b rest longer n → even.items ≡ longer.items → Draws line a hand row m b rest even n
 same_row_drawn drawn items = record { drawn = rw items drawn.drawn; reached = rw items drawn.reached }
 
--- and with other bits at hand of the same ones, which only a place tells apart
-pub same_place_drawn : {A : Type 0} {line : CodingLine} {a b : Stroke} {hand rest again : AtHand} {row longer : Vec ℕ A} {m n : ℕ}
-    → Draws line a hand row m b rest longer n → again.at ≡ rest.at → Draws line a hand row m b again longer n
-same_place_drawn drawn at = record { drawn = rw at drawn.drawn; reached = drawn.reached }
-
 -- what a mode draws, from its parts
 pub draws_mode : {A : Type 0} {line : CodingLine} {stroke next : Stroke} {hand rest : AtHand} {row longer : Vec ℕ A}
     {ticks now : ℕ} → GoesOn2d line.strict line.columns (row_in line.columns line.places.now) (pen_here stroke hand row)
