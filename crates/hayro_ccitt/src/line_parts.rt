@@ -1,7 +1,6 @@
 //! A line that is read a word at a time and not drawn: whether the data ends within it.
 
-ghost use Rattle.std.specs.Prelude.{◌≡◌, ◌≢◌, ◌≤◌, ◌<◌, ◌+◌, ◌*◌, ◌+ℤ◌, true, false, length, pos, IfSome, IfNone, Err};
-ghost use Rattle.std.specs.Prelude.{Ok, None, Some, [], suc, not};
+ghost use Rattle.std.specs.Prelude.{◌≡◌, ◌≢◌, ◌≤◌, ◌<◌, ◌+◌, ◌*◌, true, false, length, IfSome, IfNone, Err, None, [], not};
 ghost use Rattle.hayro_ccitt.specs.Bits.{Bits, here};
 ghost use Rattle.hayro_ccitt.specs.Context.{right_of_painted};
 ghost use Rattle.hayro_ccitt.specs.Continuations.{is_short};
@@ -9,7 +8,6 @@ ghost use Rattle.hayro_ccitt.specs.Faults.{misses_end};
 ghost use Rattle.hayro_ccitt.specs.LineParts.{ContinuesLine, GoesOnBy, IsAtRun, IsLawfulPart, IsPartOf, Leads, PaintsTo};
 ghost use Rattle.hayro_ccitt.specs.LineParts.{ReadsWord, WentOn, first_kept, is_missing, left_to_read, pen_of_part};
 ghost use Rattle.hayro_ccitt.specs.LineParts.{run_of_part};
-ghost use Rattle.hayro_ccitt.specs.Lines.{place_from};
 ghost use Rattle.hayro_ccitt.specs.LinesGoOn.{OpenRun, mode_added, word_added};
 ghost use Rattle.hayro_ccitt.specs.PlainReading.{line_here};
 ghost use Rattle.hayro_ccitt.specs.Rows.{Row, opposite, paint, too_many_pixels};
