@@ -32,6 +32,7 @@ KEPT = {
     "if let Strip::Rows(encoder) = self",
     "if self.lists.len() - self.end <= changes.len()",
     "if self.bitmap.len() < self.start + bytes",
+    "if self.bitmap.len() < self.start + self.bytes",
     "if self.rows == self.most",
     "if !bits_fit(encoded)",
     "if lacks_memory(&row)",

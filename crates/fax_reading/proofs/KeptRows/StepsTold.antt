@@ -209,9 +209,6 @@ told_by settings here line next after behind count group3 lenient alone next_is 
   tag = tag;
 }
 
-same_bits : (o : Option Bits) (one two : Bits) → o ≡ Some one → o ≡ Some two → one ≡ two
-same_bits o one two e f = cc
-
 -- the EOL behind the line is the next one
 pub step_next : (settings : DecodeSettings) (here line next other behind : Bits) → eols_here settings here ≡ (1, line)
     → next_eol line ≡ Some next → (told : TellsStep settings here other behind) → told.step.next ≡ next

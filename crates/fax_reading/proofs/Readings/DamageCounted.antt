@@ -1,5 +1,5 @@
 -- The damage that a run passes is counted: the rows that it repairs, those in which it cuts a run, and the EOLs that it misses.
-use Rattle.fax_reading.proofs.Names.{common_steps, ◌≡◌, ◌+◌, ◌-◌, ◌≤◌, ℕ, Bool, true, false, cond, not, ◌&&◌, ◌||◌, List, [], ◌∷◌}
+use Rattle.fax_reading.proofs.Names.{common_steps, ◌≡◌, ◌+◌, ◌-◌, ◌≤◌, ℕ, Bool, false, cond, not, ◌&&◌, List, [], ◌∷◌}
 use Rattle.fax_reading.proofs.Names.{◌++◌, length, Ok, Err, refl, sym, arith, cond-true, cond-false, eq-eqb, ne_eqb, le-leb, Bits}
 use Rattle.fax_reading.proofs.Names.{length-append, DecodeError, DecodeSettings, Held, Repairs, fresh, with_missed, Damaged, Line}
 use Rattle.fax_reading.proofs.Names.{repaired_in, missed_behind, cuts_run, cut_in, cut_since, cuts_with, repairs_with, Progress}
@@ -57,9 +57,6 @@ pub first_gap_left : (held last : Held) (here : Bits) → held ≡ fresh held.se
     → last ≡ record held { has_eols = last.has_eols; repairs = last.repairs } → last.repairs ≡ repairs_behind held here
     → last ≡ record (fresh held.settings) { has_eols = last.has_eols }
 first_gap_left held last here begins frame missed = grind (arith, common_steps)
-
-either : (x y : Bool) → x ≡ true → (x || y) ≡ true
-either x y e = grind arith
 
 -- the EOL behind one more row is counted, if it was missed and the row wasn't repaired
 pub missed_counts : (settings : DecodeSettings) (bits : Bits) (so_far : Progress) (line strict : Line) (row : Row) (rest : Bits)

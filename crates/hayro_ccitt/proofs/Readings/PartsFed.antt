@@ -25,6 +25,12 @@ pub none_kept : (part : Option KeptPart) (begun begun' : Bool) (stand stand' : S
 none_kept None begun begun' stand stand' held held' bits bits' read none kept = kept
 none_kept (Some part) begun begun' stand stand' held held' bits bits' read none kept = absurd cc
 
+-- no more bits were read than are kept
+pub read_within : (part : Option KeptPart) (begun : Bool) (stand : Stand) (held : Held) (bits : Bits) (read : ℕ)
+    → PartIsKept part begun stand held bits read → read ≤ length bits
+read_within None begun stand held bits read none = omega (arith, none)
+read_within (Some part) begun stand held bits read kept = kept.within
+
 -- before the first line none is
 pub unbegun_none : (part : Option KeptPart) (begun : Bool) (stand : Stand) (held : Held) (bits : Bits) (read : ℕ)
     → begun ≡ false → PartIsKept part begun stand held bits read → part ≡ None

@@ -1,19 +1,12 @@
 use Rattle.hayro_ccitt.proofs.Names.{common_steps}
 use Rattle.hayro_ccitt.proofs.Names.{◌≡◌, ◌∙◌, ◌+◌, ◌≤◌, ap, sym, arith, length, length-drop, drop}
 use Rattle.hayro_ccitt.proofs.Names.{false≢true, true}
-use Rattle.hayro_ccitt.proofs.Names.{bits_in, ℕ, Bool, Option, Held, BitsAt, Stand, Bits, None, Some}
-use Rattle.hayro_ccitt.specs.declared.line_parts.KeptPart.{KeptPart}
+use Rattle.hayro_ccitt.proofs.Names.{bits_in, BitsAt}
 use Rattle.hayro_ccitt.proofs.BitReading.BitLists.{length-bits_in}
-use Rattle.hayro_ccitt.proofs.Readings.PartsFed.{part_reached, scans_short, scans_whole, stays_by}
-use Rattle.hayro_ccitt.specs.RowFeeds.{Feeding, LineGoesOn, PartIsKept, feeding_of}
+use Rattle.hayro_ccitt.proofs.Readings.PartsFed.{part_reached, read_within, scans_short, scans_whole, stays_by}
+use Rattle.hayro_ccitt.specs.RowFeeds.{Feeding, LineGoesOn, feeding_of}
 use Rattle.hayro_ccitt.proofs.row_feed.RowFeed.stays_short_1d.Goals.{After-continue_1d_line-is_short, After-deref}
 use Rattle.hayro_ccitt.proofs.row_feed.RowFeed.stays_short_1d.Goals as goal
-
--- no more bits were read than are kept
-read_within : (part : Option KeptPart) (begun : Bool) (stand : Stand) (held : Held) (bits : Bits) (read : ℕ)
-    → PartIsKept part begun stand held bits read → read ≤ length bits
-read_within None begun stand held bits read none = omega (arith, none)
-read_within (Some part) begun stand held bits read kept = kept.within
 
 pub overflow_add-place : goal.overflow_add-place
 overflow_add-place c =
