@@ -7,7 +7,6 @@ pub mod EncodedBodies
 pub mod EolsAlike
 pub mod LineStarts
 pub mod LineTails
-pub mod LinesBeforeEol
 pub mod LinesByEols
 pub mod LinesPassed
 pub mod LocalByTests

@@ -1,20 +1,33 @@
 -- Lines before zeros: none is short.
-use Rattle.fax_reading.proofs.Names.{common_steps, ◌≡◌, ◌↔◌, ℕ, suc, ◌+◌, Bool, true, false, cond, List, [], ◌∷◌, ◌++◌, length}
-use Rattle.fax_reading.proofs.Names.{replicate, None, Result, Ok, Err, refl, sym, ap, subst, ◌∙◌, arith, inl, inr, ℤ, Color, Mode}
-use Rattle.fax_reading.proofs.Names.{Pass, Horizontal, Vertical, DecodeError, DecodeSettings, EncodingMode, Group4, Group3_1D}
-use Rattle.fax_reading.proofs.Names.{Group3_2D, UnexpectedEof, Overflow, Bits, Code, mode_codes, Has, is_prefix_free, read_code}
-use Rattle.fax_reading.proofs.Names.{IsWord, Turn, Row, opposite, paint, codes_of, run_turn, run_from, Line, Pen, Drawing, start}
-use Rattle.fax_reading.proofs.Names.{draw_1d, draw_2d, draw_mode, draw_run, go_on, mode_here, run_here, painted, place_from}
-use Rattle.fax_reading.proofs.Names.{unless_fault, unless_full, turn_behind, ◌>>=◌, line_by, line_here, line_1d, line_2d}
-use Rattle.fax_reading.proofs.Names.{LineIsSettled, LinesSettle, StaysAsRead, is_short, append_assoc, misses_end}
+use Rattle.fax_reading.proofs.Names.{DecodeSettings, is_prefix_free, UnexpectedEof, LineIsSettled, common_steps, EncodingMode, []}
+use Rattle.fax_reading.proofs.Names.{Line, Some, ◌≡◌, ◌↔◌, suc, ◌+◌, ◌∷◌, Err, sym, ◌∙◌, inl, inr, Has, Row, Pen, ◌≤◌, Ok, ap}
+use Rattle.fax_reading.proofs.Names.{length, Result, Group4, IsWord, Option, le-ltb, lt-ltb, false, subst, arith, Color, paint}
+use Rattle.fax_reading.proofs.Names.{mode_codes, place_from, misses_end, replicate, Group3_1D, Group3_2D, read_code, draw_mode, ℤ}
+use Rattle.fax_reading.proofs.Names.{mode_here, line_here, Vertical, Overflow, opposite, codes_of, run_turn, run_from, draw_run}
+use Rattle.fax_reading.proofs.Names.{run_here, is_short, cases_lt, Drawing, draw_1d, draw_2d, painted, line_by, line_1d, line_2d}
+use Rattle.fax_reading.proofs.Names.{start, go_on, ◌>>=◌, Bool, true, cond, List, ◌++◌, None, refl, Mode, Pass, Bits, Code, Turn}
+use Rattle.fax_reading.proofs.Names.{unless_fault, DecodeError, unless_full, turn_behind, LinesSettle, StaysAsRead, Horizontal, ℕ}
+use Rattle.fax_bits.proofs.BitReading.ZerosInWords.{scan-append, scan_below, scan_holds, word_quiet, codes_free, modes_free, scan}
+use Rattle.fax_bits.proofs.CodeWords.{ReadRuns.run_shrinks, ReadRuns.size, ReadCodes.read_code_found, CodeReadings.reads_codes}
+use Rattle.fax_bits.proofs.{Repetition.Repeated.repeated_induct, BitReading.ZerosInWords.quiet_is, ErrorKinds.not_missing_end}
 use Rattle.fax_bits.specs.CodeReading.{IsCut}
-use Rattle.fax_bits.proofs.BitReading.ZerosInWords.{scan, scan-append, scan_holds, quiet_is, word_quiet, codes_free, modes_free}
-use Rattle.fax_reading.proofs.Continuations.LinesContinued.{found_settled, line_settled, row_continues}
+use Rattle.fax_reading.proofs.Continuations.LinesContinued.{found_settled, row_continues, line_settled}
 use Rattle.fax_reading.proofs.Continuations.StrictLines.{strict_settled}
-use Rattle.fax_reading.proofs.DamagedLines.LinesBeforeEol.{scan_above, scan_stays}
-use Rattle.fax_reading.proofs.DrawingLines.ReadLines.{pen_left, step_1d_shrinks, step_2d_shrinks}
-use Rattle.fax_bits.proofs.{Repetition.Repeated.repeated_induct, ErrorKinds.not_missing_end, CodeWords.CodeReadings.reads_codes}
-use Rattle.fax_bits.proofs.{CodeWords.ReadCodes.read_code_found, CodeWords.ReadRuns.run_shrinks, CodeWords.ReadRuns.size}
+use Rattle.fax_reading.proofs.DrawingLines.ReadLines.{step_1d_shrinks, step_2d_shrinks, pen_left}
+
+-- zeros that some bits contain they contain with what follows them
+scan_stays : (n : ℕ) (a b : Bits) → scan n a ≡ None → scan n (a ++ b) ≡ None
+scan_stays n [] b e = absurd cc
+scan_stays n (true ∷ a) b e = scan_stays 0 a b e
+scan_stays n (false ∷ a) b e = grind (arith, common_steps, cases_lt, le-ltb, lt-ltb, scan_stays (suc n) a b)
+
+-- with more zeros before them the bits contain eleven zeros too
+scan_above : (m n : ℕ) (bits : Bits) → m ≤ n → scan m bits ≡ None → scan n bits ≡ None
+scan_above m n bits le e = by_scan (scan n bits) refl
+  where
+    by_scan : (o : Option ℕ) → scan n bits ≡ o → scan n bits ≡ None
+    by_scan None f = f
+    by_scan (Some k) f = absurd (let g = scan_below m n k bits le f in let h = g.1 in cc)
 
 -- eleven zeros are here, of which three may be before
 abbrev HasZeros : Bits → Type 0
@@ -150,41 +163,27 @@ module _ (strict : Bool) (columns : ℕ) where
       (λ pen p line e on left. on (subst (GoesOrEnds IsBeforeZeros) e (drew_2d_known reference pen left))) (suc (length here))
       (start here) (omega arith) zeros
 
--- some bits, and then two bytes of zeros
-zeros_there : (here : Bits) → HasZeros (here ++ replicate 16 false)
-zeros_there here = scan_holds 3 here (replicate 5 false) (omega arith)
-
--- No line is short that has two bytes of zeros behind it.
-pub zeros_end_line : (settings : DecodeSettings) (reference : Row) (here : Bits)
-    → is_short (line_here settings reference (here ++ replicate 16 false)) ≡ false
-zeros_end_line settings reference here = by_encoding settings.encoding here
+-- No line is short with eleven zeros among its bits.
+pub zeros_end_line : (settings : DecodeSettings) (reference : Row) (fill behind : Bits)
+    → is_short (line_here settings reference (fill ++ (replicate 11 false ++ behind))) ≡ false
+zeros_end_line settings reference fill behind = by_encoding settings.encoding fill
   where
-    by_encoding : (encoding : EncodingMode) (bits : Bits)
-        → is_short (line_by encoding settings.strict settings.columns reference (bits ++ replicate 16 false)) ≡ false
-    by_encoding Group3_1D bits = line_1d_known settings.strict settings.columns (bits ++ replicate 16 false) (zeros_there bits)
-    by_encoding Group3_2D [] = line_2d_known settings.strict settings.columns reference (replicate 15 false) refl
-    by_encoding Group3_2D (true ∷ bits) = grind (arith, common_steps, line_1d_known, zeros_there)
-    by_encoding Group3_2D (false ∷ bits) = grind (arith, common_steps, line_2d_known, zeros_there)
-    by_encoding Group4 bits = grind (arith, common_steps, line_2d_known, zeros_there)
+    zeros : (fill : Bits) → HasZeros (fill ++ (replicate 11 false ++ behind))
+    zeros fill = scan_holds 3 fill behind (omega arith)
 
--- No line is short with an EOL among its bits.
-pub eol_ends_line : (settings : DecodeSettings) (reference : Row) (fill behind : Bits)
-    → is_short (line_here settings reference (fill ++ replicate 11 false ++ true ∷ behind)) ≡ false
-eol_ends_line settings reference fill behind = by_encoding settings.encoding fill
-  where
-    by_encoding : (encoding : EncodingMode) (fill : Bits) → is_short (line_by encoding settings.strict settings.columns
-        reference (fill ++ replicate 11 false ++ true ∷ behind)) ≡ false
-    by_encoding Group3_1D fill = grind (arith, common_steps, line_1d_known, append_assoc, scan_holds)
-    by_encoding Group3_2D [] = grind (arith, common_steps, line_2d_known)
-    by_encoding Group3_2D (true ∷ fill) = grind (arith, common_steps, line_1d_known, append_assoc, scan_holds)
-    by_encoding Group3_2D (false ∷ fill) = grind (arith, common_steps, line_2d_known, append_assoc, scan_holds)
-    by_encoding Group4 fill = grind (arith, common_steps, line_2d_known, append_assoc, scan_holds)
+    by_encoding : (encoding : EncodingMode) (fill : Bits) → is_short
+        (line_by encoding settings.strict settings.columns reference (fill ++ (replicate 11 false ++ behind))) ≡ false
+    by_encoding Group3_1D fill = line_1d_known settings.strict settings.columns _ (zeros fill)
+    by_encoding Group3_2D [] = line_2d_known settings.strict settings.columns reference (replicate 10 false ++ behind) refl
+    by_encoding Group3_2D (true ∷ fill) = line_1d_known settings.strict settings.columns _ (zeros fill)
+    by_encoding Group3_2D (false ∷ fill) = line_2d_known settings.strict settings.columns reference _ (zeros fill)
+    by_encoding Group4 fill = line_2d_known settings.strict settings.columns reference _ (zeros fill)
 
 -- A line that is settled isn't short.
 pub settled_not_short : (settings : DecodeSettings) (reference : Row) (here : Bits) → LineIsSettled settings reference here
     → is_short (line_here settings reference here) ≡ false
 settled_not_short settings reference here settled = sym (grind (arith, common_steps))
-    ∙ sym (ap is_short (settled (replicate 16 false))) ∙ zeros_end_line settings reference here
+    ∙ sym (ap is_short (settled (replicate 16 false))) ∙ zeros_end_line settings reference here (replicate 5 false)
 
 -- Exactly the lines that aren't short are settled.
 pub line_settled_exactly : (settings : DecodeSettings) (reference : Row) (here : Bits)
@@ -198,4 +197,8 @@ line_stays settings reference here known = grind (arith, common_steps, line_sett
 
 -- the law
 pub lines_settle : LinesSettle
-lines_settle = record { exactly = line_settled_exactly; stays = line_stays; ends = zeros_end_line }
+lines_settle = record {
+  exactly = line_settled_exactly;
+  stays = line_stays;
+  ends = λ settings reference here. zeros_end_line settings reference here (replicate 5 false);
+}

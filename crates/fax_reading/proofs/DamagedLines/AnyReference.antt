@@ -1,20 +1,20 @@
 -- A two-dimensional line, read against any reference row: it ends behind one of its modes or is broken, so that the next
 -- EOL is the one behind it.
+use Rattle.fax_reading.proofs.Names.{EncodesLine2D, append_assoc, EncodingMode, common_steps, DecodeError, InvalidCode, read_code}
+use Rattle.fax_reading.proofs.Names.{after_eol, Vertical, Overflow, opposite, codes_of, run_from, read_run, line_2d, line_by, ◌≡◌}
+use Rattle.fax_reading.proofs.Names.{behind_mode, behind_read, Horizontal, mode_codes, ReadsModes, line_here, Group3_2D, cases_lt}
+use Rattle.fax_reading.proofs.Names.{length, Option, lt-ltb, le-ltb, lt-leb, Spells, false, subst, arith, Color, White, paint, []}
+use Rattle.fax_reading.proofs.Names.{replicate-append-replicate, behind_first_run, DecodeSettings, length-append, UnexpectedEof}
+use Rattle.fax_reading.proofs.Names.{start, Bool, true, ◌++◌, Some, None, refl, Mode, Pass, Bits, Turn, Line, Step, suc, ◌+◌, ◌-◌}
+use Rattle.fax_reading.proofs.Names.{◌≤◌, ◌∷◌, Err, sym, ◌∙◌, ◌⊎◌, inl, inr, Has, Row, Pen, Ok, ap, ℕ}
+use Rattle.fax_bits.proofs.BitReading.ZerosInWords.{quiet_is}
+use Rattle.fax_bits.proofs.BitReading.ZerosInWords.{scan-append, scan_below, word_quiet, codes_free, modes_free, is_quiet, scan}
+use Rattle.fax_bits.proofs.CodeWords.ReadRuns.{run_goes_on, run_passes, run_ends}
+use Rattle.fax_bits.proofs.{Repetition.Repeated.repeated_keeps, Repetition.Repeated.next_is, CodeWords.ReadCodes.read_code_again}
+use Rattle.fax_reading.proofs.DamagedLines.PastEol.{after_eol_is, past}
+use Rattle.fax_reading.proofs.DrawingLines.Drawings.{horizontal_is, step_2d_is, mode_step, run_then, step_2d, try}
+use Rattle.fax_reading.proofs.DrawingLines.ReadLines.{draw_mode_goes_on, unless_full_next, try_goes_on, try_next, full_by}
 use Rattle.fax_reading.proofs.PixelRows.ReferencePlaces.{opposite_twice}
-use Rattle.fax_reading.proofs.Names.{◌≡◌, ℕ, suc, ◌+◌, ◌-◌, ◌≤◌, Bool, true, false, [], ◌∷◌, ◌++◌, length, Option, Some, None, Ok}
-use Rattle.fax_reading.proofs.Names.{Err, refl, sym, ap, subst, ◌∙◌, append_assoc, arith, ◌⊎◌, inl, inr, cases_lt, lt-ltb, le-ltb}
-use Rattle.fax_reading.proofs.Names.{lt-leb, length-append, replicate-append-replicate, Color, White, Mode, Pass, Horizontal, Has}
-use Rattle.fax_reading.proofs.Names.{Vertical, DecodeError, UnexpectedEof, InvalidCode, Overflow, Bits, mode_codes, read_code}
-use Rattle.fax_reading.proofs.Names.{Turn, Row, opposite, paint, codes_of, run_from, read_run, Line, Pen, start, line_2d, line_by}
-use Rattle.fax_reading.proofs.Names.{line_here, EncodingMode, Group3_2D, DecodeSettings, Step, Spells, EncodesLine2D, after_eol}
-use Rattle.fax_reading.proofs.Names.{ReadsModes, behind_mode, behind_read, behind_first_run, common_steps}
-use Rattle.fax_bits.proofs.Repetition.Repeated.{repeated_keeps, next_is}
-use Rattle.fax_bits.proofs.BitReading.ZerosInWords.{scan, is_quiet, scan_below, scan-append, quiet_is, word_quiet, codes_free}
-use Rattle.fax_bits.proofs.BitReading.ZerosInWords.{modes_free}
-use Rattle.fax_reading.proofs.DrawingLines.Drawings.{try, run_then, mode_step, step_2d, step_2d_is, horizontal_is}
-use Rattle.fax_reading.proofs.DrawingLines.ReadLines.{try_next, unless_full_next, try_goes_on, draw_mode_goes_on, full_by}
-use Rattle.fax_reading.proofs.DamagedLines.{PastEol.past, LineTails.after_eol_is}
-use Rattle.fax_bits.proofs.CodeWords.{ReadCodes.read_code_again, ReadRuns.run_passes, ReadRuns.run_ends, ReadRuns.run_goes_on}
 
 -- ---- Words contain no EOL
 

@@ -1,13 +1,13 @@
 -- The tests of a local body, as they are made.
-use Rattle.fax_reading.proofs.Names.{◌≡◌, ◌≢◌, ℕ, zero, suc, ◌+◌, ◌-◌, ◌<◌, ◌≤◌, ◌⊎◌, Bool, true, false, eqb, ltb, leb, [], ◌∷◌}
-use Rattle.fax_reading.proofs.Names.{◌++◌, length, take, drop, replicate, Option, Some, None, Err, IsTrue, refl, sym, ap, subst}
-use Rattle.fax_reading.proofs.Names.{◌∙◌, arith, ◌↔◌, is_some, cases_lt, lt-ltb, le-leb, lt-leb, ltb-true, leb-true, eqb-true}
-use Rattle.fax_reading.proofs.Names.{eq-eqb, none-some, length-append, length-drop, take-append-drop, drop-drop, DecodeError, Row}
-use Rattle.fax_reading.proofs.Names.{OutOfMemory, DecodeSettings, Group3_1D, DrawsLine, line_from_1d, Bits, BitsAt, here, Held}
-use Rattle.fax_reading.proofs.Names.{leading_zeros, fresh, after_eol, next_eol, Line, line_1d, EndsBefore, IsLocal, common_steps}
+use Rattle.fax_reading.proofs.Names.{Group3_1D, DrawsLine, after_eol, ltb-true, leb-true, eqb-true, next_eol, is_some, line_1d, ℕ}
+use Rattle.fax_reading.proofs.Names.{IsLocal, length, Option, IsTrue, lt-ltb, le-leb, lt-leb, eq-eqb, BitsAt, false, subst, arith}
+use Rattle.fax_reading.proofs.Names.{fresh, zero, true, ◌++◌, take, drop, Some, None, refl, Line, Bits, Bool, Held, here, ◌≡◌, []}
+use Rattle.fax_reading.proofs.Names.{length-drop, DecodeError, OutOfMemory, EndsBefore, replicate, none-some, drop-drop, cases_lt}
+use Rattle.fax_reading.proofs.Names.{take-append-drop, DecodeSettings, length-append, leading_zeros, line_from_1d, common_steps}
+use Rattle.fax_reading.proofs.Names.{◌≢◌, suc, ◌+◌, ◌-◌, ◌<◌, ◌≤◌, ◌⊎◌, eqb, ltb, leb, ◌∷◌, Err, sym, ◌∙◌, ◌↔◌, Row, ap}
 use Rattle.fax_bits.proofs.BitReading.ConsecutiveEols.{next_eol_found}
-use Rattle.fax_reading.proofs.DamagedLines.PastEol.{past, past_is, then_after}
-use Rattle.fax_reading.proofs.DamagedLines.{LineStarts.not_some, LinesByEols.past_shorter, LocalByTests.local_by_tests}
+use Rattle.fax_reading.proofs.DamagedLines.PastEol.{past_shorter, then_after, past-front, past_is, past}
+use Rattle.fax_reading.proofs.DamagedLines.{LocalByTests.local_by_tests, LineStarts.not_some}
 
 -- ---- An EOL before a position.
 -- the EOL of the twelve bits before a position ends there
@@ -37,12 +37,6 @@ pub one_by_zeros : (m zeros : ℕ) (here : Bits) → m ≤ length here → zeros
 one_by_zeros m zeros here fits is = grind (arith, common_steps, cases_lt, lt-ltb, ltb-true, one_in_front, zeros_only)
 
 -- ---- An EOL in a body.
-past-front : (seen : ℕ) (front after more : Bits) → past seen front ≡ Some after
-    → past seen (front ++ more) ≡ Some (after ++ more)
-past-front seen [] after more e = absurd cc
-past-front seen (false ∷ front) after more e = past-front (suc seen) front after more e
-past-front seen (true ∷ front) after more e = grind (arith, past-front 0 front after more)
-
 past-behind : (seen : ℕ) (front after more : Bits) → past seen front ≡ None → past seen (front ++ more) ≡ Some after
     → length after < length more
 past-behind seen [] after more none e = past_shorter seen more after e

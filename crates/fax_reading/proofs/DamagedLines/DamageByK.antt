@@ -1,19 +1,19 @@
 -- Damage to a line of two-dimensional data ends at the next one-dimensional line.
-use Rattle.fax_reading.proofs.Names.{common_steps, ◌≡◌, ℕ, zero, suc, ◌-◌, ◌<◌, ◌≤◌, false, List, [], ◌∷◌, ◌++◌, length}
-use Rattle.fax_reading.proofs.Names.{take, drop, Some, None, Result, refl, sym, ap, subst, ◌∙◌, append_assoc, arith, ◌⊎◌, inl}
-use Rattle.fax_reading.proofs.Names.{inr, cases_lt, cases_eq, cond-true, eq-eqb, length-append, length-replicate, White}
-use Rattle.fax_reading.proofs.Names.{DecodeError, EncodingMode, Group3_2D, DecodeSettings, Bits, AreWholeBytes, AreSettings}
-use Rattle.fax_reading.proofs.Names.{Reaches, Row, EncodesLine2D, after_eol, one_more, pass_last_tag, tagged_eols, first_line}
-use Rattle.fax_reading.proofs.Names.{move_on, line_by, eols_by, line_here, eols_here, plain, IsEolAt, EndAlike, IsTaggedBody}
-use Rattle.fax_reading.proofs.Names.{ComesBefore1D, IsLine2D, ComeBefore1D, RowsDiffer, DamageEndsAt1D, LocalityByK}
-use Rattle.fax_reading.proofs.DamagedLines.AnyReference.{quiet_line, scan_past, modes_read, encoded_ends}
-use Rattle.fax_reading.proofs.DamagedLines.LineTails.{after_eol_is, past_before, line_past_by, is_tagged_tail, stays_2d}
-use Rattle.fax_bits.proofs.BitReading.ConsecutiveEols.{all_tagged-some, all_tagged-none, after_eol_shorter, next_eol_found}
-use Rattle.fax_reading.proofs.DamagedLines.RunsAlike.{RowsAlike, Settles, Unreferred, IsTail}
-use Rattle.fax_reading.proofs.DamagedLines.SoughtTurns.{sought, rest_of, found_next, eols_here_same}
-use Rattle.fax_reading.proofs.EncodedPictures.PicturesT4.{line_2d_after_tag}
-use Rattle.fax_reading.proofs.Readings.TurnsMoveOn.{eols_end}
-use Rattle.fax_reading.proofs.DamagedLines.{Damage.LinesDiffer, Damage.damage, PastEol.past, PastEol.past_is, PastEol.then_after}
+use Rattle.fax_reading.proofs.Names.{EncodesLine2D, pass_last_tag, ComesBefore1D, append_assoc, IsTaggedBody, ComeBefore1D, false}
+use Rattle.fax_reading.proofs.Names.{EncodingMode, DecodeError, AreSettings, tagged_eols, LocalityByK, first_line, RowsDiffer, []}
+use Rattle.fax_reading.proofs.Names.{EndAlike, IsLine2D, move_on, line_by, eols_by, IsEolAt, length, Result, eq-eqb, subst, arith}
+use Rattle.fax_reading.proofs.Names.{White, plain, zero, ◌++◌, take, drop, Some, None, refl, Bits, List, ◌≡◌, suc, ◌-◌, ◌<◌, ◌≤◌}
+use Rattle.fax_reading.proofs.Names.{cond-true, Group3_2D, after_eol, line_here, eols_here, cases_lt, cases_eq, one_more, Reaches}
+use Rattle.fax_reading.proofs.Names.{length-replicate, DecodeSettings, DamageEndsAt1D, length-append, AreWholeBytes, common_steps}
+use Rattle.fax_reading.proofs.Names.{◌∷◌, sym, ◌∙◌, ◌⊎◌, inl, inr, Row, ap, ℕ}
+use Rattle.fax_bits.proofs.BitReading.ConsecutiveEols.{after_eol_shorter, all_tagged-some, all_tagged-none, next_eol_found}
+use Rattle.fax_reading.proofs.DamagedLines.AnyReference.{encoded_ends, quiet_line, modes_read, scan_past}
+use Rattle.fax_reading.proofs.DamagedLines.LineTails.{line_past_by, past_before, line_in_2d, stays_2d}
+use Rattle.fax_reading.proofs.DamagedLines.PastEol.{after_eol_is, then_after, past_is, past}
+use Rattle.fax_reading.proofs.DamagedLines.RunsAlike.{LinesDiffer, Unreferred, RowsAlike, Settles}
+use Rattle.fax_reading.proofs.DamagedLines.SoughtTurns.{eols_here_same, found_next, rest_of, sought}
+use Rattle.fax_reading.proofs.{EncodedPictures.PicturesT4.line_2d_after_tag, DamagedLines.EolsAlike.IsLineIn}
+use Rattle.fax_reading.proofs.{Readings.TurnsMoveOn.eols_end, DamagedLines.Damage.damage}
 
 -- ---- The lines that follow
 
@@ -115,17 +115,14 @@ locality_by_k settings one are whole_one two from to to2 lines whole_two differ 
 
     lines_differ : LinesDiffer settings one two from body.closes.0 lines
     lines_differ = record {
-      group3 = inr differ.encoding;
-      lenient = differ.lenient;
+      line_one = line_in_2d settings one from to differ.encoding differ.lenient body;
+      line_two = subst (IsLineIn settings two (drop from two)) same_after
+          (line_in_2d settings two from to2 differ.encoding differ.lenient other);
       fits_one = omega (arith, body.one.1, body.one.2, body.within);
       fits_two = omega (arith, other.one.1, other.one.2, other.within);
       same = differ.before;
       starts = body.starts;
       sought_by = differ.sought;
-      tail_one = is_tagged_tail settings one from to body;
-      tail_two = subst (λ (a : Bits). IsTail settings a (drop from two)) same_after (is_tagged_tail settings two from to2 other);
-      few_one = λ e. body.tag;
-      few_two = λ e. other.tag;
       stays_one = λ rows reached. stays_2d settings one from to body rows reached;
       stays_two = λ rows reached. stays_2d settings two from to2 other rows reached ∙ ap Some same_after;
       settles = settles settings differ.encoding lines (drop to one) body.closes.0 differ.follow body.closes.1;

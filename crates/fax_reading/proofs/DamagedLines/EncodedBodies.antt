@@ -1,18 +1,17 @@
 -- The lines of an encoding with EOLs are bodies that damage may change.
-use Rattle.fax_reading.proofs.Names.{◌≡◌, ℕ, zero, suc, ◌+◌, ◌-◌, ◌<◌, ◌≤◌, Bool, true, false, List, [], ◌∷◌, ◌++◌, length, take}
-use Rattle.fax_reading.proofs.Names.{drop, replicate, Option, Some, None, refl, sym, ap, subst, ◌∙◌, append_assoc, arith, ◌⊎◌}
-use Rattle.fax_reading.proofs.Names.{inl, inr, cases_lt, lt-leb, le-leb, length-append, length-replicate, length-drop, append-nil}
-use Rattle.fax_reading.proofs.Names.{take-append-drop, drop-drop, All-head, All-tail, Color, White, Pass, Horizontal, Vertical}
-use Rattle.fax_reading.proofs.Names.{DecodeSettings, Group3_2D, IsWord, Line, IsEol, IsTagOfLine, IsTaggedBody, row_before, Row}
-use Rattle.fax_reading.proofs.Names.{EncodedLinesAreBodies, line_here, HaveWidth, opposite, Bits, after_eol, one_more, past_tag}
-use Rattle.fax_reading.proofs.Names.{Spells, EncodesLine1D, EncodesLine2D, EncodesLine, EncodesRowsWithEols, eol, common_steps}
-use Rattle.fax_bits.proofs.BitReading.ZerosInWords.{holds_a_one, word_one}
-use Rattle.fax_reading.proofs.DamagedLines.AnyReference.{Quiet, quiet_append, quiet_run, quiet_line, leaves_next, scan_past}
-use Rattle.fax_reading.proofs.DamagedLines.LineTails.{drop_front, drop_at, after_eol_is, after_eol_more, first_one, past_before}
-use Rattle.fax_reading.proofs.DamagedLines.PastEol.{past, past-eol}
-use Rattle.fax_bits.proofs.BitReading.ConsecutiveEols.{all_tagged, all_tagged-some, all_tagged-none, after_eol_shorter}
-use Rattle.fax_bits.proofs.BitReading.ConsecutiveEols.{past_tag_shorter}
-use Rattle.fax_reading.proofs.DrawingLines.LinesLeaveBits.{LeavesBits, leaves_trans}
+use Rattle.fax_reading.proofs.Names.{Bits, suc, ◌+◌, ◌-◌, ◌<◌, ◌≤◌, ◌∷◌, sym, ◌∙◌, ◌⊎◌, inl, inr, Row, eol, [], ap, ℕ}
+use Rattle.fax_reading.proofs.Names.{Color, White, IsEol, zero, Bool, true, List, ◌++◌, take, drop, Some, None, refl, Pass, Line}
+use Rattle.fax_reading.proofs.Names.{DecodeSettings, length-append, EncodesLine1D, EncodesLine2D, IsTaggedBody, common_steps, ◌≡◌}
+use Rattle.fax_reading.proofs.Names.{EncodedLinesAreBodies, EncodesRowsWithEols, length-replicate, take-append-drop, append_assoc}
+use Rattle.fax_reading.proofs.Names.{Vertical, opposite, one_more, past_tag, lt-leb, le-leb, IsWord, Spells, false, subst, arith}
+use Rattle.fax_reading.proofs.Names.{drop-drop, Group3_2D, line_here, HaveWidth, after_eol, cases_lt, All-head, All-tail, Option}
+use Rattle.fax_reading.proofs.Names.{length-drop, IsTagOfLine, EncodesLine, append-nil, Horizontal, row_before, replicate, length}
+use Rattle.fax_bits.proofs.BitReading.ConsecutiveEols.{after_eol_shorter, past_tag_shorter, all_tagged-some, all_tagged-none}
+use Rattle.fax_bits.proofs.BitReading.{ZerosInWords.holds_a_one, ZerosInWords.word_one, ConsecutiveEols.all_tagged}
+use Rattle.fax_reading.proofs.DamagedLines.AnyReference.{quiet_append, leaves_next, quiet_line, quiet_run, scan_past, Quiet}
+use Rattle.fax_reading.proofs.DamagedLines.LineTails.{after_eol_more, past_before, drop_front, first_one, drop_at}
+use Rattle.fax_reading.proofs.DamagedLines.PastEol.{after_eol_is, past-eol, past}
+use Rattle.fax_reading.proofs.DrawingLines.LinesLeaveBits.{leaves_trans, LeavesBits}
 use Rattle.fax_reading.proofs.EncodedPictures.{EncodedRuns.line_1d_again, PicturesT4.eol_stands}
 
 -- ---- Suffixes

@@ -1,241 +1,288 @@
--- EOLs of two data that are equal up to one position, where an EOL ends and none begins.
-use Rattle.fax_reading.proofs.Names.{◌≡◌, ℕ, zero, suc, ◌<◌, ◌≤◌, Bool, true, false, cond, leb, [], ◌∷◌, ◌++◌, length, replicate}
-use Rattle.fax_reading.proofs.Names.{Option, Some, None, refl, sym, ap, ◌∙◌, append_assoc, arith, ◌⊎◌, inl, inr, lt-leb}
-use Rattle.fax_reading.proofs.Names.{EncodingMode, Group4, Group3_1D, Group3_2D, Row, line_by, length-append, Bits, after_eol}
-use Rattle.fax_reading.proofs.Names.{all_eols, past_tag, pass_last_tag, common_steps}
-use Rattle.fax_bits.proofs.BitReading.ZerosInWords.{scan, scan_holds}
-use Rattle.fax_reading.proofs.DamagedLines.LinesBeforeEol.{Inside, LineAlike, line_1d_alike, line_2d_alike}
-use Rattle.fax_reading.proofs.DamagedLines.PastEol.{past}
-use Rattle.fax_bits.proofs.BitReading.ConsecutiveEols.{all_tagged, CountsEols, count_all-some, counts_plain, counts_tagged}
-use Rattle.fax_reading.proofs.DrawingLines.LinesLeaveBits.{LeavesBits, leaves_trans}
+-- Bits before a line of Group 3: EOLs and lines among them are the same whatever that line is.
+use Rattle.fax_reading.proofs.Names.{DecodeSettings, eols_with_tags, length-append, pass_last_tag, append_assoc, EncodingMode, []}
+use Rattle.fax_reading.proofs.Names.{common_steps, line_before, row_before, replicate, Group3_1D, Group3_2D, after_eol, eols_here}
+use Rattle.fax_reading.proofs.Names.{length, Option, lt-leb, Group4, at_end, row_of, false, arith, subst, zero, Bool, true, cond}
+use Rattle.fax_reading.proofs.Names.{limit_met, line_here, all_eols, past_tag, is_short, one_more, repaired, eols_by, move_on, ap}
+use Rattle.fax_reading.proofs.Names.{◌++◌, Some, None, refl, List, Bits, Line, eols, ◌≡◌, suc, ◌<◌, ◌≤◌, leb, ◌∷◌, sym, ◌∙◌, ◌⊎◌}
+use Rattle.fax_bits.proofs.BitReading.ConsecutiveEols.{after_eol_shorter, last_tag_shorter, all_tagged-some, length-one_more}
+use Rattle.fax_bits.proofs.BitReading.ConsecutiveEols.{count_past, count_same, eols-some}
+use Rattle.fax_bits.proofs.BitReading.ConsecutiveEols.{counts_tagged, count_shorter, counts_plain, all_tagged, CountsEols}
+use Rattle.fax_reading.proofs.Continuations.{LinesContinued.line_settled, ShortLines.zeros_end_line}
+use Rattle.fax_reading.proofs.DamagedLines.PastEol.{next_eol_leaves, after_eol_is, past_shorter, past-front, past}
+use Rattle.fax_reading.proofs.DamagedLines.SoughtTurns.{eols_here_same, not_past_end, move_sought, found_next, row_past, rest_of}
+use Rattle.fax_reading.proofs.DrawingLines.LinesLeaveBits.{line_by_leaves, leaves_trans, LeavesBits, LineLeaves}
+use Rattle.fax_reading.proofs.GapsContinued.ContinuedEols.{count_then_more, after_eol-more, then_more}
+use Rattle.fax_reading.proofs.{KeptRows.TurnsLeave.eols_leave_bits, Names.inl, Names.inr, Names.Row, Names.ℕ}
+use Rattle.fax_reading.proofs.{Readings.RowsAndGaps.unless_over, Readings.RowsAndGaps.after_row, DamagedLines.SoughtTurns.sought}
+use Rattle.fax_reading.specs.GapsContinued.{holds_one}
 
--- bits that end with the zeros of an EOL
+-- bits before a line: none, or they end with a one behind at least so many zeros
+abbrev pub Ends : ℕ → Bits → Type 0
+Ends n bits = (bits ≡ []) ⊎ ((first : Bits) × (bits ≡ first ++ (replicate n false ++ true ∷ [])))
+
+-- bits that end with an EOL
 abbrev pub Closes : Bits → Type 0
-Closes bits = (first : Bits) × (bits ≡ first ++ replicate 11 false)
+Closes bits = (first : Bits) × (bits ≡ first ++ (replicate 11 false ++ true ∷ []))
 
--- no zeros contain a one
-pub no_one_in_zeros : (n : ℕ) (before after : Bits) → before ++ true ∷ after ≡ replicate n false → ⊥
-no_one_in_zeros zero [] after e = absurd cc
-no_one_in_zeros zero (b ∷ before) after e = absurd cc
-no_one_in_zeros (suc n) [] after e = absurd cc
-no_one_in_zeros (suc n) (b ∷ before) after e = grind (arith, no_one_in_zeros n before after)
+last_one : (n : ℕ) (before after : Bits) → replicate n false ++ true ∷ [] ≡ before ++ true ∷ after → after ≡ []
+last_one zero [] after e = cc
+last_one zero (b ∷ before) after e = absurd (omega (arith, ap length e, length-append before (true ∷ after)))
+last_one (suc n) [] after e = absurd cc
+last_one (suc n) (b ∷ before) after e = grind (arith, last_one n before after)
 
--- what follows a one in them ends with these zeros too
-pub closes_after : (before after first : Bits) → before ++ true ∷ after ≡ first ++ replicate 11 false → Closes after
-closes_after [] after [] e = absurd cc
-closes_after [] after (b ∷ first) e = (first, cc)
-closes_after (b ∷ before) after [] e = absurd (no_one_in_zeros 11 (b ∷ before) after e)
-closes_after (b ∷ before) after (c ∷ first) e = grind (arith, closes_after before after first)
+ends_after : (n : ℕ) (first before after : Bits) → first ++ (replicate n false ++ true ∷ []) ≡ before ++ true ∷ after
+    → Ends n after
+ends_after n [] before after e = inl (last_one n before after e)
+ends_after n (b ∷ first) [] after e = inr (first, cc)
+ends_after n (b ∷ first) (c ∷ before) after e = grind (arith, ends_after n first before after)
 
--- what ends with eleven zeros contains them
-pub closes_inside : (bits : Bits) → Closes bits → Inside bits
-closes_inside bits closes =
-    record { holds = ap (scan 3) closes.1 ∙ scan_holds 3 closes.0 [] (omega arith); last = ([], closes.0, closes.1) }
+-- behind a one they end so too
+pub still_ends : (n : ℕ) (bits before after : Bits) → Ends n bits → bits ≡ before ++ true ∷ after → Ends n after
+still_ends n bits before after (inl none) e =
+    absurd (omega (arith, ap length (sym none ∙ e), length-append before (true ∷ after)))
+still_ends n bits before after (inr (first, is)) e = ends_after n first before after (sym is ∙ e)
 
--- what follows a one within them ends in them too
-pub inside_after : (bits before after : Bits) → Inside bits → bits ≡ before ++ true ∷ after → Closes after
-inside_after bits before after inside e = closes_after (inside.last.0 ++ before) after inside.last.1
-    (append_assoc inside.last.0 before (true ∷ after) ∙ ap (λ (x : Bits). inside.last.0 ++ x) (sym e) ∙ inside.last.2)
+-- the last of them end with a one
+pub ends_last : (before left first : Bits) → before ++ left ≡ first ++ true ∷ [] → Ends 0 left
+ends_last [] left first e = inr (first, e)
+ends_last (b ∷ before) [] first e = inl refl
+ends_last (b ∷ before) (c ∷ left) [] e = absurd (omega (arith, ap length e, length-append before (c ∷ left)))
+ends_last (b ∷ before) (c ∷ left) (d ∷ first) e = grind (arith, ends_last before (c ∷ left) first)
 
--- what follows a one is a suffix
-pub leaves_after : (bits before after : Bits) → bits ≡ before ++ true ∷ after → LeavesBits bits after
-leaves_after bits before after e = (before ++ true ∷ [], e ∙ sym (append_assoc before (true ∷ []) after))
+one_among : (before after : Bits) → holds_one (before ++ true ∷ after) ≡ true
+one_among [] after = refl
+one_among (true ∷ before) after = refl
+one_among (false ∷ before) after = one_among before after
 
 -- a suffix isn't longer
 pub leaves_length : (bits rest : Bits) → LeavesBits bits rest → length rest ≤ length bits
 leaves_length bits rest leaves = omega (arith, ap length leaves.1, length-append leaves.0 rest)
 
--- what follows a one is shorter
-pub after_shorter : (bits before after : Bits) → bits ≡ before ++ true ∷ after → length after < length bits
-after_shorter bits before after e = omega (arith, ap length e, length-append before (true ∷ after))
-
 -- the tag after fewer than six EOLs stays
 pub last_tag_few : (count : ℕ) (here : Bits) → count < 6 → pass_last_tag (count, here) ≡ (count, here)
 last_tag_few count here few = grind (arith, lt-leb)
 
--- behind the first of bits that end with the zeros of an EOL there are enough zeros left
-pub closes_tail : (tag : Bool) (bits : Bits) → Closes (tag ∷ bits) → Inside bits
-closes_tail tag bits ([], e) = let ten : bits ≡ replicate 10 false = cc in
-    record { holds = ap (scan 3) ten; last = (tag ∷ [], [], e) }
-closes_tail tag bits (b ∷ first, e) = closes_inside bits (first, cc)
+-- where no EOL ends among them, the next one is the next from the line on
+pub past_last : (seen : ℕ) (first z : Bits) → past seen (first ++ true ∷ []) ≡ None → past seen (first ++ true ∷ z) ≡ past 0 z
+past_last seen [] z e = grind (arith, common_steps)
+past_last seen (false ∷ first) z e = past_last (suc seen) first z e
+past_last seen (true ∷ first) z e = grind (arith, common_steps, past_last 0 first z)
 
--- a line that begins before an EOL among the equal bits
-pub line_alike : (encoding : EncodingMode) (columns : ℕ) (reference : Row) (u v bits : Bits) → Closes bits
-    → LineAlike u v (line_by encoding false columns reference (bits ++ u)) (line_by encoding false columns reference (bits ++ v))
-line_alike Group3_1D columns reference u v bits closes =
-    line_1d_alike u v columns _ _ (bits, closes_inside bits closes, refl, refl)
-line_alike Group3_2D columns reference u v [] closes = absurd (let e = closes.1 in omega
-    (arith, ap length e, length-append closes.0 (replicate 11 false)))
-line_alike Group3_2D columns reference u v (true ∷ bits) closes =
-    line_1d_alike u v columns _ _ (bits, closes_tail true bits closes, refl, refl)
-line_alike Group3_2D columns reference u v (false ∷ bits) closes =
-    line_2d_alike u v columns reference _ _ (bits, closes_tail false bits closes, refl, refl)
-line_alike Group4 columns reference u v bits closes =
-    line_2d_alike u v columns reference _ _ (bits, closes_inside bits closes, refl, refl)
+pub past_ends : (left z : Bits) → Ends 0 left → past 0 left ≡ None → past 0 (left ++ z) ≡ past 0 z
+past_ends left z (inl none) e = rw none refl
+past_ends left z (inr (first, is)) e = ap (λ (b : Bits). past 0 (b ++ z)) is ∙ ap (past 0) (append_assoc first (true ∷ []) z)
+    ∙ past_last 0 first z (ap (past 0) (sym is) ∙ e)
 
-module _ (x y : Bits) where
-  -- what follows an EOL: within the equal bits; or just past them; or there is none
-  abbrev pub EolAlike : Bits → Option Bits → Option Bits → Type 0
-  EolAlike bits o p = ((before after : Bits) × (bits ≡ before ++ true ∷ after) × (o ≡ Some (after ++ true ∷ x))
-      × (p ≡ Some (after ++ true ∷ y))) ⊎ (((o ≡ Some x) × (p ≡ Some y)) ⊎ ((o ≡ None) × (p ≡ None)))
+-- ---- EOLs, where none begins at the line
 
-  -- an EOL before the one in the one data is there in the other
-  pub after_eol_alike : (seen : ℕ) (bits : Bits)
-      → EolAlike bits (after_eol seen (bits ++ true ∷ x)) (after_eol seen (bits ++ true ∷ y))
-  after_eol_alike seen [] = grind (arith, common_steps)
-  after_eol_alike seen (false ∷ bits) = elim (after_eol_alike (suc seen) bits)
-      [ inl a ↦ inl (false ∷ a.0, a.1, ap (λ (z : Bits). false ∷ z) a.2, a.3, a.4) | inr a ↦ inr a ]
-  after_eol_alike seen (true ∷ bits) = either_way (leb 11 seen)
+module _ (n : ℕ) (z : Bits) (none : after_eol 0 z ≡ None) where
+  eol_kept : (here : Bits) → Ends n here → after_eol 0 (here ++ z) ≡ then_more z (after_eol 0 here)
+  eol_kept here (inl is) = rw is none
+  eol_kept here (inr (first, is)) = after_eol-more z 0 here
+      (ap holds_one (is ∙ sym (append_assoc first (replicate n false) (true ∷ []))) ∙ one_among (first ++ replicate n false) [])
+
+  -- what is counted is counted among the bits before it, and they end so behind that
+  abbrev Kept : ℕ × Bits → ℕ × Bits → Type 0
+  Kept found whole = (whole ≡ count_then_more z found) × Ends n found.1
+
+  one_more_kept : (found : ℕ × Bits) → Ends n found.1 → Kept (one_more found) (one_more (count_then_more z found))
+  one_more_kept (count, rest) ends = (refl, ends)
+
+  module _ {pass : Bits → Bits} {count : ℕ → Bits → ℕ × Bits} (counts : CountsEols pass count)
+      (passes : (here : Bits) → Ends n here → (pass (here ++ z) ≡ pass here ++ z) × Ends n (pass here)) where
+    count_kept : (most : ℕ) (here : Bits) → Ends n here → Kept (count most here) (count most (here ++ z))
+    count_kept zero here ends = rw (counts.start here, counts.start (here ++ z)) (refl, ends)
+    count_kept (suc most) here ends = by_after_eol (λ rest behind. count_kept most rest behind) (after_eol 0 here) refl
+      where
+        by_after_eol : ((rest : Bits) → Ends n rest → Kept (count most rest) (count most (rest ++ z))) → (o : Option Bits)
+            → after_eol 0 here ≡ o → Kept (count (suc most) here) (count (suc most) (here ++ z))
+        by_after_eol on None e =
+            rw (counts.none (suc most) here e, counts.none (suc most) (here ++ z) (eol_kept here ends ∙ ap (then_more z) e))
+            (refl, ends)
+        by_after_eol on (Some rest) e = let is = after_eol_is 0 here rest e in
+            let behind = passes rest (still_ends n here (replicate is.0 false) rest ends is.1) in
+            let more = on (pass rest) behind.1 in
+            rw (
+              counts.some most here rest e,
+              counts.some most (here ++ z) (rest ++ z) (eol_kept here ends ∙ ap (then_more z) e),
+              behind.0,
+              more.0,
+            ) (one_more_kept (count most (pass rest)) more.1)
+
+    all_kept : (here : Bits) → Ends n here → Kept (count (length here) here) (count (length (here ++ z)) (here ++ z))
+    all_kept here ends = subst (λ (found : ℕ × Bits). Kept found (count (length (here ++ z)) (here ++ z)))
+        (count_same counts (length (here ++ z)) (length here) here (omega (arith, length-append here z)) (omega arith))
+        (count_kept (length (here ++ z)) here ends)
+
+  pub all_eols_kept : (here : Bits) → Ends n here → Kept (all_eols here) (all_eols (here ++ z))
+  all_eols_kept here ends = all_kept counts_plain (λ bits same. (refl, same)) here ends
+
+  past_tag_kept : past_tag z ≡ z → (here : Bits) → Ends n here
+      → (past_tag (here ++ z) ≡ past_tag here ++ z) × Ends n (past_tag here)
+  past_tag_kept tag [] ends = (tag, ends)
+  past_tag_kept tag (false ∷ here) ends = (refl, ends)
+  past_tag_kept tag (true ∷ here) ends = by_after_eol (after_eol 0 here) refl
     where
-      either_way : (b : Bool)
-          → EolAlike (true ∷ bits) (cond b (Some (bits ++ true ∷ x)) None) (cond b (Some (bits ++ true ∷ y)) None)
-      either_way true = inl ([], bits, refl, refl, refl)
-      either_way false = inr (inr (refl, refl))
+      behind : Ends n here
+      behind = still_ends n (true ∷ here) [] here ends refl
 
-  -- what follows the next EOL: within the equal bits; or just past them; or that of what follows them
-  abbrev pub PastAlike : Bits → Option Bits → Option Bits → Type 0
-  PastAlike bits o p = ((before after : Bits) × (bits ≡ before ++ true ∷ after) × (o ≡ Some (after ++ true ∷ x))
-      × (p ≡ Some (after ++ true ∷ y))) ⊎ (((o ≡ Some x) × (p ≡ Some y)) ⊎ ((o ≡ past 0 x) × (p ≡ past 0 y)))
+      by_after_eol : (o : Option Bits) → after_eol 0 here ≡ o
+          → (past_tag (true ∷ here ++ z) ≡ past_tag (true ∷ here) ++ z) × Ends n (past_tag (true ∷ here))
+      by_after_eol None e = rw (e, eol_kept here behind ∙ ap (then_more z) e, past_tag) (refl, ends)
+      by_after_eol (Some rest) e = rw (e, eol_kept here behind ∙ ap (then_more z) e, past_tag) (refl, behind)
 
-  -- the next EOL ends alike in both
-  pub past_alike : (seen : ℕ) (bits : Bits) → PastAlike bits (past seen (bits ++ true ∷ x)) (past seen (bits ++ true ∷ y))
-  past_alike seen [] = grind (arith, common_steps)
-  past_alike seen (false ∷ bits) = elim (past_alike (suc seen) bits)
-      [ inl a ↦ inl (false ∷ a.0, a.1, ap (λ (z : Bits). false ∷ z) a.2, a.3, a.4) | inr a ↦ inr a ]
-  past_alike seen (true ∷ bits) = either_way (leb 11 seen) (past_alike 0 bits)
+  last_tag_kept : (found : ℕ × Bits) → Ends n found.1 → (found.1 ≡ [] → found.0 < 6)
+      → Kept (pass_last_tag found) (pass_last_tag (count_then_more z found))
+  last_tag_kept (m, []) ends few = (last_tag_few m z (few refl), ends)
+  last_tag_kept (m, false ∷ rest) ends few = (refl, ends)
+  last_tag_kept (m, true ∷ rest) ends few = either_way (leb 6 m)
     where
-      either_way : (b : Bool) → PastAlike bits (past 0 (bits ++ true ∷ x)) (past 0 (bits ++ true ∷ y))
-          → PastAlike (true ∷ bits) (cond b (Some (bits ++ true ∷ x)) (past 0 (bits ++ true ∷ x)))
-          (cond b (Some (bits ++ true ∷ y)) (past 0 (bits ++ true ∷ y)))
-      either_way true on = inl ([], bits, refl, refl, refl)
-      either_way false on = elim on [ inl a ↦ inl (true ∷ a.0, a.1, ap (λ (z : Bits). true ∷ z) a.2, a.3, a.4) | inr a ↦ inr a ]
+      either_way : (b : Bool) → Kept (cond b (m, rest) (m, true ∷ rest)) (cond b (m, rest ++ z) (m, true ∷ rest ++ z))
+      either_way true = (refl, still_ends n (true ∷ rest) [] rest ends refl)
+      either_way false = (refl, ends)
 
-  -- where counting EOLs ends: within the equal bits, or just past them
-  abbrev pub RestAlike : Bits → Bits → Bits → Type 0
-  RestAlike bits here there = ((rest : Bits) × LeavesBits bits rest × (Closes bits → Closes rest) × (here ≡ rest ++ true ∷ x)
-      × (there ≡ rest ++ true ∷ y)) ⊎ ((here ≡ x) × (there ≡ y))
+-- ---- A line at which none begins
 
-  -- counts of EOLs that end alike
-  abbrev pub CountAlike : Bits → ℕ × Bits → ℕ × Bits → Type 0
-  CountAlike bits f g = (f.0 ≡ g.0) × RestAlike bits f.1 g.1
+-- an encoding of Group 3
+abbrev pub IsGroup3 : EncodingMode → Type 0
+IsGroup3 encoding = (encoding ≡ Group3_1D) ⊎ (encoding ≡ Group3_2D)
 
-  -- what is passed after an EOL is among the equal bits
-  abbrev pub PassAlike : Bits → Bits → Bits → Type 0
-  PassAlike bits here there = (rest : Bits) × LeavesBits bits rest × (Closes bits → Closes rest) × (here ≡ rest ++ true ∷ x)
-      × (there ≡ rest ++ true ∷ y)
+-- Here a line begins in lenient data of Group 3: there is no EOL there, also after a tag if it has one; behind the next EOL are
+-- some bits; and the tag there isn't that of RTC.
+pub record IsLineIn (settings : DecodeSettings) (whole z after : Bits) : Type 0 where
+  pub group3 : IsGroup3 settings.encoding
+  pub lenient : settings.strict ≡ false
+  pub none : after_eol 0 z ≡ None
+  pub next : past 0 z ≡ Some after
+  pub tag : settings.encoding ≡ Group3_2D → past_tag z ≡ z
+  pub few : settings.encoding ≡ Group3_2D → (found : Bits) (count : ℕ) → LeavesBits whole found → all_tagged found ≡ (count, z)
+      → count < 6
 
-  module _ (none_x : after_eol 0 x ≡ None) (none_y : after_eol 0 y ≡ None) where
-    module _ {pass : Bits → Bits} {count : ℕ → Bits → ℕ × Bits} (counts : CountsEols pass count) (pass_x : pass x ≡ x)
-        (pass_y : pass y ≡ y) (passed : (bits : Bits) → PassAlike bits (pass (bits ++ true ∷ x)) (pass (bits ++ true ∷ y))) where
-      abbrev all : Bits → ℕ × Bits
-      all here = count (length here) here
+-- counting EOLs consumes the first
+pub eols_past : (settings : DecodeSettings) (here rest : Bits) → after_eol 0 here ≡ Some rest
+    → length (eols_here settings here).1 ≤ length rest
+eols_past settings here rest e = by_encoding settings.encoding settings.end_of_block
+  where
+    by_encoding : (encoding : EncodingMode) (block : Bool) → length (eols_by encoding block here).1 ≤ length rest
+    by_encoding Group3_1D block = count_past counts_plain here rest e
+    by_encoding Group3_2D block = omega
+        (arith, last_tag_shorter (eols_with_tags (length here) here), count_past counts_tagged here rest e)
+    by_encoding Group4 true = rw (eols-some 1 here rest e)
+        (omega (arith, length-one_more (eols 1 rest), count_shorter counts_plain 1 rest))
+    by_encoding Group4 false = count_past counts_plain here rest e
 
-      none : (here : Bits) → after_eol 0 here ≡ None → all here ≡ (0, here)
-      none here e = counts.none (length here) here e
+-- the EOLs of some bits behind an EOL
+abbrev pub counted : DecodeSettings → Bits → ℕ × Bits
+counted settings more = eols_here settings (replicate 11 false ++ true ∷ more)
 
-      count_for : (n : ℕ) (bits : Bits) → length bits < n → CountAlike bits (all (bits ++ true ∷ x)) (all (bits ++ true ∷ y))
-      count_for zero bits lt = absurd (omega arith)
-      count_for (suc n) bits lt = by_after_eol (λ rest small. count_for n rest small) (after_eol 0 (bits ++ true ∷ x))
-          (after_eol 0 (bits ++ true ∷ y)) refl refl (after_eol_alike 0 bits)
-        where
-          by_after_eol : ((rest : Bits) → length rest < n → CountAlike rest (all (rest ++ true ∷ x)) (all (rest ++ true ∷ y)))
-              → (o p : Option Bits) → after_eol 0 (bits ++ true ∷ x) ≡ o → after_eol 0 (bits ++ true ∷ y) ≡ p
-              → EolAlike bits o p → CountAlike bits (all (bits ++ true ∷ x)) (all (bits ++ true ∷ y))
-          by_after_eol on o p e f (inl a) = let past = passed a.1 in
-              let more = on past.0 (omega (arith, after_shorter, leaves_length a.1 past.0 past.1, lt)) in
-              let keeps : Closes bits → Closes past.0 = λ closes. past.2 (closes_after a.0 a.1 closes.0 (sym a.2 ∙ closes.1)) in
-              rw (
-                count_all-some counts (bits ++ true ∷ x) (a.1 ++ true ∷ x) (e ∙ a.3),
-                count_all-some counts (bits ++ true ∷ y) (a.1 ++ true ∷ y) (f ∙ a.4),
-                past.3,
-                past.4,
-              ) (
-                ap suc more.0,
-                elim more.1 [
-                  | inl b ↦ inl (
-                    b.0,
-                    leaves_trans bits a.1 b.0 (leaves_after bits a.0 a.1 a.2) (leaves_trans a.1 past.0 b.0 past.1 b.1),
-                    λ closes. b.2 (keeps closes),
-                    b.3,
-                    b.4,
-                  )
-                  | inr b ↦ inr b
-                ],
-              )
-          by_after_eol on o p e f (inr (inl a)) = grind (arith, common_steps, count_all-some, none)
-          by_after_eol on o p e f (inr (inr a)) = grind (arith, common_steps)
+module _ (settings : DecodeSettings) (whole z after : Bits) (line : IsLineIn settings whole z after) where
+  eols_kept : (n : ℕ) (here : Bits) → Ends n here
+      → (settings.encoding ≡ Group3_2D → (count : ℕ) → all_tagged (here ++ z) ≡ (count, z) → count < 6)
+      → Kept n z line.none (eols_here settings here) (eols_here settings (here ++ z))
+  eols_kept n here ends few = by_encoding settings.encoding settings.end_of_block refl line.group3
+    where
+      by_encoding : (encoding : EncodingMode) (block : Bool) → settings.encoding ≡ encoding → IsGroup3 encoding
+          → Kept n z line.none (eols_by encoding block here) (eols_by encoding block (here ++ z))
+      by_encoding Group3_1D block same is = all_eols_kept n z line.none here ends
+      by_encoding Group3_2D block same is =
+          let kept = all_kept n z line.none counts_tagged (past_tag_kept n z line.none (line.tag same)) here ends in
+          let last = last_tag_kept n z line.none (all_tagged here) kept.1 (λ e. few same (all_tagged here).0
+          (kept.0 ∙ ap (λ (b : Bits). ((all_tagged here).0, b ++ z)) e)) in
+          (ap pass_last_tag kept.0 ∙ last.0, last.1)
+      by_encoding Group4 block same (inl is) = absurd cc
+      by_encoding Group4 block same (inr is) = absurd cc
 
-      -- the consecutive EOLs are alike in both
-      pub count_alike : (bits : Bits) → CountAlike bits (all (bits ++ true ∷ x)) (all (bits ++ true ∷ y))
-      count_alike bits = count_for (suc (length bits)) bits (omega arith)
+  -- the EOLs where a row ends before it
+  pub eols_left : (left : Bits) → Ends 0 left → LeavesBits whole (left ++ z)
+      → eols_here settings (left ++ z) ≡ count_then_more z (eols_here settings left)
+  eols_left left ends leaves = (eols_kept 0 left ends (λ same count e. line.few same (left ++ z) count leaves e)).0
 
-      -- so they are from an EOL on that ends among the equal bits
-      pub count_found : (bits found other : Bits) → after_eol 0 found ≡ Some (bits ++ true ∷ x)
-          → after_eol 0 other ≡ Some (bits ++ true ∷ y) → CountAlike bits (all found) (all other)
-      count_found bits found other e f = let past = passed bits in
-          let more = count_alike past.0 in
-          rw (count_all-some counts found _ e, count_all-some counts other _ f, past.3, past.4) (
-            ap suc more.0,
-            elim more.1 [
-              | inl b ↦ inl (b.0, leaves_trans bits past.0 b.0 past.1 b.1, λ closes. b.2 (past.2 closes), b.3, b.4)
-              | inr b ↦ inr b
-            ],
-          )
+  -- the same from an EOL on that ends before it
+  pub eols_found : (found more : Bits) → Ends 11 more → LeavesBits whole found → after_eol 0 found ≡ Some (more ++ z)
+      → (eols_here settings found ≡ count_then_more z (counted settings more)) × Ends 11 (counted settings more).1
+      × LeavesBits whole ((counted settings more).1 ++ z)
+  eols_found found more ends leaves e =
+      let eol : Bits = replicate 11 false ++ true ∷ more in
+      let kept = eols_kept 11 eol (in_front ends) (λ same count f. line.few same found count leaves
+      (all_tagged-some found (more ++ z) e ∙ sym (all_tagged-some (eol ++ z) (more ++ z) refl) ∙ f)) in
+      let is = eols_here_same settings found (eol ++ z) (more ++ z) e refl ∙ kept.0 in (
+        is,
+        kept.1,
+        leaves_trans whole found _ leaves (subst (λ (f : ℕ × Bits). LeavesBits found f.1) is
+            (eols_leave_bits settings found)),
+      )
+    where
+      in_front : Ends 11 more → Ends 11 (replicate 11 false ++ true ∷ more)
+      in_front (inl none) = inr ([], ap (λ (b : Bits). replicate 11 false ++ true ∷ b) none)
+      in_front (inr (first, is)) = inr (replicate 11 false ++ true ∷ first, ap (λ (b : Bits). replicate 11 false ++ true ∷ b) is)
 
-    nothing_passed : (bits : Bits) → PassAlike bits (bits ++ true ∷ x) (bits ++ true ∷ y)
-    nothing_passed bits = (bits, ([], refl), λ closes. closes, refl, refl)
+  -- the data don't end before it
+  pub not_end : (bits : Bits) → at_end (bits ++ z) ≡ false
+  not_end [] = not_past_end z after line.next
+  not_end (b ∷ bits) = refl
 
-    pub all_eols_alike : (bits : Bits) → CountAlike bits (all_eols (bits ++ true ∷ x)) (all_eols (bits ++ true ∷ y))
-    all_eols_alike bits = count_alike counts_plain refl refl nothing_passed bits
+  -- after a row that ends before it, and before another EOL
+  pub row_counted : (rows : List Row) (left more : Bits) → limit_met settings (length rows) ≡ false → LeavesBits whole (left ++ z)
+      → past 0 left ≡ Some more → Ends 11 more → (found : Bits) × LeavesBits whole found × (length z < length found)
+      × (eols_here settings found ≡ count_then_more z (counted settings more)) × Ends 11 (counted settings more).1
+      × LeavesBits whole ((counted settings more).1 ++ z) × (after_row settings (sought rows (left ++ z))
+      ≡ unless_over settings (sought rows (left ++ z)) (count_then_more z (counted settings more)))
+      × (length (counted settings more).1 < length left)
+  row_counted rows left more open_limit leaves e ends =
+      let found = row_past settings line.lenient rows (left ++ z) (more ++ z) open_limit (past-front 0 left more z e) in
+      let there = leaves_trans whole (left ++ z) found.0 leaves found.1 in
+      let same = eols_found found.0 more ends there found.2 in (
+        found.0,
+        there,
+        omega (arith, after_eol_shorter 0 found.0 (more ++ z) found.2, length-append more z),
+        same.0,
+        same.1,
+        same.2,
+        found.3 ∙ ap (unless_over settings (sought rows (left ++ z))) same.0,
+        omega (
+          arith,
+          past_shorter 0 left more e,
+          eols_past settings found.0 (more ++ z) found.2,
+          ap (λ (f : ℕ × Bits). length f.1) same.0,
+          length-append more z,
+          length-append (counted settings more).1 z,
+        ),
+      )
 
-    pub eols_found : (bits found other : Bits) → after_eol 0 found ≡ Some (bits ++ true ∷ x)
-        → after_eol 0 other ≡ Some (bits ++ true ∷ y) → CountAlike bits (all_eols found) (all_eols other)
-    eols_found bits found other e f = count_found counts_plain refl refl nothing_passed bits found other e f
+-- a lenient turn over a line that begins before an EOL: its row, and where it ends among the bits up to there, whatever follows
+pub turn_closed : (settings : DecodeSettings) → settings.strict ≡ false → (rows : List Row) (bits : Bits) → Closes bits
+    → (row : Row) × (left : Bits) × LeavesBits bits left × ((z : Bits) → move_on settings (sought rows (bits ++ z))
+    ≡ after_row settings (sought (rows ++ row ∷ []) (left ++ z)))
+turn_closed settings lenient rows bits (first, is) = by_line (line_here settings above bits)
+    (line_by_leaves settings.encoding settings.strict settings.columns above bits) (λ z. move_sought settings lenient rows
+    (bits ++ z) ∙ ap (λ (l : Line). after_row settings (sought (rows ++ row_of settings.columns l ∷ []) (rest_of l (bits ++ z))))
+    (line_settled settings above bits known z))
+  where
+    above : Row
+    above = row_before settings.columns rows
 
-    -- ---- With tags, where the different bits begin with the tag of a line
-    module _ (tag_x : past_tag x ≡ x) (tag_y : past_tag y ≡ y) where
-      past_tag_alike : (bits : Bits) → PassAlike bits (past_tag (bits ++ true ∷ x)) (past_tag (bits ++ true ∷ y))
-      past_tag_alike [] = ([], ([], refl), λ closes. closes, rw (none_x, past_tag) refl, rw (none_y, past_tag) refl)
-      past_tag_alike (false ∷ bits) = (false ∷ bits, ([], refl), λ closes. closes, refl, refl)
-      past_tag_alike (true ∷ bits) = by_after_eol (after_eol 0 (bits ++ true ∷ x)) (after_eol 0 (bits ++ true ∷ y)) refl refl
-          (after_eol_alike 0 bits)
-        where
-          behind : Closes (true ∷ bits) → Closes bits
-          behind closes = closes_after [] bits closes.0 closes.1
+    known : is_short (line_here settings above bits) ≡ false
+    known = ap (λ (b : Bits). is_short (line_here settings above b)) is ∙ zeros_end_line settings above first (true ∷ [])
 
-          by_after_eol : (o p : Option Bits) → after_eol 0 (bits ++ true ∷ x) ≡ o → after_eol 0 (bits ++ true ∷ y) ≡ p → EolAlike
-              bits o p → PassAlike (true ∷ bits) (past_tag (true ∷ bits ++ true ∷ x)) (past_tag (true ∷ bits ++ true ∷ y))
-          by_after_eol o p e f (inl a) =
-              (bits, (true ∷ [], refl), behind, rw (e ∙ a.3, past_tag) refl, rw (f ∙ a.4, past_tag) refl)
-          by_after_eol o p e f (inr (inl a)) =
-              (bits, (true ∷ [], refl), behind, rw (e ∙ a.0, past_tag) refl, rw (f ∙ a.1, past_tag) refl)
-          by_after_eol o p e f (inr (inr a)) =
-              (true ∷ bits, ([], refl), λ closes. closes, rw (e ∙ a.0, past_tag) refl, rw (f ∙ a.1, past_tag) refl)
+    by_line : (line : Line) → LineLeaves bits line → ((z : Bits) → move_on settings (sought rows (bits ++ z)) ≡ after_row settings
+        (sought (rows ++ row_of settings.columns (line_before z line) ∷ []) (rest_of (line_before z line) (bits ++ z))))
+        → (row : Row) × (left : Bits) × LeavesBits bits left × ((z : Bits) → move_on settings (sought rows (bits ++ z))
+        ≡ after_row settings (sought (rows ++ row ∷ []) (left ++ z)))
+    by_line (Line.whole row rest) leaves turn = (row, rest, leaves, turn)
+    by_line (Line.broken front fault) leaves turn = (repaired settings.columns front, bits, ([], refl), turn)
 
-      pub all_tagged_alike : (bits : Bits) → CountAlike bits (all_tagged (bits ++ true ∷ x)) (all_tagged (bits ++ true ∷ y))
-      all_tagged_alike bits = count_alike counts_tagged tag_x tag_y past_tag_alike bits
+-- where such a line ends: with a one, and with an EOL behind one
+pub left_ends : (bits left : Bits) → Closes bits → LeavesBits bits left → Ends 0 left
+left_ends bits left (first, is) (before, e) =
+    ends_last before left (first ++ replicate 11 false) (sym e ∙ is ∙ sym (append_assoc first (replicate 11 false) (true ∷ [])))
 
-      pub tagged_found : (bits found other : Bits) → after_eol 0 found ≡ Some (bits ++ true ∷ x)
-          → after_eol 0 other ≡ Some (bits ++ true ∷ y) → CountAlike bits (all_tagged found) (all_tagged other)
-      tagged_found bits found other e f = count_found counts_tagged tag_x tag_y past_tag_alike bits found other e f
+pub left_closes : (bits left more : Bits) → Closes bits → LeavesBits bits left → past 0 left ≡ Some more → Ends 11 more
+left_closes bits left more closes (before, e) f = let next = found_next left more f in
+    let on = next_eol_leaves left next.0 next.1 in
+    let is = after_eol_is 0 next.0 more next.2 in
+    still_ends 11 bits (before ++ (on.0 ++ replicate is.0 false)) more (inr closes) (e ∙ ap (λ (b : Bits). before ++ b)
+    (on.1 ∙ ap (λ (b : Bits). on.0 ++ b) is.1) ∙ simp append_assoc)
 
-      -- so they are after the tag of RTC, unless it is the one with which the different bits begin
-      pub last_tag_alike : (bits : Bits) (f g : ℕ × Bits) → CountAlike bits f g → ((count : ℕ) → f ≡ (count, x) → count < 6)
-          → ((count : ℕ) → g ≡ (count, y) → count < 6) → CountAlike bits (pass_last_tag f) (pass_last_tag g)
-      last_tag_alike bits (n, here) (m, there) (same, inl ([], le, keeps, e, f)) few_x few_y = grind (arith, common_steps)
-      last_tag_alike bits (n, here) (m, there) (same, inl (false ∷ rest, le, keeps, e, f)) few_x few_y =
-          rw (← same, e, f) (refl, inl (false ∷ rest, le, keeps, refl, refl))
-      last_tag_alike bits (n, here) (m, there) (same, inl (true ∷ rest, le, keeps, e, f)) few_x few_y =
-          rw (← same, e, f) grind (arith, common_steps, either_way)
-        where
-          either_way : (b : Bool) → CountAlike bits (cond b (n, rest ++ true ∷ x) (n, true ∷ rest ++ true ∷ x))
-              (cond b (n, rest ++ true ∷ y) (n, true ∷ rest ++ true ∷ y))
-          either_way true =
-              grind (arith, common_steps, leaves_trans bits (true ∷ rest) rest le (true ∷ [], refl), closes_after [] rest)
-          either_way false = (refl, inl (true ∷ rest, le, keeps, refl, refl))
-      last_tag_alike bits (n, here) (m, there) (same, inr (e, f)) few_x few_y = rw (
-        e,
-        f,
-        last_tag_few n x (few_x n (ap (λ (b : Bits). (n, b)) e)),
-        last_tag_few m y (few_y m (ap (λ (b : Bits). (m, b)) f)),
-      ) (same, inr (refl, refl))
+-- the same bits follow a suffix
+pub with_tail : (bits rest z : Bits) → LeavesBits bits rest → LeavesBits (bits ++ z) (rest ++ z)
+with_tail bits rest z (before, is) = (before, ap (λ (b : Bits). b ++ z) is ∙ append_assoc before rest z)

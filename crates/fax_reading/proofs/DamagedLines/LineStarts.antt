@@ -1,15 +1,14 @@
 -- Where lines begin, by positions.
-use Rattle.fax_bits.proofs.BitReading.ConsecutiveEols.{after_eol_shorter, eol_of, all_eols-some, all_eols-none}
-use Rattle.fax_reading.proofs.Names.{◌≡◌, ℕ, zero, suc, ◌+◌, ◌<◌, ◌≤◌, Bool, true, false, cond, not, ◌&&◌, leb, List, [], ◌∷◌}
-use Rattle.fax_reading.proofs.Names.{◌++◌, length, take, drop, replicate, Option, Some, None, refl, sym, ap, ◌∙◌, append_assoc}
-use Rattle.fax_reading.proofs.Names.{arith, ◌⊎◌, inl, inr, Contains, All, is_some, cases_lt, le-leb, leb-true, and_parts}
-use Rattle.fax_reading.proofs.Names.{and_from, not_from_false, length-append, length-drop, take-append-drop}
-use Rattle.fax_reading.proofs.Names.{length-replicate, append_cancel_left, Contains-append_right, Contains-append_cases, All-nil}
-use Rattle.fax_reading.proofs.Names.{All-append, All-weaker, Bits, after_eol, all_eols, at_end, begins_line, later_starts, starts}
-use Rattle.fax_reading.proofs.Names.{IsStart, Descends, StartsAre, common_steps}
+use Rattle.fax_reading.proofs.Names.{Contains-append_right, Contains-append_cases, append_cancel_left, take-append-drop, Contains}
+use Rattle.fax_reading.proofs.Names.{Some, None, refl, Bits, ◌≡◌, suc, ◌+◌, ◌<◌, ◌≤◌, not, leb, ◌∷◌, sym, ◌∙◌, ◌⊎◌, inl, inr, All}
+use Rattle.fax_reading.proofs.Names.{cases_lt, leb-true, and_from, all_eols, Descends, is_some, All-nil, IsStart, length, Option}
+use Rattle.fax_reading.proofs.Names.{le-leb, at_end, starts, false, arith, zero, Bool, true, cond, ◌&&◌, List, ◌++◌, take, drop}
+use Rattle.fax_reading.proofs.Names.{length-drop, begins_line, All-append, All-weaker, replicate, and_parts, after_eol, StartsAre}
+use Rattle.fax_reading.proofs.Names.{length-replicate, not_from_false, length-append, append_assoc, later_starts, common_steps, ℕ}
+use Rattle.fax_bits.proofs.BitReading.ConsecutiveEols.{after_eol_shorter, all_eols-some, all_eols-none, eol_of}
 use Rattle.fax_bits.proofs.BitReading.ZerosInWords.{prefix_of_prefix}
-use Rattle.fax_reading.proofs.DamagedLines.LineTails.{after_eol_is, first_one, drop_at}
-use Rattle.fax_reading.proofs.{DrawingLines.LinesLeaveBits.LeavesBits}
+use Rattle.fax_reading.proofs.DamagedLines.{LineTails.first_one, LineTails.drop_at, PastEol.after_eol_is}
+use Rattle.fax_reading.proofs.{DrawingLines.LinesLeaveBits.LeavesBits, Names.[], Names.ap}
 
 -- ---- Later starts come in order
 later_below : (seen : ℕ) (here : Bits) → All (λ other. length other < length here) (later_starts seen here)

@@ -1,14 +1,15 @@
 -- What the premises of locality say of the bits from a line on, and of those before it.
-use Rattle.fax_reading.proofs.Names.{◌≡◌, ℕ, zero, suc, ◌+◌, ◌-◌, ◌<◌, ◌≤◌, true, false, List, [], ◌∷◌, ◌++◌, length, take, drop}
-use Rattle.fax_reading.proofs.Names.{replicate, Option, Some, None, refl, sym, ap, ◌∙◌, append_assoc, arith, cases_lt, lt-leb}
-use Rattle.fax_reading.proofs.Names.{le-leb, length-append, length-take-le, length-drop, length-replicate, take-append-drop}
-use Rattle.fax_reading.proofs.Names.{drop-drop, DecodeSettings, Bits, IsPrefix, after_eol, past_tag, Reaches, Row, Line}
-use Rattle.fax_reading.proofs.Names.{first_line, row_before, line_here, line_of_turn, move_on, IsEol, IsLocal, IsTaggedBody}
-use Rattle.fax_reading.proofs.Names.{common_steps, replicate-append-replicate}
-use Rattle.fax_reading.proofs.DamagedLines.PastEol.{past, past-eol, past_later, next_eol_leaves}
-use Rattle.fax_reading.proofs.DamagedLines.SoughtTurns.{sought, rest_of, found_next, sought_line_is}
-use Rattle.fax_reading.proofs.DrawingLines.LinesLeaveBits.{LineLeaves, line_by_leaves}
-use Rattle.fax_reading.proofs.DamagedLines.{EolsAlike.Closes, RunsAlike.IsTail}
+use Rattle.fax_reading.proofs.Names.{DecodeSettings, length-append, line_of_turn, IsTaggedBody, common_steps, length-drop, length}
+use Rattle.fax_reading.proofs.Names.{IsPrefix, past_tag, Reaches, move_on, IsLocal, Option, lt-leb, le-leb, false, arith, IsEol}
+use Rattle.fax_reading.proofs.Names.{first_line, row_before, replicate, drop-drop, after_eol, line_here, Group3_2D, cases_lt, ◌≡◌}
+use Rattle.fax_reading.proofs.Names.{replicate-append-replicate, length-replicate, take-append-drop, length-take-le, append_assoc}
+use Rattle.fax_reading.proofs.Names.{zero, true, List, ◌++◌, take, drop, Some, None, refl, Line, Bits, suc, ◌+◌, ◌-◌, ◌<◌, ◌≤◌, ℕ}
+use Rattle.fax_reading.proofs.Names.{◌∷◌, sym, ◌∙◌, Row, inl, inr, [], ap}
+use Rattle.fax_bits.proofs.BitReading.ConsecutiveEols.{all_tagged}
+use Rattle.fax_reading.proofs.DamagedLines.EolsAlike.{IsLineIn, Closes}
+use Rattle.fax_reading.proofs.DamagedLines.PastEol.{next_eol_leaves, after_eol_is, past_later, eol_at_one, past-eol, past}
+use Rattle.fax_reading.proofs.DamagedLines.SoughtTurns.{sought_line_is, found_next, rest_of, sought}
+use Rattle.fax_reading.proofs.DrawingLines.LinesLeaveBits.{line_by_leaves, LineLeaves}
 
 -- without a prefix the rest is left
 pub drop_front : {A : Type 0} (front rest : List A) → drop (length front) (front ++ rest) ≡ rest
@@ -19,18 +20,6 @@ drop_front (a ∷ front) rest = drop_front front rest
 pub drop_at : {A : Type 0} (whole front rest : List A) (n : ℕ) → whole ≡ front ++ rest → length front ≡ n → drop n whole ≡ rest
 drop_at whole front rest n e f = ap (drop n) e ∙ ap (λ (k : ℕ). drop k (front ++ rest)) (sym f) ∙ drop_front front rest
 
--- at a one eleven zeros were seen, and what follows is the rest
-pub eol_at_one : (seen : ℕ) (here rest : Bits) → after_eol seen (true ∷ here) ≡ Some rest → (11 ≤ seen) × (here ≡ rest)
-eol_at_one seen here rest e = grind (arith, common_steps)
-
--- the zeros and the one of an EOL
-pub after_eol_is : (seen : ℕ) (here rest : Bits) → after_eol seen here ≡ Some rest → (k : ℕ)
-    × (here ≡ replicate k false ++ true ∷ rest) × (11 ≤ seen + k)
-after_eol_is seen [] rest e = absurd cc
-after_eol_is seen (false ∷ here) rest e = let f = after_eol_is (suc seen) here rest e in
-    (suc f.0, ap (λ (x : Bits). false ∷ x) f.1, omega (arith, f.2))
-after_eol_is seen (true ∷ here) rest e = grind (arith, common_steps, eol_at_one)
-
 -- they are eleven zeros behind more
 pub zeros_of_eol : (here rest : Bits) → after_eol 0 here ≡ Some rest
     → (more : ℕ) × (here ≡ (replicate more false ++ replicate 11 false) ++ true ∷ rest)
@@ -40,10 +29,12 @@ zeros_of_eol here rest e = let is = after_eol_is 0 here rest e in
     let zeros = ap (λ (n : ℕ). replicate n false) sum ∙ sym (replicate-append-replicate more 11 false) in
     (more, is.1 ∙ ap (λ (bits : Bits). bits ++ true ∷ rest) zeros)
 
--- what precedes its one ends with them
+-- the bits up to its end close with it
 pub eol_closes : (before here rest : Bits) → after_eol 0 here ≡ Some rest → (front : Bits) × Closes front
-    × (before ++ here ≡ front ++ true ∷ rest)
-eol_closes before here rest e = grind (arith, common_steps, zeros_of_eol here rest e, append_assoc before)
+    × (before ++ here ≡ front ++ rest)
+eol_closes before here rest e = let (more, is) = zeros_of_eol here rest e in
+    let first : Bits = before ++ replicate more false in
+    (first ++ (replicate 11 false ++ true ∷ []), (first, refl), ap (λ (b : Bits). before ++ b) is ∙ simp append_assoc)
 
 -- the first one is at or before any other
 pub first_one : (k : ℕ) (rest before after : Bits) → replicate k false ++ true ∷ rest ≡ before ++ true ∷ after → k ≤ length before
@@ -178,13 +169,16 @@ pub body_1d : (settings : DecodeSettings) (bits : Bits) (from to : ℕ) (local :
     → IsBody bits from to local.closes.0
 body_1d settings bits from to local = grind (arith, common_steps)
 
--- a local body begins such a tail
-pub is_tail : (settings : DecodeSettings) (bits : Bits) (from to : ℕ) (local : IsLocal settings bits from to)
-    → IsTail settings local.closes.0 (drop from bits)
-is_tail settings bits from to local = let body = body_1d settings bits from to local in record {
+-- there is a line where it begins
+pub line_in_1d : (settings : DecodeSettings) (bits : Bits) (from to : ℕ) (local : IsLocal settings bits from to)
+    → IsLineIn settings bits (drop from bits) local.closes.0
+line_in_1d settings bits from to local = let body = body_1d settings bits from to local in record {
+  group3 = inl local.encoding;
+  lenient = local.lenient;
   none = no_eol_here bits from to local.closes.0 body;
   next = next_line_is bits from to local.closes.0 body;
-  tag = λ e. absurd (cc);
+  tag = λ e. absurd (let f = local.encoding in cc);
+  few = λ e. absurd (let f = local.encoding in cc);
 }
 
 -- the next EOL behind its line is the one behind it
@@ -201,13 +195,17 @@ body_2d : (settings : DecodeSettings) (bits : Bits) (from to : ℕ) (local : IsT
     → IsBody bits from to local.closes.0
 body_2d settings bits from to local = grind (arith, common_steps)
 
--- it begins such a tail
-pub is_tagged_tail : (settings : DecodeSettings) (bits : Bits) (from to : ℕ) (local : IsTaggedBody settings bits from to)
-    → IsTail settings local.closes.0 (drop from bits)
-is_tagged_tail settings bits from to local = let body = body_2d settings bits from to local in record {
+-- there is a line where it begins
+pub line_in_2d : (settings : DecodeSettings) (bits : Bits) (from to : ℕ) → settings.encoding ≡ Group3_2D → settings.strict ≡ false
+    → (local : IsTaggedBody settings bits from to) → IsLineIn settings bits (drop from bits) local.closes.0
+line_in_2d settings bits from to encoding lenient local = let body = body_2d settings bits from to local in record {
+  group3 = inr encoding;
+  lenient = lenient;
   none = no_eol_here bits from to local.closes.0 body;
   next = next_line_is bits from to local.closes.0 body;
   tag = λ e. by_drop (drop from bits) refl;
+  few = λ e found count leaves f. local.tag (length leaves.0) count
+      (ap all_tagged (drop_at bits leaves.0 found (length leaves.0) leaves.1 refl) ∙ f);
 }
   where
     none : after_eol 0 (drop (suc from) bits) ≡ None

@@ -1,24 +1,18 @@
 -- Lines by EOLs.
-use Rattle.fax_reading.proofs.Readings.TurnsAddRows.{turn_extends, after_row_keeps, move_adds, repeated_adds}
-use Rattle.fax_reading.proofs.Names.{◌≡◌, ℕ, zero, suc, ◌<◌, Bool, true, false, cond, ◌||◌, ltb, List, [], ◌∷◌, ◌++◌, length, map}
-use Rattle.fax_reading.proofs.Names.{Option, Some, None, Ok, Err, refl, sym, ap, subst, ◌∙◌, append_assoc, arith, ◌⊎◌, All}
-use Rattle.fax_reading.proofs.Names.{All-head, All-tail, All-same, append-nil, cases_lt, lt-leb, le-leb, and_right, cond-false}
-use Rattle.fax_reading.proofs.Names.{UnexpectedEof, Group3_1D, DecodeSettings, Bits, IsPrefix, Turn, repeated, Row, line_1d}
-use Rattle.fax_reading.proofs.Names.{after_eol, all_eols, Progress, Ending, Move, limit_met, at_end, ends_with, move_on}
-use Rattle.fax_reading.proofs.Names.{begins_line, later_starts, starts, row_at, StaysBefore, IsEolAt, LinesByEols, common_steps}
-use Rattle.fax_bits.proofs.BitReading.ConsecutiveEols.{all_eols-some, after_eol_shorter, count_shorter, counts_plain}
-use Rattle.fax_reading.proofs.DamagedLines.SoughtTurns.{sought, rest_of, found_next, after_row_past, move_line}
+use Rattle.fax_reading.proofs.Names.{DecodeSettings, UnexpectedEof, append_assoc, later_starts, common_steps, begins_line, length}
+use Rattle.fax_reading.proofs.Names.{StaysBefore, LinesByEols, append-nil, cond-false, and_right, Group3_1D, after_eol, limit_met}
+use Rattle.fax_reading.proofs.Names.{ends_with, All-head, All-tail, All-same, cases_lt, IsPrefix, repeated, all_eols, Progress, ℕ}
+use Rattle.fax_reading.proofs.Names.{line_1d, move_on, IsEolAt, Option, lt-leb, le-leb, at_end, starts, row_at, Ending, false, []}
+use Rattle.fax_reading.proofs.Names.{subst, arith, zero, Bool, true, cond, ◌||◌, List, ◌++◌, Some, None, refl, Turn, Bits, Move}
+use Rattle.fax_reading.proofs.Names.{◌≡◌, suc, ◌<◌, ltb, ◌∷◌, map, Err, sym, ◌∙◌, ◌⊎◌, All, Row, Ok, ap}
+use Rattle.fax_bits.proofs.BitReading.ConsecutiveEols.{after_eol_shorter, all_eols-some, count_shorter, counts_plain}
+use Rattle.fax_bits.proofs.Repetition.Repeated.{repeated_turn, repeated_same, after_turn}
+use Rattle.fax_reading.proofs.DamagedLines.SoughtTurns.{after_row_past, found_next, move_line, rest_of, sought}
+use Rattle.fax_reading.proofs.DamagedLines.{PastEol.past_shorter, PastEol.past-eol, PastEol.past, LineTails.line_past_of}
 use Rattle.fax_reading.proofs.DrawingLines.LinesLeaveBits.{line_1d_leaves}
-use Rattle.fax_bits.proofs.Repetition.Repeated.{after_turn, repeated_turn, repeated_same}
-use Rattle.fax_reading.proofs.Readings.TurnsMoveOn.{eols_end, left_to_read, left_below, move_shrinks}
-use Rattle.fax_reading.proofs.Readings.{GapsAndRows.ending_t4, RowsAndGaps.after_row, RowsAndGaps.unless_over}
-use Rattle.fax_reading.proofs.DamagedLines.{PastEol.past, PastEol.past-eol, LineTails.line_past_of}
-
--- what follows the next EOL is shorter
-pub past_shorter : (seen : ℕ) (here after : Bits) → past seen here ≡ Some after → length after < length here
-past_shorter seen [] after e = absurd cc
-past_shorter seen (false ∷ here) after e = omega (arith, past_shorter (suc seen) here after e)
-past_shorter seen (true ∷ here) after e = grind (arith, common_steps, cases_lt, le-leb, lt-leb, past_shorter 0 here after)
+use Rattle.fax_reading.proofs.Readings.TurnsAddRows.{after_row_keeps, repeated_adds, turn_extends, move_adds}
+use Rattle.fax_reading.proofs.Readings.TurnsMoveOn.{left_to_read, move_shrinks, left_below, eols_end}
+use Rattle.fax_reading.proofs.Readings.{RowsAndGaps.unless_over, RowsAndGaps.after_row, GapsAndRows.ending_t4}
 
 -- ---- Where lines begin
 

@@ -1,12 +1,19 @@
 -- Locality of a body, as tests of the bits.
-use Rattle.fax_reading.proofs.Names.{◌≡◌, ◌≢◌, ℕ, zero, suc, ◌+◌, ◌-◌, ◌<◌, ◌≤◌, true, false, List, [], ◌∷◌, ◌++◌, length, take}
-use Rattle.fax_reading.proofs.Names.{drop, replicate, Option, Some, None, refl, sym, ap, ◌∙◌, append_assoc, arith, inl, inr}
-use Rattle.fax_reading.proofs.Names.{length-append, length-take-le, length-drop, length-replicate, take-append-drop, drop-drop}
-use Rattle.fax_reading.proofs.Names.{replicate-append-replicate, DecodeSettings, Bits, after_eol, next_eol, IsEol, IsLocal}
-use Rattle.fax_reading.proofs.Names.{IsLocalByTests, LocalByTests, common_steps}
-use Rattle.fax_reading.proofs.DamagedLines.LineTails.{after_eol_is, drop_at, none_in_body, body_1d}
+use Rattle.fax_reading.proofs.Names.{DecodeSettings, IsLocalByTests, length-append, LocalByTests, common_steps, length-drop, zero}
+use Rattle.fax_reading.proofs.Names.{replicate, drop-drop, after_eol, next_eol, IsLocal, length, Option, false, arith, IsEol, ◌≡◌}
+use Rattle.fax_reading.proofs.Names.{replicate-append-replicate, length-replicate, take-append-drop, length-take-le, append_assoc}
+use Rattle.fax_reading.proofs.Names.{true, List, ◌++◌, take, drop, Some, None, refl, Bits, ◌≢◌, suc, ◌+◌, ◌-◌, ◌<◌, ◌≤◌, ◌∷◌, sym}
+use Rattle.fax_reading.proofs.Names.{◌∙◌, inl, inr, [], ap, ℕ}
 use Rattle.fax_bits.proofs.BitReading.ConsecutiveEols.{next_eol_found, eol_of}
-use Rattle.fax_reading.proofs.DamagedLines.{EolsAlike.no_one_in_zeros, PastEol.past_is, PastEol.then_after}
+use Rattle.fax_reading.proofs.DamagedLines.LineTails.{none_in_body, drop_at, body_1d}
+use Rattle.fax_reading.proofs.DamagedLines.PastEol.{after_eol_is, then_after, past_is}
+
+-- no zeros contain a one
+no_one_in_zeros : (n : ℕ) (before after : Bits) → before ++ true ∷ after ≡ replicate n false → ⊥
+no_one_in_zeros zero [] after e = absurd cc
+no_one_in_zeros zero (b ∷ before) after e = absurd cc
+no_one_in_zeros (suc n) [] after e = absurd cc
+no_one_in_zeros (suc n) (b ∷ before) after e = grind (arith, no_one_in_zeros n before after)
 
 -- bits that aren't all zeros contain a one
 holds_one : (bits : Bits) → bits ≢ replicate (length bits) false → (before after : Bits) × (bits ≡ before ++ true ∷ after)

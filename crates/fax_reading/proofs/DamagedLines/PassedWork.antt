@@ -1,15 +1,14 @@
 -- What passing lines counts.
-use Rattle.fax_reading.proofs.Names.{common_steps, ◌≡◌, ℕ, suc, ◌+◌, ◌*◌, ◌<◌, ◌≤◌, true, false, List, [], ◌∷◌, ◌++◌, length}
-use Rattle.fax_reading.proofs.Names.{drop, Option, Some, None, Result, Ok, Err, refl, subst, arith, none-some, inr, length-append}
-use Rattle.fax_reading.proofs.Names.{Color, Mode, Pass, Horizontal, Vertical, DecodeError, Bits, mode_codes, read_code, opposite}
-use Rattle.fax_reading.proofs.Names.{read_run, after_eol, next_eol, tagged_eols, behind_mode, behind_read, behind_word}
-use Rattle.fax_reading.proofs.Names.{behind_first_run, behind_second_run, looked, mode_found, runs_found, runs_found_behind}
-use Rattle.fax_reading.proofs.Names.{second_run_found, run_found, word_found, most_for_lines, IsLine2D}
-use Rattle.fax_reading.proofs.CodeWords.WordsFound.{WordsStand, RunEnds, stands_none, stands_append, word_stands, no_word_stands}
-use Rattle.fax_reading.proofs.CodeWords.WordsFound.{run_stands}
-use Rattle.fax_reading.proofs.Work.EolsPassed.{looked_most, next_eol_within}
-use Rattle.fax_bits.proofs.BitReading.{ZeroRuns.looked_eol, ConsecutiveEols.all_tagged-some, ConsecutiveEols.next_eol_found}
-use Rattle.fax_reading.proofs.{DamagedLines.LineTails.after_eol_more, Work.WordsPay.stands_count, Work.WordsPay.stands_before_eol}
+use Rattle.fax_reading.proofs.Names.{Horizontal, mode_codes, mode_found, runs_found, word_found, none-some, read_code, after_eol}
+use Rattle.fax_reading.proofs.Names.{behind_second_run, runs_found_behind, behind_first_run, second_run_found, most_for_lines, []}
+use Rattle.fax_reading.proofs.Names.{false, subst, arith, Color, true, List, ◌++◌, drop, Some, None, refl, Mode, Pass, Bits, ◌≡◌}
+use Rattle.fax_reading.proofs.Names.{length-append, common_steps, DecodeError, tagged_eols, behind_mode, behind_read, behind_word}
+use Rattle.fax_reading.proofs.Names.{run_found, Vertical, opposite, read_run, next_eol, IsLine2D, length, Option, Result, looked}
+use Rattle.fax_reading.proofs.Names.{suc, ◌+◌, ◌*◌, ◌<◌, ◌≤◌, ◌∷◌, Err, inr, Ok, ℕ}
+use Rattle.fax_bits.proofs.BitReading.{ConsecutiveEols.all_tagged-some, ConsecutiveEols.next_eol_found, ZeroRuns.looked_eol}
+use Rattle.fax_reading.proofs.CodeWords.WordsFound.{no_word_stands, stands_append, stands_none, word_stands, WordsStand, RunEnds}
+use Rattle.fax_reading.proofs.{Work.EolsPassed.next_eol_within, Work.EolsPassed.looked_most, CodeWords.WordsFound.run_stands}
+use Rattle.fax_reading.proofs.{Work.WordsPay.stands_before_eol, Work.WordsPay.stands_count, DamagedLines.LineTails.after_eol_more}
 
 -- ---- The words of a mode and its runs are consecutive
 

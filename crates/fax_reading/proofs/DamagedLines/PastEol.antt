@@ -1,14 +1,21 @@
 -- What follows the next EOL.
-use Rattle.fax_reading.proofs.Names.{◌≡◌, ℕ, suc, ◌+◌, ◌≤◌, true, false, cond, leb, [], ◌∷◌, ◌++◌, length, Option, Some, None}
-use Rattle.fax_reading.proofs.Names.{refl, ap, arith, cases_lt, lt-leb, le-leb, length-append, Bits, after_eol, next_eol}
-use Rattle.fax_reading.proofs.Names.{common_steps, DecodeSettings, eols_here}
-use Rattle.fax_bits.proofs.BitReading.ConsecutiveEols.{eols-none, all_eols-none, all_tagged-none}
+use Rattle.fax_reading.proofs.Names.{DecodeSettings, length-append, common_steps, after_eol, eols_here, replicate, cases_lt, true}
+use Rattle.fax_reading.proofs.Names.{next_eol, length, Option, lt-leb, le-leb, false, arith, cond, ◌++◌, Some, None, refl, Bits}
+use Rattle.fax_reading.proofs.Names.{◌≡◌, suc, ◌+◌, ◌≤◌, leb, ◌∷◌, ◌<◌, [], ap, ℕ}
+use Rattle.fax_bits.proofs.BitReading.ConsecutiveEols.{all_tagged-none, all_eols-none, eols-none}
 
 -- what follows the next EOL that ends further on, given the number of zeros just before
 abbrev pub past : ℕ → Bits → Option Bits
 past seen [] = None
 past seen (false ∷ here) = past (suc seen) here
 past seen (true ∷ here) = cond (leb 11 seen) (Some here) (past 0 here)
+
+-- one that ends among some bits stays it, whatever follows
+pub past-front : (seen : ℕ) (front after more : Bits) → past seen front ≡ Some after
+    → past seen (front ++ more) ≡ Some (after ++ more)
+past-front seen [] after more e = absurd cc
+past-front seen (false ∷ front) after more e = past-front (suc seen) front after more e
+past-front seen (true ∷ front) after more e = grind (arith, past-front 0 front after more)
 
 -- the EOL here is the next
 pub past-eol : (seen : ℕ) (here after : Bits) → after_eol seen here ≡ Some after → past seen here ≡ Some after
@@ -62,3 +69,21 @@ past_later seen [] here after e far = past_here seen 0 here after (omega arith) 
 past_later seen (false ∷ before) here after e far = past_later (suc seen) before here after e far
 past_later seen (true ∷ before) here after e far =
     grind (arith, common_steps, cases_lt, le-leb, length-append, lt-leb, past_later 0 before here after)
+
+-- at a one eleven zeros were seen, and what follows is the rest
+pub eol_at_one : (seen : ℕ) (here rest : Bits) → after_eol seen (true ∷ here) ≡ Some rest → (11 ≤ seen) × (here ≡ rest)
+eol_at_one seen here rest e = grind (arith, common_steps)
+
+-- the zeros and the one of an EOL
+pub after_eol_is : (seen : ℕ) (here rest : Bits) → after_eol seen here ≡ Some rest → (k : ℕ)
+    × (here ≡ replicate k false ++ true ∷ rest) × (11 ≤ seen + k)
+after_eol_is seen [] rest e = absurd cc
+after_eol_is seen (false ∷ here) rest e = let f = after_eol_is (suc seen) here rest e in
+    (suc f.0, ap (λ (x : Bits). false ∷ x) f.1, omega (arith, f.2))
+after_eol_is seen (true ∷ here) rest e = grind (arith, common_steps, eol_at_one)
+
+-- what follows the next EOL is shorter
+pub past_shorter : (seen : ℕ) (here after : Bits) → past seen here ≡ Some after → length after < length here
+past_shorter seen [] after e = absurd cc
+past_shorter seen (false ∷ here) after e = omega (arith, past_shorter (suc seen) here after e)
+past_shorter seen (true ∷ here) after e = grind (arith, common_steps, cases_lt, le-leb, lt-leb, past_shorter 0 here after)

@@ -1,13 +1,13 @@
 -- EOLs of two data that begin with the same bits: what is found ahead of a one among these is found in both.
-use Rattle.fax_reading.proofs.Names.{common_steps, ◌≡◌, ℕ, zero, suc, ◌<◌, ◌≤◌, Bool, true, false, cond, leb, [], ◌∷◌, ◌++◌}
-use Rattle.fax_reading.proofs.Names.{length, Option, Some, None, refl, sym, ap, ◌∙◌, arith, length-append, append_cancel_right}
-use Rattle.fax_reading.proofs.Names.{false≢true, Bits, after_eol, all_eols, eols, one_more, past_tag, pass_last_tag, tagged_eols}
-use Rattle.fax_reading.proofs.Names.{EncodingMode, Group4, Group3_1D, Group3_2D, eols_by}
+use Rattle.fax_reading.proofs.Names.{Option, Group4, false, arith, zero, Bool, true, cond, ◌++◌, Some, None, refl, Bits, eols, []}
+use Rattle.fax_reading.proofs.Names.{append_cancel_right, length-append, pass_last_tag, common_steps, EncodingMode, tagged_eols}
+use Rattle.fax_reading.proofs.Names.{false≢true, after_eol, Group3_1D, Group3_2D, all_eols, one_more, past_tag, eols_by, length}
+use Rattle.fax_reading.proofs.Names.{◌≡◌, suc, ◌<◌, ◌≤◌, leb, ◌∷◌, sym, ◌∙◌, ap, ℕ}
+use Rattle.fax_bits.proofs.BitReading.ConsecutiveEols.{after_eol_shorter, past_tag_shorter, all_tagged-some, all_tagged-none}
+use Rattle.fax_bits.proofs.BitReading.ConsecutiveEols.{all_eols-some, all_eols-none, count_shorter, counts_tagged, counts_plain}
+use Rattle.fax_bits.proofs.BitReading.ConsecutiveEols.{all_tagged, eols-some, eols-none}
 use Rattle.fax_bits.proofs.BitReading.ZerosInWords.{holds_a_one}
-use Rattle.fax_bits.proofs.BitReading.ConsecutiveEols.{all_eols-some, all_eols-none, all_tagged, all_tagged-some, all_tagged-none}
-use Rattle.fax_bits.proofs.BitReading.ConsecutiveEols.{after_eol_shorter, count_shorter, counts_plain}
-use Rattle.fax_bits.proofs.BitReading.ConsecutiveEols.{counts_tagged, eols-some, eols-none, past_tag_shorter}
-use Rattle.fax_reading.proofs.DamagedLines.{LinesByEols.past_shorter, PastEol.past}
+use Rattle.fax_reading.proofs.DamagedLines.PastEol.{past_shorter, past}
 
 -- ---- The bits of a line contain a one
 

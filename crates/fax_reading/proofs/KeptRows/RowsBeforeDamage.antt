@@ -1,30 +1,28 @@
 -- Data that begin with the same bits have the same rows before the first line that may differ.
-use Rattle.fax_reading.proofs.Names.{◌≡◌, ℕ, suc, ◌%◌, ◌<◌, ◌≤◌, Bool, true, false, not, ◌&&◌, ◌||◌, List, [], ◌∷◌, ◌++◌, length}
-use Rattle.fax_reading.proofs.Names.{take, drop, replicate, Option, Some, None, refl, sym, ap, subst, ◌∙◌, append_assoc, arith}
-use Rattle.fax_reading.proofs.Names.{append_cancel_left, append_cancel_right, ◌⊎◌, inl, inr, cases_Bool, cond-true, cond-false}
-use Rattle.fax_reading.proofs.Names.{false≢true, length-append, take-append-drop, or_parts, not-false, EncodingMode, Group4, Bits}
-use Rattle.fax_reading.proofs.Names.{Group3_1D, Group3_2D, DecodeSettings, IsPrefix, Turn, repeated, Reaches, Row, repaired, Line}
-use Rattle.fax_reading.proofs.Names.{after_eol, all_eols, eols_here, misses_eol, limit_met, at_end, Progress, Ending, Move, Err}
-use Rattle.fax_reading.proofs.Names.{row_before, behind_row, line_by, line_here, DecodeError, UnexpectedEof, after_line, move_on}
-use Rattle.fax_reading.proofs.Names.{at_front, first_line, first_gap, ending_behind, end_of, plain, RowsBefore, common_steps}
+use Rattle.fax_reading.proofs.Names.{Progress, move_on, length, Option, Group4, at_end, end_of, Ending, false, subst, arith, true}
+use Rattle.fax_reading.proofs.Names.{UnexpectedEof, ending_behind, append_assoc, EncodingMode, common_steps, DecodeError, Reaches}
+use Rattle.fax_reading.proofs.Names.{append_cancel_right, append_cancel_left, take-append-drop, DecodeSettings, length-append, []}
+use Rattle.fax_reading.proofs.Names.{cases_Bool, cond-false, false≢true, misses_eol, row_before, behind_row, after_line, or_parts}
+use Rattle.fax_reading.proofs.Names.{eols_here, limit_met, line_here, first_gap, IsPrefix, repeated, repaired, all_eols, at_front}
+use Rattle.fax_reading.proofs.Names.{first_line, RowsBefore, replicate, cond-true, not-false, Group3_1D, Group3_2D, after_eol, ap}
+use Rattle.fax_reading.proofs.Names.{plain, ◌&&◌, ◌||◌, ◌++◌, take, drop, Some, None, refl, Turn, Line, Bits, Bool, List, Move, ℕ}
+use Rattle.fax_reading.proofs.Names.{◌≡◌, suc, ◌%◌, ◌<◌, ◌≤◌, not, ◌∷◌, sym, ◌∙◌, ◌⊎◌, inl, inr, Err, Row}
+use Rattle.fax_bits.proofs.BitReading.{ZerosInWords.prefix_of_prefix, ZerosInWords.holds_a_one, ConsecutiveEols.next_eol_found}
 use Rattle.fax_bits.proofs.CodeWords.ReadRuns.{chosen}
-use Rattle.fax_reading.proofs.DamagedLines.PastEol.{past, past-eol, past_is, eols_here-none, next_eol_leaves}
-use Rattle.fax_reading.proofs.DamagedLines.SoughtTurns.{sought, found_next, eols_here_same, sought_done, row_past, move_sought}
-use Rattle.fax_reading.proofs.EncodedPictures.AfterEofb.{aligned_split}
-use Rattle.fax_reading.proofs.KeptRows.EqualFronts.{one_in_line, one_in_bits, past_front, all_front, eols_by_front}
-use Rattle.fax_reading.proofs.KeptRows.LinesAgain.{line_again, one_in_whole, one_stays, one_there}
+use Rattle.fax_bits.proofs.Repetition.Repeated.{repeated_turn, repeated_same, after_turn, not_next, next_is}
+use Rattle.fax_reading.proofs.DamagedLines.PastEol.{next_eol_leaves, eols_here-none, past-eol, past_is, past}
+use Rattle.fax_reading.proofs.DamagedLines.SoughtTurns.{eols_here_same, sought_done, move_sought, found_next, row_past, sought}
+use Rattle.fax_reading.proofs.DamagedLines.{EolsAlike.turn_closed, EolsAlike.eols_past, EolsAlike.Closes, DamageByK.take_front}
+use Rattle.fax_reading.proofs.KeptRows.EqualFronts.{eols_by_front, one_in_line, one_in_bits, past_front, all_front}
+use Rattle.fax_reading.proofs.KeptRows.LinesAgain.{one_in_whole, line_again, one_stays, one_there}
 use Rattle.fax_reading.proofs.KeptRows.TurnsLeave.{after_row_leaves, reached_leaves}
-use Rattle.fax_bits.proofs.Repetition.Repeated.{after_turn, repeated_turn, repeated_same, next_is, not_next}
-use Rattle.fax_reading.proofs.Readings.RowsAndGaps.{unless_over, after_row, pass_gap-is, after_whole-is, after_damage-is}
-use Rattle.fax_reading.proofs.Readings.RowsAndGaps.{unmissed}
-use Rattle.fax_reading.proofs.Readings.GapsAndRows.{plain_is}
-use Rattle.fax_reading.proofs.Readings.TurnsAddRows.{Keeps, after_row_keeps, first_gap_keeps, turn_extends, repeated_adds}
-use Rattle.fax_reading.proofs.Readings.TurnsAddRows.{move_adds}
-use Rattle.fax_reading.proofs.Readings.TurnsMoveOn.{left_to_read, left_below, move_shrinks, unless_over_next, unless_over_open}
-use Rattle.fax_reading.proofs.Readings.TurnsMoveOn.{eols_here_counted}
-use Rattle.fax_bits.proofs.BitReading.{ZerosInWords.holds_a_one, ZerosInWords.prefix_of_prefix, ConsecutiveEols.next_eol_found}
-use Rattle.fax_reading.proofs.DamagedLines.{EolsAlike.Closes, EolsAlike.line_alike, DamageByK.take_front}
-use Rattle.fax_reading.proofs.DamagedLines.{LinesBeforeEol.LineAlike, LineTails.eol_closes, RunsAlike.run_at, RunsAlike.eols_past}
+use Rattle.fax_reading.proofs.Readings.RowsAndGaps.{after_damage-is, after_whole-is, unless_over, pass_gap-is, after_row}
+use Rattle.fax_reading.proofs.Readings.TurnsAddRows.{Keeps}
+use Rattle.fax_reading.proofs.Readings.TurnsAddRows.{after_row_keeps, first_gap_keeps, repeated_adds, turn_extends, move_adds}
+use Rattle.fax_reading.proofs.Readings.TurnsMoveOn.{eols_here_counted, unless_over_next, unless_over_open, left_to_read}
+use Rattle.fax_reading.proofs.{DamagedLines.RunsAlike.run_at, Readings.GapsAndRows.plain_is, Readings.RowsAndGaps.unmissed}
+use Rattle.fax_reading.proofs.{EncodedPictures.AfterEofb.aligned_split, DamagedLines.LineTails.eol_closes}
+use Rattle.fax_reading.proofs.{Readings.TurnsMoveOn.move_shrinks, Readings.TurnsMoveOn.left_below, DamagedLines.LinesByEols.seeks}
 
 -- ---- The gap
 
@@ -58,6 +56,12 @@ past_there settings lenient rows here t e seeks = by_limit (cases_Bool (limit_me
         × ((after : Bits) × (past 0 here ≡ Some after) × (length t.rest ≤ length after))
     by_limit (inl met) = absurd (not_next _ t (sym (sought_done settings rows here met) ∙ e))
     by_limit (inr short) = (short, by_past short (past 0 here) refl)
+
+-- bits that end with an EOL have a one
+one_closes : (bits more : Bits) → Closes bits → holds_a_one (bits ++ more) ≡ true
+one_closes bits more (first, is) =
+    let shape : bits ++ more ≡ (first ++ replicate 11 false) ++ true ∷ more = rw is (simp append_assoc) in
+    ap holds_a_one shape ∙ one_there (first ++ replicate 11 false) more
 
 -- EOLs that aren't missed were counted
 not_missed : (none met ends : Bool) → met ≡ false → ends ≡ false → (((none && true) && not met) && not ends) ≡ false
@@ -178,52 +182,43 @@ module _ (settings : DecodeSettings) (x y : Bits) where
         → one_in_line encoding (front ++ rest) ≡ true
     more_in_line encoding front rest one = grind (arith, one_stays, false≢true)
 
-    -- behind the zeros of an EOL is a one
-    one_behind : (encoding : EncodingMode) (bits more : Bits) → Closes bits → one_in_line encoding (bits ++ true ∷ more) ≡ true
-    one_behind Group3_1D bits more closes = one_there bits more
-    one_behind Group4 bits more closes = one_there bits more
-    one_behind Group3_2D [] more closes = absurd (omega (arith, ap length closes.1, length-append closes.0 (replicate 11 false)))
-    one_behind Group3_2D (tag ∷ bits) more closes = one_there bits more
+    -- bits that end with an EOL have a one, behind their tag too
+    one_behind : (encoding : EncodingMode) (bits more : Bits) → Closes bits → one_in_line encoding (bits ++ more) ≡ true
+    one_behind Group3_1D bits more closes = one_closes bits more closes
+    one_behind Group4 bits more closes = one_closes bits more closes
+    one_behind Group3_2D [] more (first, is) =
+        absurd (omega (arith, ap length is, length-append first (replicate 11 false ++ true ∷ [])))
+    one_behind Group3_2D (tag ∷ bits) more ([], is) = let same : bits ≡ replicate 10 false ++ true ∷ [] = cc in rw same refl
+    one_behind Group3_2D (tag ∷ bits) more (b ∷ first, is) = one_closes bits more (first, cc)
 
-    -- the zeros of the next EOL are among the equal bits
+    -- the next EOL is among the equal bits
     closes_front : (bits left : Bits) → past 0 (bits ++ x) ≡ Some (left ++ x) → (front : Bits) × Closes front
-        × (bits ≡ front ++ true ∷ left)
+        × (bits ≡ front ++ left)
     closes_front bits left e = let next = found_next (bits ++ x) (left ++ x) e in
         let before = next_eol_leaves (bits ++ x) next.0 next.1 in
-        let f = eol_closes before.0 next.0 (left ++ x) next.2 in
-        let whole : bits ++ x ≡ (f.0 ++ true ∷ left) ++ x = before.1 ∙ f.2 ∙ sym (append_assoc f.0 (true ∷ left) x) in
-        (f.0, f.1, append_cancel_right bits (f.0 ++ true ∷ left) x whole)
-
-    other_broken : (u v : Bits) (front : Row) (fault : DecodeError) (line : Line) → LineAlike u v (Line.broken front fault) line
-        → (other : DecodeError) × (line ≡ Line.broken front other)
-    other_broken u v front fault line alike = grind arith
+        let (front, closes, is) = eol_closes before.0 next.0 (left ++ x) next.2 in
+        (front, closes, append_cancel_right bits (front ++ left) x (before.1 ∙ is ∙ sym (append_assoc front left x)))
 
     -- a broken line that is repaired
     sought_broken : settings.strict ≡ false → (rows : List Row) (bits : Bits) (t : Progress) → t.has_eols ≡ true → length x
         ≤ length t.rest → move_on settings (sought rows (bits ++ x)) ≡ Turn.next t → (front : Row) (fault : DecodeError)
         → line_here settings (row_before settings.columns rows) (bits ++ x) ≡ Line.broken front fault → TurnFound rows true bits
-    sought_broken lenient rows bits t seeks le e front fault is = let above : Row = row_before settings.columns rows in
-        let row : Row = repaired settings.columns front in
-        let moved = repaired_turn rows (bits ++ x) front fault lenient is in
-        let next = past_there settings lenient (rows ++ row ∷ []) (bits ++ x) t (sym moved ∙ e) seeks in
-        let left = past_front x y 0 bits next.1.0 next.1.1 (omega (arith, le, next.1.2)) in
-        let closes = closes_front bits left.0 (next.1.1 ∙ ap (λ (b : Bits). Some b) left.2) in
-        let line : Bool → Bits → Line = λ strict here. line_by settings.encoding strict settings.columns above here in
-        let shape : (z : Bits) → bits ++ z ≡ closes.0 ++ (true ∷ left.0 ++ z) = λ z. ap (λ (b : Bits). b ++ z) closes.2
-        ∙ append_assoc closes.0 (true ∷ left.0) z in
-        let read : (z : Bits)
-        → line false (closes.0 ++ (true ∷ left.0 ++ z)) ≡ line_here settings above (bits ++ z) = grind arith in
-        let alike = subst (λ (l : Line). LineAlike (true ∷ left.0 ++ x) (true ∷ left.0 ++ y) l
-        (line false (closes.0 ++ (true ∷ left.0 ++ y)))) (read x ∙ is)
-        (line_alike settings.encoding settings.columns above (true ∷ left.0 ++ x) (true ∷ left.0 ++ y) closes.0 closes.1) in
-        let other = other_broken (true ∷ left.0 ++ x)
-        (true ∷ left.0 ++ y) front fault (line false (closes.0 ++ (true ∷ left.0 ++ y))) alike in
+    sought_broken lenient rows bits t seeks le e front fault is =
+        let moved = sym (repaired_turn rows (bits ++ x) front fault lenient is) ∙ e in
+        let next = past_there settings lenient (rows ++ repaired settings.columns front ∷ []) (bits ++ x) t moved seeks in
+        let after = past_front x y 0 bits next.1.0 next.1.1 (omega (arith, le, next.1.2)) in
+        let closes = closes_front bits after.0 (next.1.1 ∙ ap (λ (b : Bits). Some b) after.2) in
+        let (row, left, some, turn) = turn_closed settings lenient rows closes.0 closes.1 in
+        let shape : (z : Bits) → move_on settings (sought rows (bits ++ z)) ≡ after_row settings
+        (sought (rows ++ row ∷ []) ((left ++ after.0) ++ z)) = λ z. ap (λ (b : Bits). move_on settings (sought rows b))
+        (ap (λ (b : Bits). b ++ z) closes.2 ∙ append_assoc closes.0 after.0 z) ∙ turn (after.0 ++ z)
+        ∙ ap (λ (b : Bits). after_row settings (sought (rows ++ row ∷ []) b)) (sym (append_assoc left after.0 z)) in
         record {
           row = row;
-          left = bits;
-          one = ap (one_in_line settings.encoding) closes.2 ∙ one_behind settings.encoding closes.0 left.0 closes.1;
-          here = moved;
-          there = repaired_turn rows (bits ++ y) front other.0 lenient (sym (read y) ∙ other.1);
+          left = left ++ after.0;
+          one = ap (one_in_line settings.encoding) closes.2 ∙ one_behind settings.encoding closes.0 after.0 closes.1;
+          here = shape x;
+          there = shape y;
         }
 
     broken_found : (rows : List Row) (has_eols : Bool) (bits : Bits) (t : Progress) → t.has_eols ≡ has_eols

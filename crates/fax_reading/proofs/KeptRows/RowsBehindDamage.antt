@@ -1,161 +1,80 @@
 -- Data that are the same from an EOL on have the same rows behind the next, whatever comes before.
-use Rattle.fax_reading.proofs.Names.{common_steps, ◌≡◌, ℕ, zero, suc, ◌<◌, ◌≤◌, Bool, true, false, List, [], ◌∷◌, ◌++◌, length}
-use Rattle.fax_reading.proofs.Names.{take, drop, Option, Some, None, Ok, Err, refl, sym, ap, subst, ◌∙◌, append_assoc}
-use Rattle.fax_reading.proofs.Names.{append_cancel_right, append-nil, arith, ◌⊎◌, inl, inr, cond-true, cond-false, length-append}
-use Rattle.fax_reading.proofs.Names.{length-drop, take-append-drop, DecodeError, EncodingMode, Group4, Group3_1D, Group3_2D}
-use Rattle.fax_reading.proofs.Names.{DecodeSettings, Bits, AreWholeBytes, Turn, Reaches, Row, Line, after_eol, all_eols}
-use Rattle.fax_reading.proofs.Names.{past_tag, eols_by, eols_here, is_over, limit_met, at_end, Progress, Ending}
-use Rattle.fax_reading.proofs.Names.{Move, row_before, row_of, line_by, line_here, move_on, first_line, end_of, plain, MakesNoRtc}
-use Rattle.fax_reading.proofs.Names.{PutsInStep, ComesTo, AreInStep, RowsBehind, IsEolAt, or_parts, false≢true}
-use Rattle.fax_reading.proofs.Readings.GapsAndRows.{late, goes, ending_goes, end_t4, plain_is}
-use Rattle.fax_reading.proofs.DamagedLines.LineTails.{drop_front, eol_closes, line_past_by}
-use Rattle.fax_reading.proofs.DamagedLines.EolsAlike.{Closes, RestAlike, PastAlike, closes_inside, inside_after, leaves_after}
-use Rattle.fax_reading.proofs.DamagedLines.EolsAlike.{leaves_length, after_shorter, past_alike, all_eols_alike, eols_found}
-use Rattle.fax_reading.proofs.DamagedLines.EolsAlike.{tagged_found, last_tag_alike, last_tag_few, line_alike}
-use Rattle.fax_reading.proofs.DamagedLines.PastEol.{past, past_is, then_after}
-use Rattle.fax_bits.proofs.BitReading.ConsecutiveEols.{all_tagged, all_eols-some, all_tagged-some, all_tagged-none}
-use Rattle.fax_bits.proofs.BitReading.ConsecutiveEols.{next_eol_found, last_tag_count, one_more-count, count_some, counts_plain}
-use Rattle.fax_bits.proofs.BitReading.ConsecutiveEols.{counts_tagged, after_eol_shorter}
-use Rattle.fax_reading.proofs.DamagedLines.RunsAlike.{IsGroup3, IsTail, SameLine, StayAlike, move_beyond, run_at, alone, not_end}
-use Rattle.fax_reading.proofs.DamagedLines.RunsAlike.{not_group4}
-use Rattle.fax_reading.proofs.DamagedLines.SoughtTurns.{sought, rest_of, not_past_end, eols_here_same, row_past, move_sought}
-use Rattle.fax_reading.proofs.DrawingLines.LinesLeaveBits.{LeavesBits, leaves_trans, LineLeaves, line_by_leaves}
-use Rattle.fax_bits.proofs.Repetition.Repeated.{Follows, after_turn, repeated_turn, repeated_follows, reaches_on}
-use Rattle.fax_reading.proofs.Readings.RowsAndGaps.{unless_over, after_row}
-use Rattle.fax_reading.proofs.Readings.TurnsMoveOn.{left_to_read, move_shrinks, eols_here_counted}
-use Rattle.fax_reading.proofs.DamagedLines.{LinesBeforeEol.Inside, LinesBeforeEol.LineAlike, LinesByEols.seeks}
-
--- the same bits follow
-with_tail : (bits rest z : Bits) → LeavesBits bits rest → LeavesBits (bits ++ true ∷ z) (rest ++ true ∷ z)
-with_tail bits rest z leaves = grind (arith, common_steps, append_assoc)
+use Rattle.fax_reading.proofs.Names.{AreInStep, all_eols, past_tag, Progress, or_parts, is_over, move_on, ComesTo, IsEolAt, false}
+use Rattle.fax_reading.proofs.Names.{DecodeError, append-nil, cond-false, row_before, first_line, MakesNoRtc, PutsInStep, Reaches}
+use Rattle.fax_reading.proofs.Names.{RowsBehind, false≢true, cond-true, Group3_2D, after_eol, eols_here, limit_met, line_here, Ok}
+use Rattle.fax_reading.proofs.Names.{length, Option, at_end, end_of, Ending, subst, arith, plain, zero, Bool, true, List, ◌++◌, ℕ}
+use Rattle.fax_reading.proofs.Names.{take, drop, Some, None, refl, Turn, Bits, ◌≡◌, suc, ◌<◌, ◌≤◌, ◌∷◌, Err, sym, ◌∙◌, ◌⊎◌, inl}
+use Rattle.fax_reading.proofs.Names.{take-append-drop, DecodeSettings, AreWholeBytes, common_steps, append_assoc, length-drop, []}
+use Rattle.fax_bits.proofs.BitReading.ConsecutiveEols.{after_eol_shorter, all_tagged-some, all_tagged-none, next_eol_found}
+use Rattle.fax_bits.proofs.BitReading.ConsecutiveEols.{count_moves, all_tagged, count_some}
+use Rattle.fax_bits.proofs.BitReading.ConsecutiveEols.{last_tag_count, one_more-count, all_eols-some, counts_tagged, counts_plain}
+use Rattle.fax_bits.proofs.Repetition.Repeated.{repeated_follows, repeated_turn, after_turn, reaches_on, Follows}
+use Rattle.fax_reading.proofs.DamagedLines.EolsAlike.{leaves_length, all_eols_kept, last_tag_few, turn_closed, left_closes, Ends}
+use Rattle.fax_reading.proofs.DamagedLines.EolsAlike.{row_counted, left_ends, past_ends, with_tail, IsGroup3, IsLineIn, not_end}
+use Rattle.fax_reading.proofs.DamagedLines.RunsAlike.{move_beyond, not_group4, StayAlike, SameLine, run_at}
+use Rattle.fax_reading.proofs.DamagedLines.SoughtTurns.{eols_here_same, move_sought, row_past, rest_of, sought}
+use Rattle.fax_reading.proofs.DamagedLines.{LineTails.line_past_by, LineTails.drop_front, LineTails.eol_closes, EolsAlike.counted}
+use Rattle.fax_reading.proofs.DamagedLines.{PastEol.then_after, PastEol.past_is, PastEol.past, LinesByEols.seeks}
+use Rattle.fax_reading.proofs.DrawingLines.LinesLeaveBits.{leaves_trans, LeavesBits}
+use Rattle.fax_reading.proofs.Readings.GapsAndRows.{ending_goes, plain_is, end_t4, late, goes}
+use Rattle.fax_reading.proofs.Readings.TurnsMoveOn.{eols_here_counted, left_to_read, move_shrinks}
+use Rattle.fax_reading.proofs.{GapsContinued.ContinuedEols.count_then_more, Names.inr, Names.Row, Names.ap}
+use Rattle.fax_reading.proofs.{Readings.RowsAndGaps.unless_over, Readings.RowsAndGaps.after_row, KeptRows.TurnsLeave.count_leaves}
 
 -- ---- One reading comes to the EOL behind the line
 
-module _ (settings : DecodeSettings) (group3 : IsGroup3 settings.encoding) (lenient : settings.strict ≡ false)
-    (unlimited : settings.rows ≡ 0) (x after next : Bits) (tail : IsTail settings after x) (next_is : after_eol 0 next
-    ≡ Some after) (stays : (reference : Row) → past 0 (rest_of (line_here settings reference x) x) ≡ Some after) where
+-- after some turns the EOLs that follow the line are counted
+abbrev ComesBehind : DecodeSettings → Bits → Progress → Type 0
+ComesBehind settings next s = (mid : Progress) × (rows : List Row) × (u : Bits) × Reaches (move_on settings) s mid
+    × (move_on settings mid ≡ unless_over settings (sought rows u) (eols_here settings next))
+
+module _ (settings : DecodeSettings) (unlimited : settings.rows ≡ 0) (whole x after next : Bits)
+    (line : IsLineIn settings whole x after) (next_is : after_eol 0 next ≡ Some after) (stays : (reference : Row)
+    → past 0 (rest_of (line_here settings reference x) x) ≡ Some after) (no_rtc : (found : Bits) → LeavesBits whole found
+    → length x < length found → (eols_here settings found).0 < 6) where
   open_limit : (n : ℕ) → limit_met settings n ≡ false
   open_limit n = rw unlimited refl
 
-  -- after some turns the EOLs that follow the line are counted
-  abbrev pub ComesBehind : Progress → Type 0
-  ComesBehind s = (mid : Progress) × (rows : List Row) × (u : Bits) × Reaches (move_on settings) s mid
-      × (move_on settings mid ≡ unless_over settings (sought rows u) (eols_here settings next))
-
   -- after the row of a state, where the EOL is the next
   behind_row_of : (s : Progress) (rows : List Row) (u : Bits) → move_on settings s ≡ after_row settings (sought rows u)
-      → past 0 u ≡ Some after → ComesBehind s
-  behind_row_of s rows u e f = let found = row_past settings lenient rows u after (open_limit (length rows)) f in
+      → past 0 u ≡ Some after → ComesBehind settings next s
+  behind_row_of s rows u e f = let found = row_past settings line.lenient rows u after (open_limit (length rows)) f in
       (s, rows, u, Reaches.stays s, grind (arith, common_steps, eols_here_same settings found.0 next after found.2 next_is))
-
-  -- at the line
-  from_there : (rows : List Row) → ComesBehind (sought rows x)
-  from_there rows = behind_row_of (sought rows x) _ _ (move_sought settings lenient rows x)
-      (stays (row_before settings.columns rows))
-
-  -- a state on the way
-  goes_on : (s t : Progress) → move_on settings s ≡ Turn.next t → ComesBehind t → ComesBehind s
-  goes_on s t e (mid, rows, u, reaches, f) = (mid, rows, u, Reaches.moves s t mid e reaches, f)
 
   -- the reading isn't over where few EOLs were counted and bits are left
   not_over : (rows : List Row) (u : Bits) (found : ℕ × Bits) → found.0 < 6 → at_end found.1 ≡ false
       → unless_over settings (sought rows u) found ≡ Turn.next (sought rows found.1)
   not_over rows u (count, rest) few open_end = grind (arith, common_steps, cond-false, open_limit)
 
-  module _ (whole : Bits) (no_rtc : (found : Bits) → LeavesBits whole found → length x < length found
-      → (eols_here settings found).0 < 6) where
-    -- EOLs that are counted from one on that ends before the line
-    counted : (found more : Bits) → LeavesBits whole found → after_eol 0 found ≡ Some (more ++ true ∷ x)
-        → RestAlike x x more (eols_here settings found).1 (eols_here settings found).1
-    counted found more leaves e = by_encoding settings.encoding settings.end_of_block refl group3
-      where
-        few : (eols_here settings found).0 < 6
-        few = no_rtc found leaves (omega (arith, after_eol_shorter 0 found (more ++ true ∷ x) e, length-append more (true ∷ x)))
+  abbrev Ahead : ℕ → Type 0
+  Ahead n = (rows : List Row) (bits : Bits) → length bits < n → Ends 11 bits → LeavesBits whole (bits ++ x)
+      → ComesBehind settings next (sought rows (bits ++ x))
 
-        by_encoding : (encoding : EncodingMode) (block : Bool) → settings.encoding ≡ encoding → IsGroup3 encoding
-            → RestAlike x x more (eols_by encoding block found).1 (eols_by encoding block found).1
-        by_encoding Group3_1D block same is = (eols_found x x tail.none tail.none more found found e e).1
-        by_encoding Group3_2D block same is = grind (
-          arith,
-          common_steps,
-          last_tag_count (all_tagged found),
-          few,
-          last_tag_alike x x tail.none tail.none (tail.tag same) (tail.tag same) more,
-          tagged_found x x tail.none tail.none (tail.tag same) (tail.tag same) more found found e e,
-        )
-        by_encoding Group4 block same (inl is) = absurd cc
-        by_encoding Group4 block same (inr is) = absurd cc
-
-    abbrev pub Ahead : ℕ → Type 0
-    Ahead n = (rows : List Row) (bits : Bits) → length bits < n → Closes bits → LeavesBits whole (bits ++ true ∷ x)
-        → ComesBehind (sought rows (bits ++ true ∷ x))
-
-    -- after a row whose line ended before the EOL before the line
-    row_ahead : (n : ℕ) → Ahead n → (s : Progress) (rows : List Row) (bits : Bits) → length bits ≤ n → Inside bits → LeavesBits
-        whole (bits ++ true ∷ x) → move_on settings s ≡ after_row settings (sought rows (bits ++ true ∷ x)) → ComesBehind s
-    row_ahead n on s rows bits le inside leaves e =
-        by_past (past 0 (bits ++ true ∷ x)) (past 0 (bits ++ true ∷ x)) refl (past_alike x x 0 bits)
-      where
-        by_past : (o p : Option Bits) → past 0 (bits ++ true ∷ x) ≡ o → PastAlike x x bits o p → ComesBehind s
-        by_past o p f (inl (before, more, is, g, h)) = let found = row_past settings lenient rows (bits ++ true ∷ x)
-            (more ++ true ∷ x) (open_limit (length rows)) (f ∙ g) in
-            let there : LeavesBits whole found.0 = leaves_trans whole (bits ++ true ∷ x) found.0 leaves found.1 in
-            let few = no_rtc found.0 there
-            (omega (arith, after_eol_shorter 0 found.0 (more ++ true ∷ x) found.2, length-append more (true ∷ x))) in
-            let behind : LeavesBits bits more = leaves_after bits before more is in
-            elim (counted found.0 more there found.2) [
-              | inl (a, left, keeps, at, at2) ↦ let turn = not_over rows (bits ++ true ∷ x)
-                  (eols_here settings found.0) few (ap at_end at ∙ not_end a x) in
-                  let further : LeavesBits whole (a ++ true ∷ x) = leaves_trans whole (bits ++ true ∷ x)
-                  (a ++ true ∷ x) leaves (with_tail bits a x (leaves_trans bits more a behind left)) in
-                  goes_on s (sought rows (a ++ true ∷ x))
-                  (e ∙ found.3 ∙ turn ∙ ap {B = Move} (λ (b : Bits). Turn.next (sought rows b)) at)
-                  (on rows a (omega (arith, leaves_length more a left, after_shorter bits before more is, le))
-                  (keeps (inside_after bits before more inside is)) further)
-              | inr (at, at2) ↦ let turn = not_over rows (bits ++ true ∷ x)
-                  (eols_here settings found.0) few (ap at_end at ∙ not_past_end x after tail.next) in
-                  goes_on s (sought rows x) (e ∙ found.3 ∙ turn ∙ ap {B = Move} (λ (b : Bits). Turn.next (sought rows b)) at)
-                  (from_there rows)
-            ]
-        by_past o p f (inr (inl (g, h))) =
-            let found = row_past settings lenient rows (bits ++ true ∷ x) x (open_limit (length rows)) (f ∙ g) in
-            goes_on s (sought rows x) (e ∙ found.3
-            ∙ ap (unless_over settings (sought rows (bits ++ true ∷ x))) (alone settings after x found.0 group3 tail found.2)
-            ∙ not_over rows (bits ++ true ∷ x) (1, x) (omega arith) (not_past_end x after tail.next)) (from_there rows)
-        by_past o p f (inr (inr (g, h))) = behind_row_of s rows (bits ++ true ∷ x) e (f ∙ g ∙ tail.next)
-
-    pub from_ahead : (n : ℕ) → Ahead n
-    from_ahead zero rows bits lt closes leaves = absurd (omega arith)
-    from_ahead (suc n) rows bits lt closes leaves = by_line (λ rows bits small closes leaves. from_ahead
-        n rows bits small closes leaves) (read (bits ++ true ∷ x)) refl (subst (λ (l : Line). LineAlike (true ∷ x) (true ∷ x) l l)
-        (sym read_is) (line_alike settings.encoding settings.columns above (true ∷ x) (true ∷ x) bits closes))
-        (line_by_leaves settings.encoding settings.strict settings.columns above (bits ++ true ∷ x))
-      where
-        above : Row
-        above = row_before settings.columns rows
-
-        read : Bits → Line
-        read here = line_here settings above here
-
-        read_is : read (bits ++ true ∷ x) ≡ line_by settings.encoding false settings.columns above (bits ++ true ∷ x)
-        read_is = grind (arith, common_steps)
-
-        moved : move_on settings (sought rows (bits ++ true ∷ x)) ≡ after_row settings (sought (rows
-            ++ row_of settings.columns (read (bits ++ true ∷ x)) ∷ []) (rest_of (read (bits ++ true ∷ x)) (bits ++ true ∷ x)))
-        moved = move_sought settings lenient rows (bits ++ true ∷ x)
-
-        by_line : Ahead n → (line : Line) → read (bits ++ true ∷ x) ≡ line → LineAlike (true ∷ x) (true ∷ x) line line
-            → LineLeaves (bits ++ true ∷ x) line → ComesBehind (sought rows (bits ++ true ∷ x))
-        by_line on (Line.whole row rest) is (same, (a, inside, at, at2)) left = let split : bits ++ true ∷ x
-            ≡ (left.0 ++ a) ++ true ∷ x = left.1 ∙ ap (λ (b : Bits). left.0 ++ b) at ∙ sym (append_assoc left.0 a (true ∷ x)) in
-            let suffix : LeavesBits bits a = (left.0, append_cancel_right bits (left.0 ++ a) (true ∷ x) split) in
-            row_ahead n on (sought rows (bits ++ true ∷ x)) (rows ++ row ∷ []) a (omega (arith, leaves_length bits a suffix, lt))
-            inside (leaves_trans whole (bits ++ true ∷ x) (a ++ true ∷ x) leaves (with_tail bits a x suffix)) (moved ∙ ap
-            (λ (l : Line). after_row settings (sought (rows ++ row_of settings.columns l ∷ []) (rest_of l (bits ++ true ∷ x)))) is
-            ∙ ap (λ (b : Bits). after_row settings (sought (rows ++ row ∷ []) b)) at)
-        by_line on (Line.broken front fault) is alike left = row_ahead n on (sought rows (bits ++ true ∷ x)) (rows ++ row_of
-            settings.columns (Line.broken front fault) ∷ []) bits (omega arith) (closes_inside bits closes) leaves (moved ∙ ap (λ
-            (l : Line). after_row settings (sought (rows ++ row_of settings.columns l ∷ []) (rest_of l (bits ++ true ∷ x)))) is)
+  pub from_ahead : (n : ℕ) → Ahead n
+  from_ahead zero rows bits lt ends leaves = absurd (omega arith)
+  from_ahead (suc n) rows bits lt (inl none) leaves = rw none (behind_row_of (sought rows x) _ _
+      (move_sought settings line.lenient rows x) (stays (row_before settings.columns rows)))
+  from_ahead (suc n) rows bits lt (inr closes) leaves =
+      let (row, left, within, turn) = turn_closed settings line.lenient rows bits closes in
+      by_past (λ rows bits small ends leaves. from_ahead n rows bits small ends leaves) (rows ++ row ∷ []) left within (turn x)
+      (past 0 left) refl
+    where
+      by_past : Ahead n → (others : List Row) (left : Bits) → LeavesBits bits left → move_on settings (sought rows (bits ++ x))
+          ≡ after_row settings (sought others (left ++ x)) → (o : Option Bits) → past 0 left ≡ o
+          → ComesBehind settings next (sought rows (bits ++ x))
+      by_past on others left within e None f = behind_row_of (sought rows (bits ++ x)) others (left ++ x) e
+          (past_ends left x (left_ends bits left closes within) f ∙ line.next)
+      by_past on others left within e (Some more) f =
+          let there = leaves_trans whole (bits ++ x) (left ++ x) leaves (with_tail bits left x within) in
+          let found = row_counted settings whole x after line others left more (open_limit (length others)) there f
+          (left_closes bits left more closes within f) in
+          let count : ℕ × Bits = counted settings more in
+          let few : count.0 < 6 = omega (arith, no_rtc found.0 found.1 found.2, ap (λ (f : ℕ × Bits). f.0) found.3) in
+          let turn = e ∙ found.6 ∙ not_over others (left ++ x) (count_then_more x count) few
+          (not_end settings whole x after line count.1) in
+          let (mid, these, u, reaches, g) = on others count.1 (omega (arith, found.7, leaves_length bits left within, lt))
+          found.4 found.5 in
+          (mid, these, u, Reaches.moves (sought rows (bits ++ x)) (sought others (count.1 ++ x)) mid turn reaches, g)
 
 -- ---- Two readings from the same bits on
 
@@ -213,9 +132,6 @@ module _ (settings : DecodeSettings) (here line behind : Bits) (step : PutsInSte
   next_behind_line : past 0 line ≡ Some step.after
   next_behind_line = past_is line ∙ ap then_after step.next_is ∙ step.after_is
 
-  pub step_tail : IsTail settings step.after line
-  step_tail = record { none = line_alone.0; next = next_behind_line; tag = line_alone.1 }
-
   pub step_stays : (reference : Row) → past 0 (rest_of (line_here settings reference line) line) ≡ Some step.after
   step_stays reference = line_past_by settings reference line step.after next_behind_line
       (λ row rest e. step.ends reference row rest e)
@@ -230,30 +146,38 @@ module _ (settings : DecodeSettings) (here line behind : Bits) (step : PutsInSte
     ap (λ (f : ℕ × Bits). length f.1) step.behind_is,
   )
 
-  module _ (lenient : settings.strict ≡ false) (unlimited : settings.rows ≡ 0) where
-    -- the reading of some data comes behind the EOL after the line
-    pub comes_behind : (bits : Bits) (place : ℕ) → drop place bits ≡ here → (settings.end_of_line ≡ true) ⊎ IsEolAt bits
-        → MakesNoRtc settings bits line → ComesBehind settings group3 lenient unlimited line step.after step.next step_tail
-        step.after_is step_stays (first_line settings bits)
-    comes_behind bits place at sought_by no_rtc = elim (all_eols_alike line line step_tail.none step_tail.none front.0).1 [
-      | inl (rest, left, keeps, e, f) ↦ subst (ComesBehind settings group3 lenient unlimited line step.after step.next step_tail
-          step.after_is step_stays) (sym (first_is (rest ++ true ∷ line) (ap (λ (b : Bits). (all_eols b).1) bits_is ∙ e)))
-          (from_ahead settings group3 lenient unlimited line step.after step.next step_tail step.after_is step_stays bits
-          (λ found leaves lt. no_rtc leaves.0 found leaves.1 lt) (suc (length rest)) [] rest (omega arith) (keeps front.1)
-          (leaves_trans bits (front.0 ++ true ∷ line) (rest ++ true ∷ line) ([], bits_is) (with_tail front.0 rest line left)))
-      | inr (e, f) ↦ subst (ComesBehind settings group3 lenient unlimited line step.after
-          step.next step_tail step.after_is step_stays) (sym (first_is line (ap (λ (b : Bits). (all_eols b).1) bits_is ∙ e)))
-          (from_there settings group3 lenient unlimited line step.after step.next step_tail step.after_is step_stays [])
-    ]
-      where
-        front : (front : Bits) × Closes front × (take place bits ++ here ≡ front ++ true ∷ line)
-        front = eol_closes (take place bits) here line step.eol
+  -- the reading of some data comes behind the EOL after the line
+  pub comes_behind : settings.strict ≡ false → settings.rows ≡ 0 → (bits : Bits) (place : ℕ) → drop place bits ≡ here
+      → (settings.end_of_line ≡ true) ⊎ IsEolAt bits → MakesNoRtc settings bits line
+      → ComesBehind settings step.next (first_line settings bits)
+  comes_behind lenient unlimited bits place at sought_by no_rtc = let (front, closes, is) = eol_closes (take place bits)
+      here line step.eol in
+      let counts = ap all_eols (sym (take-append-drop place bits) ∙ ap (λ (b : Bits). take place bits ++ b) at ∙ is)
+      ∙ (all_eols_kept 11 line line_alone.0 front (inr closes)).0 in
+      let rest : Bits = (all_eols front).1 in
+      let first_is : first_line settings bits ≡ sought [] (rest ++ line) = grind (arith, common_steps, seeks, counts) in
+      subst (ComesBehind settings step.next) (sym first_is)
+      (from_ahead settings unlimited bits line step.after step.next line_in step.after_is step_stays
+      (λ found leaves lt. no_rtc leaves.0 found leaves.1 lt) (suc (length rest)) [] rest (omega arith)
+      (all_eols_kept 11 line line_alone.0 front (inr closes)).1 (subst (λ (f : ℕ × Bits). LeavesBits bits f.1) counts
+      (count_leaves counts_plain (λ b. ([], refl)) (length bits) bits)))
+    where
+      few : settings.encoding ≡ Group3_2D → (found : Bits) (count : ℕ) → LeavesBits bits found → all_tagged found ≡ (count, line)
+          → count < 6
+      few is found zero leaves e = omega arith
+      few is found (suc count) leaves e = let lt : length line < length found = grind
+          (arith, common_steps, count_moves counts_tagged (length found) found) in
+          grind (arith, common_steps, no_rtc leaves.0 found leaves.1 lt, last_tag_count (all_tagged found))
 
-        bits_is : bits ≡ front.0 ++ true ∷ line
-        bits_is = sym (take-append-drop place bits) ∙ ap (λ (b : Bits). take place bits ++ b) at ∙ front.2
-
-        first_is : (rest : Bits) → (all_eols bits).1 ≡ rest → first_line settings bits ≡ sought [] rest
-        first_is rest e = grind (arith, common_steps, seeks)
+      line_in : IsLineIn settings bits line step.after
+      line_in = record {
+        group3 = group3;
+        lenient = lenient;
+        none = line_alone.0;
+        next = next_behind_line;
+        tag = line_alone.1;
+        few = few;
+      }
 
 module _ (settings : DecodeSettings) (wide : 0 < settings.columns) where
   -- the end from a state that is reached
@@ -293,15 +217,11 @@ rows_behind settings one whole_one two line behind to to2 whole_two alike = by_o
     found : ℕ × Bits
     found = (step.count, behind)
 
-    these : ComesBehind settings alike.encoding alike.lenient alike.unlimited line step.after step.next
-        (step_tail settings (drop to one) line behind step alike.encoding) step.after_is
-        (step_stays settings (drop to one) line behind step alike.encoding) (first_line settings one)
+    these : ComesBehind settings step.next (first_line settings one)
     these = comes_behind settings (drop to one) line behind step alike.encoding alike.lenient alike.unlimited one to refl
         alike.sought alike.no_rtc
 
-    those : ComesBehind settings alike.encoding alike.lenient alike.unlimited line step.after step.next
-        (step_tail settings (drop to one) line behind step alike.encoding) step.after_is
-        (step_stays settings (drop to one) line behind step alike.encoding) (first_line settings two)
+    those : ComesBehind settings step.next (first_line settings two)
     those = comes_behind settings (drop to one) line behind step alike.encoding alike.lenient alike.unlimited two to2
         (sym alike.same) alike.sought_too alike.no_rtc_too
 

@@ -1,21 +1,20 @@
 -- An EOL and the line behind it, as they are tested.
-use Rattle.fax_reading.proofs.Names.{common_steps, ◌≡◌, ℕ, ◌+◌, ◌-◌, ◌*◌, ◌<◌, ◌≤◌, ◌⊎◌, ◌↔◌, Bool, true, false, leb, [], ◌∷◌, Ok}
-use Rattle.fax_reading.proofs.Names.{length, Option, Some, None, Result, Err, refl, sym, ap, subst, ◌∙◌, arith, inl, inr, IsTrue}
-use Rattle.fax_reading.proofs.Names.{min, cond-true, cond-false, lt-leb, le-leb, leb-true, length-append, length-replicate, Color}
-use Rattle.fax_reading.proofs.Names.{DecodeError, EncodingMode, Group4, Group3_1D, Group3_2D, DecodeSettings, Bits, after_eol}
-use Rattle.fax_reading.proofs.Names.{next_eol, all_eols, one_more, past_tag, eols_by, eols_here, is_end_of_block}
-use Rattle.fax_reading.proofs.Names.{read_run, opposite, run_found, Turn, Row, Line, Pen, line_1d, line_by, line_here, EndsBefore}
-use Rattle.fax_reading.proofs.Names.{ModesEndBefore, ComesBefore1D, EndsByWords, TellsStep, IsInStepFrom, AreWholeBytes, drop}
-use Rattle.fax_reading.proofs.Names.{RowsFollow, length-drop, looked, looked_ahead, tag_tests, most_for_lines}
-use Rattle.fax_reading.proofs.Work.EolsPassed.{few_tag_tests, looked_ahead_most}
-use Rattle.fax_bits.proofs.BitReading.ConsecutiveEols.{after_eol_shorter, next_eol_found, all_eols-some, all_eols-none}
-use Rattle.fax_bits.proofs.BitReading.ConsecutiveEols.{all_tagged, all_tagged-some, all_tagged-none, last_tag_count}
-use Rattle.fax_reading.proofs.DrawingLines.Drawings.{run_then, drawn_by, step_1d, step_1d_is}
-use Rattle.fax_reading.proofs.EncodedPictures.PicturesT4.{eols_here_two}
-use Rattle.fax_reading.proofs.{KeptRows.RowsBehindDamage.rows_behind, CodeWords.WordsFound.run_stands}
-use Rattle.fax_reading.proofs.{DamagedLines.AnyReference.modes_read, DamagedLines.EolsAlike.last_tag_few}
-use Rattle.fax_reading.proofs.{DamagedLines.RunsAlike.IsGroup3, DrawingLines.ReadLines.drawn1, Work.WordsPay.stands_count}
+use Rattle.fax_reading.proofs.Names.{Group3_1D, Group3_2D, after_eol, eols_here, run_found, line_here, TellsStep, tag_tests, Bool}
+use Rattle.fax_reading.proofs.Names.{Some, None, refl, Bits, Turn, Line, drop, ◌+◌, ◌-◌, ◌*◌, ◌<◌, ◌≤◌, ◌⊎◌, ◌↔◌, leb, ◌∷◌, Err}
+use Rattle.fax_reading.proofs.Names.{leb-true, next_eol, all_eols, one_more, past_tag, read_run, opposite, eols_by, line_1d, true}
+use Rattle.fax_reading.proofs.Names.{length-append, ComesBefore1D, AreWholeBytes, common_steps, EncodingMode, IsInStepFrom, false}
+use Rattle.fax_reading.proofs.Names.{length-replicate, is_end_of_block, DecodeSettings, ModesEndBefore, most_for_lines, cond-true}
+use Rattle.fax_reading.proofs.Names.{line_by, length, Option, Result, IsTrue, lt-leb, le-leb, Group4, looked, subst, arith, Color}
+use Rattle.fax_reading.proofs.Names.{looked_ahead, DecodeError, EndsByWords, length-drop, cond-false, EndsBefore, RowsFollow, ◌≡◌}
+use Rattle.fax_reading.proofs.Names.{sym, ◌∙◌, inl, inr, min, Row, Pen, [], Ok, ap, ℕ}
+use Rattle.fax_bits.proofs.BitReading.ConsecutiveEols.{after_eol_shorter, all_tagged-some, all_tagged-none, next_eol_found}
+use Rattle.fax_bits.proofs.BitReading.ConsecutiveEols.{last_tag_count, all_eols-some, all_eols-none, all_tagged}
 use Rattle.fax_bits.proofs.{BitReading.ZeroRuns.looked_eol, Repetition.Repeated.after_turn}
+use Rattle.fax_reading.proofs.DamagedLines.{EolsAlike.last_tag_few, EolsAlike.IsGroup3, AnyReference.modes_read}
+use Rattle.fax_reading.proofs.DrawingLines.Drawings.{step_1d_is, run_then, drawn_by, step_1d}
+use Rattle.fax_reading.proofs.{DrawingLines.ReadLines.drawn1, Work.WordsPay.stands_count}
+use Rattle.fax_reading.proofs.{EncodedPictures.PicturesT4.eols_here_two, KeptRows.RowsBehindDamage.rows_behind}
+use Rattle.fax_reading.proofs.{Work.EolsPassed.looked_ahead_most, Work.EolsPassed.few_tag_tests, CodeWords.WordsFound.run_stands}
 
 -- ---- Runs that are passed
 

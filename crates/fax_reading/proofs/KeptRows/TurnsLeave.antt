@@ -1,16 +1,16 @@
 -- A turn leaves a suffix of the bits that it begins with, and seeks EOLs as before or has given them up.
-use Rattle.fax_reading.proofs.Names.{arith, common_steps, ◌≡◌, ℕ, zero, suc, ◌%◌, Bool, true, false, cond, not, ◌&&◌, ◌||◌, leb}
-use Rattle.fax_reading.proofs.Names.{[], ◌∷◌, ◌++◌, length, replicate, take, Option, Some, None, refl, sym, subst, ◌∙◌}
-use Rattle.fax_reading.proofs.Names.{append_assoc, ◌⊎◌, inl, inr, take-append-drop, DecodeSettings, EncodingMode, Group4}
-use Rattle.fax_reading.proofs.Names.{Group3_1D, Group3_2D, Bits, Turn, Reaches, Row, Line, repaired, after_eol, next_eol}
-use Rattle.fax_reading.proofs.Names.{past_tag, pass_last_tag, eols_with_tags, eols_by, eols_here, one_more, Progress, row_before}
-use Rattle.fax_reading.proofs.Names.{aligned, with_row, behind_row, line_here, misses_eol, after_line, move_on}
-use Rattle.fax_reading.proofs.DrawingLines.LinesLeaveBits.{LeavesBits, leaves_trans, LineLeaves, line_by_leaves}
-use Rattle.fax_reading.proofs.Readings.RowsAndGaps.{seek_from, unless_over, after_row, row_added, after_whole-is, after_damage-is}
+use Rattle.fax_reading.proofs.Names.{EncodingMode, row_before, behind_row, misses_eol, after_line, replicate, Group3_1D, repaired}
+use Rattle.fax_reading.proofs.Names.{Group3_2D, after_eol, eols_here, line_here, next_eol, past_tag, one_more, Progress, with_row}
+use Rattle.fax_reading.proofs.Names.{Reaches, eols_by, aligned, move_on, length, Option, Group4, arith, false, subst, zero, Bool}
+use Rattle.fax_reading.proofs.Names.{leb, ◌∷◌, sym, ◌∙◌, ◌⊎◌, inl, inr, Row, [], ℕ}
+use Rattle.fax_reading.proofs.Names.{take-append-drop, DecodeSettings, eols_with_tags, pass_last_tag, common_steps, append_assoc}
+use Rattle.fax_reading.proofs.Names.{true, cond, ◌&&◌, ◌||◌, ◌++◌, take, Some, None, refl, Bits, Turn, Line, ◌≡◌, suc, ◌%◌, not}
+use Rattle.fax_bits.proofs.BitReading.ConsecutiveEols.{counts_tagged, counts_plain, CountsEols}
+use Rattle.fax_bits.proofs.{Repetition.Repeated.not_next, CodeWords.ReadRuns.chosen}
+use Rattle.fax_reading.proofs.DamagedLines.PastEol.{next_eol_leaves, after_eol_is}
+use Rattle.fax_reading.proofs.DrawingLines.LinesLeaveBits.{line_by_leaves, leaves_trans, LeavesBits, LineLeaves}
+use Rattle.fax_reading.proofs.Readings.RowsAndGaps.{after_damage-is, after_whole-is, unless_over, seek_from, after_row, row_added}
 use Rattle.fax_reading.proofs.Readings.TurnsMoveOn.{unless_over_next}
-use Rattle.fax_bits.proofs.BitReading.ConsecutiveEols.{CountsEols, counts_plain, counts_tagged}
-use Rattle.fax_bits.proofs.{CodeWords.ReadRuns.chosen, Repetition.Repeated.not_next}
-use Rattle.fax_reading.proofs.DamagedLines.{LineTails.after_eol_is, PastEol.next_eol_leaves}
 
 -- ---- EOLs
 
@@ -32,7 +32,7 @@ one_more_leaves here (count, rest) leaves = leaves
 
 module _ {pass : Bits → Bits} {count : ℕ → Bits → ℕ × Bits} (counts : CountsEols pass count)
     (passes : (here : Bits) → LeavesBits here (pass here)) where
-  count_leaves : (most : ℕ) (here : Bits) → LeavesBits here (count most here).1
+  pub count_leaves : (most : ℕ) (here : Bits) → LeavesBits here (count most here).1
   count_leaves zero here = subst (λ (found : ℕ × Bits). LeavesBits here found.1) (sym (counts.start here)) ([], refl)
   count_leaves (suc most) here = by_after_eol (λ rest. count_leaves most rest) (after_eol 0 here) refl
     where
@@ -52,7 +52,7 @@ last_tag_leaves here (count, true ∷ rest) leaves = either_way (leb 6 count)
     either_way true = leaves_trans here (true ∷ rest) rest leaves (true ∷ [], refl)
     either_way false = leaves
 
-eols_leave_bits : (settings : DecodeSettings) (here : Bits) → LeavesBits here (eols_here settings here).1
+pub eols_leave_bits : (settings : DecodeSettings) (here : Bits) → LeavesBits here (eols_here settings here).1
 eols_leave_bits settings here = by_encoding settings.encoding settings.end_of_block
   where
     by_encoding : (encoding : EncodingMode) (block : Bool) → LeavesBits here (eols_by encoding block here).1

@@ -4,7 +4,7 @@ use Rattle.hayro_ccitt.proofs.Names.{◌≡◌, ◌∙◌, ◌+◌, ◌≤◌, �
 use Rattle.hayro_ccitt.proofs.Names.{refl, sym, ap, arith, length, length-append, replicate, inl, inr, cases_lt, false≢true}
 use Rattle.hayro_ccitt.proofs.Names.{Bits, DecodeSettings, EncodingMode, Group4, Group3_1D, Group3_2D, Row}
 use Rattle.hayro_ccitt.proofs.Names.{Gap, Progress, all_eols, at_front, at_gap, gap_behind_row, line_here}
-use Rattle.hayro_ccitt.proofs.Names.{misses_eol}
+use Rattle.hayro_ccitt.proofs.Names.{append_assoc, misses_eol}
 use Rattle.hayro_ccitt.specs.Continuations.{is_short}
 use Rattle.hayro_ccitt.specs.FeedsKeepLittle.{OpenBitsAreRead, left_by, left_by_first}
 use Rattle.hayro_ccitt.specs.GapsContinued.{first_gap_is_settled, gap_is_settled, holds_one}
@@ -17,7 +17,7 @@ use Rattle.hayro_ccitt.specs.declared.gap_look.GapStage.TheVariants.{Start}
 use Rattle.hayro_ccitt.proofs.Readings.GapsNear.{gap_near, left_by_eols, one_more_needed, zero_more_needed}
 use Rattle.hayro_ccitt.proofs.Readings.GapsSeen.{gap_seen, only_settled, settled_stays, stage_behind-append}
 use Rattle.hayro_ccitt.proofs.Readings.RowsDrawn.{eol_among, prefix_more}
-use Rattle.fax_reading.proofs.Continuations.ShortLines.{eol_ends_line}
+use Rattle.fax_reading.proofs.Continuations.ShortLines.{zeros_end_line}
 use Rattle.fax_reading.proofs.KeptRows.LinesAgain.{line_again}
 
 -- ---- Of a line
@@ -27,7 +27,7 @@ pub open_before_eol : (settings : DecodeSettings) (reference : Row) (first more 
     → is_short (line_here settings reference first) ≡ true → first ++ more ≡ fill ++ replicate 11 false ++ true ∷ behind
     → length first < length fill + 12
 open_before_eol settings reference first more fill behind short e =
-    grind (arith, common_steps, cases_lt, eol_among, false≢true, eol_ends_line)
+    grind (arith, common_steps, cases_lt, eol_among, false≢true, zeros_end_line, append_assoc)
 
 -- where it is whole, they are all of it that came
 pub open_bits_of_line : (settings : DecodeSettings) (reference row : Row) (first more rest : Bits)
