@@ -17,7 +17,6 @@ use Rattle.hayro_ccitt.specs.PlainReading.{pass_gap}
 use Rattle.hayro_ccitt.specs.RowFeeds.{Feeding, IsFeedOf, IsOpenAt, StandsIn, fed_bits}
 use Rattle.hayro_ccitt.specs.declared.row_reader.Stand.{Stand}
 use Rattle.hayro_ccitt.specs.declared.row_reader.Stand.TheVariants.{AtLine, BehindRow, AtEnd, AtFault}
-use Rattle.hayro_ccitt.proofs.BitReading.ZerosInWords.{holds_a_one}
 use Rattle.hayro_ccitt.proofs.KeptRows.EqualFronts.{one_in_bits}
 use Rattle.hayro_ccitt.proofs.KeptRows.LinesAgain.{line_again, one_in_whole, one_stays}
 use Rattle.hayro_ccitt.proofs.Readings.FeedsPaid.{short_row}
@@ -29,13 +28,6 @@ use Rattle.hayro_ccitt.proofs.Readings.RowsAndGaps.{after_damage-is, unless_over
 use Rattle.hayro_ccitt.proofs.Readings.TurnsMoveOn.{unless_over_next}
 use Rattle.fax_callers.proofs.ReadsOnward.{EndsWithin, Leads, Leaves, behind_row_shorter, counted_on, gap_lead, gap_leaves}
 use Rattle.fax_callers.proofs.ReadsOnward.{reached_lead}
-
--- ---- Ones
-
-same_ones : (bits : Bits) → holds_a_one bits ≡ holds_one bits
-same_ones [] = refl
-same_ones (true ∷ bits) = refl
-same_ones (false ∷ bits) = same_ones bits
 
 -- ---- What a turn leads to
 
@@ -84,7 +76,7 @@ module _ (settings : DecodeSettings) (wide : 0 < settings.columns) (four : setti
           let again = line_again settings.encoding settings.strict settings.columns reference run.rest row rest e in
           let one = one_in_whole settings.encoding settings.strict settings.columns reference again.0 rest row wide
           (ap (λ (b : Bits). line_here settings reference b) (sym again.1) ∙ e) in
-          absurd (false≢true (sym none ∙ ap holds_one again.1 ∙ sym (same_ones (again.0 ++ rest))
+          absurd (false≢true (sym none ∙ ap holds_one again.1
           ∙ one_stays again.0 rest (one_in_bits settings.encoding again.0 one)))
 
   -- the EOLs here aren't settled: but one was read, and zeros are left

@@ -49,7 +49,7 @@ ends_last (b ∷ before) [] first e = inl refl
 ends_last (b ∷ before) (c ∷ left) [] e = absurd (omega (arith, ap length e, length-append before (c ∷ left)))
 ends_last (b ∷ before) (c ∷ left) (d ∷ first) e = grind (arith, ends_last before (c ∷ left) first)
 
-one_among : (before after : Bits) → holds_one (before ++ true ∷ after) ≡ true
+pub one_among : (before after : Bits) → holds_one (before ++ true ∷ after) ≡ true
 one_among [] after = refl
 one_among (true ∷ before) after = refl
 one_among (false ∷ before) after = one_among before after

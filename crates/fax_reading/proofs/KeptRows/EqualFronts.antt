@@ -1,76 +1,67 @@
 -- EOLs of two data that begin with the same bits: what is found ahead of a one among these is found in both.
-use Rattle.fax_reading.proofs.Names.{Option, Group4, false, arith, zero, Bool, true, cond, ◌++◌, Some, None, refl, Bits, eols, []}
-use Rattle.fax_reading.proofs.Names.{append_cancel_right, length-append, pass_last_tag, common_steps, EncodingMode, tagged_eols}
-use Rattle.fax_reading.proofs.Names.{false≢true, after_eol, Group3_1D, Group3_2D, all_eols, one_more, past_tag, eols_by, length}
-use Rattle.fax_reading.proofs.Names.{◌≡◌, suc, ◌<◌, ◌≤◌, leb, ◌∷◌, sym, ◌∙◌, ap, ℕ}
-use Rattle.fax_bits.proofs.BitReading.ConsecutiveEols.{after_eol_shorter, past_tag_shorter, all_tagged-some, all_tagged-none}
-use Rattle.fax_bits.proofs.BitReading.ConsecutiveEols.{all_eols-some, all_eols-none, count_shorter, counts_tagged, counts_plain}
-use Rattle.fax_bits.proofs.BitReading.ConsecutiveEols.{all_tagged, eols-some, eols-none}
-use Rattle.fax_bits.proofs.BitReading.ZerosInWords.{holds_a_one}
+use Rattle.fax_reading.proofs.Names.{append_cancel_right, DecodeSettings, eols_with_tags, length-append, pass_last_tag, after_eol}
+use Rattle.fax_reading.proofs.Names.{common_steps, EncodingMode, tagged_eols, false≢true, Group3_1D, Group3_2D, eols_here, Option}
+use Rattle.fax_reading.proofs.Names.{none-some, all_eols, one_more, past_tag, or_right, eols_by, Group4, length, false, arith, []}
+use Rattle.fax_reading.proofs.Names.{zero, Bool, true, cond, ◌++◌, Some, None, refl, Bits, eols, ◌≡◌, suc, ◌<◌, ◌≤◌, leb, ◌∷◌, ap}
+use Rattle.fax_bits.proofs.BitReading.ConsecutiveEols.{count_shorter, counts_tagged, counts_plain, all_tagged, CountsEols}
+use Rattle.fax_bits.proofs.BitReading.ConsecutiveEols.{eols_with_tags-some, after_eol_shorter, past_tag_shorter, length-one_more}
+use Rattle.fax_bits.proofs.BitReading.{ConsecutiveEols.count_same, ZeroRuns.eols_enough}
 use Rattle.fax_reading.proofs.DamagedLines.PastEol.{past_shorter, past}
+use Rattle.fax_reading.proofs.GapsContinued.ContinuedEols.{count_then_more, all_eols-more, eol-more}
+use Rattle.fax_reading.proofs.{GapsContinued.SettledGaps.eols_here-more, Names.sym, Names.◌∙◌, Names.◌+◌, Names.ℕ}
+use Rattle.fax_reading.specs.GapsContinued.{eols_are_settled, holds_one}
 
 -- ---- The bits of a line contain a one
 
 -- behind the tag of a line a one follows
 abbrev pub one_behind_tag : Bits → Bool
 one_behind_tag [] = false
-one_behind_tag (tag ∷ bits) = holds_a_one bits
-
--- so it does from the tag on
-pub one_from_tag : (bits : Bits) → one_behind_tag bits ≡ true → holds_a_one bits ≡ true
-one_from_tag bits one = grind arith
+one_behind_tag (tag ∷ bits) = holds_one bits
 
 -- a one follows among the bits of a line, behind its tag if it has one
 abbrev pub one_in_line : EncodingMode → Bits → Bool
-one_in_line Group3_1D bits = holds_a_one bits
+one_in_line Group3_1D bits = holds_one bits
 one_in_line Group3_2D bits = one_behind_tag bits
-one_in_line Group4 bits = holds_a_one bits
+one_in_line Group4 bits = holds_one bits
 
 -- a one follows here
-pub one_in_bits : (encoding : EncodingMode) (bits : Bits) → one_in_line encoding bits ≡ true → holds_a_one bits ≡ true
-one_in_bits encoding bits one = grind (arith, one_from_tag)
+pub one_in_bits : (encoding : EncodingMode) (bits : Bits) → one_in_line encoding bits ≡ true → holds_one bits ≡ true
+one_in_bits encoding bits one = grind arith
+
+-- so EOLs before such bits are settled
+settled_one : (encoding : EncodingMode) (block : Bool) (count : ℕ) (more : Bits) → one_in_line encoding more ≡ true
+    → eols_are_settled encoding block (count, more) ≡ true
+settled_one encoding block count more one = grind (arith, common_steps, or_right)
+
+-- ---- What is found among the first bits is found in them alone
 
 -- a count, and what follows
 abbrev IsPair : ℕ × Bits → ℕ → Bits → Type 0
 IsPair found count rest = found ≡ (count, rest)
 
-module _ (x y : Bits) where
-  -- what is left in the one is left in the other
-  abbrev pub LeftAlike : Bits → Bits → Option Bits → Type 0
-  LeftAlike bits rest o = (more : Bits) × (length more < length bits) × (rest ≡ more ++ x) × (o ≡ Some (more ++ y))
+module _ (x : Bits) where
+  -- an EOL that ends among them
+  eol_first : (seen : ℕ) (bits rest : Bits) → after_eol seen (bits ++ x) ≡ Some rest → length x ≤ length rest
+      → (left : Bits) × (rest ≡ left ++ x) × (after_eol seen bits ≡ Some left)
+  eol_first seen [] rest e le = absurd (omega (arith, after_eol_shorter seen x rest e, le))
+  eol_first seen (false ∷ bits) rest e le = eol_first (suc seen) bits rest e le
+  eol_first seen (true ∷ bits) rest e le = grind (arith, common_steps)
 
-  left_further : (bit : Bool) (bits rest : Bits) (o : Option Bits) → LeftAlike bits rest o → LeftAlike (bit ∷ bits) rest o
-  left_further bit bits rest o left = (left.0, omega (arith, left.1), left.2, left.3)
+  no_eol_first : (bits : Bits) → after_eol 0 (bits ++ x) ≡ None → after_eol 0 bits ≡ None
+  no_eol_first bits none = by_after_eol (after_eol 0 bits) refl
+    where
+      by_after_eol : (o : Option Bits) → after_eol 0 bits ≡ o → after_eol 0 bits ≡ None
+      by_after_eol None e = e
+      by_after_eol (Some rest) e = absurd (none-some (rest ++ x) (sym none ∙ eol-more x bits rest e))
 
-  -- an EOL that ends among the equal bits
-  pub after_eol_front : (seen : ℕ) (bits rest : Bits) → after_eol seen (bits ++ x) ≡ Some rest → length x ≤ length rest
-      → LeftAlike bits rest (after_eol seen (bits ++ y))
-  after_eol_front seen [] rest e le = absurd (omega (arith, after_eol_shorter seen x rest e, le))
-  after_eol_front seen (false ∷ bits) rest e le =
-      left_further false bits rest (after_eol (suc seen) (bits ++ y)) (after_eol_front (suc seen) bits rest e le)
-  after_eol_front seen (true ∷ bits) rest e le = grind (arith, common_steps)
-
-  -- no EOL is here, and a one follows among the equal bits
-  pub no_eol_front : (seen : ℕ) (bits : Bits) → holds_a_one bits ≡ true → after_eol seen (bits ++ x) ≡ None
-      → after_eol seen (bits ++ y) ≡ None
-  no_eol_front seen [] one e = absurd (false≢true one)
-  no_eol_front seen (false ∷ bits) one e = no_eol_front (suc seen) bits one e
-  no_eol_front seen (true ∷ bits) one e = grind (arith, common_steps)
-
-  -- the next EOL, if it ends among the equal bits
+  -- the next EOL, if it ends among them
   pub past_front : (seen : ℕ) (bits rest : Bits) → past seen (bits ++ x) ≡ Some rest → length x ≤ length rest
-      → LeftAlike bits rest (past seen (bits ++ y))
+      → (left : Bits) × (rest ≡ left ++ x) × (past seen bits ≡ Some left)
   past_front seen [] rest e le = absurd (omega (arith, past_shorter seen x rest e, le))
-  past_front seen (false ∷ bits) rest e le = grind (arith, common_steps, left_further, past_front (suc seen) bits rest e le)
-  past_front seen (true ∷ bits) rest e le = grind (arith, common_steps, left_further, past_front 0 bits rest)
+  past_front seen (false ∷ bits) rest e le = past_front (suc seen) bits rest e le
+  past_front seen (true ∷ bits) rest e le = grind (arith, common_steps, past_front 0 bits rest)
 
-  -- ---- Consecutive EOLs
-
-  -- what follows them isn't shorter than the different bits
-  not_shorter : (count : ℕ) (more : Bits) (found : ℕ × Bits) → found ≡ (count, more ++ x) → length x ≤ length found.1
-  not_shorter count more found e = omega (arith, ap (λ (f : ℕ × Bits). length f.1) e, length-append more x)
-
-  same_bits : (count : ℕ) (bits more : Bits) → ◌≡◌ {A = ℕ × Bits} (0, bits ++ x) (count, more ++ x) → (count ≡ 0) × (bits ≡ more)
+  same_bits : (count : ℕ) (bits more : Bits) → IsPair (0, bits ++ x) count (more ++ x) → IsPair (0, bits) count more
   same_bits count bits more e = grind (arith, common_steps, append_cancel_right)
 
   -- a count that is one more
@@ -78,144 +69,123 @@ module _ (x y : Bits) where
       × (found ≡ (fewer, rest))
   one_fewer count rest (n, left) e = grind (arith, common_steps)
 
-  -- a number of them at most
-  pub eols_front : (most : ℕ) (bits more : Bits) (count : ℕ) → eols most (bits ++ x) ≡ (count, more ++ x)
-      → holds_a_one more ≡ true → eols most (bits ++ y) ≡ (count, more ++ y)
-  eols_front zero bits more count e one = let same = same_bits count bits more e in rw (same.0, same.1) refl
-  eols_front (suc most) bits more count e one =
-      by_after_eol (λ here n f. eols_front most here more n f one) (after_eol 0 (bits ++ x)) refl
-    where
-      by_after_eol : ((here : Bits) (n : ℕ) → eols most (here ++ x) ≡ (n, more ++ x) → eols most (here ++ y) ≡ (n, more ++ y))
-          → (o : Option Bits) → after_eol 0 (bits ++ x) ≡ o → eols (suc most) (bits ++ y) ≡ (count, more ++ y)
-      by_after_eol on None f = let same = same_bits count bits more (sym (eols-none (suc most) (bits ++ x) f) ∙ e) in
-          eols-none (suc most) (bits ++ y) (no_eol_front 0 bits (ap holds_a_one same.1 ∙ one) f) ∙ rw (same.0, same.1) refl
-      by_after_eol on (Some rest) f =
-          let fewer = one_fewer count (more ++ x) (eols most rest) (sym (eols-some most (bits ++ x) rest f) ∙ e) in
-          let le : length x ≤
-          length rest = omega (arith, not_shorter fewer.0 more (eols most rest) fewer.2, count_shorter counts_plain most rest) in
-          let left = after_eol_front 0 bits rest f le in
-          eols-some most (bits ++ y) (left.0 ++ y) left.3
-          ∙ ap one_more (on left.0 fewer.0 (ap (eols most) (sym left.2) ∙ fewer.2)) ∙ ap (λ (n : ℕ). (n, more ++ y)) (sym fewer.1)
+  module _ {pass : Bits → Bits} {count : ℕ → Bits → ℕ × Bits} (counts : CountsEols pass count) (Fits : ℕ → Bits → Type 0)
+      (fewer : (most : ℕ) (bits left : Bits) → Fits (suc most) bits → length left < length bits → Fits most left)
+      (more : Bits) (passes : (most n : ℕ) (left : Bits) → Fits most left → count most (pass (left ++ x)) ≡ (n, more ++ x)
+      → pass (left ++ x) ≡ pass left ++ x) where
+    count_first : (most : ℕ) (bits : Bits) (n : ℕ) → Fits most bits → count most (bits ++ x) ≡ (n, more ++ x)
+        → count most bits ≡ (n, more)
+    count_first zero bits n fits e = counts.start bits ∙ same_bits n bits more (sym (counts.start (bits ++ x)) ∙ e)
+    count_first (suc most) bits n fits e =
+        by_after_eol (λ left m small f. count_first most left m small f) (after_eol 0 (bits ++ x)) refl
+      where
+        by_after_eol : ((left : Bits) (m : ℕ) → Fits most left → count most (left ++ x) ≡ (m, more ++ x)
+            → count most left ≡ (m, more)) → (o : Option Bits) → after_eol 0 (bits ++ x) ≡ o → count (suc most) bits ≡ (n, more)
+        by_after_eol on None f = counts.none (suc most) bits (no_eol_first bits f)
+            ∙ same_bits n bits more (sym (counts.none (suc most) (bits ++ x) f) ∙ e)
+        by_after_eol on (Some rest) f = let (m, is, counted) = one_fewer n (more ++ x) (count most (pass rest))
+            (sym (counts.some most (bits ++ x) rest f) ∙ e) in
+            let le : length x ≤ length rest = omega (
+              arith,
+              ap (λ (f : ℕ × Bits). length f.1) counted,
+              length-append more x,
+              count_shorter counts most (pass rest),
+              counts.passes rest,
+            ) in
+            let (left, split, g) = eol_first 0 bits rest f le in
+            let shorter = after_eol_shorter 0 bits left g in
+            let at : count most (pass (left ++ x)) ≡ (m, more ++ x) = ap (λ (b : Bits). count most (pass b)) (sym split)
+            ∙ counted in
+            let tag = passes most m left (fewer most bits left fits shorter) at in
+            counts.some most bits left g ∙ ap one_more (on (pass left) m (fewer most bits (pass left) fits
+            (omega (arith, shorter, counts.passes left))) (ap (count most) (sym tag) ∙ at)) ∙ ap (λ (k : ℕ). (k, more)) (sym is)
+
+  -- a number of EOLs at most
+  eols_first : (most : ℕ) (bits more : Bits) (n : ℕ) → eols most (bits ++ x) ≡ (n, more ++ x) → eols most bits ≡ (n, more)
+  eols_first most bits more n e = count_first counts_plain (λ m b. Unit {0}) (λ m b left fits lt. tt) more
+      (λ m k left fits f. refl) most bits n tt e
 
   -- all of them
-  all_front_for : (n : ℕ) (bits more : Bits) (count : ℕ) → length bits < n → all_eols (bits ++ x) ≡ (count, more ++ x)
-      → holds_a_one more ≡ true → all_eols (bits ++ y) ≡ (count, more ++ y)
-  all_front_for zero bits more count lt e one = absurd (omega arith)
-  all_front_for (suc n) bits more count lt e one =
-      by_after_eol (λ here k small f. all_front_for n here more k small f one) (after_eol 0 (bits ++ x)) refl
-    where
-      by_after_eol : ((here : Bits) (k : ℕ) → length here < n → all_eols (here ++ x) ≡ (k, more ++ x) → all_eols (here ++ y)
-          ≡ (k, more ++ y)) → (o : Option Bits) → after_eol 0 (bits ++ x) ≡ o → all_eols (bits ++ y) ≡ (count, more ++ y)
-      by_after_eol on None f = let same = same_bits count bits more (sym (all_eols-none (bits ++ x) f) ∙ e) in
-          all_eols-none (bits ++ y) (no_eol_front 0 bits (ap holds_a_one same.1 ∙ one) f) ∙ rw (same.0, same.1) refl
-      by_after_eol on (Some rest) f = let fewer = one_fewer count (more ++ x) (all_eols rest)
-          (sym (all_eols-some (bits ++ x) rest f) ∙ e) in
-          let le : length x ≤ length rest = omega
-          (arith, not_shorter fewer.0 more (all_eols rest) fewer.2, count_shorter counts_plain (length rest) rest) in
-          let left = after_eol_front 0 bits rest f le in
-          all_eols-some (bits ++ y) (left.0 ++ y) left.3 ∙ ap one_more (on left.0 fewer.0 (omega (arith, left.1, lt))
-          (ap all_eols (sym left.2) ∙ fewer.2)) ∙ ap (λ (n : ℕ). (n, more ++ y)) (sym fewer.1)
+  all_first : (bits more : Bits) (n : ℕ) → all_eols (bits ++ x) ≡ (n, more ++ x) → all_eols bits ≡ (n, more)
+  all_first bits more n e = sym (eols_enough (length (bits ++ x)) bits (omega (arith, length-append bits x)))
+      ∙ eols_first (length (bits ++ x)) bits more n e
 
-  pub all_front : (bits more : Bits) (count : ℕ) → all_eols (bits ++ x) ≡ (count, more ++ x) → holds_a_one more ≡ true
-      → all_eols (bits ++ y) ≡ (count, more ++ y)
-  all_front bits more count e one = all_front_for (suc (length bits)) bits more count (omega arith) e one
-
-  -- ---- With tags
-
-  -- what follows a tag before an EOL, where the EOLs behind it end before a one among the equal bits
-  abbrev TagAlike : Bits → Type 0
-  TagAlike here = (left : Bits) × (length left ≤ length here) × (past_tag (here ++ x) ≡ left ++ x)
-      × (past_tag (here ++ y) ≡ left ++ y)
-
-  tag_front : (here more : Bits) (count : ℕ) → all_tagged (past_tag (here ++ x)) ≡ (count, more ++ x)
-      → one_behind_tag more ≡ true → TagAlike here
-  tag_front [] more count e one = absurd (omega (
+  -- a tag before an EOL, where the EOLs behind it end among them
+  tag_first : (most n : ℕ) (left more : Bits) → length left + length x ≤ most → 0 < length more
+      → eols_with_tags most (past_tag (left ++ x)) ≡ (n, more ++ x) → past_tag (left ++ x) ≡ past_tag left ++ x
+  tag_first most n [] more fits some e = absurd (omega (
     arith,
-    past_tag_shorter,
-    count_shorter counts_tagged (length (past_tag x)) (past_tag x),
+    past_tag_shorter x,
+    count_shorter counts_tagged most (past_tag x),
     ap (λ (f : ℕ × Bits). length f.1) e,
     length-append more x,
-    one_is_a_bit,
   ))
+  tag_first most n (false ∷ left) more fits some e = refl
+  tag_first zero n (true ∷ left) more fits some e = absurd (omega (arith, fits))
+  tag_first (suc most) n (true ∷ left) more fits some e = by_after_eol (after_eol 0 (left ++ x)) refl
     where
-      one_is_a_bit : (bits : Bits) → one_behind_tag bits ≡ true → 0 < length bits
-      one_is_a_bit bits e = grind (arith, false≢true)
-  tag_front (false ∷ here) more count e one = (false ∷ here, omega arith, refl, refl)
-  tag_front (true ∷ here) more count e one = by_after_eol (after_eol 0 (here ++ x)) refl
-    where
-      by_after_eol : (o : Option Bits) → after_eol 0 (here ++ x) ≡ o → TagAlike (true ∷ here)
-      by_after_eol None f = let tagged : past_tag (true ∷ here ++ x) ≡ true ∷ here ++ x = rw (f, past_tag) refl in
-          let none : all_tagged (true ∷ here ++ x) ≡ (0, true ∷ here ++ x) = all_tagged-none (true ∷ here ++ x) refl in
-          let same = same_bits count (true ∷ here) more (sym none ∙ ap all_tagged (sym tagged) ∙ e) in
-          grind (arith, no_eol_front)
-      by_after_eol (Some rest) f = let tagged : past_tag (true ∷ here ++ x) ≡ here ++ x = rw (f, past_tag) refl in
-          let counted : all_tagged (here ++ x) ≡ one_more (all_tagged (past_tag rest)) = all_tagged-some (here ++ x) rest f in
-          let long : length (more ++ x) ≤ length rest = omega (
+      by_after_eol : (o : Option Bits) → after_eol 0 (left ++ x) ≡ o
+          → past_tag (true ∷ left ++ x) ≡ past_tag (true ∷ left) ++ x
+      by_after_eol None f = rw (f, no_eol_first left f, past_tag) refl
+      by_after_eol (Some rest) f = let tagged : past_tag (true ∷ left ++ x) ≡ left ++ x = rw (f, past_tag) refl in
+          let counted = sym (eols_with_tags-some most (left ++ x) rest f) ∙ ap (eols_with_tags (suc most)) (sym tagged) ∙ e in
+          let (left2, is, g) = eol_first 0 left rest f (omega (
             arith,
-            ap (λ (f : ℕ × Bits). length f.1) (sym counted ∙ ap all_tagged (sym tagged) ∙ e),
-            count_shorter counts_tagged (length (past_tag rest)) (past_tag rest),
-            past_tag_shorter,
-          ) in grind (arith, after_eol_front, length-append)
+            ap (λ (f : ℕ × Bits). length f.1) counted,
+            length-one_more (eols_with_tags most (past_tag rest)),
+            count_shorter counts_tagged most (past_tag rest),
+            past_tag_shorter rest,
+            length-append more x,
+          )) in
+          rw (f, g, past_tag) refl
 
-  tagged_front_for : (n : ℕ) (bits more : Bits) (count : ℕ) → length bits < n → all_tagged (bits ++ x) ≡ (count, more ++ x)
-      → one_behind_tag more ≡ true → all_tagged (bits ++ y) ≡ (count, more ++ y)
-  tagged_front_for zero bits more count lt e one = absurd (omega arith)
-  tagged_front_for (suc n) bits more count lt e one =
-      by_after_eol (λ here k small f. tagged_front_for n here more k small f one) (after_eol 0 (bits ++ x)) refl
+  all_tagged_first : (bits more : Bits) (n : ℕ) → 0 < length more → all_tagged (bits ++ x) ≡ (n, more ++ x)
+      → all_tagged bits ≡ (n, more)
+  all_tagged_first bits more n some e =
+      count_same counts_tagged (length bits) (length (bits ++ x)) bits (omega arith) (omega (arith, length-append bits x))
+      ∙ count_first counts_tagged (λ most b. length b + length x ≤ most) (λ most b left fits lt. omega (arith, fits, lt)) more
+      (λ most k left fits f. tag_first most k left more fits some f) (length (bits ++ x)) bits n
+      (omega (arith, length-append bits x)) e
+
+  -- what is before the tag of RTC, or of a line
+  last_tag_first : (found : ℕ × Bits) (more : Bits) (n : ℕ) → IsPair (pass_last_tag found) n (more ++ x)
+      → one_behind_tag more ≡ true
+      → (raw : Bits) × (0 < length raw) × IsPair found n (raw ++ x) × IsPair (pass_last_tag (n, raw)) n more
+  last_tag_first found [] n e one = absurd (false≢true one)
+  last_tag_first (m, []) (b ∷ more) n e one = grind (arith, common_steps)
+  last_tag_first (m, false ∷ rest) (b ∷ more) n e one = (b ∷ more, omega arith, e, grind (arith, common_steps))
+  last_tag_first (m, true ∷ rest) (b ∷ more) n e one = either_way (leb 6 m) refl e
     where
-      by_after_eol : ((here : Bits) (k : ℕ) → length here < n → all_tagged (here ++ x) ≡ (k, more ++ x) → all_tagged (here ++ y)
-          ≡ (k, more ++ y)) → (o : Option Bits) → after_eol 0 (bits ++ x) ≡ o → all_tagged (bits ++ y) ≡ (count, more ++ y)
-      by_after_eol on None f = let same = same_bits count bits more (sym (all_tagged-none (bits ++ x) f) ∙ e) in
-          grind (arith, all_tagged-none, no_eol_front, one_from_tag)
-      by_after_eol on (Some rest) f = let fewer = one_fewer count (more ++ x) (all_tagged (past_tag rest))
-          (sym (all_tagged-some (bits ++ x) rest f) ∙ e) in
-          let le : length x ≤ length rest = omega
-          (arith, not_shorter, count_shorter counts_tagged (length (past_tag rest)) (past_tag rest), past_tag_shorter) in
-          let left = after_eol_front 0 bits rest f le in
-          let counted : all_tagged (past_tag (left.0 ++ x)) ≡ (fewer.0, more ++ x) = grind (arith, common_steps) in
-          let tag = tag_front left.0 more fewer.0 counted one in
-          all_tagged-some (bits ++ y) (left.0 ++ y) left.3 ∙ ap (λ (b : Bits). one_more (all_tagged b)) tag.3
-          ∙ ap one_more (on tag.0 fewer.0 (omega (arith, left.1, tag.1, lt)) (ap all_tagged (sym tag.2) ∙ counted))
-          ∙ ap (λ (n : ℕ). (n, more ++ y)) (sym fewer.1)
+      either_way : (six : Bool) → leb 6 m ≡ six → IsPair (cond six (m, rest) (m, true ∷ rest)) n (b ∷ more ++ x) → (raw : Bits)
+          × (0 < length raw) × IsPair (m, true ∷ rest) n (raw ++ x) × IsPair (pass_last_tag (n, raw)) n (b ∷ more)
+      either_way true six f = (true ∷ b ∷ more, omega arith, grind (arith, common_steps), grind (arith, common_steps))
+      either_way false few f = (b ∷ more, omega arith, f, grind (arith, common_steps))
 
-  -- a tag of zero is passed in neither
-  zero_stays : (n count : ℕ) (here bits : Bits) → one_behind_tag bits ≡ true → IsPair (n, false ∷ here) count (bits ++ x)
-      → IsPair (pass_last_tag (count, bits ++ y)) count (bits ++ y)
-  zero_stays n count here bits one e = grind (arith, false≢true)
+  tagged_first : (bits more : Bits) (n : ℕ) → tagged_eols (bits ++ x) ≡ (n, more ++ x) → one_behind_tag more ≡ true
+      → tagged_eols bits ≡ (n, more)
+  tagged_first bits more n e one = let (raw, some, is, last) = last_tag_first (all_tagged (bits ++ x)) more n e one in
+      ap pass_last_tag (all_tagged_first bits raw n some is) ∙ last
 
-  -- nor is one after fewer than six EOLs
-  few_stay : (count : ℕ) (bits : Bits) → one_behind_tag bits ≡ true → leb 6 count ≡ false
-      → IsPair (pass_last_tag (count, bits ++ y)) count (bits ++ y)
-  few_stay count bits one few = grind (arith, false≢true)
+  by_first : (encoding : EncodingMode) (block : Bool) (bits more : Bits) (n : ℕ)
+      → eols_by encoding block (bits ++ x) ≡ (n, more ++ x) → one_in_line encoding more ≡ true
+      → eols_by encoding block bits ≡ (n, more)
+  by_first Group3_1D block bits more n e one = all_first bits more n e
+  by_first Group3_2D block bits more n e one = tagged_first bits more n e one
+  by_first Group4 true bits more n e one = eols_first 2 bits more n e
+  by_first Group4 false bits more n e one = all_first bits more n e
 
-  -- the tag of RTC is passed in both
-  last_tag_front : (found other : ℕ × Bits) (more : Bits) (count : ℕ)
-      → ((raw : Bits) (n : ℕ) → one_behind_tag raw ≡ true → IsPair found n (raw ++ x) → IsPair other n (raw ++ y)) → IsPair
-      (pass_last_tag found) count (more ++ x) → one_behind_tag more ≡ true → IsPair (pass_last_tag other) count (more ++ y)
-  last_tag_front (n, []) other more count alike e one = grind (arith, common_steps, length-append)
-  last_tag_front (n, false ∷ here) other more count alike e one = ap pass_last_tag (alike more count one e)
-      ∙ zero_stays n count here more one e
-  last_tag_front (n, true ∷ here) other more count alike e one = either_way (leb 6 n) refl e
-    where
-      either_way : (b : Bool) → leb 6 n ≡ b → IsPair (cond b (n, here) (n, true ∷ here)) count (more ++ x)
-          → IsPair (pass_last_tag other) count (more ++ y)
-      either_way true six f = let same : n ≡ count = ap (λ (f : ℕ × Bits). f.0) f in
-          let raw : IsPair (n, true ∷ here) count (true ∷ more ++ x) = grind (arith, common_steps) in
-          ap pass_last_tag (alike (true ∷ more) count (one_from_tag more one) raw) ∙ rw (← same, six) refl
-      either_way false few f = let same : n ≡ count = ap (λ (f : ℕ × Bits). f.0) f in
-          ap pass_last_tag (alike more count one f) ∙ few_stay count more one (ap (leb 6) (sym same) ∙ few)
+-- ---- So it is found whatever follows
 
-  pub tagged_front : (bits more : Bits) (count : ℕ) → IsPair (tagged_eols (bits ++ x)) count (more ++ x)
-      → one_behind_tag more ≡ true → IsPair (tagged_eols (bits ++ y)) count (more ++ y)
-  tagged_front bits more count e one = last_tag_front (all_tagged (bits ++ x)) (all_tagged (bits ++ y)) more count
-      (λ raw n behind f. tagged_front_for (suc (length bits)) bits raw n (omega arith) f behind) e one
+pub all_front : (x y bits more : Bits) (n : ℕ) → all_eols (bits ++ x) ≡ (n, more ++ x) → holds_one more ≡ true
+    → all_eols (bits ++ y) ≡ (n, more ++ y)
+all_front x y bits more n e one = let is = all_first x bits more n e in
+    all_eols-more y bits (ap (λ (f : ℕ × Bits). holds_one f.1) is ∙ one) ∙ ap (count_then_more y) is
 
-  -- ---- By the encoding
-
-  pub eols_by_front : (encoding : EncodingMode) (block : Bool) (bits more : Bits) (count : ℕ)
-      → IsPair (eols_by encoding block (bits ++ x)) count (more ++ x) → one_in_line encoding more ≡ true
-      → IsPair (eols_by encoding block (bits ++ y)) count (more ++ y)
-  eols_by_front Group3_1D block bits more count e one = all_front bits more count e one
-  eols_by_front Group3_2D block bits more count e one = tagged_front bits more count e one
-  eols_by_front Group4 true bits more count e one = eols_front 2 bits more count e one
-  eols_by_front Group4 false bits more count e one = all_front bits more count e one
+pub eols_front : (x y : Bits) (settings : DecodeSettings) (bits more : Bits) (n : ℕ) → eols_here settings (bits ++ x) ≡ (
+  n,
+  more
+      ++ x,
+) → one_in_line settings.encoding more ≡ true → eols_here settings (bits ++ y) ≡ (n, more ++ y)
+eols_front x y settings bits more n e one = let is = by_first x settings.encoding settings.end_of_block bits more n e one in
+    eols_here-more y settings bits (ap (eols_are_settled settings.encoding settings.end_of_block) is
+    ∙ settled_one settings.encoding settings.end_of_block n more one) ∙ ap (count_then_more y) is

@@ -1,15 +1,16 @@
 -- Lines of two data that begin with the same bits.
-use Rattle.fax_reading.proofs.Names.{common_steps, ◌≡◌, ℕ, zero, suc, ◌<◌, Bool, true, false, leb, List, [], ◌∷◌, ◌++◌, length}
-use Rattle.fax_reading.proofs.Names.{refl, sym, ap, ◌∙◌, append_assoc, arith, inl, inr, le-leb, cond-false, length-append}
-use Rattle.fax_reading.proofs.Names.{false≢true, append_cancel_right, EncodingMode, Group4, Group3_1D, Group3_2D, Bits, Turn, Row}
-use Rattle.fax_reading.proofs.Names.{Line, Pen, Step, start, line_1d, line_by, line_found, AreWords, joined}
-use Rattle.fax_bits.proofs.BitReading.ZerosInWords.{holds_a_one, word_one}
-use Rattle.fax_reading.proofs.DrawingLines.Drawings.{run_then, drawn_by, step_1d, step_1d_is}
-use Rattle.fax_reading.proofs.DrawingLines.ReadLines.{pen_left, drawn1, step_1d_shrinks, full_by, draw_run_goes_on, TookBits}
-use Rattle.fax_reading.proofs.DrawingLines.ReadLines.{line_1d_took_bits, line_2d_took_bits}
-use Rattle.fax_reading.proofs.DrawingLines.WhatFollows.{next_carries, draw_run_carries, line_2d_found}
-use Rattle.fax_bits.proofs.{CodeWords.ReadRuns.chosen, Repetition.Repeated.after_turn, Repetition.Repeated.not_next}
+use Rattle.fax_reading.proofs.Names.{Group4, joined, false, arith, start, zero, Bool, true, List, ◌++◌, refl, Bits, Turn, Line, ℕ}
+use Rattle.fax_reading.proofs.Names.{Step, ◌≡◌, suc, ◌<◌, leb, ◌∷◌, sym, ◌∙◌, inl, inr, Row, Pen}
+use Rattle.fax_reading.proofs.Names.{append_cancel_right, length-append, common_steps, append_assoc, EncodingMode, cond-false, []}
+use Rattle.fax_reading.proofs.Names.{false≢true, line_found, Group3_1D, Group3_2D, AreWords, line_1d, line_by, length, le-leb, ap}
+use Rattle.fax_bits.proofs.Repetition.Repeated.{after_turn, not_next}
+use Rattle.fax_bits.proofs.{BitReading.ZerosInWords.holds_a_one, BitReading.ZerosInWords.word_one, CodeWords.ReadRuns.chosen}
+use Rattle.fax_reading.proofs.DrawingLines.Drawings.{step_1d_is, run_then, drawn_by, step_1d}
+use Rattle.fax_reading.proofs.DrawingLines.ReadLines.{line_1d_took_bits, line_2d_took_bits, draw_run_goes_on, step_1d_shrinks}
+use Rattle.fax_reading.proofs.DrawingLines.ReadLines.{pen_left, TookBits, full_by, drawn1}
+use Rattle.fax_reading.proofs.DrawingLines.WhatFollows.{draw_run_carries, line_2d_found, next_carries}
 use Rattle.fax_reading.proofs.{CodeWords.WordsFound.words_synchronised, KeptRows.EqualFronts.one_in_line}
+use Rattle.fax_reading.specs.GapsContinued.{holds_one}
 
 -- ---- A whole line is read again, whatever follows
 
@@ -83,21 +84,20 @@ line_again Group4 strict columns reference here row rest e =
 
 -- ---- Its bits contain a one, behind its tag
 
+same_ones : (bits : Bits) → holds_a_one bits ≡ holds_one bits
+same_ones [] = refl
+same_ones (true ∷ bits) = refl
+same_ones (false ∷ bits) = same_ones bits
+
 -- a one at the front
-pub one_stays : (front rest : Bits) → holds_a_one front ≡ true → holds_a_one (front ++ rest) ≡ true
+pub one_stays : (front rest : Bits) → holds_one front ≡ true → holds_one (front ++ rest) ≡ true
 one_stays [] rest one = absurd (false≢true one)
 one_stays (true ∷ front) rest one = refl
 one_stays (false ∷ front) rest one = one_stays front rest one
 
--- a one is among some bits
-pub one_there : (before after : Bits) → holds_a_one (before ++ true ∷ after) ≡ true
-one_there [] after = refl
-one_there (true ∷ before) after = refl
-one_there (false ∷ before) after = one_there before after
-
-one_in_words : (words : List Bits) → AreWords words → 0 < length (joined words) → holds_a_one (joined words) ≡ true
+one_in_words : (words : List Bits) → AreWords words → 0 < length (joined words) → holds_one (joined words) ≡ true
 one_in_words [] are some = absurd (omega (arith, some))
-one_in_words (word ∷ words) are some = one_stays word (joined words) (word_one word are.0)
+one_in_words (word ∷ words) are some = one_stays word (joined words) (sym (same_ones word) ∙ word_one word are.0)
 
 -- a whole line consumed bits
 took_bits : (line : Line) (n : ℕ) (row : Row) (rest : Bits) → TookBits n line → line ≡ Line.whole row rest → length rest < n
@@ -105,7 +105,7 @@ took_bits line n row rest took e = grind arith
 
 -- the bits of words that were consumed
 words_consumed : (words : List Bits) (bits rest : Bits) → AreWords words → bits ++ rest ≡ joined words ++ rest
-    → length rest < length (bits ++ rest) → holds_a_one bits ≡ true
+    → length rest < length (bits ++ rest) → holds_one bits ≡ true
 words_consumed words bits rest are is took = grind (arith, common_steps, append_cancel_right, one_in_words, length-append)
 
 pub one_in_whole : (encoding : EncodingMode) (strict : Bool) (columns : ℕ) (reference : Row) (bits rest : Bits) (row : Row) → 0

@@ -1,28 +1,29 @@
 -- Data that begin with the same bits have the same rows before the first line that may differ.
-use Rattle.fax_reading.proofs.Names.{Progress, move_on, length, Option, Group4, at_end, end_of, Ending, false, subst, arith, true}
-use Rattle.fax_reading.proofs.Names.{UnexpectedEof, ending_behind, append_assoc, EncodingMode, common_steps, DecodeError, Reaches}
-use Rattle.fax_reading.proofs.Names.{append_cancel_right, append_cancel_left, take-append-drop, DecodeSettings, length-append, []}
-use Rattle.fax_reading.proofs.Names.{cases_Bool, cond-false, false≢true, misses_eol, row_before, behind_row, after_line, or_parts}
-use Rattle.fax_reading.proofs.Names.{eols_here, limit_met, line_here, first_gap, IsPrefix, repeated, repaired, all_eols, at_front}
-use Rattle.fax_reading.proofs.Names.{first_line, RowsBefore, replicate, cond-true, not-false, Group3_1D, Group3_2D, after_eol, ap}
+use Rattle.fax_reading.proofs.Names.{append_cancel_right, append_cancel_left, take-append-drop, DecodeSettings, UnexpectedEof, []}
+use Rattle.fax_reading.proofs.Names.{at_front, Reaches, length, Option, Group4, at_end, end_of, Ending, false, subst, arith, true}
+use Rattle.fax_reading.proofs.Names.{cases_Bool, cond-false, false≢true, misses_eol, row_before, behind_row, after_line, Progress}
+use Rattle.fax_reading.proofs.Names.{ending_behind, length-append, append_assoc, EncodingMode, common_steps, DecodeError, move_on}
+use Rattle.fax_reading.proofs.Names.{first_line, RowsBefore, eols_here, limit_met, line_here, first_gap, replicate, cond-true, ap}
+use Rattle.fax_reading.proofs.Names.{not-false, Group3_1D, Group3_2D, after_eol, or_parts, IsPrefix, repeated, repaired, all_eols}
 use Rattle.fax_reading.proofs.Names.{plain, ◌&&◌, ◌||◌, ◌++◌, take, drop, Some, None, refl, Turn, Line, Bits, Bool, List, Move, ℕ}
 use Rattle.fax_reading.proofs.Names.{◌≡◌, suc, ◌%◌, ◌<◌, ◌≤◌, not, ◌∷◌, sym, ◌∙◌, ◌⊎◌, inl, inr, Err, Row}
-use Rattle.fax_bits.proofs.BitReading.{ZerosInWords.prefix_of_prefix, ZerosInWords.holds_a_one, ConsecutiveEols.next_eol_found}
+use Rattle.fax_bits.proofs.BitReading.{ConsecutiveEols.next_eol_found, ZerosInWords.prefix_of_prefix}
 use Rattle.fax_bits.proofs.CodeWords.ReadRuns.{chosen}
 use Rattle.fax_bits.proofs.Repetition.Repeated.{repeated_turn, repeated_same, after_turn, not_next, next_is}
-use Rattle.fax_reading.proofs.DamagedLines.PastEol.{next_eol_leaves, eols_here-none, past-eol, past_is, past}
+use Rattle.fax_reading.proofs.DamagedLines.EolsAlike.{turn_closed, eols_past, one_among, Closes}
+use Rattle.fax_reading.proofs.DamagedLines.PastEol.{next_eol_leaves, eols_here-none, past-front, past-eol, past_is, past}
 use Rattle.fax_reading.proofs.DamagedLines.SoughtTurns.{eols_here_same, sought_done, move_sought, found_next, row_past, sought}
-use Rattle.fax_reading.proofs.DamagedLines.{EolsAlike.turn_closed, EolsAlike.eols_past, EolsAlike.Closes, DamageByK.take_front}
-use Rattle.fax_reading.proofs.KeptRows.EqualFronts.{eols_by_front, one_in_line, one_in_bits, past_front, all_front}
-use Rattle.fax_reading.proofs.KeptRows.LinesAgain.{one_in_whole, line_again, one_stays, one_there}
+use Rattle.fax_reading.proofs.KeptRows.EqualFronts.{one_in_line, one_in_bits, past_front, eols_front, all_front}
+use Rattle.fax_reading.proofs.KeptRows.LinesAgain.{one_in_whole, line_again, one_stays}
 use Rattle.fax_reading.proofs.KeptRows.TurnsLeave.{after_row_leaves, reached_leaves}
 use Rattle.fax_reading.proofs.Readings.RowsAndGaps.{after_damage-is, after_whole-is, unless_over, pass_gap-is, after_row}
-use Rattle.fax_reading.proofs.Readings.TurnsAddRows.{Keeps}
 use Rattle.fax_reading.proofs.Readings.TurnsAddRows.{after_row_keeps, first_gap_keeps, repeated_adds, turn_extends, move_adds}
 use Rattle.fax_reading.proofs.Readings.TurnsMoveOn.{eols_here_counted, unless_over_next, unless_over_open, left_to_read}
-use Rattle.fax_reading.proofs.{DamagedLines.RunsAlike.run_at, Readings.GapsAndRows.plain_is, Readings.RowsAndGaps.unmissed}
-use Rattle.fax_reading.proofs.{EncodedPictures.AfterEofb.aligned_split, DamagedLines.LineTails.eol_closes}
+use Rattle.fax_reading.proofs.Readings.{RowsAndGaps.unmissed, TurnsAddRows.Keeps}
+use Rattle.fax_reading.proofs.{DamagedLines.LineTails.eol_closes, DamagedLines.RunsAlike.run_at, Readings.GapsAndRows.plain_is}
+use Rattle.fax_reading.proofs.{EncodedPictures.AfterEofb.aligned_split, DamagedLines.DamageByK.take_front}
 use Rattle.fax_reading.proofs.{Readings.TurnsMoveOn.move_shrinks, Readings.TurnsMoveOn.left_below, DamagedLines.LinesByEols.seeks}
+use Rattle.fax_reading.specs.GapsContinued.{holds_one}
 
 -- ---- The gap
 
@@ -31,7 +32,7 @@ open_bits : (here : Bits) → 0 < length here → at_end here ≡ false
 open_bits here some = grind arith
 
 -- a one is a bit
-some_bits : (bits : Bits) → holds_a_one bits ≡ true → 0 < length bits
+some_bits : (bits : Bits) → holds_one bits ≡ true → 0 < length bits
 some_bits bits one = grind (arith, common_steps, false≢true)
 
 -- where the next EOL is, if a lenient reading that seeks EOLs reaches a line and seeks them still
@@ -58,10 +59,10 @@ past_there settings lenient rows here t e seeks = by_limit (cases_Bool (limit_me
     by_limit (inr short) = (short, by_past short (past 0 here) refl)
 
 -- bits that end with an EOL have a one
-one_closes : (bits more : Bits) → Closes bits → holds_a_one (bits ++ more) ≡ true
+one_closes : (bits more : Bits) → Closes bits → holds_one (bits ++ more) ≡ true
 one_closes bits more (first, is) =
     let shape : bits ++ more ≡ (first ++ replicate 11 false) ++ true ∷ more = rw is (simp append_assoc) in
-    ap holds_a_one shape ∙ one_there (first ++ replicate 11 false) more
+    ap holds_one shape ∙ one_among (first ++ replicate 11 false) more
 
 -- EOLs that aren't missed were counted
 not_missed : (none met ends : Bool) → met ≡ false → ends ≡ false → (((none && true) && not met) && not ends) ≡ false
@@ -81,8 +82,7 @@ module _ (settings : DecodeSettings) (x y : Bits) where
       → after_eol 0 other ≡ Some (left ++ y) → eols_here settings found ≡ (count, more ++ x)
       → one_in_line settings.encoding more ≡ true → eols_here settings other ≡ (count, more ++ y)
   eols_from_front found other left more count e f counted one = let eol : Bits = replicate 11 false ++ true ∷ left in
-      eols_here_same settings other (eol ++ y) (left ++ y) f refl ∙ eols_by_front x y settings.encoding settings.end_of_block eol
-      more count (eols_here_same settings (eol ++ x) found (left ++ x) refl e ∙ counted) one
+      eols_here_same settings other (eol ++ y) (left ++ y) f refl ∙ eols_front x y settings eol more count (eols_here_same settings (eol ++ x) found (left ++ x) refl e ∙ counted) one
 
   -- after the same rows, and EOLs that are here or not sought
   counted_front : (rows : List Row) (has_eols : Bool) (bits more : Bits) (t : Progress) → t.rest ≡ more ++ x
@@ -94,7 +94,7 @@ module _ (settings : DecodeSettings) (x y : Bits) where
       let same = unless_over_next settings (run_at rows has_eols (bits ++ x)) t (eols_here settings (bits ++ x)) e in
       let left_is : (eols_here settings (bits ++ x)).1 ≡ more ++ x = ap (λ (p : Progress). p.rest) same ∙ rest_is in
       let counted : eols_here settings (bits ++ x) ≡ (count, more ++ x) = ap (λ (b : Bits). (count, b)) left_is in
-      let other = eols_by_front x y settings.encoding settings.end_of_block bits more count counted one in
+      let other = eols_front x y settings bits more count counted one in
       grind (arith, unless_front, some_bits, one_in_bits)
 
   -- the gap leads to the same line in both, if its bits have a one among the equal ones
@@ -124,11 +124,11 @@ module _ (settings : DecodeSettings) (x y : Bits) where
         )
       ]
       by_strict (inr lenient) = let there = past_there settings lenient rows (bits ++ x) t e seeks in
-          let left = past_front x y 0 bits there.1.0 there.1.1
+          let left = past_front x 0 bits there.1.0 there.1.1
           (omega (arith, there.1.2, ap length rest_is, length-append more x)) in
           let one_x = row_past settings lenient rows (bits ++ x)
-          (left.0 ++ x) there.0 (there.1.1 ∙ ap (λ (b : Bits). Some b) left.2) in
-          let one_y = row_past settings lenient rows (bits ++ y) (left.0 ++ y) there.0 left.3 in
+          (left.0 ++ x) there.0 (there.1.1 ∙ ap (λ (b : Bits). Some b) left.1) in
+          let one_y = row_past settings lenient rows (bits ++ y) (left.0 ++ y) there.0 (past-front 0 bits left.0 y left.2) in
           let count : ℕ = (eols_here settings one_x.0).0 in
           let same = unless_over_next settings (sought rows (bits ++ x)) t (eols_here settings one_x.0) (sym one_x.3 ∙ e) in
           let left_is : (eols_here settings one_x.0).1 ≡ more ++ x = ap (λ (p : Progress). p.rest) same ∙ rest_is in
@@ -206,8 +206,8 @@ module _ (settings : DecodeSettings) (x y : Bits) where
     sought_broken lenient rows bits t seeks le e front fault is =
         let moved = sym (repaired_turn rows (bits ++ x) front fault lenient is) ∙ e in
         let next = past_there settings lenient (rows ++ repaired settings.columns front ∷ []) (bits ++ x) t moved seeks in
-        let after = past_front x y 0 bits next.1.0 next.1.1 (omega (arith, le, next.1.2)) in
-        let closes = closes_front bits after.0 (next.1.1 ∙ ap (λ (b : Bits). Some b) after.2) in
+        let after = past_front x 0 bits next.1.0 next.1.1 (omega (arith, le, next.1.2)) in
+        let closes = closes_front bits after.0 (next.1.1 ∙ ap (λ (b : Bits). Some b) after.1) in
         let (row, left, some, turn) = turn_closed settings lenient rows closes.0 closes.1 in
         let shape : (z : Bits) → move_on settings (sought rows (bits ++ z)) ≡ after_row settings
         (sought (rows ++ row ∷ []) ((left ++ after.0) ++ z)) = λ z. ap (λ (b : Bits). move_on settings (sought rows b))
@@ -335,7 +335,7 @@ first_front : (settings : DecodeSettings) (x y front bits : Bits) (first : Progr
     → first_gap settings.encoding settings (front ++ y) ≡ Turn.next (run_at first.rows first.has_eols (bits ++ y))
 first_front settings x y front bits first rest_is one begins = by_encoding settings.encoding refl begins
   where
-    in_bits : holds_a_one bits ≡ true
+    in_bits : holds_one bits ≡ true
     in_bits = one_in_bits settings.encoding bits one
 
     group3 : first_line settings (front ++ x) ≡ first
