@@ -1,21 +1,20 @@
 -- What a step of a line paints, and what that says of the finished line.
-use Rattle.fax_reading.proofs.Names.{common_steps, ◌≡◌, ◌≢◌, ℕ, zero, suc, ◌-◌, ◌<◌, ◌≤◌, Bool, true, false, cond, leb, [], ◌∷◌}
-use Rattle.fax_reading.proofs.Names.{◌++◌, length, replicate, append_assoc, w32, Option, Some, Result, Ok, Err, refl, sym, subst}
-use Rattle.fax_reading.proofs.Names.{ap, ◌∙◌, arith, ◌⊎◌, inl, inr, ◌↔◌, IsTrue, IfErr, OnOk, OnErr, SomeIff, ℤ, pos, ◌+ℤ◌}
-use Rattle.fax_reading.proofs.Names.{false≢true, cases_lt, le-leb, lt-leb, nat_abs, FitsUnsigned, ints, length-append}
-use Rattle.fax_reading.proofs.Names.{Contains-append_left, Contains-append_right, Color, Mode, Pass, Horizontal, Vertical}
-use Rattle.fax_reading.proofs.Names.{DecodeError, DecodeSettings, UnexpectedEof, OutOfMemory, kind_of, IsFault, front_of}
-use Rattle.fax_reading.proofs.Names.{HasBlack, StopsAtChange, DrawsLine, pen_of, front_after, DrawsStep, StoresChange, Step}
-use Rattle.fax_reading.proofs.Names.{step_of_run, step_of_mode, Bits, BitsAt, here, mode_codes, read_code, Context, Held, redrawn}
-use Rattle.fax_reading.proofs.Names.{Line, Pen, start, place_from, turn_behind, Turn, repeated, Row, is_black, opposite, right_of}
-use Rattle.fax_reading.proofs.Names.{b1, b2, paint, last_pixel, run_from, too_many_pixels}
-use Rattle.fax_bits.proofs.CodeWords.ReadRuns.{chosen, read_code_shorter, some_where}
-use Rattle.fax_reading.proofs.DrawingLines.Drawings.{try, run_then, mode_step, drawn_by, step_1d, step_2d, step_1d_is, step_2d_is}
-use Rattle.fax_reading.proofs.DrawingLines.Drawings.{horizontal_is}
-use Rattle.fax_reading.proofs.DrawingLines.ReadLines.{draw_mode_next, modes_not_empty, drawn1, drawn2, step_1d_shrinks}
-use Rattle.fax_reading.proofs.DrawingLines.ReadLines.{step_2d_shrinks, pen_left}
-use Rattle.fax_bits.proofs.Repetition.Repeated.{Shrinks, after_turn}
-use Rattle.fax_bits.proofs.ErrorKinds.{kind_weaker, of_fault_kind}
+use Rattle.fax_reading.proofs.Names.{Contains-append_right, Contains-append_left, too_many_pixels, DecodeSettings, length-append}
+use Rattle.fax_reading.proofs.Names.{Horizontal, mode_codes, place_from, last_pixel, replicate, DrawsLine, DrawsStep, read_code}
+use Rattle.fax_reading.proofs.Names.{Row, b2, ℤ}
+use Rattle.fax_reading.proofs.Names.{SomeIff, nat_abs, kind_of, IsFault, Context, redrawn, Option, Result, IsTrue, le-leb, lt-leb}
+use Rattle.fax_reading.proofs.Names.{UnexpectedEof, StopsAtChange, common_steps, append_assoc, FitsUnsigned, StoresChange, length}
+use Rattle.fax_reading.proofs.Names.{cases_lt, Vertical, front_of, HasBlack, repeated, is_black, opposite, right_of, run_from, []}
+use Rattle.fax_reading.proofs.Names.{cond, ◌++◌, Some, refl, OnOk, ◌+ℤ◌, ints, Mode, Pass, Step, Bits, here, Held, Line, Turn, ap}
+use Rattle.fax_reading.proofs.Names.{pen_of, BitsAt, false, subst, arith, IfErr, OnErr, Color, start, paint, zero, Bool, true, Ok}
+use Rattle.fax_reading.proofs.Names.{step_of_mode, DecodeError, OutOfMemory, front_after, step_of_run, turn_behind, false≢true, ℕ}
+use Rattle.fax_reading.proofs.Names.{◌≡◌, ◌≢◌, suc, ◌-◌, ◌<◌, ◌≤◌, leb, ◌∷◌, w32, Err, sym, ◌∙◌, ◌⊎◌, inl, inr, ◌↔◌, pos, Pen, b1}
+use Rattle.fax_bits.proofs.CodeWords.ReadRuns.{read_code_shorter, some_where, chosen}
+use Rattle.fax_bits.proofs.ErrorKinds.{of_fault_kind, kind_weaker}
+use Rattle.fax_bits.proofs.Repetition.Repeated.{after_turn, Shrinks}
+use Rattle.fax_reading.proofs.DrawingLines.Drawings.{horizontal_is, step_1d_is, step_2d_is, mode_step, run_then, drawn_by, try}
+use Rattle.fax_reading.proofs.DrawingLines.ReadLines.{modes_not_empty, step_1d_shrinks, step_2d_shrinks, draw_mode_next, pen_left}
+use Rattle.fax_reading.proofs.DrawingLines.{Drawings.step_1d, Drawings.step_2d, ReadLines.drawn1, ReadLines.drawn2}
 
 -- ---- What painting yields.
 
@@ -219,7 +218,7 @@ pub run_open : (strict : Bool) (columns : ℕ) (pen : Pen) → length pen.front 
     ≡ after_turn (drawn_by (step_1d strict columns)) (run_then strict columns pen Turn.next)
 run_open strict columns pen open_row = grind (arith, common_steps, lt-leb, drawn1, step_1d_is)
 
-line_open : (strict : Bool) (columns : ℕ) (reference : Row) (pen : Pen) → length pen.front < columns
+pub line_open : (strict : Bool) (columns : ℕ) (reference : Row) (pen : Pen) → length pen.front < columns
     → drawn_by (step_2d strict columns reference) pen ≡ after_turn (drawn_by (step_2d strict columns reference)) (try pen.front
     (read_code mode_codes pen.rest) (λ mode. mode_step strict columns reference (record pen { rest = mode.1 }) mode.0))
 line_open strict columns reference pen open_row = grind (arith, common_steps, lt-leb, drawn2, step_2d_is)

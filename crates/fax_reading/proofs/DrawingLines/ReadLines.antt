@@ -1,12 +1,12 @@
 -- Lines, a step at a time.
-use Rattle.fax_reading.proofs.Names.{common_steps, refl, ◌∙◌, sym, ◌≡◌, ℕ, suc, ◌<◌, ◌≤◌, Bool, true, [], length, Result, Ok}
-use Rattle.fax_reading.proofs.Names.{subst, arith, ◌⊎◌, inl, inr, leb-true, Mode, Pass, Horizontal, Vertical, DecodeError}
-use Rattle.fax_reading.proofs.Names.{UnexpectedEof, Bits, mode_codes, read_code, Turn, Row, opposite, paint, run_from, Line, Pen}
-use Rattle.fax_reading.proofs.Names.{start, line_1d, line_2d, Step}
-use Rattle.fax_bits.proofs.CodeWords.ReadRuns.{chosen, read_code_shorter, has_no_empty_word, run_shorter}
-use Rattle.fax_reading.proofs.DrawingLines.Drawings.{try, run_then, mode_step, step_unless_full, drawn_by, step_1d, step_2d}
-use Rattle.fax_reading.proofs.DrawingLines.Drawings.{step_1d_is, step_2d_is, horizontal_is}
-use Rattle.fax_bits.proofs.Repetition.Repeated.{Shrinks, after_turn, repeated_turn, repeated_keeps, next_is, not_next}
+use Rattle.fax_reading.proofs.Names.{Bool, true, Mode, Pass, Bits, Turn, Line, Step, ◌∙◌, sym, ◌≡◌, suc, ◌<◌, ◌≤◌, ◌⊎◌, inl, inr}
+use Rattle.fax_reading.proofs.Names.{Row, Pen, [], Ok}
+use Rattle.fax_reading.proofs.Names.{UnexpectedEof, common_steps, DecodeError, Horizontal, mode_codes, read_code, leb-true, subst}
+use Rattle.fax_reading.proofs.Names.{Vertical, opposite, run_from, line_1d, line_2d, length, Result, arith, paint, start, refl, ℕ}
+use Rattle.fax_bits.proofs.CodeWords.ReadRuns.{read_code_shorter, has_no_empty_word, run_shorter, chosen}
+use Rattle.fax_bits.proofs.Repetition.Repeated.{repeated_keeps, repeated_turn, after_turn, not_next, Shrinks, next_is}
+use Rattle.fax_reading.proofs.DrawingLines.Drawings.{drawn_by, step_1d, step_2d, try}
+use Rattle.fax_reading.proofs.DrawingLines.Drawings.{step_unless_full, horizontal_is, step_1d_is, step_2d_is, mode_step, run_then}
 
 pub modes_not_empty : has_no_empty_word mode_codes ≡ true
 modes_not_empty = refl
@@ -102,13 +102,42 @@ TookBits n (Line.broken front fault) = Unit {0}
 abbrev HasRead : ℕ → Pen → Type 0
 HasRead n pen = (pen_left pen < n) ⊎ ((pen_left pen ≡ n) × (length pen.front ≡ 0))
 
-module _ (columns : ℕ) (wide : 0 < columns) (step : Pen → Step) (shrinks : Shrinks step pen_left) (body : Pen → Step)
-    (goes : (p : Pen) → EndsNoLine (body p)) (same : (p : Pen) → step p ≡ step_unless_full columns p (body p)) where
+-- a step that draws, unless the row is full
+pub record IsStep (columns : ℕ) (step body : Pen → Step) : Type 0 where
+  pub shrinks : Shrinks step pen_left
+  pub goes : (p : Pen) → EndsNoLine (body p)
+  pub same : (p : Pen) → step p ≡ step_unless_full columns p (body p)
+
+-- a step of a one-dimensional line draws a run
+pub draws_run : (strict : Bool) (columns : ℕ)
+    → IsStep columns (step_1d strict columns) (λ p. run_then strict columns p Turn.next)
+draws_run strict columns = record {
+  shrinks = step_1d_shrinks strict columns;
+  goes = λ p. draw_run_goes_on strict columns p Turn.next (λ q. tt);
+  same = step_1d_is strict columns;
+}
+
+-- and one of a two-dimensional line the mode that is read
+abbrev pub mode_read : Bool → ℕ → Row → Pen → Step
+mode_read strict columns reference pen = try pen.front (read_code mode_codes pen.rest)
+    (λ mode. mode_step strict columns reference (record pen { rest = mode.1 }) mode.0)
+
+pub draws_mode : (strict : Bool) (columns : ℕ) (reference : Row)
+    → IsStep columns (step_2d strict columns reference) (mode_read strict columns reference)
+draws_mode strict columns reference = record {
+  shrinks = step_2d_shrinks strict columns reference;
+  goes = λ p. try_goes_on p.front (read_code mode_codes p.rest) _
+      (λ mode. draw_mode_goes_on strict columns reference (record p { rest = mode.1 }) mode.0);
+  same = step_2d_is strict columns reference;
+}
+
+module _ {columns : ℕ} (wide : 0 < columns) {step body : Pen → Step} (draws : IsStep columns step body) where
   ends : (n : ℕ) (s : Pen) (l : Line) → HasRead n s → step s ≡ Turn.done l → TookBits n l
-  ends n s l p e = grind (arith, full_by)
+  ends n s l p e = grind (arith, full_by, draws.goes, draws.same)
 
   keeps : (n : ℕ) (s t : Pen) → HasRead n s → step s ≡ Turn.next t → HasRead n t
-  keeps n s t p e = elim p [ inl lt ↦ inl (omega (arith, shrinks s t e, lt)) | inr q ↦ inl (omega (arith, shrinks s t e, q.0)) ]
+  keeps n s t p e = elim p
+      [ inl lt ↦ inl (omega (arith, draws.shrinks s t e, lt)) | inr q ↦ inl (omega (arith, draws.shrinks s t e, q.0)) ]
 
   pub line_took_bits : (here : Bits) → TookBits (length here) (drawn_by step (start here))
   line_took_bits here = repeated_keeps step (Line.broken [] UnexpectedEof) (HasRead (length here)) (TookBits (length here)) tt
@@ -116,14 +145,8 @@ module _ (columns : ℕ) (wide : 0 < columns) (step : Pen → Step) (shrinks : S
 
 pub line_1d_took_bits : (strict : Bool) (columns : ℕ) (here : Bits) → 0 < columns
     → TookBits (length here) (line_1d strict columns here)
-line_1d_took_bits strict columns here wide =
-    line_took_bits columns wide (step_1d strict columns) (step_1d_shrinks strict columns) (λ p. run_then strict columns p
-    Turn.next) (λ p. draw_run_goes_on strict columns p Turn.next (λ q. tt)) (λ p. step_1d_is strict columns p) here
+line_1d_took_bits strict columns here wide = line_took_bits wide (draws_run strict columns) here
 
 pub line_2d_took_bits : (strict : Bool) (columns : ℕ) (reference : Row) (here : Bits) → 0 < columns
     → TookBits (length here) (line_2d strict columns reference here)
-line_2d_took_bits strict columns reference here wide =
-    line_took_bits columns wide (step_2d strict columns reference) (step_2d_shrinks strict columns reference) (λ p.
-    try p.front (read_code mode_codes p.rest) (λ mode. mode_step strict columns reference (record p { rest = mode.1 }) mode.0))
-    (λ p. try_goes_on p.front (read_code mode_codes p.rest) _ (λ mode. draw_mode_goes_on strict columns reference
-    (record p { rest = mode.1 }) mode.0)) (λ p. step_2d_is strict columns reference p) here
+line_2d_took_bits strict columns reference here wide = line_took_bits wide (draws_mode strict columns reference) here

@@ -1,17 +1,15 @@
 -- What is read doesn't depend on what follows it.
-use Rattle.fax_reading.proofs.Names.{common_steps, ◌≡◌, ℕ, zero, suc, ◌+◌, ◌<◌, Bool, leb, ◌++◌, length, Result, Ok, Err, refl}
-use Rattle.fax_reading.proofs.Names.{sym, ap, ◌∙◌, append_assoc, arith, inl, inr, cases_lt, le-leb, Color, Mode, Pass, Horizontal}
-use Rattle.fax_reading.proofs.Names.{Vertical, DecodeError, Bits, mode_codes, Has, read_code, Turn, Row, opposite, paint}
-use Rattle.fax_reading.proofs.Names.{codes_of, run_from, Line, Pen, start, line_2d, Step}
-use Rattle.fax_reading.proofs.EncodedPictures.EncodedRuns.{draws}
-use Rattle.fax_bits.proofs.Repetition.Repeated.{after_turn, not_next}
-use Rattle.fax_bits.proofs.BitReading.ZerosInWords.{codes_free, modes_free}
+use Rattle.fax_reading.proofs.Names.{Result, le-leb, Color, paint, start, zero, Bool, ◌++◌, refl, Mode, Pass, Bits, Turn, Line, ℕ}
+use Rattle.fax_reading.proofs.Names.{Step, ◌≡◌, suc, ◌+◌, ◌<◌, leb, Err, sym, ◌∙◌, inl, inr, Row, Pen, Ok, ap, []}
+use Rattle.fax_reading.proofs.Names.{UnexpectedEof, common_steps, append_assoc, DecodeError, Horizontal, mode_codes, cond-false}
+use Rattle.fax_reading.proofs.Names.{read_code, cases_lt, Vertical, opposite, codes_of, run_from, line_2d, line_1d, length, arith}
 use Rattle.fax_bits.proofs.CodeWords.ReadCodes.{read_code_found, read_code_again}
-use Rattle.fax_bits.proofs.CodeWords.ReadRuns.{chosen, read_code_shorter, words_not_empty, run_fails, run_passes, run_ends}
-use Rattle.fax_bits.proofs.CodeWords.ReadRuns.{run_goes_on}
-use Rattle.fax_reading.proofs.DrawingLines.Drawings.{try, run_then, mode_step, drawn_by, step_2d, step_2d_is, horizontal_is}
-use Rattle.fax_reading.proofs.DrawingLines.ReadLines.{try_next, full_by, try_goes_on, draw_mode_goes_on, pen_left, drawn2}
-use Rattle.fax_reading.proofs.DrawingLines.ReadLines.{step_2d_shrinks}
+use Rattle.fax_bits.proofs.CodeWords.ReadRuns.{read_code_shorter, words_not_empty, run_goes_on, run_passes, run_fails, run_ends}
+use Rattle.fax_bits.proofs.Repetition.Repeated.{repeated_turn, after_turn, not_next}
+use Rattle.fax_bits.proofs.{BitReading.ZerosInWords.codes_free, BitReading.ZerosInWords.modes_free, CodeWords.ReadRuns.chosen}
+use Rattle.fax_reading.proofs.DrawingLines.Drawings.{horizontal_is, mode_step, run_then, drawn_by, step_2d, step_1d, try}
+use Rattle.fax_reading.proofs.DrawingLines.ReadLines.{draws_mode, draws_run, mode_read, try_next, pen_left, full_by, IsStep}
+use Rattle.fax_reading.proofs.EncodedPictures.EncodedRuns.{draws}
 
 -- ---- A run.
 abbrev pub RunFound : Color → ℕ → Bits → ℕ → Bits → Type 0
@@ -75,72 +73,69 @@ mode_carries strict columns reference Horizontal = λ pen t e.
     (two.0, two.1, λ more. sym (horizontal_is strict columns reference (record pen { rest = two.0 ++ more })) ∙ two.2 more)
 mode_carries strict columns reference (Vertical k) = grind (arith, try_next)
 
--- a step of a two-dimensional line, which begins with the word of its mode
-record StepFound (strict : Bool) (columns : ℕ) (reference : Row) (pen t : Pen) : Type 0 where
-  mode : Mode
-  word : Bits
-  has : Has mode_codes mode word
-  others : Bits
-  is : pen.rest ≡ (word ++ others) ++ t.rest
-  again : (more : Bits)
-      → step_2d strict columns reference (record pen { rest = (word ++ others) ++ more }) ≡ Turn.next (record t { rest = more })
-
-step_2d_found : (strict : Bool) (columns : ℕ) (reference : Row) (pen t : Pen) → step_2d strict columns reference pen ≡ Turn.next t
-    → StepFound strict columns reference pen t
-step_2d_found strict columns reference pen t e =
-    elim (chosen (leb columns (length pen.front)) _ _ _ (sym (step_2d_is strict columns reference pen) ∙ e)) [
-      | inl x ↦ absurd (not_next _ t x.1)
-      | inr x ↦ let a = try_next pen.front (read_code mode_codes pen.rest)
-          (λ mode. mode_step strict columns reference (record pen { rest = mode.1 }) mode.0) t x.1 in
-          let word = read_code_found mode_codes pen.rest a.0.0 a.0.1 a.1 in
-          let c = mode_carries strict columns reference a.0.0 (record pen { rest = a.0.1 }) t a.2 in
-          record {
-            mode = a.0.0;
-            word = word.0;
-            has = word.1;
-            others = c.0;
-            is = word.2 ∙ ap (λ (y : Bits). word.0 ++ y) c.1 ∙ sym (append_assoc word.0 c.0 t.rest);
-            again = λ more. let read : read_code mode_codes ((word.0 ++ c.0) ++ more) ≡ Ok (a.0.0, c.0 ++ more) = ap
-                (read_code mode_codes) (append_assoc word.0 c.0 more)
-                ∙ read_code_again mode_codes a.0.0 word.0 (c.0 ++ more) modes_free word.1 in
-                grind arith;
-          }
-    ]
+mode_read_carries : (strict : Bool) (columns : ℕ) (reference : Row) → Carries (mode_read strict columns reference)
+mode_read_carries strict columns reference pen t e = let a = try_next pen.front (read_code mode_codes pen.rest)
+    (λ mode. mode_step strict columns reference (record pen { rest = mode.1 }) mode.0) t e in
+    let word = read_code_found mode_codes pen.rest a.0.0 a.0.1 a.1 in
+    let c = mode_carries strict columns reference a.0.0 (record pen { rest = a.0.1 }) t a.2 in (
+      word.0 ++ c.0,
+      word.2 ∙ ap (λ (y : Bits). word.0 ++ y) c.1 ∙ sym (append_assoc word.0 c.0 t.rest),
+      λ more. let read : read_code mode_codes ((word.0 ++ c.0) ++ more) ≡ Ok (a.0.0, c.0 ++ more) = ap (read_code mode_codes)
+          (append_assoc word.0 c.0 more) ∙ read_code_again mode_codes a.0.0 word.0 (c.0 ++ more) modes_free word.1 in
+          grind arith,
+    )
 
 -- ---- A line.
-pub record LineFound (strict : Bool) (columns : ℕ) (reference : Row) (pen : Pen) (row : Row) (rest : Bits) : Type 0 where
+
+-- what a line read, and that it is read again, whatever follows
+pub record LineFound (step : Pen → Step) (pen : Pen) (row : Row) (rest : Bits) : Type 0 where
   pub bits : Bits
   pub is : pen.rest ≡ bits ++ rest
-  pub again : (more : Bits)
-      → drawn_by (step_2d strict columns reference) (record pen { rest = bits ++ more }) ≡ Line.whole row more
-  pub begins : length pen.front < columns → (mode : Mode) × (word others : Bits) × Has mode_codes mode word
-      × (bits ≡ word ++ others)
+  pub again : (more : Bits) → drawn_by step (record pen { rest = bits ++ more }) ≡ Line.whole row more
 
-line_found_by : (fuel : ℕ) (strict : Bool) (columns : ℕ) (reference : Row) (pen : Pen) (row : Row) (rest : Bits)
-    → pen_left pen < fuel → drawn_by (step_2d strict columns reference) pen ≡ Line.whole row rest
-    → LineFound strict columns reference pen row rest
-line_found_by zero strict columns reference pen row rest lt e = absurd (omega arith)
-line_found_by (suc fuel) strict columns reference pen row rest lt e = let step : Pen → Step = step_2d strict columns reference in
-    let rule : (p : Pen) → drawn_by step p ≡ after_turn (drawn_by step) (step p) = drawn2 strict columns reference in
-    let by_step : (turn : Step) → step pen ≡ turn → LineFound strict columns reference pen row rest = λ turn. elim turn
-    as (λ (turn : Step). step pen ≡ turn → LineFound strict columns reference pen row rest) [
-      | Turn.next t ↦ λ a. let one = step_2d_found strict columns reference pen t a in
-          let on = line_found_by fuel strict columns reference t row rest
-          (omega (arith, step_2d_shrinks strict columns reference pen t a))
-          (sym (ap (after_turn (drawn_by step)) a) ∙ sym (rule pen) ∙ e) in
-          let w : Bits = one.word ++ one.others in
-          record {
-            bits = w ++ on.bits;
-            is = one.is ∙ ap (λ (x : Bits). w ++ x) on.is ∙ sym (append_assoc w on.bits rest);
-            again = λ more. ap (λ (x : Bits). drawn_by step (record pen { rest = x })) (append_assoc w on.bits more)
-                ∙ rule (record pen { rest = w ++ (on.bits ++ more) }) ∙ ap (after_turn (drawn_by step))
-                (one.again (on.bits ++ more)) ∙ on.again more;
-            begins = λ open_end. (one.mode, one.word, one.others ++ on.bits, one.has, append_assoc one.word one.others on.bits);
-          }
-      | Turn.done l ↦ grind (arith, try_goes_on, draw_mode_goes_on, full_by, step_2d_is, le-leb)
-    ] in by_step (step pen) refl
+module _ {columns : ℕ} {step body : Pen → Step} (drawn_so : IsStep columns step body) (carries : Carries body) where
+  rule : (p : Pen) → drawn_by step p ≡ after_turn (drawn_by step) (step p)
+  rule p = repeated_turn step (Line.broken [] UnexpectedEof) pen_left drawn_so.shrinks p
+
+  line_found_by : (fuel : ℕ) (pen : Pen) (row : Row) (rest : Bits) → pen_left pen < fuel
+      → drawn_by step pen ≡ Line.whole row rest → LineFound step pen row rest
+  line_found_by zero pen row rest lt e = absurd (omega arith)
+  line_found_by (suc fuel) pen row rest lt e = by_step (λ t small f. line_found_by fuel t row rest small f) (step pen) refl
+    where
+      by_step : ((t : Pen) → pen_left t < fuel → drawn_by step t ≡ Line.whole row rest → LineFound step t row rest)
+          → (turn : Step) → step pen ≡ turn → LineFound step pen row rest
+      by_step on (Turn.next t) a = elim (chosen (leb columns (length pen.front)) _ _ _ (sym (drawn_so.same pen) ∙ a)) [
+        | inl full ↦ absurd (not_next _ t full.1)
+        | inr open_end ↦ let (w, is, again) = carries pen t open_end.1 in
+            let more = on t (omega (arith, drawn_so.shrinks pen t a, lt))
+            (sym (ap (after_turn (drawn_by step)) a) ∙ sym (rule pen) ∙ e) in
+            record {
+              bits = w ++ more.bits;
+              is = is ∙ ap (λ (x : Bits). w ++ x) more.is ∙ sym (append_assoc w more.bits rest);
+              again = λ others. let turn = drawn_so.same (record pen { rest = w ++ (more.bits ++ others) })
+                  ∙ cond-false (leb columns (length pen.front)) _ _ open_end.0 ∙ again (more.bits ++ others) in
+                  ap (λ (x : Bits). drawn_by step (record pen { rest = x })) (append_assoc w more.bits others)
+                  ∙ rule (record pen { rest = w ++ (more.bits ++ others) }) ∙ ap (after_turn (drawn_by step)) turn
+                  ∙ more.again others;
+            }
+      ]
+      by_step on (Turn.done line) a = grind (
+        arith,
+        common_steps,
+        rule,
+        full_by columns pen (body pen) row rest (drawn_so.goes pen),
+        drawn_so.same,
+        le-leb columns (length pen.front),
+      )
 
 -- a line that was read is read again, whatever follows
+pub line_1d_found : (strict : Bool) (columns : ℕ) (here : Bits) (row : Row) (rest : Bits)
+    → line_1d strict columns here ≡ Line.whole row rest → LineFound (step_1d strict columns) (start here) row rest
+line_1d_found strict columns here row rest e =
+    line_found_by (draws_run strict columns) (draw_run_carries strict columns Turn.next next_carries) (suc (length here))
+    (start here) row rest (omega arith) e
+
 pub line_2d_found : (strict : Bool) (columns : ℕ) (reference : Row) (here : Bits) (row : Row) (rest : Bits)
-    → line_2d strict columns reference here ≡ Line.whole row rest → LineFound strict columns reference (start here) row rest
-line_2d_found strict columns reference here row rest e = grind (arith, common_steps, line_found_by)
+    → line_2d strict columns reference here ≡ Line.whole row rest → LineFound (step_2d strict columns reference) (start here) row rest
+line_2d_found strict columns reference here row rest e = line_found_by (draws_mode strict columns reference)
+    (mode_read_carries strict columns reference) (suc (length here)) (start here) row rest (omega arith) e

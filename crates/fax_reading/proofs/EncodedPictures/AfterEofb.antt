@@ -1,16 +1,18 @@
 -- What follows EOFB changes nothing.
-use Rattle.fax_reading.proofs.Names.{◌≡◌, ℕ, zero, suc, ◌+◌, ◌*◌, ◌/◌, ◌%◌, ◌<◌, Bool, true, false, cond, not, ◌&&◌, leb, [], ◌∷◌}
-use Rattle.fax_reading.proofs.Names.{◌++◌, length, take, Option, Some, None, Ok, refl, sym, ap, subst, ◌∙◌, append_assoc, arith}
-use Rattle.fax_reading.proofs.Names.{◌⊎◌, inl, inr, or_parts, or_from, cond-false, cases_lt, length-append, length-take-le}
-use Rattle.fax_reading.proofs.Names.{take-append-drop, drop_at, EncodingMode, Group4, DecodeSettings, Bits, AreWholeBytes, Turn}
-use Rattle.fax_reading.proofs.Names.{Reaches, Line, line_2d, after_eol, eols, eols_here, is_over, Progress, Ending}
-use Rattle.fax_reading.proofs.Names.{row_before, aligned, line_of_turn, row_of_line, ends_with, pass_gap, at_front, nothing_read}
-use Rattle.fax_reading.proofs.Names.{end_of, plain, AfterEofb, add_row_alone, row_behind, gap_and_row, for_t6, common_steps}
-use Rattle.fax_reading.proofs.EncodedPictures.PictureLines.{IsLineStart, between, plain_ends}
-use Rattle.fax_bits.proofs.{BitReading.ZerosInWords.prefix_of_prefix, CodeWords.ReadRuns.chosen}
-use Rattle.fax_bits.proofs.{BitReading.ConsecutiveEols.eols-none, Repetition.Repeated.next_is, Repetition.Repeated.not_next}
-use Rattle.fax_reading.proofs.{DrawingLines.WhatFollows.line_2d_found, EncodedPictures.Bodies.gap_at_eofb}
-use Rattle.fax_reading.proofs.{Readings.GapsAndRows.gap_unsought, Readings.GapsAndRows.t6_end, Readings.RowsAndGaps.unless_over}
+use Rattle.fax_reading.proofs.Names.{None, refl, Bits, Turn, Line, eols, Mode, ◌≡◌, suc, ◌+◌, ◌*◌, ◌/◌, ◌%◌, ◌<◌, not, leb, ◌∷◌}
+use Rattle.fax_reading.proofs.Names.{add_row_alone, EncodingMode, line_of_turn, nothing_read, common_steps, row_of_line, or_parts}
+use Rattle.fax_reading.proofs.Names.{after_eol, eols_here, ends_with, AfterEofb, read_code, cases_lt, Progress, pass_gap, or_from}
+use Rattle.fax_reading.proofs.Names.{at_front, drop_at, Reaches, line_2d, is_over, aligned, Option, Group4, Ending, end_of, false}
+use Rattle.fax_reading.proofs.Names.{for_t6, Result, subst, arith, plain, start, zero, Bool, true, cond, ◌&&◌, ◌++◌, take, Some}
+use Rattle.fax_reading.proofs.Names.{gap_and_row, DecodeError, cond-false, row_before, row_behind, append-nil, mode_codes, length}
+use Rattle.fax_reading.proofs.Names.{sym, ◌∙◌, ◌⊎◌, inl, inr, Err, Has, Row, [], Ok, ap, ℕ}
+use Rattle.fax_reading.proofs.Names.{take-append-drop, length-take-le, DecodeSettings, length-append, AreWholeBytes, append_assoc}
+use Rattle.fax_bits.proofs.{BitReading.ConsecutiveEols.eols-none, CodeWords.ReadCodes.read_code_found, CodeWords.ReadRuns.chosen}
+use Rattle.fax_bits.proofs.{BitReading.ZerosInWords.prefix_of_prefix, Repetition.Repeated.not_next, Repetition.Repeated.next_is}
+use Rattle.fax_reading.proofs.DrawingLines.{WhatFollows.line_2d_found, DrawnLines.line_open}
+use Rattle.fax_reading.proofs.EncodedPictures.PictureLines.{IsLineStart, plain_ends, between}
+use Rattle.fax_reading.proofs.{Readings.GapsAndRows.gap_unsought, Readings.GapsAndRows.t6_end, EncodedPictures.Bodies.gap_at_eofb}
+use Rattle.fax_reading.proofs.{Readings.RowsAndGaps.unless_over, DamagedLines.EolsAlike.counted}
 
 -- ---- EOLs.
 after_eol_found : (seen : ℕ) (here rest : Bits) → after_eol seen here ≡ Some rest → (w : Bits) × (here ≡ w ++ rest)
@@ -65,6 +67,18 @@ record MoveFound (settings : DecodeSettings) (run after : Progress) : Type 0 whe
 abbrev reader : DecodeSettings → Progress → Bits → Line
 reader settings run = line_2d settings.strict settings.columns (row_before settings.columns run.rows)
 
+-- a line begins with the word of a mode
+line_begins : (strict : Bool) (columns : ℕ) (reference row : Row) (here rest : Bits) → 0 < columns
+    → line_2d strict columns reference here ≡ Line.whole row rest → (mode : Mode) × (word others : Bits) × Has mode_codes mode word
+    × (here ≡ word ++ others)
+line_begins strict columns reference row here rest wide e = by_read_code (read_code mode_codes here) refl
+  where
+    by_read_code : (r : Result (Mode × Bits) DecodeError) → read_code mode_codes here ≡ r → (mode : Mode) × (word others : Bits)
+        × Has mode_codes mode word × (here ≡ word ++ others)
+    by_read_code (Ok (mode, others)) f =
+        let (word, has, is) = read_code_found mode_codes here mode others f in (mode, word, others, has, is)
+    by_read_code (Err fault) f = grind (arith, common_steps, line_open strict columns reference (start here) wide)
+
 -- a run that reaches such an end
 abbrev Ends : DecodeSettings → Progress → Ending → Type 0
 Ends settings run end = (last : Progress) × Reaches (gap_and_row settings) run last × (pass_gap settings last ≡ Turn.done end)
@@ -89,7 +103,9 @@ module _ (settings : DecodeSettings) (four : settings.encoding ≡ Group4) (bloc
       let split = aligned_split b j in
       let pad : Bits = split.0 in
       let then : Progress = record { rows = run.rows ++ row ∷ []; has_eols = run.has_eols; rest = cond b (aligned j) j } in
-      let at_start : (more : Bits) → IsLineStart (line.bits ++ more) = λ more. grind (arith, append_assoc) in
+      let begins = line_begins settings.strict settings.columns (row_before settings.columns run.rows) row (line.bits ++ []) [] wide
+      (line.again []) in
+      let at_start : (more : Bits) → IsLineStart (line.bits ++ more) = λ more. grind (arith, append_assoc, append-nil) in
       let moved : MoveFound settings run then = record {
         bits = eol.0 ++ (line.bits ++ pad);
         is = eol.1 ∙ ap (λ (x : Bits). eol.0 ++ x) (grind (arith, common_steps, append_assoc))

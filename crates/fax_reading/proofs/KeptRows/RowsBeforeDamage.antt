@@ -1,10 +1,10 @@
 -- Data that begin with the same bits have the same rows before the first line that may differ.
+use Rattle.fax_reading.proofs.Names.{all_eols, move_on, length, Option, Group4, at_end, end_of, Ending, false, subst, arith, true}
 use Rattle.fax_reading.proofs.Names.{append_cancel_right, append_cancel_left, take-append-drop, DecodeSettings, UnexpectedEof, []}
-use Rattle.fax_reading.proofs.Names.{at_front, Reaches, length, Option, Group4, at_end, end_of, Ending, false, subst, arith, true}
-use Rattle.fax_reading.proofs.Names.{cases_Bool, cond-false, false≢true, misses_eol, row_before, behind_row, after_line, Progress}
-use Rattle.fax_reading.proofs.Names.{ending_behind, length-append, append_assoc, EncodingMode, common_steps, DecodeError, move_on}
+use Rattle.fax_reading.proofs.Names.{cases_Bool, cond-false, false≢true, misses_eol, row_before, behind_row, after_line, at_front}
+use Rattle.fax_reading.proofs.Names.{ending_behind, length-append, append_assoc, EncodingMode, common_steps, DecodeError, Reaches}
 use Rattle.fax_reading.proofs.Names.{first_line, RowsBefore, eols_here, limit_met, line_here, first_gap, replicate, cond-true, ap}
-use Rattle.fax_reading.proofs.Names.{not-false, Group3_1D, Group3_2D, after_eol, or_parts, IsPrefix, repeated, repaired, all_eols}
+use Rattle.fax_reading.proofs.Names.{not-false, Group3_1D, Group3_2D, after_eol, Progress, or_parts, IsPrefix, repeated, repaired}
 use Rattle.fax_reading.proofs.Names.{plain, ◌&&◌, ◌||◌, ◌++◌, take, drop, Some, None, refl, Turn, Line, Bits, Bool, List, Move, ℕ}
 use Rattle.fax_reading.proofs.Names.{◌≡◌, suc, ◌%◌, ◌<◌, ◌≤◌, not, ◌∷◌, sym, ◌∙◌, ◌⊎◌, inl, inr, Err, Row}
 use Rattle.fax_bits.proofs.BitReading.{ConsecutiveEols.next_eol_found, ZerosInWords.prefix_of_prefix}
@@ -19,9 +19,9 @@ use Rattle.fax_reading.proofs.KeptRows.TurnsLeave.{after_row_leaves, reached_lea
 use Rattle.fax_reading.proofs.Readings.RowsAndGaps.{after_damage-is, after_whole-is, unless_over, pass_gap-is, after_row}
 use Rattle.fax_reading.proofs.Readings.TurnsAddRows.{after_row_keeps, first_gap_keeps, repeated_adds, turn_extends, move_adds}
 use Rattle.fax_reading.proofs.Readings.TurnsMoveOn.{eols_here_counted, unless_over_next, unless_over_open, left_to_read}
-use Rattle.fax_reading.proofs.Readings.{RowsAndGaps.unmissed, TurnsAddRows.Keeps}
-use Rattle.fax_reading.proofs.{DamagedLines.LineTails.eol_closes, DamagedLines.RunsAlike.run_at, Readings.GapsAndRows.plain_is}
-use Rattle.fax_reading.proofs.{EncodedPictures.AfterEofb.aligned_split, DamagedLines.DamageByK.take_front}
+use Rattle.fax_reading.proofs.Readings.{GapsAndRows.plain_is, TurnsAddRows.Keeps}
+use Rattle.fax_reading.proofs.{DamagedLines.DamageByK.take_front, Readings.RowsAndGaps.unmissed, DamagedLines.RunsAlike.run_at}
+use Rattle.fax_reading.proofs.{EncodedPictures.AfterEofb.aligned_split, DamagedLines.LineTails.eol_closes}
 use Rattle.fax_reading.proofs.{Readings.TurnsMoveOn.move_shrinks, Readings.TurnsMoveOn.left_below, DamagedLines.LinesByEols.seeks}
 use Rattle.fax_reading.specs.GapsContinued.{holds_one}
 
@@ -82,7 +82,8 @@ module _ (settings : DecodeSettings) (x y : Bits) where
       → after_eol 0 other ≡ Some (left ++ y) → eols_here settings found ≡ (count, more ++ x)
       → one_in_line settings.encoding more ≡ true → eols_here settings other ≡ (count, more ++ y)
   eols_from_front found other left more count e f counted one = let eol : Bits = replicate 11 false ++ true ∷ left in
-      eols_here_same settings other (eol ++ y) (left ++ y) f refl ∙ eols_front x y settings eol more count (eols_here_same settings (eol ++ x) found (left ++ x) refl e ∙ counted) one
+      eols_here_same settings other (eol ++ y) (left ++ y) f refl ∙ eols_front x y settings eol more count
+      (eols_here_same settings (eol ++ x) found (left ++ x) refl e ∙ counted) one
 
   -- after the same rows, and EOLs that are here or not sought
   counted_front : (rows : List Row) (has_eols : Bool) (bits more : Bits) (t : Progress) → t.rest ≡ more ++ x
