@@ -3,6 +3,7 @@ pub mod CutRuns
 pub mod Drawings
 pub mod DrawnLines
 pub mod FullRows
+pub mod KeptInLines
 pub mod LineWidths
 pub mod LinesLeaveBits
 pub mod ReadLines

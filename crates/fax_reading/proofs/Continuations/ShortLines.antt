@@ -1,19 +1,17 @@
 -- Lines before zeros: none is short.
 use Rattle.fax_reading.proofs.Names.{DecodeSettings, is_prefix_free, UnexpectedEof, LineIsSettled, common_steps, EncodingMode, []}
-use Rattle.fax_reading.proofs.Names.{Line, Some, ◌≡◌, ◌↔◌, suc, ◌+◌, ◌∷◌, Err, sym, ◌∙◌, inl, inr, Has, Row, Pen, ◌≤◌, Ok, ap}
-use Rattle.fax_reading.proofs.Names.{length, Result, Group4, IsWord, Option, le-ltb, lt-ltb, false, subst, arith, Color, paint}
-use Rattle.fax_reading.proofs.Names.{mode_codes, place_from, misses_end, replicate, Group3_1D, Group3_2D, read_code, draw_mode, ℤ}
-use Rattle.fax_reading.proofs.Names.{mode_here, line_here, Vertical, Overflow, opposite, codes_of, run_turn, run_from, draw_run}
-use Rattle.fax_reading.proofs.Names.{run_here, is_short, cases_lt, Drawing, draw_1d, draw_2d, painted, line_by, line_1d, line_2d}
-use Rattle.fax_reading.proofs.Names.{start, go_on, ◌>>=◌, Bool, true, cond, List, ◌++◌, None, refl, Mode, Pass, Bits, Code, Turn}
-use Rattle.fax_reading.proofs.Names.{unless_fault, DecodeError, unless_full, turn_behind, LinesSettle, StaysAsRead, Horizontal, ℕ}
+use Rattle.fax_reading.proofs.Names.{IsWord, Option, false, subst, arith, Color, paint, start, refl, Bits, Code, Turn, Some, Bool}
+use Rattle.fax_reading.proofs.Names.{replicate, Group3_1D, Group3_2D, read_code, line_here, Overflow, codes_of, run_turn, line_by}
+use Rattle.fax_reading.proofs.Names.{run_from, is_short, cases_lt, line_1d, line_2d, le-ltb, lt-ltb, length, Result, Group4, None}
+use Rattle.fax_reading.proofs.Names.{true, cond, List, ◌++◌, Line, suc, ◌+◌, ◌∷◌, Err, sym, ◌∙◌, inl, inr, Has, Row, ◌≤◌, ◌≡◌, Ok}
+use Rattle.fax_reading.proofs.Names.{unless_fault, DecodeError, LinesSettle, StaysAsRead, mode_codes, place_from, misses_end, ◌↔◌}
 use Rattle.fax_bits.proofs.BitReading.ZerosInWords.{scan-append, scan_below, scan_holds, word_quiet, codes_free, modes_free, scan}
 use Rattle.fax_bits.proofs.CodeWords.{ReadRuns.run_shrinks, ReadRuns.size, ReadCodes.read_code_found, CodeReadings.reads_codes}
 use Rattle.fax_bits.proofs.{Repetition.Repeated.repeated_induct, BitReading.ZerosInWords.quiet_is, ErrorKinds.not_missing_end}
 use Rattle.fax_bits.specs.CodeReading.{IsCut}
 use Rattle.fax_reading.proofs.Continuations.LinesContinued.{found_settled, row_continues, line_settled}
-use Rattle.fax_reading.proofs.Continuations.StrictLines.{strict_settled}
-use Rattle.fax_reading.proofs.DrawingLines.ReadLines.{step_1d_shrinks, step_2d_shrinks, pen_left}
+use Rattle.fax_reading.proofs.DrawingLines.KeptInLines.{line_1d_keeps, line_2d_keeps, AreKept, Yields}
+use Rattle.fax_reading.proofs.{Continuations.StrictLines.strict_settled, Names.ap, Names.ℤ, Names.ℕ}
 
 -- zeros that some bits contain they contain with what follows them
 scan_stays : (n : ℕ) (a b : Bits) → scan n a ≡ None → scan n (a ++ b) ≡ None
@@ -88,12 +86,8 @@ abbrev pub GoesOrEnds : {A : Type 0} → (A → Type 0) → Turn A Line → Type
 GoesOrEnds P (Turn.next x) = P x
 GoesOrEnds P (Turn.done line) = is_short line ≡ false
 
-behind_known : {A B : Type 0} (P : A → Type 0) (Q : B → Type 0) (turn : Turn A Line) (behind : A → Turn B Line)
-    → GoesOrEnds P turn → ((x : A) → P x → GoesOrEnds Q (behind x)) → GoesOrEnds Q (turn_behind turn behind)
-behind_known P Q turn behind first second = grind arith
-
 found_known : {A : Type 0} (P : A → Type 0) (front : Row) (r : Result A DecodeError) → IsKnown P r
-    → GoesOrEnds P (unless_fault front r)
+    → Yields P (λ line. is_short line ≡ false) (unless_fault front r)
 found_known P front r known = grind arith
 
 -- painting needs no bits
@@ -107,61 +101,25 @@ paint_known strict columns front color n = grind (arith, common_steps)
 pub place_known : (front : Row) (z : ℤ) → GoesOrEnds Anything (unless_fault front (place_from (length front) z))
 place_known front z = grind arith
 
--- a pen before such zeros
-abbrev IsBeforeZeros : Pen → Type 0
-IsBeforeZeros pen = HasZeros pen.rest
+-- no line is short that begins before such zeros
+before_zeros : (strict : Bool) (columns : ℕ)
+    → AreKept strict columns (λ front rest. HasZeros rest) (λ line. is_short line ≡ false)
+before_zeros strict columns = record {
+  paints = λ front rest color n zeros. grind (arith, common_steps);
+  run = λ front rest color zeros. found_known (λ run. HasZeros run.1) front (run_from color (0, rest))
+      (run_known color rest zeros);
+  mode = λ front rest zeros. found_known (λ mode. HasZeros mode.1) front (read_code mode_codes rest)
+      (code_known mode_codes modes_free (λ mode word has. inr (mode, has)) rest zeros);
+  place = λ front rest zeros. refl;
+  whole = λ front rest zeros. refl;
+}
 
-module _ (strict : Bool) (columns : ℕ) where
-  drew_run_known : (pen : Pen) → IsBeforeZeros pen → GoesOrEnds IsBeforeZeros (draw_run strict columns pen).turn
-  drew_run_known pen zeros = behind_known (λ run. HasZeros run.1) IsBeforeZeros (run_here pen).turn (λ run. (drew run).turn)
-      (found_known (λ run. HasZeros run.1) pen.front (run_from pen.color (0, pen.rest)) (run_known pen.color pen.rest zeros))
-      (λ run left. behind_known Anything IsBeforeZeros (painted strict columns pen run.0).turn
-      (λ front. Turn.next (record { front = front; color = opposite pen.color; rest = run.1 }))
-      (paint_known strict columns pen.front pen.color run.0) (λ front any. left))
-    where
-      drew : ℕ × Bits → Drawing Pen
-      drew run = painted strict columns pen run.0
-          >>= (λ front. go_on (record { front = front; color = opposite pen.color; rest = run.1 }))
+line_1d_known : (strict : Bool) (columns : ℕ) (here : Bits) → HasZeros here → is_short (line_1d strict columns here) ≡ false
+line_1d_known strict columns here zeros = line_1d_keeps (before_zeros strict columns) (start here) zeros
 
-  drew_mode_known : (reference : Row) (pen : Pen) (mode : Mode) → IsBeforeZeros pen
-      → GoesOrEnds IsBeforeZeros (draw_mode strict columns reference pen mode).turn
-  drew_mode_known reference pen Pass zeros = grind (arith, common_steps, behind_known, paint_known)
-  drew_mode_known reference pen Horizontal zeros = behind_known IsBeforeZeros IsBeforeZeros
-      (draw_run strict columns pen).turn (λ p. (draw_run strict columns p).turn) (drew_run_known pen zeros) drew_run_known
-  drew_mode_known reference pen (Vertical k) zeros = grind (arith, common_steps, behind_known, place_known, paint_known)
-
-  full_known : (pen : Pen) → IsBeforeZeros pen → GoesOrEnds IsBeforeZeros (unless_full columns pen).turn
-  full_known pen zeros = grind (arith, common_steps)
-
-  drew_1d_known : (pen : Pen) → IsBeforeZeros pen → GoesOrEnds IsBeforeZeros (draw_1d strict columns pen).turn
-  drew_1d_known pen zeros = grind (arith, common_steps, behind_known, full_known, drew_run_known)
-
-  drew_2d_known : (reference : Row) (pen : Pen) → IsBeforeZeros pen
-      → GoesOrEnds IsBeforeZeros (draw_2d strict columns reference pen).turn
-  drew_2d_known reference pen zeros =
-      behind_known IsBeforeZeros IsBeforeZeros (unless_full columns pen).turn (λ p. (behind p).turn) (full_known pen zeros)
-      (λ p left. behind_known (λ mode. HasZeros mode.1) IsBeforeZeros (mode_here p).turn (λ mode. (drew p mode).turn)
-      (found_known (λ mode. HasZeros mode.1) p.front (read_code mode_codes p.rest) (code_known mode_codes modes_free (λ mode word
-      has. inr (mode, has)) p.rest left)) (λ mode further. drew_mode_known reference (record p { rest = mode.1 }) mode.0 further))
-    where
-      drew : Pen → Mode × Bits → Drawing Pen
-      drew p mode = draw_mode strict columns reference (record p { rest = mode.1 }) mode.0
-
-      behind : Pen → Drawing Pen
-      behind p = mode_here p >>= drew p
-
-  line_1d_known : (here : Bits) → HasZeros here → is_short (line_1d strict columns here) ≡ false
-  line_1d_known here zeros = repeated_induct (λ pen. (draw_1d strict columns pen).turn) (Line.broken [] UnexpectedEof) pen_left
-      (step_1d_shrinks strict columns) (λ pen line. IsBeforeZeros pen → is_short line ≡ false)
-      (λ pen line e left. subst (GoesOrEnds IsBeforeZeros) e (drew_1d_known pen left)) (λ pen p line e on left. on
-      (subst (GoesOrEnds IsBeforeZeros) e (drew_1d_known pen left))) (suc (length here)) (start here) (omega arith) zeros
-
-  line_2d_known : (reference : Row) (here : Bits) → HasZeros here → is_short (line_2d strict columns reference here) ≡ false
-  line_2d_known reference here zeros = repeated_induct (λ pen. (draw_2d strict columns reference pen).turn)
-      (Line.broken [] UnexpectedEof) pen_left (step_2d_shrinks strict columns reference) (λ pen line. IsBeforeZeros pen
-      → is_short line ≡ false) (λ pen line e left. subst (GoesOrEnds IsBeforeZeros) e (drew_2d_known reference pen left))
-      (λ pen p line e on left. on (subst (GoesOrEnds IsBeforeZeros) e (drew_2d_known reference pen left))) (suc (length here))
-      (start here) (omega arith) zeros
+line_2d_known : (strict : Bool) (columns : ℕ) (reference : Row) (here : Bits) → HasZeros here
+    → is_short (line_2d strict columns reference here) ≡ false
+line_2d_known strict columns reference here zeros = line_2d_keeps (before_zeros strict columns) reference (start here) zeros
 
 -- No line is short with eleven zeros among its bits.
 pub zeros_end_line : (settings : DecodeSettings) (reference : Row) (fill behind : Bits)

@@ -1,12 +1,11 @@
 -- The strict reading of a line that isn't short.
-use Rattle.fax_reading.proofs.Names.{arith, common_steps, ◌≡◌, ℕ, zero, suc, Bool, true, false, [], ◌∷◌, length, refl, ◌⊎◌}
-use Rattle.fax_reading.proofs.Names.{inl, inr, Color, Mode, Pass, Horizontal, Vertical, DecodeSettings, EncodingMode, Group4}
-use Rattle.fax_reading.proofs.Names.{Group3_1D, Group3_2D, UnexpectedEof, Bits, Turn, repeated, Row, opposite, paint, Line, Pen}
-use Rattle.fax_reading.proofs.Names.{Drawing, start, draw_1d, draw_2d, draw_mode, draw_run, go_on, mode_here, run_here, painted}
-use Rattle.fax_reading.proofs.Names.{unless_fault, unless_full, turn_behind, ◌>>=◌, line_by, line_here}
-use Rattle.fax_reading.proofs.Names.{line_1d, line_2d, LineIsSettled, is_short, too_many_pixels}
+use Rattle.fax_reading.proofs.Names.{draw_2d, painted, line_by, line_1d, line_2d, length, Group4, arith, false, Color, paint, ◌≡◌}
+use Rattle.fax_reading.proofs.Names.{mode_here, line_here, Vertical, repeated, opposite, draw_run, run_here, is_short, draw_1d}
+use Rattle.fax_reading.proofs.Names.{start, go_on, ◌>>=◌, zero, Bool, true, refl, Mode, Pass, Bits, Turn, Line, suc, ◌∷◌, ◌⊎◌, []}
+use Rattle.fax_reading.proofs.Names.{too_many_pixels, DecodeSettings, UnexpectedEof, LineIsSettled, common_steps, EncodingMode, ℕ}
+use Rattle.fax_reading.proofs.Names.{unless_fault, unless_full, turn_behind, Horizontal, Group3_1D, Group3_2D, draw_mode, Drawing}
+use Rattle.fax_reading.proofs.{Continuations.LinesContinued.line_settled, Names.inl, Names.inr, Names.Row, Names.Pen}
 use Rattle.fax_reading.specs.Laws.{strictly}
-use Rattle.fax_reading.proofs.Continuations.LinesContinued.{line_settled}
 
 -- a turn of the strict reading is the same, or a run that is too long ends its line
 abbrev pub IsStricter : {A : Type 0} → Turn A Line → Turn A Line → Type 0
@@ -59,37 +58,39 @@ module _ (strict : Bool) (columns : ℕ) where
       behind : Bool → Pen → Drawing Pen
       behind exact p = mode_here p >>= drew exact p
 
--- a line of steps that are stricter isn't short, if the other isn't
+-- so is a line of such steps
+abbrev IsStricterLine : Line → Line → Type 0
+IsStricterLine line other = (line ≡ other) ⊎ ((front : Row) × (line ≡ Line.broken front too_many_pixels))
+
 strict_turns : (step other : Pen → Turn Pen Line) (late : Line) → ((pen : Pen) → IsStricter (step pen) (other pen)) → (n : ℕ)
-    (pen : Pen) → is_short (repeated other late n pen) ≡ false → is_short (repeated step late n pen) ≡ false
-strict_turns step other late stricter zero pen known = known
-strict_turns step other late stricter (suc n) pen known = grind (arith, strict_turns step other late stricter n)
+    (pen : Pen) → IsStricterLine (repeated step late n pen) (repeated other late n pen)
+strict_turns step other late stricter zero pen = inl refl
+strict_turns step other late stricter (suc n) pen = grind (arith, strict_turns step other late stricter n)
 
--- A line that isn't short isn't when it is read strictly.
-pub strict_not_short : (encoding : EncodingMode) (strict : Bool) (columns : ℕ) (reference : Row) (here : Bits) → is_short
-    (line_by encoding strict columns reference here) ≡ false → is_short (line_by encoding true columns reference here) ≡ false
-strict_not_short encoding strict columns reference here known = by_encoding encoding here known
+-- The strict reading of a line is the same, or a run that is too long ends it.
+pub strict_line : (encoding : EncodingMode) (strict : Bool) (columns : ℕ) (reference : Row) (here : Bits)
+    → IsStricterLine (line_by encoding true columns reference here) (line_by encoding strict columns reference here)
+strict_line encoding strict columns reference here = by_encoding encoding here
   where
-    runs : (bits : Bits) → is_short (line_1d strict columns bits) ≡ false → is_short (line_1d true columns bits) ≡ false
-    runs bits k = strict_turns (λ pen. (draw_1d true columns pen).turn) (λ pen. (draw_1d strict columns pen).turn)
-        (Line.broken [] UnexpectedEof) (strict_1d strict columns) (suc (length bits)) (start bits) k
+    runs : (bits : Bits) → IsStricterLine (line_1d true columns bits) (line_1d strict columns bits)
+    runs bits = strict_turns (λ pen. (draw_1d true columns pen).turn) (λ pen. (draw_1d strict columns pen).turn)
+        (Line.broken [] UnexpectedEof) (strict_1d strict columns) (suc (length bits)) (start bits)
 
-    modes : (bits : Bits) → is_short (line_2d strict columns reference bits) ≡ false
-        → is_short (line_2d true columns reference bits) ≡ false
-    modes bits k = strict_turns (λ pen. (draw_2d true columns reference pen).turn)
+    modes : (bits : Bits) → IsStricterLine (line_2d true columns reference bits) (line_2d strict columns reference bits)
+    modes bits = strict_turns (λ pen. (draw_2d true columns reference pen).turn)
         (λ pen. (draw_2d strict columns reference pen).turn) (Line.broken [] UnexpectedEof)
-        (strict_2d strict columns reference) (suc (length bits)) (start bits) k
+        (strict_2d strict columns reference) (suc (length bits)) (start bits)
 
-    by_encoding : (kind : EncodingMode) (bits : Bits) → is_short (line_by kind strict columns reference bits) ≡ false
-        → is_short (line_by kind true columns reference bits) ≡ false
-    by_encoding Group3_1D bits k = runs bits k
-    by_encoding Group3_2D [] k = k
-    by_encoding Group3_2D (true ∷ bits) k = runs bits k
-    by_encoding Group3_2D (false ∷ bits) k = modes bits k
-    by_encoding Group4 bits k = modes bits k
+    by_encoding : (kind : EncodingMode) (bits : Bits)
+        → IsStricterLine (line_by kind true columns reference bits) (line_by kind strict columns reference bits)
+    by_encoding Group3_1D bits = runs bits
+    by_encoding Group3_2D [] = inl refl
+    by_encoding Group3_2D (true ∷ bits) = runs bits
+    by_encoding Group3_2D (false ∷ bits) = modes bits
+    by_encoding Group4 bits = modes bits
 
 -- The strict reading of a line that isn't short is settled too.
 pub strict_settled : (settings : DecodeSettings) (reference : Row) (here : Bits)
     → is_short (line_here settings reference here) ≡ false → LineIsSettled (strictly settings) reference here
-strict_settled settings reference here known = line_settled
-    (strictly settings) reference here (strict_not_short settings.encoding settings.strict settings.columns reference here known)
+strict_settled settings reference here known = line_settled (strictly settings) reference here (grind
+    (arith, common_steps, strict_line settings.encoding settings.strict settings.columns reference here))

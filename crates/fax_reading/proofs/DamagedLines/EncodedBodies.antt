@@ -1,11 +1,11 @@
 -- The lines of an encoding with EOLs are bodies that damage may change.
-use Rattle.fax_reading.proofs.Names.{Bits, suc, ◌+◌, ◌-◌, ◌<◌, ◌≤◌, ◌∷◌, sym, ◌∙◌, ◌⊎◌, inl, inr, Row, eol, [], ap, ℕ}
-use Rattle.fax_reading.proofs.Names.{Color, White, IsEol, zero, Bool, true, List, ◌++◌, take, drop, Some, None, refl, Pass, Line}
-use Rattle.fax_reading.proofs.Names.{DecodeSettings, length-append, EncodesLine1D, EncodesLine2D, IsTaggedBody, common_steps, ◌≡◌}
-use Rattle.fax_reading.proofs.Names.{EncodedLinesAreBodies, EncodesRowsWithEols, length-replicate, take-append-drop, append_assoc}
-use Rattle.fax_reading.proofs.Names.{Vertical, opposite, one_more, past_tag, lt-leb, le-leb, IsWord, Spells, false, subst, arith}
-use Rattle.fax_reading.proofs.Names.{drop-drop, Group3_2D, line_here, HaveWidth, after_eol, cases_lt, All-head, All-tail, Option}
-use Rattle.fax_reading.proofs.Names.{length-drop, IsTagOfLine, EncodesLine, append-nil, Horizontal, row_before, replicate, length}
+use Rattle.fax_reading.proofs.Names.{DecodeSettings, length-append, EncodesLine1D, EncodesLine2D, common_steps, append_assoc, suc}
+use Rattle.fax_reading.proofs.Names.{EncodedLinesAreBodies, EncodesRowsWithEols, length-replicate, take-append-drop, IsTaggedBody}
+use Rattle.fax_reading.proofs.Names.{Group3_2D, line_here, HaveWidth, after_eol, replicate, Vertical, opposite, one_more, left_of}
+use Rattle.fax_reading.proofs.Names.{IsEol, false, subst, arith, Bits, zero, Bool, true, List, ◌++◌, take, drop, Some, None, refl}
+use Rattle.fax_reading.proofs.Names.{Pass, Line, ◌+◌, ◌-◌, ◌<◌, ◌≤◌, ◌∷◌, sym, ◌∙◌, ◌⊎◌, inl, inr, Row, eol, ◌≡◌, [], ap, ℕ}
+use Rattle.fax_reading.proofs.Names.{length-drop, IsTagOfLine, EncodesLine, append-nil, Horizontal, row_before, drop-drop, lt-leb}
+use Rattle.fax_reading.proofs.Names.{past_tag, cases_lt, All-head, All-tail, le-leb, IsWord, Spells, Option, length, Color, White}
 use Rattle.fax_bits.proofs.BitReading.ConsecutiveEols.{after_eol_shorter, past_tag_shorter, all_tagged-some, all_tagged-none}
 use Rattle.fax_bits.proofs.BitReading.{ZerosInWords.holds_a_one, ZerosInWords.word_one, ConsecutiveEols.all_tagged}
 use Rattle.fax_reading.proofs.DamagedLines.AnyReference.{quiet_append, leaves_next, quiet_line, quiet_run, scan_past, Quiet}
@@ -13,6 +13,7 @@ use Rattle.fax_reading.proofs.DamagedLines.LineTails.{after_eol_more, past_befor
 use Rattle.fax_reading.proofs.DamagedLines.PastEol.{after_eol_is, past-eol, past}
 use Rattle.fax_reading.proofs.DrawingLines.LinesLeaveBits.{leaves_trans, LeavesBits}
 use Rattle.fax_reading.proofs.EncodedPictures.{EncodedRuns.line_1d_again, PicturesT4.eol_stands}
+use Rattle.fax_reading.proofs.KeptRows.TurnsLeave.{past_tag_leaves}
 
 -- ---- Suffixes
 
@@ -35,16 +36,6 @@ past_first seen [] here rest next e f = grind (arith, common_steps, past-eol, af
 past_first seen (false ∷ before) here rest next e f = past_first (suc seen) before here rest next e f
 past_first seen (true ∷ before) here rest next e f =
     grind (arith, past_first 0 before here rest next e, cases_lt, lt-leb, le-leb, length-append, after_eol_shorter)
-
--- what follows a tag is a suffix
-tag_leaves : (here : Bits) → LeavesBits here (past_tag here)
-tag_leaves [] = ([], refl)
-tag_leaves (false ∷ here) = ([], refl)
-tag_leaves (true ∷ here) = by_after_eol (after_eol 0 here) refl
-  where
-    by_after_eol : (o : Option Bits) → after_eol 0 here ≡ o → LeavesBits (true ∷ here) (past_tag (true ∷ here))
-    by_after_eol None e = rw (e, past_tag) ([], refl)
-    by_after_eol (Some rest) e = rw (e, past_tag) (true ∷ [], refl)
 
 -- where there is an EOL some are counted
 not_none : (here rest last : Bits) → after_eol 0 here ≡ Some rest → all_tagged here ≡ (0, last) → ⊥
@@ -87,8 +78,8 @@ last_two (suc n) count here last lt e =
           common_steps,
           append_assoc (replicate is.0 false) (true ∷ []) rest,
           leaves_trans here rest two.0,
-          leaves_trans rest (past_tag rest) two.0 (tag_leaves rest) two.2,
-          tag_leaves rest,
+          leaves_trans rest (past_tag rest) two.0 (past_tag_leaves rest) two.2,
+          past_tag_leaves rest,
         )
 
 -- ---- One EOL is counted before a line that comes after a line
@@ -130,7 +121,7 @@ module _ (front words next : Bits) (tag : Bool) (fill : ℕ) (quiet : Quiet word
           (replicate zeros.0 false ++ true ∷ [], zeros.1 ∙ sym (append_assoc (replicate zeros.0 false) (true ∷ []) rest)) in
           let in_both : LeavesBits ((more ++ true ∷ tag ∷ []) ++ behind) rest = grind (arith, common_steps, append_assoc) in
           let tagged : LeavesBits ((more ++ true ∷ tag ∷ []) ++ behind)
-          (past_tag rest) = leaves_trans _ rest (past_tag rest) in_both (tag_leaves rest) in
+          (past_tag rest) = leaves_trans _ rest (past_tag rest) in_both (past_tag_leaves rest) in
           let covered = suffix_ends_with (more ++ true ∷ tag ∷ []) behind (past_tag rest) tagged
           (grind (arith, common_steps, sizes, first)) in
           let others = after_eol_is 0 (past_tag rest) next f in

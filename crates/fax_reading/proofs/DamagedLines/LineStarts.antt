@@ -1,8 +1,8 @@
 -- Where lines begin, by positions.
 use Rattle.fax_reading.proofs.Names.{Contains-append_right, Contains-append_cases, append_cancel_left, take-append-drop, Contains}
-use Rattle.fax_reading.proofs.Names.{Some, None, refl, Bits, ◌≡◌, suc, ◌+◌, ◌<◌, ◌≤◌, not, leb, ◌∷◌, sym, ◌∙◌, ◌⊎◌, inl, inr, All}
+use Rattle.fax_reading.proofs.Names.{List, ◌++◌, take, drop, ◌≡◌, suc, ◌+◌, ◌<◌, ◌≤◌, not, leb, ◌∷◌, sym, ◌∙◌, ◌⊎◌, inl, inr, All}
 use Rattle.fax_reading.proofs.Names.{cases_lt, leb-true, and_from, all_eols, Descends, is_some, All-nil, IsStart, length, Option}
-use Rattle.fax_reading.proofs.Names.{le-leb, at_end, starts, false, arith, zero, Bool, true, cond, ◌&&◌, List, ◌++◌, take, drop}
+use Rattle.fax_reading.proofs.Names.{le-leb, at_end, starts, false, arith, Some, None, refl, Bits, zero, Bool, true, cond, ◌&&◌}
 use Rattle.fax_reading.proofs.Names.{length-drop, begins_line, All-append, All-weaker, replicate, and_parts, after_eol, StartsAre}
 use Rattle.fax_reading.proofs.Names.{length-replicate, not_from_false, length-append, append_assoc, later_starts, common_steps, ℕ}
 use Rattle.fax_bits.proofs.BitReading.ConsecutiveEols.{after_eol_shorter, all_eols-some, all_eols-none, eol_of}
@@ -132,7 +132,7 @@ contains_more here other rest (k, lt, e) = (suc k, omega arith, e)
 pub not_some : (o : Option Bits) → is_some o ≡ false → o ≡ None
 not_some o e = grind (arith, common_steps)
 
-more_left : (here : Bits) → 0 < length here → at_end here ≡ false
+pub more_left : (here : Bits) → 0 < length here → at_end here ≡ false
 more_left here lt = grind (arith, common_steps)
 
 module _ (bits : Bits) where

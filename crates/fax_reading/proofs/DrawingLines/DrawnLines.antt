@@ -1,20 +1,18 @@
 -- What a step of a line paints, and what that says of the finished line.
+use Rattle.fax_reading.proofs.Names.{Bool, true, ◌++◌, Some, refl, OnOk, ◌+ℤ◌, ints, Mode, ◌≡◌, ◌≢◌, ◌-◌, ◌<◌, ◌≤◌, ◌∷◌, w32, Err}
 use Rattle.fax_reading.proofs.Names.{Contains-append_right, Contains-append_left, too_many_pixels, DecodeSettings, length-append}
-use Rattle.fax_reading.proofs.Names.{Horizontal, mode_codes, place_from, last_pixel, replicate, DrawsLine, DrawsStep, read_code}
-use Rattle.fax_reading.proofs.Names.{Row, b2, ℤ}
-use Rattle.fax_reading.proofs.Names.{SomeIff, nat_abs, kind_of, IsFault, Context, redrawn, Option, Result, IsTrue, le-leb, lt-leb}
-use Rattle.fax_reading.proofs.Names.{UnexpectedEof, StopsAtChange, common_steps, append_assoc, FitsUnsigned, StoresChange, length}
-use Rattle.fax_reading.proofs.Names.{cases_lt, Vertical, front_of, HasBlack, repeated, is_black, opposite, right_of, run_from, []}
-use Rattle.fax_reading.proofs.Names.{cond, ◌++◌, Some, refl, OnOk, ◌+ℤ◌, ints, Mode, Pass, Step, Bits, here, Held, Line, Turn, ap}
-use Rattle.fax_reading.proofs.Names.{pen_of, BitsAt, false, subst, arith, IfErr, OnErr, Color, start, paint, zero, Bool, true, Ok}
-use Rattle.fax_reading.proofs.Names.{step_of_mode, DecodeError, OutOfMemory, front_after, step_of_run, turn_behind, false≢true, ℕ}
-use Rattle.fax_reading.proofs.Names.{◌≡◌, ◌≢◌, suc, ◌-◌, ◌<◌, ◌≤◌, leb, ◌∷◌, w32, Err, sym, ◌∙◌, ◌⊎◌, inl, inr, ◌↔◌, pos, Pen, b1}
+use Rattle.fax_reading.proofs.Names.{DecodeError, OutOfMemory, front_after, step_of_run, turn_behind, Horizontal, mode_codes, Row}
+use Rattle.fax_reading.proofs.Names.{SomeIff, nat_abs, kind_of, Option, Result, IsTrue, le-leb, lt-leb, length, pen_of, BitsAt, ℤ}
+use Rattle.fax_reading.proofs.Names.{StopsAtChange, common_steps, append_assoc, FitsUnsigned, StoresChange, step_of_mode, IsFault}
+use Rattle.fax_reading.proofs.Names.{false, subst, arith, IfErr, OnErr, Color, start, paint, Step, Bits, here, Held, Line, Turn}
+use Rattle.fax_reading.proofs.Names.{front_of, HasBlack, is_black, opposite, right_of, run_from, cases_lt, Context, redrawn, Pass}
+use Rattle.fax_reading.proofs.Names.{place_from, last_pixel, false≢true, replicate, DrawsLine, DrawsStep, read_code, Vertical, b2}
+use Rattle.fax_reading.proofs.Names.{sym, ◌∙◌, ◌⊎◌, inl, inr, ◌↔◌, pos, Pen, [], ap, Ok, b1, ℕ}
 use Rattle.fax_bits.proofs.CodeWords.ReadRuns.{read_code_shorter, some_where, chosen}
-use Rattle.fax_bits.proofs.ErrorKinds.{of_fault_kind, kind_weaker}
-use Rattle.fax_bits.proofs.Repetition.Repeated.{after_turn, Shrinks}
-use Rattle.fax_reading.proofs.DrawingLines.Drawings.{horizontal_is, step_1d_is, step_2d_is, mode_step, run_then, drawn_by, try}
-use Rattle.fax_reading.proofs.DrawingLines.ReadLines.{modes_not_empty, step_1d_shrinks, step_2d_shrinks, draw_mode_next, pen_left}
-use Rattle.fax_reading.proofs.DrawingLines.{Drawings.step_1d, Drawings.step_2d, ReadLines.drawn1, ReadLines.drawn2}
+use Rattle.fax_bits.proofs.{ErrorKinds.of_fault_kind, ErrorKinds.kind_weaker, Repetition.Repeated.after_turn}
+use Rattle.fax_reading.proofs.DrawingLines.Drawings.{step_1d_is, step_2d_is, mode_step, run_then, drawn_by, step_1d, step_2d, try}
+use Rattle.fax_reading.proofs.DrawingLines.KeptInLines.{line_1d_keeps, line_2d_keeps, fronts_kept, run_keeps, AreKept, Yields}
+use Rattle.fax_reading.proofs.DrawingLines.ReadLines.{modes_not_empty, draw_mode_next, drawn1, drawn2}
 
 -- ---- What painting yields.
 
@@ -152,66 +150,27 @@ paint_keeps : (P : Row → Type 0) → Stays P → (strict : Bool) (columns : �
     → paint strict columns front color n ≡ Ok row → P front → P row
 paint_keeps P on strict columns front color n row e holds = grind (arith, common_steps, paint_ok)
 
-try_keeps : {A : Type 0} (P : Row → Type 0) (front : Row) (r : Result A DecodeError) (go_on : A → Step) → P front
-    → ((x : A) → r ≡ Ok x → P (front_after (go_on x))) → P (front_after (try front r go_on))
-try_keeps P front r go_on holds keeps = grind arith
+stays_kept : (P : Row → Type 0) → Stays P → (strict : Bool) (columns : ℕ)
+    → AreKept strict columns (λ front rest. P front) (λ line. P (front_of line))
+stays_kept P on strict columns = fronts_kept strict columns P (λ line. P (front_of line)) (paint_keeps P on strict columns)
+    (λ front holds fault. holds) (λ front rest holds. holds)
 
-draw_run_keeps : (P : Row → Type 0) → Stays P → (strict : Bool) (columns : ℕ) (pen : Pen) (go_on : Pen → Step)
-    → ((p : Pen) → P p.front → P (front_after (go_on p))) → P pen.front → P (front_after (run_then strict columns pen go_on))
-draw_run_keeps P on strict columns pen go_on keeps holds =
-    try_keeps P pen.front (run_from pen.color (0, pen.rest)) _ holds (λ run e. try_keeps P pen.front (paint strict columns
-    pen.front pen.color run.0) _ holds (λ front f. keeps (record { front = front; color = opposite pen.color; rest = run.1 })
-    (paint_keeps P on strict columns pen.front pen.color run.0 front f holds)))
-
-draw_mode_keeps : (P : Row → Type 0) → Stays P → (strict : Bool) (columns : ℕ) (reference : Row) (pen : Pen) (mode : Mode)
-    → P pen.front → P (front_after (mode_step strict columns reference pen mode))
-draw_mode_keeps P on strict columns reference pen Pass holds = grind (arith, common_steps, try_keeps, paint_keeps)
-draw_mode_keeps P on strict columns reference pen Horizontal holds =
-    subst (λ (step : Step). P (front_after step)) (horizontal_is strict columns reference pen) (draw_run_keeps P on strict columns
-    pen (λ pen. run_then strict columns pen Turn.next) (λ p h. draw_run_keeps P on strict columns p Turn.next (λ q g. g) h) holds)
-draw_mode_keeps P on strict columns reference pen (Vertical k) holds = grind (arith, common_steps, try_keeps, paint_keeps)
-
-keeps_either : (P : Row → Type 0) (b : Bool) (x y : Step) → P (front_after x) → P (front_after y) → P (front_after (cond b x y))
-keeps_either P b x y one other = grind arith
-
-step_2d_keeps : (P : Row → Type 0) → Stays P → (strict : Bool) (columns : ℕ) (reference : Row)
-    → KeepsFront P (step_2d strict columns reference)
-step_2d_keeps P on strict columns reference pen holds = let modes : Step = try pen.front (read_code mode_codes pen.rest)
-    (λ mode. mode_step strict columns reference (record pen { rest = mode.1 }) mode.0) in
-    subst (λ (step : Step). P (front_after step)) (sym (step_2d_is strict columns reference pen))
-    (keeps_either P (leb columns (length pen.front)) (Turn.done (Line.whole pen.front pen.rest)) modes holds (try_keeps P
-    pen.front (read_code mode_codes pen.rest) (λ mode. mode_step strict columns reference (record pen { rest = mode.1 }) mode.0)
-    holds (λ mode e. draw_mode_keeps P on strict columns reference (record pen { rest = mode.1 }) mode.0 holds)))
-
-step_1d_keeps : (P : Row → Type 0) → Stays P → (strict : Bool) (columns : ℕ) → KeepsFront P (step_1d strict columns)
-step_1d_keeps P on strict columns pen holds = subst (λ (step : Step). P (front_after step)) (sym (step_1d_is strict columns pen))
-    (keeps_either P (leb columns (length pen.front)) (Turn.done (Line.whole pen.front pen.rest))
-    (run_then strict columns pen Turn.next) holds (draw_run_keeps P on strict columns pen Turn.next (λ q h. h) holds))
-
--- a line keeps what is true of the front that it continues from
-keeps_on : (P : Row → Type 0) (step : Pen → Step) → Shrinks step pen_left → KeepsFront P step → (n : ℕ) (pen : Pen)
-    → pen_left pen < n → P pen.front → P (front_of (repeated step (Line.broken [] UnexpectedEof) n pen))
-keeps_on P step shrinks keeps zero pen lt holds = absurd (omega arith)
-keeps_on P step shrinks keeps (suc n) pen lt holds = grind (arith, keeps_on P step shrinks keeps n)
+after_kept : (P : Row → Type 0) (step : Step) → Yields (λ pen. P pen.front) (λ line. P (front_of line)) step
+    → P (front_after step)
+after_kept P (Turn.next pen) holds = holds
+after_kept P (Turn.done line) holds = holds
 
 -- so what is true of a front is true of the row of the line that continues it, or of the front of a broken one
 pub drawn_1d_keeps : (P : Row → Type 0) → Stays P → (strict : Bool) (columns : ℕ) (pen : Pen) → P pen.front
     → P (front_of (drawn_by (step_1d strict columns) pen))
-drawn_1d_keeps P on strict columns pen holds = keeps_on P (step_1d strict columns)
-    (step_1d_shrinks strict columns) (step_1d_keeps P on strict columns) (suc (length pen.rest)) pen (omega arith) holds
+drawn_1d_keeps P on strict columns pen holds = line_1d_keeps (stays_kept P on strict columns) pen holds
 
 pub drawn_2d_keeps : (P : Row → Type 0) → Stays P → (strict : Bool) (columns : ℕ) (reference : Row) (pen : Pen) → P pen.front
     → P (front_of (drawn_by (step_2d strict columns reference) pen))
-drawn_2d_keeps P on strict columns reference pen holds = keeps_on P (step_2d strict columns reference) (step_2d_shrinks strict
-    columns reference) (step_2d_keeps P on strict columns reference) (suc (length pen.rest)) pen (omega arith) holds
+drawn_2d_keeps P on strict columns reference pen holds =
+    line_2d_keeps (stays_kept P on strict columns) reference pen holds
 
 -- ---- The rule of one step of a line.
-
-keeps_after : (P : Row → Type 0) (step : Pen → Step) → Shrinks step pen_left → KeepsFront P step → (turn : Step)
-    → P (front_after turn) → P (front_of (after_turn (drawn_by step) turn))
-keeps_after P step shrinks keeps (Turn.next pen) holds =
-    keeps_on P step shrinks keeps (suc (length pen.rest)) pen (omega arith) holds
-keeps_after P step shrinks keeps (Turn.done line) holds = holds
 
 -- a line that isn't full continues with a run, or with a mode
 pub run_open : (strict : Bool) (columns : ℕ) (pen : Pen) → length pen.front < columns → drawn_by (step_1d strict columns) pen
@@ -232,24 +191,28 @@ line_mode strict columns reference pen mode rest open_row reads = line_open stri
 -- ---- What a line returns.
 
 -- an error of a step is that of the line
-fails_by : (step : Pen → Step) → Shrinks step pen_left → ((P : Row → Type 0) → Stays P → KeepsFront P step)
+fails_by : (step : Pen → Step) → ((P : Row → Type 0) → Stays P → (p : Pen) → P p.front → P (front_of (drawn_by step p)))
     → (line : Line) (turn : Step) (e : DecodeError) (pen : Pen) → line ≡ after_turn (drawn_by step) turn
     → DrawsStep turn (Err e) pen → DrawsLine line (Err e) pen.front pen.rest
-fails_by step shrinks keeps line turn e pen is = kind_weaker (kind_of e) (turn ≡ Turn.done (Line.broken pen.front e))
+fails_by step keeps line turn e pen is = kind_weaker (kind_of e) (turn ≡ Turn.done (Line.broken pen.front e))
     (StopsAtChange (front_after turn) pen.front) ⊥ (line ≡ Line.broken pen.front e) (StopsAtChange (front_of line) pen.front) ⊥
-    (λ draws. is ∙ rw draws refl) (λ draws. subst (λ (l : Line). StopsAtChange (front_of l) pen.front) (sym is) (keeps_after
-    (stopping_at pen.front) step shrinks (keeps (stopping_at pen.front) (later_change pen.front)) turn draws)) (λ draws. draws)
+    (λ draws. is ∙ rw draws refl) (λ draws. subst (λ (l : Line). StopsAtChange (front_of l) pen.front) (sym is) (kept turn draws))
+    (λ draws. draws)
+  where
+    kept : (turn : Step) → StopsAtChange (front_after turn) pen.front
+        → StopsAtChange (front_of (after_turn (drawn_by step) turn)) pen.front
+    kept (Turn.next p) draws = keeps (stopping_at pen.front) (later_change pen.front) p draws
+    kept (Turn.done line) draws = draws
 
 pub line_1d_fails : (strict : Bool) (columns : ℕ) (line : Line) (step : Step) (e : DecodeError) (pen : Pen) → line
     ≡ after_turn (drawn_by (step_1d strict columns)) step → DrawsStep step (Err e) pen → DrawsLine line (Err e) pen.front pen.rest
-line_1d_fails strict columns =
-    fails_by (step_1d strict columns) (step_1d_shrinks strict columns) (λ P on. step_1d_keeps P on strict columns)
+line_1d_fails strict columns = fails_by (step_1d strict columns) (λ P on. drawn_1d_keeps P on strict columns)
 
 pub line_2d_fails : (strict : Bool) (columns : ℕ) (reference : Row) (line : Line) (step : Step) (e : DecodeError) (pen : Pen)
     → line ≡ after_turn (drawn_by (step_2d strict columns reference)) step → DrawsStep step (Err e) pen
     → DrawsLine line (Err e) pen.front pen.rest
-line_2d_fails strict columns reference = fails_by (step_2d strict columns reference) (step_2d_shrinks strict columns reference)
-    (λ P on. step_2d_keeps P on strict columns reference)
+line_2d_fails strict columns reference =
+    fails_by (step_2d strict columns reference) (λ P on. drawn_2d_keeps P on strict columns reference)
 
 -- if the row isn't full, the line of a context is what comes of the run that is drawn
 pub line_by_run : (before now : Held) (line : Line) (at : Bits) → now ≡ redrawn before now.front now.color → drawn_by
@@ -304,8 +267,8 @@ behind_fails behind step e pen keeps = kind_weaker (kind_of e) (step ≡ Turn.do
 pub first_run_fails : (held : Held) (rest : Bits) (left : Pen) (e : DecodeError) → DrawsStep (step_of_run held rest) (Err e) left
     → DrawsStep (step_of_mode held rest Horizontal) (Err e) left
 first_run_fails held rest left e draws = behind_fails (λ pen. run_then held.settings.strict held.settings.columns pen Turn.next)
-    (step_of_run held rest) e left (λ p stops. draw_run_keeps (stopping_at left.front)
-    (later_change left.front) held.settings.strict held.settings.columns p Turn.next (λ q g. g) stops) draws
+    (step_of_run held rest) e left (λ p stops. after_kept (stopping_at left.front) _ (run_keeps (stays_kept
+    (stopping_at left.front) (later_change left.front) held.settings.strict held.settings.columns) p stops)) draws
 
 -- Between two steps of a line: the line from the pen on is the whole line; nothing but the front and the colour of the
 -- context has changed.

@@ -1,8 +1,8 @@
 -- What is read doesn't depend on what follows it.
-use Rattle.fax_reading.proofs.Names.{Result, le-leb, Color, paint, start, zero, Bool, ◌++◌, refl, Mode, Pass, Bits, Turn, Line, ℕ}
 use Rattle.fax_reading.proofs.Names.{Step, ◌≡◌, suc, ◌+◌, ◌<◌, leb, Err, sym, ◌∙◌, inl, inr, Row, Pen, Ok, ap, []}
 use Rattle.fax_reading.proofs.Names.{UnexpectedEof, common_steps, append_assoc, DecodeError, Horizontal, mode_codes, cond-false}
-use Rattle.fax_reading.proofs.Names.{read_code, cases_lt, Vertical, opposite, codes_of, run_from, line_2d, line_1d, length, arith}
+use Rattle.fax_reading.proofs.Names.{le-leb, length, paint, start, arith, zero, Bool, ◌++◌, refl, Mode, Pass, Bits, Turn, Line, ℕ}
+use Rattle.fax_reading.proofs.Names.{read_code, cases_lt, Vertical, opposite, codes_of, run_from, line_2d, line_1d, Result, Color}
 use Rattle.fax_bits.proofs.CodeWords.ReadCodes.{read_code_found, read_code_again}
 use Rattle.fax_bits.proofs.CodeWords.ReadRuns.{read_code_shorter, words_not_empty, run_goes_on, run_passes, run_fails, run_ends}
 use Rattle.fax_bits.proofs.Repetition.Repeated.{repeated_turn, after_turn, not_next}
@@ -136,6 +136,7 @@ line_1d_found strict columns here row rest e =
     (start here) row rest (omega arith) e
 
 pub line_2d_found : (strict : Bool) (columns : ℕ) (reference : Row) (here : Bits) (row : Row) (rest : Bits)
-    → line_2d strict columns reference here ≡ Line.whole row rest → LineFound (step_2d strict columns reference) (start here) row rest
+    → line_2d strict columns reference here ≡ Line.whole row rest
+    → LineFound (step_2d strict columns reference) (start here) row rest
 line_2d_found strict columns reference here row rest e = line_found_by (draws_mode strict columns reference)
     (mode_read_carries strict columns reference) (suc (length here)) (start here) row rest (omega arith) e

@@ -1,12 +1,12 @@
 -- What follows EOFB changes nothing.
-use Rattle.fax_reading.proofs.Names.{None, refl, Bits, Turn, Line, eols, Mode, ◌≡◌, suc, ◌+◌, ◌*◌, ◌/◌, ◌%◌, ◌<◌, not, leb, ◌∷◌}
-use Rattle.fax_reading.proofs.Names.{add_row_alone, EncodingMode, line_of_turn, nothing_read, common_steps, row_of_line, or_parts}
+use Rattle.fax_reading.proofs.Names.{AreWholeBytes, line_of_turn, nothing_read, common_steps, append_assoc, row_of_line, or_parts}
+use Rattle.fax_reading.proofs.Names.{Bool, true, cond, ◌&&◌, ◌++◌, take, Some, ◌≡◌, suc, ◌+◌, ◌*◌, ◌/◌, ◌%◌, ◌<◌, not, leb, ◌∷◌}
+use Rattle.fax_reading.proofs.Names.{Result, length, subst, arith, plain, start, None, refl, Bits, Turn, Line, eols, Mode, zero}
 use Rattle.fax_reading.proofs.Names.{after_eol, eols_here, ends_with, AfterEofb, read_code, cases_lt, Progress, pass_gap, or_from}
-use Rattle.fax_reading.proofs.Names.{at_front, drop_at, Reaches, line_2d, is_over, aligned, Option, Group4, Ending, end_of, false}
-use Rattle.fax_reading.proofs.Names.{for_t6, Result, subst, arith, plain, start, zero, Bool, true, cond, ◌&&◌, ◌++◌, take, Some}
-use Rattle.fax_reading.proofs.Names.{gap_and_row, DecodeError, cond-false, row_before, row_behind, append-nil, mode_codes, length}
+use Rattle.fax_reading.proofs.Names.{at_front, drop_at, Reaches, line_2d, is_over, aligned, Group4, Ending, end_of, for_t6, false}
+use Rattle.fax_reading.proofs.Names.{gap_and_row, DecodeError, cond-false, row_before, row_behind, append-nil, mode_codes, Option}
 use Rattle.fax_reading.proofs.Names.{sym, ◌∙◌, ◌⊎◌, inl, inr, Err, Has, Row, [], Ok, ap, ℕ}
-use Rattle.fax_reading.proofs.Names.{take-append-drop, length-take-le, DecodeSettings, length-append, AreWholeBytes, append_assoc}
+use Rattle.fax_reading.proofs.Names.{take-append-drop, length-take-le, DecodeSettings, add_row_alone, length-append, EncodingMode}
 use Rattle.fax_bits.proofs.{BitReading.ConsecutiveEols.eols-none, CodeWords.ReadCodes.read_code_found, CodeWords.ReadRuns.chosen}
 use Rattle.fax_bits.proofs.{BitReading.ZerosInWords.prefix_of_prefix, Repetition.Repeated.not_next, Repetition.Repeated.next_is}
 use Rattle.fax_reading.proofs.DrawingLines.{WhatFollows.line_2d_found, DrawnLines.line_open}
@@ -69,8 +69,8 @@ reader settings run = line_2d settings.strict settings.columns (row_before setti
 
 -- a line begins with the word of a mode
 line_begins : (strict : Bool) (columns : ℕ) (reference row : Row) (here rest : Bits) → 0 < columns
-    → line_2d strict columns reference here ≡ Line.whole row rest → (mode : Mode) × (word others : Bits) × Has mode_codes mode word
-    × (here ≡ word ++ others)
+    → line_2d strict columns reference here ≡ Line.whole row rest → (mode : Mode) × (word others : Bits)
+    × Has mode_codes mode word × (here ≡ word ++ others)
 line_begins strict columns reference row here rest wide e = by_read_code (read_code mode_codes here) refl
   where
     by_read_code : (r : Result (Mode × Bits) DecodeError) → read_code mode_codes here ≡ r → (mode : Mode) × (word others : Bits)
@@ -103,8 +103,8 @@ module _ (settings : DecodeSettings) (four : settings.encoding ≡ Group4) (bloc
       let split = aligned_split b j in
       let pad : Bits = split.0 in
       let then : Progress = record { rows = run.rows ++ row ∷ []; has_eols = run.has_eols; rest = cond b (aligned j) j } in
-      let begins = line_begins settings.strict settings.columns (row_before settings.columns run.rows) row (line.bits ++ []) [] wide
-      (line.again []) in
+      let begins = line_begins settings.strict settings.columns (row_before settings.columns run.rows) row (line.bits ++ []) []
+      wide (line.again []) in
       let at_start : (more : Bits) → IsLineStart (line.bits ++ more) = λ more. grind (arith, append_assoc, append-nil) in
       let moved : MoveFound settings run then = record {
         bits = eol.0 ++ (line.bits ++ pad);

@@ -1,35 +1,31 @@
 -- Data that begin with the same bits have the same rows before the first line that may differ.
-use Rattle.fax_reading.proofs.Names.{all_eols, move_on, length, Option, Group4, at_end, end_of, Ending, false, subst, arith, true}
 use Rattle.fax_reading.proofs.Names.{append_cancel_right, append_cancel_left, take-append-drop, DecodeSettings, UnexpectedEof, []}
-use Rattle.fax_reading.proofs.Names.{cases_Bool, cond-false, false≢true, misses_eol, row_before, behind_row, after_line, at_front}
-use Rattle.fax_reading.proofs.Names.{ending_behind, length-append, append_assoc, EncodingMode, common_steps, DecodeError, Reaches}
+use Rattle.fax_reading.proofs.Names.{cases_Bool, cond-false, false≢true, misses_eol, row_before, behind_row, after_line, all_eols}
+use Rattle.fax_reading.proofs.Names.{ending_behind, length-append, append_assoc, EncodingMode, common_steps, DecodeError, move_on}
 use Rattle.fax_reading.proofs.Names.{first_line, RowsBefore, eols_here, limit_met, line_here, first_gap, replicate, cond-true, ap}
-use Rattle.fax_reading.proofs.Names.{not-false, Group3_1D, Group3_2D, after_eol, Progress, or_parts, IsPrefix, repeated, repaired}
-use Rattle.fax_reading.proofs.Names.{plain, ◌&&◌, ◌||◌, ◌++◌, take, drop, Some, None, refl, Turn, Line, Bits, Bool, List, Move, ℕ}
-use Rattle.fax_reading.proofs.Names.{◌≡◌, suc, ◌%◌, ◌<◌, ◌≤◌, not, ◌∷◌, sym, ◌∙◌, ◌⊎◌, inl, inr, Err, Row}
+use Rattle.fax_reading.proofs.Names.{not-false, Group3_1D, Group3_2D, after_eol, at_front, Progress, or_parts, IsPrefix, repeated}
+use Rattle.fax_reading.proofs.Names.{repaired, Reaches, length, Option, Group4, end_of, Ending, false, subst, arith, plain, true}
+use Rattle.fax_reading.proofs.Names.{◌%◌, ◌<◌, ◌≤◌, not, ◌∷◌, sym, ◌∙◌, ◌⊎◌, inl, inr, Err, Row, ℕ}
+use Rattle.fax_reading.proofs.Names.{◌&&◌, ◌||◌, ◌++◌, take, drop, Some, None, refl, Turn, Line, Bits, Bool, List, Move, ◌≡◌, suc}
 use Rattle.fax_bits.proofs.BitReading.{ConsecutiveEols.next_eol_found, ZerosInWords.prefix_of_prefix}
 use Rattle.fax_bits.proofs.CodeWords.ReadRuns.{chosen}
 use Rattle.fax_bits.proofs.Repetition.Repeated.{repeated_turn, repeated_same, after_turn, not_next, next_is}
 use Rattle.fax_reading.proofs.DamagedLines.EolsAlike.{turn_closed, eols_past, one_among, Closes}
 use Rattle.fax_reading.proofs.DamagedLines.PastEol.{next_eol_leaves, eols_here-none, past-front, past-eol, past_is, past}
 use Rattle.fax_reading.proofs.DamagedLines.SoughtTurns.{eols_here_same, sought_done, move_sought, found_next, row_past, sought}
+use Rattle.fax_reading.proofs.DamagedLines.{LineStarts.more_left, LineTails.eol_closes, RunsAlike.run_at}
 use Rattle.fax_reading.proofs.KeptRows.EqualFronts.{one_in_line, one_in_bits, past_front, eols_front, all_front}
 use Rattle.fax_reading.proofs.KeptRows.LinesAgain.{one_in_whole, line_again, one_stays}
 use Rattle.fax_reading.proofs.KeptRows.TurnsLeave.{after_row_leaves, reached_leaves}
 use Rattle.fax_reading.proofs.Readings.RowsAndGaps.{after_damage-is, after_whole-is, unless_over, pass_gap-is, after_row}
 use Rattle.fax_reading.proofs.Readings.TurnsAddRows.{after_row_keeps, first_gap_keeps, repeated_adds, turn_extends, move_adds}
 use Rattle.fax_reading.proofs.Readings.TurnsMoveOn.{eols_here_counted, unless_over_next, unless_over_open, left_to_read}
-use Rattle.fax_reading.proofs.Readings.{GapsAndRows.plain_is, TurnsAddRows.Keeps}
-use Rattle.fax_reading.proofs.{DamagedLines.DamageByK.take_front, Readings.RowsAndGaps.unmissed, DamagedLines.RunsAlike.run_at}
-use Rattle.fax_reading.proofs.{EncodedPictures.AfterEofb.aligned_split, DamagedLines.LineTails.eol_closes}
+use Rattle.fax_reading.proofs.Readings.{GapsAndRows.plain_is, RowsAndGaps.unmissed, TurnsAddRows.Keeps}
+use Rattle.fax_reading.proofs.{EncodedPictures.AfterEofb.aligned_split, DamagedLines.DamageByK.take_front}
 use Rattle.fax_reading.proofs.{Readings.TurnsMoveOn.move_shrinks, Readings.TurnsMoveOn.left_below, DamagedLines.LinesByEols.seeks}
 use Rattle.fax_reading.specs.GapsContinued.{holds_one}
 
 -- ---- The gap
-
--- bits that are left aren't the end
-open_bits : (here : Bits) → 0 < length here → at_end here ≡ false
-open_bits here some = grind arith
 
 -- a one is a bit
 some_bits : (bits : Bits) → holds_one bits ≡ true → 0 < length bits
@@ -120,7 +116,7 @@ module _ (settings : DecodeSettings) (x y : Bits) where
           some_bits,
           one_in_bits,
           not_missed,
-          open_bits,
+          more_left,
           cond-false,
         )
       ]

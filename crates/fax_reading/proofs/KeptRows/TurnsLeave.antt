@@ -1,10 +1,10 @@
 -- A turn leaves a suffix of the bits that it begins with, and seeks EOLs as before or has given them up.
-use Rattle.fax_reading.proofs.Names.{EncodingMode, row_before, behind_row, misses_eol, after_line, replicate, Group3_1D, repaired}
 use Rattle.fax_reading.proofs.Names.{Group3_2D, after_eol, eols_here, line_here, next_eol, past_tag, one_more, Progress, with_row}
 use Rattle.fax_reading.proofs.Names.{Reaches, eols_by, aligned, move_on, length, Option, Group4, arith, false, subst, zero, Bool}
-use Rattle.fax_reading.proofs.Names.{leb, ◌∷◌, sym, ◌∙◌, ◌⊎◌, inl, inr, Row, [], ℕ}
-use Rattle.fax_reading.proofs.Names.{take-append-drop, DecodeSettings, eols_with_tags, pass_last_tag, common_steps, append_assoc}
-use Rattle.fax_reading.proofs.Names.{true, cond, ◌&&◌, ◌||◌, ◌++◌, take, Some, None, refl, Bits, Turn, Line, ◌≡◌, suc, ◌%◌, not}
+use Rattle.fax_reading.proofs.Names.{append_assoc, row_before, behind_row, misses_eol, after_line, replicate, Group3_1D, repaired}
+use Rattle.fax_reading.proofs.Names.{take-append-drop, DecodeSettings, eols_with_tags, pass_last_tag, EncodingMode, common_steps}
+use Rattle.fax_reading.proofs.Names.{true, cond, ◌&&◌, ◌||◌, ◌++◌, take, Some, None, refl, Bits, Turn, Line, leb, ◌∷◌, sym, ◌∙◌}
+use Rattle.fax_reading.proofs.Names.{◌⊎◌, inl, inr, Row, ◌≡◌, suc, ◌%◌, not, [], ℕ}
 use Rattle.fax_bits.proofs.BitReading.ConsecutiveEols.{counts_tagged, counts_plain, CountsEols}
 use Rattle.fax_bits.proofs.{Repetition.Repeated.not_next, CodeWords.ReadRuns.chosen}
 use Rattle.fax_reading.proofs.DamagedLines.PastEol.{next_eol_leaves, after_eol_is}
@@ -18,7 +18,7 @@ after_eol_leaves : (here rest : Bits) → after_eol 0 here ≡ Some rest → Lea
 after_eol_leaves here rest e = let is = after_eol_is 0 here rest e in
     (replicate is.0 false ++ true ∷ [], is.1 ∙ sym (append_assoc (replicate is.0 false) (true ∷ []) rest))
 
-past_tag_leaves : (here : Bits) → LeavesBits here (past_tag here)
+pub past_tag_leaves : (here : Bits) → LeavesBits here (past_tag here)
 past_tag_leaves [] = ([], refl)
 past_tag_leaves (false ∷ here) = ([], refl)
 past_tag_leaves (true ∷ here) = by_after_eol (after_eol 0 here) refl

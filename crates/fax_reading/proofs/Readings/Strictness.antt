@@ -1,17 +1,13 @@
 -- What a strict run reads, a lenient run reads too.
-use Rattle.fax_reading.proofs.Readings.TurnsAddRows.{turn_extends, Adds, seek_from_keeps, move_adds, prefix_trans}
-use Rattle.fax_reading.proofs.Names.{◌≡◌, ℕ, suc, ◌<◌, true, false, cond, not, ◌&&◌, List, [], ◌∷◌, ◌++◌, length, Result, Ok}
-use Rattle.fax_reading.proofs.Names.{refl, sym, subst, arith, inl, inr, IsOk, cases_lt, cases_eq, eq-eqb, ne_eqb, false≢true}
-use Rattle.fax_reading.proofs.Names.{Mode, Pass, Horizontal, Vertical, DecodeError, UnexpectedEof, DecodeSettings, EncodingMode}
-use Rattle.fax_reading.proofs.Names.{Bits, IsPrefix, Turn, Row, Line, Pen, start, line_1d, line_2d, Step, Progress, Ending, Move}
-use Rattle.fax_reading.proofs.Names.{row_before, aligned, misses_eol, eols_here, Bool, bytes_before, line_by, after_line, move_on}
-use Rattle.fax_reading.proofs.Names.{first_gap, ending_from, end_of, StrictThenLenient, common_steps, plain}
-use Rattle.fax_reading.proofs.DrawingLines.Drawings.{try, run_then, mode_step, step_unless_full, step_1d, step_2d, step_1d_is}
-use Rattle.fax_reading.proofs.DrawingLines.Drawings.{step_2d_is, horizontal_is}
-use Rattle.fax_reading.proofs.DrawingLines.ReadLines.{step_1d_shrinks, step_2d_shrinks, pen_left}
-use Rattle.fax_reading.proofs.Readings.GapsAndRows.{readings_follow}
-use Rattle.fax_bits.proofs.Repetition.Repeated.{Follows, after_turn, repeated_follows}
-use Rattle.fax_reading.proofs.Readings.RowsAndGaps.{unless_over, seek_eol, after_row, after_whole-is}
+use Rattle.fax_reading.proofs.Names.{Ending, end_of, false, subst, arith, plain, true, cond, ◌&&◌, List, ◌++◌, IsOk, Bits, Turn}
+use Rattle.fax_reading.proofs.Names.{Line, Move, Bool, ◌<◌, not, ◌∷◌, inl, inr, Row, ℕ}
+use Rattle.fax_reading.proofs.Names.{StrictThenLenient, DecodeSettings, EncodingMode, bytes_before, common_steps, DecodeError, []}
+use Rattle.fax_reading.proofs.Names.{cases_eq, IsPrefix, Progress, aligned, line_by, move_on, length, Result, eq-eqb, ne_eqb, ◌≡◌}
+use Rattle.fax_reading.proofs.Names.{ending_from, false≢true, row_before, misses_eol, after_line, eols_here, first_gap, cases_lt}
+use Rattle.fax_bits.proofs.Repetition.Repeated.{after_turn, Follows}
+use Rattle.fax_reading.proofs.Readings.RowsAndGaps.{after_whole-is, unless_over, after_row, seek_eol}
+use Rattle.fax_reading.proofs.Readings.TurnsAddRows.{seek_from_keeps, turn_extends, prefix_trans, move_adds, Adds}
+use Rattle.fax_reading.proofs.{Continuations.StrictLines.strict_line, Readings.GapsAndRows.readings_follow}
 
 -- ---- Lines
 
@@ -20,60 +16,9 @@ abbrev pub Agrees : Line → Line → Type 0
 Agrees (Line.whole row rest) other = other ≡ Line.whole row rest
 Agrees (Line.broken front fault) other = Unit {0}
 
--- one pen in both readings
-abbrev SamePen : Pen → Pen → Type 0
-SamePen s t = s ≡ t
-
-module _ (rest : Pen → Line) where
-  -- a strict step that continues is the lenient one
-  abbrev StepFollows : Step → Step → Type 0
-  StepFollows a b = Follows SamePen Agrees rest a b
-
-  try_follows : {A : Type 0} (front : Row) (r q : Result A DecodeError) (f g : A → Step) → ((x : A) → r ≡ Ok x → q ≡ Ok x)
-      → ((x : A) → StepFollows (f x) (g x)) → StepFollows (try front r f) (try front q g)
-  try_follows front r q f g same on = grind (arith, common_steps)
-
-  draw_run_follows : (columns : ℕ) (pen : Pen) (f g : Pen → Step) → ((p : Pen) → StepFollows (f p) (g p))
-      → StepFollows (run_then true columns pen f) (run_then false columns pen g)
-  draw_run_follows columns pen f g on = grind (arith, common_steps, try, try_follows)
-
-  unless_full_follows : (columns : ℕ) (pen : Pen) (a b : Step) → StepFollows a b
-      → StepFollows (step_unless_full columns pen a) (step_unless_full columns pen b)
-  unless_full_follows columns pen a b on = grind (arith, common_steps)
-
-  -- two steps that differ, of which the second follows
-  follows_as : (a b : Step) {x y : Step} → x ≡ a → y ≡ b → StepFollows a b → StepFollows x y
-  follows_as a b is other on = rw (is, other) on
-
-  step_1d_follows : (columns : ℕ) (s t : Pen) → SamePen s t → StepFollows (step_1d true columns s) (step_1d false columns t)
-  step_1d_follows columns s t same = subst (λ (p : Pen). StepFollows (step_1d true columns s) (step_1d false columns p)) same
-      (follows_as _ _ (step_1d_is true columns s) (step_1d_is false columns s)
-      (unless_full_follows columns s _ _ (draw_run_follows columns s Turn.next Turn.next (λ p. refl))))
-
-  draw_mode_follows : (columns : ℕ) (reference : Row) (pen : Pen) (mode : Mode)
-      → StepFollows (mode_step true columns reference pen mode) (mode_step false columns reference pen mode)
-  draw_mode_follows columns reference pen Pass = grind (arith, common_steps)
-  draw_mode_follows columns reference pen Horizontal = follows_as _ _ (sym (horizontal_is true columns reference pen))
-      (sym (horizontal_is false columns reference pen)) (draw_run_follows columns pen (λ pen. run_then true columns pen Turn.next)
-      (λ pen. run_then false columns pen Turn.next) (λ p. draw_run_follows columns p Turn.next Turn.next (λ q. refl)))
-  draw_mode_follows columns reference pen (Vertical k) = grind (arith, common_steps)
-
-line_1d_agrees : (columns : ℕ) (here : Bits) → Agrees (line_1d true columns here) (line_1d false columns here)
-line_1d_agrees columns here = repeated_follows (step_1d true columns) (Line.broken [] UnexpectedEof) pen_left (step_1d_shrinks
-    true columns) (step_1d false columns) (Line.broken [] UnexpectedEof) pen_left (step_1d_shrinks false columns) SamePen Agrees
-    (step_1d_follows _ columns) (suc (length here)) (suc (length here)) (start here) (start here) (omega arith) (omega arith) refl
-
-line_2d_agrees : (columns : ℕ) (reference : Row) (here : Bits)
-    → Agrees (line_2d true columns reference here) (line_2d false columns reference here)
-line_2d_agrees columns reference here = repeated_follows (step_2d true columns reference)
-    (Line.broken [] UnexpectedEof) pen_left (step_2d_shrinks true columns reference) (step_2d false columns reference)
-    (Line.broken [] UnexpectedEof) pen_left (step_2d_shrinks false columns reference) SamePen Agrees
-    (grind (arith, common_steps, draw_mode_follows, follows_as, step_2d_is, try_follows, unless_full_follows)) (suc (length here))
-    (suc (length here)) (start here) (start here) (omega arith) (omega arith) refl
-
 pub line_by_agrees : (encoding : EncodingMode) (columns : ℕ) (reference : Row) (here : Bits)
     → Agrees (line_by encoding true columns reference here) (line_by encoding false columns reference here)
-line_by_agrees encoding columns reference here = grind (arith, common_steps, line_1d_agrees, line_2d_agrees)
+line_by_agrees encoding columns reference here = grind (arith, strict_line encoding false columns reference here)
 
 -- ---- Runs
 

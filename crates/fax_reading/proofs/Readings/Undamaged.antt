@@ -1,18 +1,18 @@
 -- A strict reading ends without a fault exactly if a lenient one does, and passes no damage.
-use Rattle.fax_reading.proofs.Names.{common_steps, ◌≡◌, ◌+◌, ◌-◌, ◌⊎◌, inl, inr, ℕ, zero, suc, Bool, true, false, cond, ◌&&◌, []}
-use Rattle.fax_reading.proofs.Names.{List, ◌∷◌, ◌++◌, length, take, Err, refl, sym, ap, subst, arith, IsOk, sum_by, flat_map, not}
-use Rattle.fax_reading.proofs.Names.{cond-true, cond-false, false≢true, length-append, sum_by-take-le, flat_map-cons, DecodeError}
-use Rattle.fax_reading.proofs.Names.{UnexpectedEof, InvalidCode, DecodeSettings, EncodingMode, Bits, AreWholeBytes, AreSettings}
-use Rattle.fax_reading.proofs.Names.{Damaged, repaired_in, repaired_by_turn, missed_behind, missed_by_turn, damaged_by_turn, ◌∙◌}
-use Rattle.fax_reading.proofs.Names.{cut_by_turn, cuts_by_line, cuts_run, add_row, sum_by-append, damage_of, repairs_by_line, Gap}
-use Rattle.fax_reading.proofs.Names.{misses_by_line, StrictIsUndamaged, PicturesAreUndamaged, Line, IsClosedPicture, Progress}
-use Rattle.fax_reading.proofs.Names.{IsLimitedPicture, Ending, Move, Reading, row_before, after_line, line_of_turn, misses_eol}
-use Rattle.fax_reading.proofs.Names.{behind_row, gap_behind_row, with_row, at_gap, pass_gap, move_on, first_gap, ending_behind}
-use Rattle.fax_reading.proofs.Names.{turns_behind, turns_of, map, plain, Turn, repeated, gathered, Row}
-use Rattle.fax_reading.proofs.EncodedPictures.PicturesOfEachKind.{closed_pictures, limited_pictures}
-use Rattle.fax_reading.proofs.Readings.RowsAndGaps.{unmissed}
-use Rattle.fax_reading.proofs.Readings.Strictness.{Agrees, line_by_agrees, ok_outcome, strict_first}
+use Rattle.fax_reading.proofs.Names.{PicturesAreUndamaged, StrictIsUndamaged, repaired_by_turn, IsLimitedPicture, damaged_by_turn}
+use Rattle.fax_reading.proofs.Names.{add_row, Reading, move_on, length, sum_by, Ending, at_gap, subst, arith, plain, zero, Bool}
+use Rattle.fax_reading.proofs.Names.{false≢true, row_before, after_line, misses_eol, behind_row, cond-true, damage_of, first_gap}
+use Rattle.fax_reading.proofs.Names.{flat_map, cuts_run, Progress, with_row, pass_gap, turns_of, repeated, gathered, Damaged, ◌≡◌}
+use Rattle.fax_reading.proofs.Names.{inr, suc, ◌∷◌, Err, sym, not, ◌∙◌, Gap, map, Row, [], ap, ℕ}
+use Rattle.fax_reading.proofs.Names.{line_of_turn, turns_behind, DecodeError, InvalidCode, AreSettings, repaired_in, cut_by_turn}
+use Rattle.fax_reading.proofs.Names.{missed_behind, sum_by-append, ending_behind, common_steps, EncodingMode, cuts_by_line, false}
+use Rattle.fax_reading.proofs.Names.{misses_by_line, gap_behind_row, length-append, flat_map-cons, UnexpectedEof, AreWholeBytes}
+use Rattle.fax_reading.proofs.Names.{repairs_by_line, IsClosedPicture, sum_by-take-le, DecodeSettings, missed_by_turn, cond-false}
+use Rattle.fax_reading.proofs.Names.{true, cond, ◌&&◌, List, ◌++◌, take, refl, IsOk, Bits, Line, Move, Turn, ◌+◌, ◌-◌, ◌⊎◌, inl}
 use Rattle.fax_bits.proofs.Repetition.{Gathered.gathered_after, Repeated.after_turn}
+use Rattle.fax_reading.proofs.EncodedPictures.PicturesOfEachKind.{limited_pictures, closed_pictures}
+use Rattle.fax_reading.proofs.Readings.Strictness.{line_by_agrees, strict_first, ok_outcome, Agrees}
+use Rattle.fax_reading.proofs.{DamagedLines.SoughtTurns.sought, DamagedLines.EolsAlike.counted, Readings.RowsAndGaps.unmissed}
 
 -- ---- Turns that give nothing
 
@@ -211,50 +211,39 @@ module _ (settings : DecodeSettings) (bits : Bits) where
 
 -- ---- The laws
 
+-- what is so of the strict settings and of the lenient ones is so of the settings
+either_way : (P : DecodeSettings → Type 0) (settings : DecodeSettings) → P (record settings { strict = true })
+    → P (record settings { strict = false }) → P settings
+either_way P settings strict lenient = by_strict settings.strict refl
+  where
+    by_strict : (b : Bool) → settings.strict ≡ b → P settings
+    by_strict true is = subst P (ap (λ (b : Bool). record settings { strict = b }) (sym is)) strict
+    by_strict false is = subst P (ap (λ (b : Bool). record settings { strict = b }) (sym is)) lenient
+
 -- a reading whose strict one is Ok passes no damage
 undamaged_turns : (settings : DecodeSettings) (bits : Bits) → IsOk (plain (record settings { strict = true }) bits).outcome
     → AreEmpty (map (damaged_by_turn settings bits) (turns_of settings bits))
-undamaged_turns settings bits ok = by_strict settings.strict refl
-  where
-    same : (strict : Bool) → settings.strict ≡ strict → record settings { strict = strict } ≡ settings
-    same strict is = ap (λ (b : Bool). record settings { strict = b }) (sym is)
-
-    by_strict : (strict : Bool) → settings.strict ≡ strict
-        → AreEmpty (map (damaged_by_turn settings bits) (turns_of settings bits))
-    by_strict true is = subst
-        (λ (given : DecodeSettings). AreEmpty (map (damaged_by_turn given bits) (turns_of given bits))) (same true is) (none_empty
-        (damaged_by_turn (strictly settings bits) bits) (strict_turn settings bits) (turns_of (strictly settings bits) bits))
-    by_strict false is = grind (arith, common_steps, map, same false is, first, ok_outcome)
+undamaged_turns settings bits ok =
+    either_way (λ given. AreEmpty (map (damaged_by_turn given bits) (turns_of given bits))) settings (none_empty (damaged_by_turn
+    (strictly settings bits) bits) (strict_turn settings bits) (turns_of (strictly settings bits) bits))
+    (grind (arith, common_steps, map, first, ok_outcome))
 
 -- where the strict reading ends without a fault, a reading does
 pub ok_of_strict : (settings : DecodeSettings) (bits : Bits) → IsOk (plain (record settings { strict = true }) bits).outcome
     → IsOk (plain settings bits).outcome
-ok_of_strict settings bits ok = by_strict settings.strict refl
-  where
-    by_strict : (strict : Bool) → settings.strict ≡ strict → IsOk (plain settings bits).outcome
-    by_strict true is = subst (λ (given : DecodeSettings). IsOk (plain given bits).outcome)
-        (sym (ap (λ (b : Bool). record settings { strict = b }) is)) ok
-    by_strict false is = subst (λ (given : DecodeSettings). IsOk (plain given bits).outcome)
-        (sym (ap (λ (b : Bool). record settings { strict = b }) is))
-        (subst (λ (r : Reading). IsOk r.outcome) ((strict_first settings bits).1 ok) ok)
+ok_of_strict settings bits ok = either_way (λ given. IsOk (plain given bits).outcome) settings ok
+    (subst (λ (r : Reading). IsOk r.outcome) ((strict_first settings bits).1 ok) ok)
 
 -- A reading ends without a fault and passes no damage: so does the strict one.
 pub strict_if_undamaged : (settings : DecodeSettings) (bits : Bits) → IsOk (plain settings bits).outcome
     → sum_by length (repairs_by_line settings bits) ≡ 0 → sum_by length (cuts_by_line settings bits) ≡ 0
     → sum_by length (misses_by_line settings bits) ≡ 0 → IsOk (plain (record settings { strict = true }) bits).outcome
-strict_if_undamaged settings bits ok repaired cut missed = by_strict settings.strict refl
-  where
-    same : (strict : Bool) → settings.strict ≡ strict → settings ≡ record settings { strict = strict }
-    same strict is = ap (λ (b : Bool). record settings { strict = b }) is
-
-    damaged : AreEmpty (map (damaged_by_turn settings bits) (turns_of settings bits))
-    damaged = all_empty (repaired_by_turn settings bits) (cut_by_turn settings bits) (missed_by_turn settings bits)
-        (turns_of settings bits) (empty_summed (repairs_by_line settings bits) repaired)
-        (empty_summed (cuts_by_line settings bits) cut) (empty_summed (misses_by_line settings bits) missed)
-
-    by_strict : (strict : Bool) → settings.strict ≡ strict → IsOk (plain (record settings { strict = true }) bits).outcome
-    by_strict true is = subst (λ (given : DecodeSettings). IsOk (plain given bits).outcome) (same true is) ok
-    by_strict false is = grind (arith, common_steps, strict_ok settings bits, same false is, map, damaged)
+strict_if_undamaged settings bits ok repaired cut missed =
+    either_way (λ given. IsOk (plain given bits).outcome → AreEmpty (map (damaged_by_turn given bits) (turns_of given bits))
+    → IsOk (plain (record given { strict = true }) bits).outcome) settings (λ ok none. ok)
+    (λ ok none. strict_ok settings bits ok none) ok (all_empty (repaired_by_turn settings bits) (cut_by_turn settings bits)
+    (missed_by_turn settings bits) (turns_of settings bits) (empty_summed (repairs_by_line settings bits) repaired)
+    (empty_summed (cuts_by_line settings bits) cut) (empty_summed (misses_by_line settings bits) missed))
 
 -- no damage
 pub no_damage : (settings : DecodeSettings) (bits : Bits) → IsOk (plain (record settings { strict = true }) bits).outcome

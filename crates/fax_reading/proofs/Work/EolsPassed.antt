@@ -1,16 +1,13 @@
 -- The EOLs that are consumed before a line, and the bits that are examined ahead of it.
-use Rattle.fax_reading.proofs.Names.{common_steps, ◌<◌, ◌≡◌, ℕ, ◌+◌, ◌*◌, ◌≤◌, Bool, true, false, [], ◌∷◌, ◌++◌, length}
-use Rattle.fax_reading.proofs.Names.{replicate, drop, Option, Some, None, Result, Ok, Err, refl, sym, ap, ◌∙◌, arith, ◌⊎◌, inl}
-use Rattle.fax_reading.proofs.Names.{inr, false≢true, length-append, length-replicate, DecodeError, InvalidCode, EncodingMode}
-use Rattle.fax_reading.proofs.Names.{Group4, Group3_1D, Group3_2D, DecodeSettings, Bits, after_eol, next_eol, eols_with_tags}
-use Rattle.fax_reading.proofs.Names.{eols, is_over, misses_eol, Gap, at_end, limit_met, eols_by, eols_here, behind_eols}
-use Rattle.fax_reading.proofs.Names.{from_next_eol, gap_behind_row, gap_said, looked, looked_ahead, tag_tests, IfOk, OnErr}
-use Rattle.fax_reading.proofs.Readings.RowsAndGaps.{missed_sought}
-use Rattle.fax_reading.proofs.Readings.TurnsMoveOn.{none_met, eols_here_counted, eols_here_some}
-use Rattle.fax_bits.proofs.BitReading.ConsecutiveEols.{length-one_more, count_shorter, count_past, counts_plain, counts_tagged}
-use Rattle.fax_bits.proofs.BitReading.ConsecutiveEols.{eols-some, last_tag_shorter, next_eol_found}
-use Rattle.fax_reading.proofs.DamagedLines.{PastEol.eols_here-none, LineTails.zeros_of_eol}
-use Rattle.fax_bits.proofs.{BitReading.ZeroRuns.looked_eol, CodeWords.ReadRuns.chosen}
+use Rattle.fax_reading.proofs.Names.{EncodingMode, looked_ahead, DecodeError, InvalidCode, behind_eols, false≢true, misses_eol, ℕ}
+use Rattle.fax_reading.proofs.Names.{gap_said, is_over, length, Option, Result, Group4, at_end, looked, arith, OnErr, Bool, true}
+use Rattle.fax_reading.proofs.Names.{length-replicate, DecodeSettings, gap_behind_row, length-append, from_next_eol, common_steps}
+use Rattle.fax_reading.proofs.Names.{replicate, Group3_1D, Group3_2D, after_eol, limit_met, eols_here, tag_tests, next_eol, false}
+use Rattle.fax_reading.proofs.Names.{◌++◌, drop, Some, None, refl, Bits, IfOk, ◌<◌, ◌≡◌, ◌+◌, ◌*◌, ◌≤◌, ◌∷◌, Err, sym, ◌∙◌, ◌⊎◌}
+use Rattle.fax_bits.proofs.{BitReading.ConsecutiveEols.next_eol_found, BitReading.ZeroRuns.looked_eol, CodeWords.ReadRuns.chosen}
+use Rattle.fax_reading.proofs.DamagedLines.{LineTails.zeros_of_eol, PastEol.eols_here-none, EolsAlike.eols_past}
+use Rattle.fax_reading.proofs.Readings.TurnsMoveOn.{eols_here_counted, eols_here_some, none_met}
+use Rattle.fax_reading.proofs.{Readings.RowsAndGaps.missed_sought, Names.inl, Names.inr, Names.Gap, Names.[], Names.Ok, Names.ap}
 
 -- ---- An EOL here or further on
 
@@ -47,23 +44,6 @@ length-within here after eol = grind (arith, common_steps, length-append, length
 -- counting EOLs leaves at most the bits that were there
 pub eols_here_shorter : (settings : DecodeSettings) (here : Bits) → length (eols_here settings here).1 ≤ length here
 eols_here_shorter settings here = (eols_here_counted settings here).0
-
--- if there is an EOL, counting consumes it
-pub eols_here_past : (settings : DecodeSettings) (here after : Bits) → after_eol 0 here ≡ Some after
-    → length (eols_here settings here).1 ≤ length after
-eols_here_past settings here after e = by_encoding settings.encoding settings.end_of_block
-  where
-    by_encoding : (encoding : EncodingMode) (block : Bool) → length (eols_by encoding block here).1 ≤ length after
-    by_encoding Group3_1D block = count_past counts_plain here after e
-    by_encoding Group3_2D block =
-        omega (arith, last_tag_shorter (eols_with_tags (length here) here), count_past counts_tagged here after e)
-    by_encoding Group4 true = omega (
-      arith,
-      ap (λ (found : ℕ × Bits). length found.1) (eols-some 1 here after e),
-      length-one_more (eols 1 after),
-      count_shorter counts_plain 1 after,
-    )
-    by_encoding Group4 false = count_past counts_plain here after e
 
 -- if none is counted, the offset doesn't change
 pub eols_here_stay : (settings : DecodeSettings) (here rest : Bits) → eols_here settings here ≡ (0, rest) → rest ≡ here
@@ -127,13 +107,13 @@ pub line_past_eol : (settings : DecodeSettings) (taken : ℕ) (here rest : Bits)
     ≡ Gap.line_at true rest → (after : Bits) × EolWithin here after × (length rest ≤ length after)
 line_past_eol settings taken here rest e = elim (line_behind settings taken true true here rest e) [
   | inl is ↦ by_after_eol is (after_eol 0 here) refl
-  | inr (inl is) ↦ grind (arith, common_steps, next_eol_within here is.found is.next, eols_here_past settings is.found)
+  | inr (inl is) ↦ grind (arith, common_steps, next_eol_within here is.found is.next, eols_past settings is.found)
   | inr (inr is) ↦ absurd (false≢true (sym is.given_up))
 ]
   where
     by_after_eol : AfterEols settings taken true true here rest → (o : Option Bits) → after_eol 0 here ≡ o
         → (after : Bits) × EolWithin here after × (length rest ≤ length after)
-    by_after_eol is (Some after) f = grind (arith, common_steps, eol_within here after f, eols_here_past settings here after f)
+    by_after_eol is (Some after) f = grind (arith, common_steps, eol_within here after f, eols_past settings here after f)
     by_after_eol is None f = grind (arith, common_steps, eols_here-none, false≢true)
 
 -- if EOLs are no longer sought, the line is here
@@ -213,7 +193,7 @@ looked_to_eol here after eol = rw eol.place (by_fill eol.fill)
 pub sought_looks : (settings : DecodeSettings) (here found : Bits) → next_eol here ≡ Some found
     → looked here + looked found + 2 * length (eols_here settings found).1 ≤ length here + length found
 sought_looks settings here found next = let eol = next_eol_within here found next in
-    omega (arith, (looked_to_eol here eol.0 eol.2).0, looked_eol 0 found eol.0 eol.1, eols_here_past settings found eol.0 eol.1)
+    omega (arith, (looked_to_eol here eol.0 eol.2).0, looked_eol 0 found eol.0 eol.1, eols_past settings found eol.0 eol.1)
 
 -- if an EOL is here or further on, no bit after it is examined ahead
 pub looked_ahead_to_eol : (encoding : EncodingMode) (here after : Bits) → EolWithin here after
