@@ -1,11 +1,11 @@
 -- What the words that a line finds say of the bits that it consumed: they pay for what it counts.
-use Rattle.fax_reading.proofs.Names.{common_steps, ◌≡◌, ℕ, ◌+◌, cond, ◌<◌, ◌≤◌, Bool, true, false, List, [], ◌∷◌, ◌++◌}
-use Rattle.fax_reading.proofs.Names.{length, replicate, ap, arith, append_assoc, false≢true, cases_lt}
-use Rattle.fax_reading.proofs.Names.{length-append, length-drop, EncodingMode, Group4, Group3_1D, Group3_2D, Bits, AreWords}
-use Rattle.fax_reading.proofs.Names.{joined, Line, found_1d, found_2d, line_1d, line_2d, line_found, aligned, Row, looked}
 use Rattle.fax_bits.proofs.BitReading.ZerosInWords.{holds_a_one, word_one, no_eleven_in, prefix_of_prefix}
-use Rattle.fax_reading.proofs.CodeWords.WordsFound.{WordsStand, LineEnds, line_1d_stands, line_2d_stands}
+use Rattle.fax_reading.proofs.CodeWords.WordsFound.{WordsStand, LineEnds, line_1d_stands, line_2d_stands, words_synchronised}
 use Rattle.fax_reading.proofs.DrawingLines.ReadLines.{TookBits, line_1d_took_bits, line_2d_took_bits}
+use Rattle.fax_reading.proofs.Names.{common_steps, ◌≡◌, ℕ, ◌+◌, cond, ◌<◌, ◌≤◌, Bool, true, false, List, [], ◌∷◌, ◌++◌, length}
+use Rattle.fax_reading.proofs.Names.{replicate, ap, arith, append_assoc, false≢true, cases_lt, length-append, length-drop}
+use Rattle.fax_reading.proofs.Names.{EncodingMode, Bits, AreWords, joined, Line, found_1d, found_2d, line_1d, line_2d, line_found}
+use Rattle.fax_reading.proofs.Names.{aligned, Row, looked, tag_at}
 
 -- ---- Consecutive words have a bit each, and contain a one.
 
@@ -77,45 +77,30 @@ line_2d_paid strict columns reference here row rest wide e = let stands = line_2
 -- a line finds no more words than there are bits
 pub found_within : (encoding : EncodingMode) (strict : Bool) (columns : ℕ) (reference : Row) (here : Bits)
     → length (line_found encoding strict columns reference here) ≤ length here
-found_within Group3_2D strict columns reference [] = omega arith
-found_within Group3_2D strict columns reference (true ∷ here) = let stands = line_1d_stands strict columns here in
-    omega (arith, stands_count here (found_1d strict columns here) stands.0 stands.1)
-found_within Group3_2D strict columns reference (false ∷ here) = let stands = line_2d_stands strict columns reference here in
-    omega (arith, stands_count here (found_2d strict columns reference here) stands.0 stands.1)
-found_within Group3_1D strict columns reference here = let stands = line_1d_stands strict columns here in
-    omega (arith, stands_count here (found_1d strict columns here) stands.0 stands.1)
-found_within Group4 strict columns reference here = let stands = line_2d_stands strict columns reference here in
-    omega (arith, stands_count here (found_2d strict columns reference here) stands.0 stands.1)
-
--- there is no EOL at the end of the data
-no_eol_at_the_end : (fill after : Bits) → ◌≡◌ {A = Bits} [] (fill ++ replicate 11 false ++ true ∷ after) → ⊥
-no_eol_at_the_end [] after e = cc
-no_eol_at_the_end (bit ∷ fill) after e = cc
+found_within encoding strict columns reference here =
+    let words : List Bits = line_found encoding strict columns reference here in
+    let found = words_synchronised.before_eol encoding strict columns reference here in
+    omega (
+      arith,
+      words_bits words found.are,
+      ap length found.stand.1,
+      length-append (tag_at encoding here ++ joined words) found.stand.0,
+      length-append (tag_at encoding here) (joined words),
+    )
 
 -- and if there is an EOL at or after its start, no more than there are bits before the EOL's end
 pub found_before_eol : (encoding : EncodingMode) (strict : Bool) (columns : ℕ) (reference : Row) (here fill after : Bits)
     → here ≡ fill ++ replicate 11 false ++ true ∷ after
     → length (line_found encoding strict columns reference here) + length after ≤ length here
-found_before_eol Group3_2D strict columns reference [] fill after e = absurd (no_eol_at_the_end fill after e)
-found_before_eol Group3_2D strict columns reference (true ∷ here) fill after e =
-    let stands = line_1d_stands strict columns here in
+found_before_eol encoding strict columns reference here fill after e =
+    let words : List Bits = line_found encoding strict columns reference here in
+    let found = words_synchronised.before_eol encoding strict columns reference here in
     omega (
       arith,
-      stands_count here (found_1d strict columns here) stands.0 stands.1,
-      stands_before_eol true here (found_1d strict columns here) stands.0 fill after stands.1 e,
+      words_bits words found.are,
+      found.end fill after e,
+      length-append (tag_at encoding here) (joined words),
+      ap length e,
+      length-append (fill ++ replicate 11 false) (true ∷ after),
+      length-append fill (replicate 11 false),
     )
-found_before_eol Group3_2D strict columns reference (false ∷ here) fill after e =
-    let stands = line_2d_stands strict columns reference here in
-    omega (
-      arith,
-      stands_count here (found_2d strict columns reference here) stands.0 stands.1,
-      stands_before_eol false here (found_2d strict columns reference here) stands.0 fill after stands.1 e,
-    )
-found_before_eol Group3_1D strict columns reference here fill after e = let stands = line_1d_stands strict columns here in
-    let before = stands_before_eol true here (found_1d strict columns here) stands.0 (true ∷ fill) after stands.1
-    (ap (λ (x : Bits). true ∷ x) e) in
-    omega (arith, stands_count here (found_1d strict columns here) stands.0 stands.1, before)
-found_before_eol Group4 strict columns reference here fill after e = let stands = line_2d_stands strict columns reference here in
-    let before = stands_before_eol true here (found_2d strict columns reference here) stands.0 (true ∷ fill) after stands.1
-    (ap (λ (x : Bits). true ∷ x) e) in
-    omega (arith, stands_count here (found_2d strict columns reference here) stands.0 stands.1, before)
