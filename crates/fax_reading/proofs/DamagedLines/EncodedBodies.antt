@@ -1,16 +1,16 @@
 -- The lines of an encoding with EOLs are bodies that damage may change.
-use Rattle.fax_reading.proofs.Names.{DecodeSettings, length-append, EncodesLine1D, EncodesLine2D, common_steps, append_assoc, suc}
-use Rattle.fax_reading.proofs.Names.{EncodedLinesAreBodies, EncodesRowsWithEols, length-replicate, take-append-drop, IsTaggedBody}
-use Rattle.fax_reading.proofs.Names.{Group3_2D, line_here, HaveWidth, after_eol, replicate, Vertical, opposite, one_more, left_of}
-use Rattle.fax_reading.proofs.Names.{IsEol, false, subst, arith, Bits, zero, Bool, true, List, ◌++◌, take, drop, Some, None, refl}
+use Rattle.fax_reading.proofs.Names.{DecodeSettings, length-append, EncodesLine1D, EncodesLine2D, append_assoc, IsTaggedBody, suc}
+use Rattle.fax_reading.proofs.Names.{EncodedLinesAreBodies, EncodesRowsWithEols, length-replicate, take-append-drop, common_steps}
 use Rattle.fax_reading.proofs.Names.{Pass, Line, ◌+◌, ◌-◌, ◌<◌, ◌≤◌, ◌∷◌, sym, ◌∙◌, ◌⊎◌, inl, inr, Row, eol, ◌≡◌, [], ap, ℕ}
-use Rattle.fax_reading.proofs.Names.{length-drop, IsTagOfLine, EncodesLine, append-nil, Horizontal, row_before, drop-drop, lt-leb}
-use Rattle.fax_reading.proofs.Names.{past_tag, cases_lt, All-head, All-tail, le-leb, IsWord, Spells, Option, length, Color, White}
+use Rattle.fax_reading.proofs.Names.{length-drop, IsTagOfLine, EncodesLine, append-nil, Horizontal, row_before, Group3_2D, lt-leb}
+use Rattle.fax_reading.proofs.Names.{line_here, HaveWidth, after_eol, replicate, drop-drop, Vertical, opposite, one_more, left_of}
+use Rattle.fax_reading.proofs.Names.{past_tag, cases_lt, All-head, All-tail, le-leb, IsWord, Spells, Option, length, IsEol, false}
+use Rattle.fax_reading.proofs.Names.{subst, arith, Color, White, Bits, zero, Bool, true, List, ◌++◌, take, drop, Some, None, refl}
 use Rattle.fax_bits.proofs.BitReading.ConsecutiveEols.{after_eol_shorter, past_tag_shorter, all_tagged-some, all_tagged-none}
 use Rattle.fax_bits.proofs.BitReading.{ZerosInWords.holds_a_one, ZerosInWords.word_one, ConsecutiveEols.all_tagged}
 use Rattle.fax_reading.proofs.DamagedLines.AnyReference.{quiet_append, leaves_next, quiet_line, quiet_run, scan_past, Quiet}
 use Rattle.fax_reading.proofs.DamagedLines.LineTails.{after_eol_more, past_before, drop_front, first_one, drop_at}
-use Rattle.fax_reading.proofs.DamagedLines.PastEol.{after_eol_is, past-eol, past}
+use Rattle.fax_reading.proofs.DamagedLines.{PastEol.after_eol_is, PastEol.past-eol, PastEol.past, EolsAlike.one_tagged}
 use Rattle.fax_reading.proofs.DrawingLines.LinesLeaveBits.{leaves_trans, LeavesBits}
 use Rattle.fax_reading.proofs.EncodedPictures.{EncodedRuns.line_1d_again, PicturesT4.eol_stands}
 use Rattle.fax_reading.proofs.KeptRows.TurnsLeave.{past_tag_leaves}
@@ -37,22 +37,6 @@ past_first seen (false ∷ before) here rest next e f = past_first (suc seen) be
 past_first seen (true ∷ before) here rest next e f =
     grind (arith, past_first 0 before here rest next e, cases_lt, lt-leb, le-leb, length-append, after_eol_shorter)
 
--- where there is an EOL some are counted
-not_none : (here rest last : Bits) → after_eol 0 here ≡ Some rest → all_tagged here ≡ (0, last) → ⊥
-not_none here rest last f e = grind (arith, common_steps, all_tagged-some)
-
--- where no more EOLs are counted behind a tag there was no tag
-no_tag : (here last : Bits) → all_tagged (past_tag here) ≡ (0, last) → here ≡ last
-no_tag here last e = grind (arith, common_steps, all_tagged-none, not_none)
-
--- the last EOL
-one_left : (here last : Bits) → all_tagged here ≡ (1, last) → after_eol 0 here ≡ Some last
-one_left here last e = by_after_eol (after_eol 0 here) refl
-  where
-    by_after_eol : (o : Option Bits) → after_eol 0 here ≡ o → after_eol 0 here ≡ Some last
-    by_after_eol None f = grind (arith, common_steps, all_tagged-none)
-    by_after_eol (Some rest) f = grind (arith, common_steps, all_tagged-some here rest f, no_tag rest last)
-
 -- the last two of consecutive EOLs
 last_two : (n count : ℕ) (here last : Bits) → length here < n → all_tagged here ≡ (suc (suc count), last)
     → (found rest : Bits) × LeavesBits here found × (after_eol 0 found ≡ Some rest) × (after_eol 0 (past_tag rest) ≡ Some last)
@@ -67,7 +51,8 @@ last_two (suc n) count here last lt e =
     by_after_eol : ((c : ℕ) (next : Bits) → length next < n → all_tagged next ≡ (suc (suc c), last) → Two next) → (count : ℕ)
         → all_tagged here ≡ (suc (suc count), last) → (o : Option Bits) → after_eol 0 here ≡ o → Two here
     by_after_eol on count e None f = grind (arith, common_steps, all_tagged-none)
-    by_after_eol on zero e (Some rest) f = grind (arith, common_steps, all_tagged-some here rest f, one_left (past_tag rest) last)
+    by_after_eol on zero e (Some rest) f =
+        grind (arith, common_steps, all_tagged-some here rest f, one_tagged (past_tag rest) last)
     by_after_eol on (suc count) e (Some rest) f =
         let g : one_more (all_tagged (past_tag rest)) ≡ (suc (suc (suc count)), last) = sym (all_tagged-some here rest f) ∙ e in
         let more : all_tagged (past_tag rest) ≡ (suc (suc count), last) = grind (arith, common_steps) in

@@ -5,12 +5,13 @@ use Rattle.fax_reading.proofs.Names.{length, Option, lt-leb, Group4, at_end, row
 use Rattle.fax_reading.proofs.Names.{limit_met, line_here, all_eols, past_tag, is_short, one_more, repaired, eols_by, move_on, ap}
 use Rattle.fax_reading.proofs.Names.{◌++◌, Some, None, refl, List, Bits, Line, eols, ◌≡◌, suc, ◌<◌, ◌≤◌, leb, ◌∷◌, sym, ◌∙◌, ◌⊎◌}
 use Rattle.fax_bits.proofs.BitReading.ConsecutiveEols.{after_eol_shorter, last_tag_shorter, all_tagged-some, length-one_more}
-use Rattle.fax_bits.proofs.BitReading.ConsecutiveEols.{count_past, count_same, eols-some}
-use Rattle.fax_bits.proofs.BitReading.ConsecutiveEols.{counts_tagged, count_shorter, counts_plain, all_tagged, CountsEols}
+use Rattle.fax_bits.proofs.BitReading.ConsecutiveEols.{count_past, count_same, all_tagged, CountsEols, count_some, eols-some}
+use Rattle.fax_bits.proofs.BitReading.ConsecutiveEols.{last_tag_count, count_all-some, counts_tagged, count_shorter, counts_plain}
 use Rattle.fax_reading.proofs.Continuations.{LinesContinued.line_settled, ShortLines.zeros_end_line}
 use Rattle.fax_reading.proofs.DamagedLines.PastEol.{next_eol_leaves, after_eol_is, past_shorter, past-front, past}
 use Rattle.fax_reading.proofs.DamagedLines.SoughtTurns.{eols_here_same, not_past_end, move_sought, found_next, row_past, rest_of}
 use Rattle.fax_reading.proofs.DrawingLines.LinesLeaveBits.{line_by_leaves, leaves_trans, LeavesBits, LineLeaves}
+use Rattle.fax_reading.proofs.EncodedPictures.PicturesT4.{eols_here_one, eols_here_two}
 use Rattle.fax_reading.proofs.GapsContinued.ContinuedEols.{count_then_more, after_eol-more, then_more}
 use Rattle.fax_reading.proofs.{KeptRows.TurnsLeave.eols_leave_bits, Names.inl, Names.inr, Names.Row, Names.ℕ}
 use Rattle.fax_reading.proofs.{Readings.RowsAndGaps.unless_over, Readings.RowsAndGaps.after_row, DamagedLines.SoughtTurns.sought}
@@ -170,6 +171,53 @@ eols_past settings here rest e = by_encoding settings.encoding settings.end_of_b
     by_encoding Group4 true = rw (eols-some 1 here rest e)
         (omega (arith, length-one_more (eols 1 rest), count_shorter counts_plain 1 rest))
     by_encoding Group4 false = count_past counts_plain here rest e
+
+-- ---- One EOL alone
+
+one_is_none : (rest : Bits) (found : ℕ × Bits) → one_more found ≡ (1, rest) → found ≡ (0, rest)
+one_is_none rest (count, left) e = grind (arith, common_steps)
+
+module _ {pass : Bits → Bits} {count : ℕ → Bits → ℕ × Bits} (counts : CountsEols pass count) where
+  none_left : (rest line : Bits) → count (length rest) rest ≡ (0, line) → (rest ≡ line) × (after_eol 0 rest ≡ None)
+  none_left rest line e = by_after_eol (after_eol 0 rest) refl
+    where
+      by_after_eol : (o : Option Bits) → after_eol 0 rest ≡ o → (rest ≡ line) × (after_eol 0 rest ≡ None)
+      by_after_eol None f = (ap (λ (f : ℕ × Bits). f.1) (sym (counts.none (length rest) rest f) ∙ e), f)
+      by_after_eol (Some next) f = absurd (omega (arith, count_some counts rest next f, ap (λ (f : ℕ × Bits). f.0) e))
+
+  one_left : (here line : Bits) → count (length here) here ≡ (1, line) → (rest : Bits) × (after_eol 0 here ≡ Some rest)
+      × (pass rest ≡ line) × (after_eol 0 line ≡ None)
+  one_left here line e = by_after_eol (after_eol 0 here) refl
+    where
+      by_after_eol : (o : Option Bits) → after_eol 0 here ≡ o → (rest : Bits) × (after_eol 0 here ≡ Some rest)
+          × (pass rest ≡ line) × (after_eol 0 line ≡ None)
+      by_after_eol None f =
+          absurd (omega (arith, ap (λ (f : ℕ × Bits). f.0) (sym (counts.none (length here) here f) ∙ e)))
+      by_after_eol (Some rest) f = let left = none_left (pass rest) line
+          (one_is_none line (count (length (pass rest)) (pass rest)) (sym (count_all-some counts here rest f) ∙ e)) in
+          (rest, f, left.0, subst (λ (b : Bits). after_eol 0 b ≡ None) left.0 left.1)
+
+-- where no EOL is behind a tag there was no tag
+no_tag : (rest line : Bits) → past_tag rest ≡ line → after_eol 0 line ≡ None → rest ≡ line
+no_tag rest line is none = grind (arith, common_steps)
+
+-- it is here, and behind it none is
+abbrev pub IsAlone : Bits → Bits → Type 0
+IsAlone here line = (after_eol 0 here ≡ Some line) × (after_eol 0 line ≡ None)
+
+pub one_tagged : (here line : Bits) → all_tagged here ≡ (1, line) → IsAlone here line × (past_tag line ≡ line)
+one_tagged here line e = let (rest, f, is, none) = one_left counts_tagged here line e in
+    let same = no_tag rest line is none in
+    ((f ∙ ap (λ (b : Bits). Some b) same, none), ap past_tag (sym same) ∙ is)
+
+pub one_alone : (settings : DecodeSettings) (here line : Bits) → IsGroup3 settings.encoding → eols_here settings here ≡ (1, line)
+    → IsAlone here line × (settings.encoding ≡ Group3_2D → past_tag line ≡ line)
+one_alone settings here line (inl one) e =
+    let (rest, f, is, none) = one_left counts_plain here line (sym (eols_here_one settings here one) ∙ e) in
+    ((f ∙ ap (λ (b : Bits). Some b) is, none), λ two. absurd cc)
+one_alone settings here line (inr two) e =
+    let raw : all_tagged here ≡ (1, line) = grind (arith, common_steps, eols_here_two, last_tag_count, last_tag_few) in
+    let both = one_tagged here line raw in (both.0, λ same. both.1)
 
 -- the EOLs of some bits behind an EOL
 abbrev pub counted : DecodeSettings → Bits → ℕ × Bits

@@ -1,13 +1,13 @@
 -- The words that a line finds, step by step.
-use Rattle.fax_reading.proofs.Names.{common_steps, ◌≡◌, ℕ, ◌+◌, ◌*◌, ◌<◌, ◌≤◌, Bool, false, cond, List, [], ◌++◌, length}
-use Rattle.fax_reading.proofs.Names.{Result, Ok, Err, ap, subst, ◌∙◌, arith, false≢true, lt-leb, length-append, append-nil, Mode}
-use Rattle.fax_reading.proofs.Names.{DecodeError, Bits, Line, Pen, turn_behind, words_behind, unless_fault, painted, draw_run}
-use Rattle.fax_reading.proofs.Names.{draw_mode, draw_1d, draw_2d, words_drawn, IsFault, OnAnswer, Step, DrawsStep, pen_of}
-use Rattle.fax_reading.proofs.Names.{step_of_run, step_of_mode, words_of_run, words_of_mode, Held, redrawn, DecodeSettings}
-use Rattle.fax_reading.proofs.Names.{mode_codes, read_code, Turn, Row, run_from, run_found, word_found}
-use Rattle.fax_reading.proofs.DrawingLines.Drawings.{try, mode_step, step_1d, step_2d}
-use Rattle.fax_reading.proofs.DrawingLines.ReadLines.{pen_left, step_1d_shrinks, step_2d_shrinks}
-use Rattle.fax_bits.proofs.{CodeWords.RunWords.one_word, Repetition.Gathered.gathered_turn}
+use Rattle.fax_reading.proofs.Names.{DecodeSettings, length-append, words_of_mode, common_steps, words_behind, unless_fault, Bool}
+use Rattle.fax_reading.proofs.Names.{OnAnswer, run_from, painted, draw_1d, draw_2d, IsFault, redrawn, length, Result, lt-leb, ◌≡◌}
+use Rattle.fax_reading.proofs.Names.{append-nil, mode_codes, word_found, draw_mode, DrawsStep, read_code, run_found, draw_run, []}
+use Rattle.fax_reading.proofs.Names.{pen_of, false, subst, arith, cond, List, ◌++◌, Mode, Bits, Line, Step, Held, Turn, ◌+◌, ◌*◌}
+use Rattle.fax_reading.proofs.Names.{step_of_mode, words_of_run, DecodeError, turn_behind, words_drawn, step_of_run, false≢true}
+use Rattle.fax_reading.proofs.Names.{◌<◌, ◌≤◌, Err, ◌∙◌, Pen, Row, Ok, ap, ℕ}
+use Rattle.fax_bits.proofs.{Repetition.Gathered.gathered_turn, CodeWords.RunWords.one_word}
+use Rattle.fax_reading.proofs.DrawingLines.Drawings.{step_1d, step_2d}
+use Rattle.fax_reading.proofs.DrawingLines.ReadLines.{step_1d_shrinks, step_2d_shrinks, mode_read, pen_left}
 
 -- painting finds no word, nor does what follows it
 none_painted : {A : Type 0} (front : Row) (result : Result A DecodeError)
@@ -53,10 +53,6 @@ abbrev mode_words : Bool → ℕ → Row → Pen → List Bits
 mode_words strict columns reference pen = word_found mode_codes pen.rest ++ words_behind (unless_fault pen.front
     (read_code mode_codes pen.rest)) (λ mode. (draw_mode strict columns reference (record pen { rest = mode.1 }) mode.0).words)
 
-abbrev mode_turn : Bool → ℕ → Row → Pen → Step
-mode_turn strict columns reference pen = try pen.front
-    (read_code mode_codes pen.rest) (λ mode. mode_step strict columns reference (record pen { rest = mode.1 }) mode.0)
-
 -- a one-dimensional line whose row isn't full finds the words of its next run, and then those after it
 pub found_1d_on : (strict : Bool) (columns : ℕ) (pen : Pen) → length pen.front < columns → found_1d_from strict columns pen
     ≡ (draw_run strict columns pen).words ++ found_after (found_1d_from strict columns) (draw_run strict columns pen).turn
@@ -69,7 +65,7 @@ found_1d_on strict columns pen open_row =
 -- a two-dimensional line whose row isn't full finds what reading and drawing its next mode does, and then the words after it
 found_2d_turn : (strict : Bool) (columns : ℕ) (reference : Row) (pen : Pen)
     → length pen.front < columns → found_2d_from strict columns reference pen ≡ mode_words strict columns reference pen
-    ++ found_after (found_2d_from strict columns reference) (mode_turn strict columns reference pen)
+    ++ found_after (found_2d_from strict columns reference) (mode_read strict columns reference pen)
 found_2d_turn strict columns reference pen open_row = gathered_turn (step_2d strict columns reference)
     (λ pen. (draw_2d strict columns reference pen).words) pen_left (step_2d_shrinks strict columns reference) pen ∙ ap
     (λ (words : List Bits). words ++ found_after (found_2d_from strict columns reference) (step_2d strict columns reference pen))

@@ -1,24 +1,24 @@
 -- Data that are the same from an EOL on have the same rows behind the next, whatever comes before.
-use Rattle.fax_reading.proofs.Names.{AreInStep, all_eols, past_tag, Progress, or_parts, is_over, move_on, ComesTo, IsEolAt, false}
-use Rattle.fax_reading.proofs.Names.{DecodeError, append-nil, cond-false, row_before, first_line, MakesNoRtc, PutsInStep, Reaches}
-use Rattle.fax_reading.proofs.Names.{RowsBehind, false≢true, cond-true, Group3_2D, after_eol, eols_here, limit_met, line_here, Ok}
+use Rattle.fax_reading.proofs.Names.{RowsBehind, false≢true, AreInStep, cond-true, Group3_2D, after_eol, eols_here, limit_met, []}
 use Rattle.fax_reading.proofs.Names.{length, Option, at_end, end_of, Ending, subst, arith, plain, zero, Bool, true, List, ◌++◌, ℕ}
+use Rattle.fax_reading.proofs.Names.{length-drop, append-nil, cond-false, row_before, first_line, MakesNoRtc, PutsInStep, is_over}
+use Rattle.fax_reading.proofs.Names.{line_here, all_eols, past_tag, Progress, or_parts, move_on, ComesTo, IsEolAt, Reaches, false}
 use Rattle.fax_reading.proofs.Names.{take, drop, Some, None, refl, Turn, Bits, ◌≡◌, suc, ◌<◌, ◌≤◌, ◌∷◌, Err, sym, ◌∙◌, ◌⊎◌, inl}
-use Rattle.fax_reading.proofs.Names.{take-append-drop, DecodeSettings, AreWholeBytes, common_steps, append_assoc, length-drop, []}
-use Rattle.fax_bits.proofs.BitReading.ConsecutiveEols.{after_eol_shorter, all_tagged-some, all_tagged-none, next_eol_found}
-use Rattle.fax_bits.proofs.BitReading.ConsecutiveEols.{count_moves, all_tagged, count_some}
-use Rattle.fax_bits.proofs.BitReading.ConsecutiveEols.{last_tag_count, one_more-count, all_eols-some, counts_tagged, counts_plain}
+use Rattle.fax_reading.proofs.Names.{take-append-drop, DecodeSettings, AreWholeBytes, common_steps, append_assoc, DecodeError, Ok}
+use Rattle.fax_bits.proofs.BitReading.ConsecutiveEols.{after_eol_shorter, next_eol_found, last_tag_count, counts_tagged}
+use Rattle.fax_bits.proofs.BitReading.ConsecutiveEols.{counts_plain, count_moves, all_tagged}
 use Rattle.fax_bits.proofs.Repetition.Repeated.{repeated_follows, repeated_turn, after_turn, reaches_on, Follows}
-use Rattle.fax_reading.proofs.DamagedLines.EolsAlike.{leaves_length, all_eols_kept, last_tag_few, turn_closed, left_closes, Ends}
-use Rattle.fax_reading.proofs.DamagedLines.EolsAlike.{row_counted, left_ends, past_ends, with_tail, IsGroup3, IsLineIn, not_end}
+use Rattle.fax_reading.proofs.DamagedLines.EolsAlike.{leaves_length, all_eols_kept, turn_closed, left_closes, row_counted, Ends}
+use Rattle.fax_reading.proofs.DamagedLines.EolsAlike.{left_ends, past_ends, with_tail, one_alone, IsGroup3, IsLineIn, not_end}
+use Rattle.fax_reading.proofs.DamagedLines.PastEol.{then_after, past_is, past}
 use Rattle.fax_reading.proofs.DamagedLines.RunsAlike.{move_beyond, not_group4, StayAlike, SameLine, run_at}
 use Rattle.fax_reading.proofs.DamagedLines.SoughtTurns.{eols_here_same, move_sought, row_past, rest_of, sought}
-use Rattle.fax_reading.proofs.DamagedLines.{LineTails.line_past_by, LineTails.drop_front, LineTails.eol_closes, EolsAlike.counted}
-use Rattle.fax_reading.proofs.DamagedLines.{PastEol.then_after, PastEol.past_is, PastEol.past, LinesByEols.seeks}
+use Rattle.fax_reading.proofs.DamagedLines.{LineTails.line_past_by, LineTails.drop_front, LineTails.eol_closes, LinesByEols.seeks}
 use Rattle.fax_reading.proofs.DrawingLines.LinesLeaveBits.{leaves_trans, LeavesBits}
+use Rattle.fax_reading.proofs.GapsContinued.ContinuedEols.{count_then_more}
 use Rattle.fax_reading.proofs.Readings.GapsAndRows.{ending_goes, plain_is, end_t4, late, goes}
 use Rattle.fax_reading.proofs.Readings.TurnsMoveOn.{eols_here_counted, left_to_read, move_shrinks}
-use Rattle.fax_reading.proofs.{GapsContinued.ContinuedEols.count_then_more, Names.inr, Names.Row, Names.ap}
+use Rattle.fax_reading.proofs.{DamagedLines.EolsAlike.counted, DamagedLines.EolsAlike.IsAlone, Names.inr, Names.Row, Names.ap}
 use Rattle.fax_reading.proofs.{Readings.RowsAndGaps.unless_over, Readings.RowsAndGaps.after_row, KeptRows.TurnsLeave.count_leaves}
 
 -- ---- One reading comes to the EOL behind the line
@@ -113,21 +113,8 @@ module _ (settings : DecodeSettings) (unlimited : settings.rows ≡ 0) (a b : Li
 -- the line that puts in step is a tail, behind one EOL
 module _ (settings : DecodeSettings) (here line behind : Bits) (step : PutsInStep settings here line behind)
     (group3 : IsGroup3 settings.encoding) where
-  -- the EOLs behind the first are none
-  line_alone : (after_eol 0 line ≡ None) × (settings.encoding ≡ Group3_2D → past_tag line ≡ line)
-  line_alone = grind (
-    arith,
-    common_steps,
-    all_eols-some,
-    count_some,
-    counts_plain,
-    one_more-count,
-    all_tagged-some,
-    last_tag_count,
-    all_tagged-none,
-    last_tag_few,
-    counts_tagged,
-  )
+  alone_here : IsAlone here line × (settings.encoding ≡ Group3_2D → past_tag line ≡ line)
+  alone_here = one_alone settings here line group3 step.alone
 
   next_behind_line : past 0 line ≡ Some step.after
   next_behind_line = past_is line ∙ ap then_after step.next_is ∙ step.after_is
@@ -153,13 +140,13 @@ module _ (settings : DecodeSettings) (here line behind : Bits) (step : PutsInSte
   comes_behind lenient unlimited bits place at sought_by no_rtc = let (front, closes, is) = eol_closes (take place bits)
       here line step.eol in
       let counts = ap all_eols (sym (take-append-drop place bits) ∙ ap (λ (b : Bits). take place bits ++ b) at ∙ is)
-      ∙ (all_eols_kept 11 line line_alone.0 front (inr closes)).0 in
+      ∙ (all_eols_kept 11 line alone_here.0.1 front (inr closes)).0 in
       let rest : Bits = (all_eols front).1 in
       let first_is : first_line settings bits ≡ sought [] (rest ++ line) = grind (arith, common_steps, seeks, counts) in
       subst (ComesBehind settings step.next) (sym first_is)
       (from_ahead settings unlimited bits line step.after step.next line_in step.after_is step_stays
       (λ found leaves lt. no_rtc leaves.0 found leaves.1 lt) (suc (length rest)) [] rest (omega arith)
-      (all_eols_kept 11 line line_alone.0 front (inr closes)).1 (subst (λ (f : ℕ × Bits). LeavesBits bits f.1) counts
+      (all_eols_kept 11 line alone_here.0.1 front (inr closes)).1 (subst (λ (f : ℕ × Bits). LeavesBits bits f.1) counts
       (count_leaves counts_plain (λ b. ([], refl)) (length bits) bits)))
     where
       few : settings.encoding ≡ Group3_2D → (found : Bits) (count : ℕ) → LeavesBits bits found → all_tagged found ≡ (count, line)
@@ -173,9 +160,9 @@ module _ (settings : DecodeSettings) (here line behind : Bits) (step : PutsInSte
       line_in = record {
         group3 = group3;
         lenient = lenient;
-        none = line_alone.0;
+        none = alone_here.0.1;
         next = next_behind_line;
-        tag = line_alone.1;
+        tag = alone_here.1;
         few = few;
       }
 

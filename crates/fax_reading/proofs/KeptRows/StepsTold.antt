@@ -1,20 +1,18 @@
 -- An EOL and the line behind it, as they are tested.
-use Rattle.fax_reading.proofs.Names.{Group3_1D, Group3_2D, after_eol, eols_here, run_found, line_here, TellsStep, tag_tests, Bool}
-use Rattle.fax_reading.proofs.Names.{Some, None, refl, Bits, Turn, Line, drop, ◌+◌, ◌-◌, ◌*◌, ◌<◌, ◌≤◌, ◌⊎◌, ◌↔◌, leb, ◌∷◌, Err}
-use Rattle.fax_reading.proofs.Names.{leb-true, next_eol, all_eols, one_more, past_tag, read_run, opposite, eols_by, line_1d, true}
+use Rattle.fax_reading.proofs.Names.{after_eol, eols_here, run_found, line_here, TellsStep, tag_tests, cond-true, leb-true, subst}
+use Rattle.fax_reading.proofs.Names.{leb, ◌∷◌, Err, ◌≡◌, inl, inr, min, Row, Pen, [], Ok, ap, ℕ}
 use Rattle.fax_reading.proofs.Names.{length-append, ComesBefore1D, AreWholeBytes, common_steps, EncodingMode, IsInStepFrom, false}
-use Rattle.fax_reading.proofs.Names.{length-replicate, is_end_of_block, DecodeSettings, ModesEndBefore, most_for_lines, cond-true}
-use Rattle.fax_reading.proofs.Names.{line_by, length, Option, Result, IsTrue, lt-leb, le-leb, Group4, looked, subst, arith, Color}
-use Rattle.fax_reading.proofs.Names.{looked_ahead, DecodeError, EndsByWords, length-drop, cond-false, EndsBefore, RowsFollow, ◌≡◌}
-use Rattle.fax_reading.proofs.Names.{sym, ◌∙◌, inl, inr, min, Row, Pen, [], Ok, ap, ℕ}
-use Rattle.fax_bits.proofs.BitReading.ConsecutiveEols.{after_eol_shorter, all_tagged-some, all_tagged-none, next_eol_found}
-use Rattle.fax_bits.proofs.BitReading.ConsecutiveEols.{last_tag_count, all_eols-some, all_eols-none, all_tagged}
-use Rattle.fax_bits.proofs.{BitReading.ZeroRuns.looked_eol, Repetition.Repeated.after_turn}
-use Rattle.fax_reading.proofs.DamagedLines.{EolsAlike.last_tag_few, EolsAlike.IsGroup3, AnyReference.modes_read}
-use Rattle.fax_reading.proofs.DrawingLines.Drawings.{step_1d_is, run_then, drawn_by, step_1d}
-use Rattle.fax_reading.proofs.{DrawingLines.ReadLines.drawn1, Work.WordsPay.stands_count}
+use Rattle.fax_reading.proofs.Names.{length-replicate, is_end_of_block, DecodeSettings, ModesEndBefore, most_for_lines, Group3_1D}
+use Rattle.fax_reading.proofs.Names.{looked, arith, Color, None, refl, Bits, Line, drop, true, ◌+◌, ◌-◌, ◌*◌, ◌<◌, ◌≤◌, ◌⊎◌, ◌↔◌}
+use Rattle.fax_reading.proofs.Names.{looked_ahead, DecodeError, EndsByWords, length-drop, EndsBefore, RowsFollow, Group3_2D, Bool}
+use Rattle.fax_reading.proofs.Names.{next_eol, read_run, opposite, line_1d, line_by, length, Result, IsTrue, le-leb, Group4, Some}
+use Rattle.fax_bits.proofs.BitReading.{ConsecutiveEols.after_eol_shorter, ConsecutiveEols.next_eol_found, ZeroRuns.looked_eol}
+use Rattle.fax_bits.proofs.Repetition.Repeated.{next_is}
+use Rattle.fax_reading.proofs.DamagedLines.{EolsAlike.one_alone, EolsAlike.IsGroup3, EolsAlike.counted, AnyReference.modes_read}
+use Rattle.fax_reading.proofs.DrawingLines.{Drawings.step_1d_is, Drawings.drawn_by, Drawings.step_1d, ReadLines.drawn1}
+use Rattle.fax_reading.proofs.{CodeWords.WordsFound.run_stands, Work.WordsPay.stands_count}
 use Rattle.fax_reading.proofs.{EncodedPictures.PicturesT4.eols_here_two, KeptRows.RowsBehindDamage.rows_behind}
-use Rattle.fax_reading.proofs.{Work.EolsPassed.looked_ahead_most, Work.EolsPassed.few_tag_tests, CodeWords.WordsFound.run_stands}
+use Rattle.fax_reading.proofs.{Work.EolsPassed.looked_ahead_most, Work.EolsPassed.few_tag_tests, DrawingLines.DrawnLines.run_open}
 
 -- ---- Runs that are passed
 
@@ -29,20 +27,13 @@ abbrev pub RunsPassed : ℕ → Bits → ℕ → Color → Bits → Type 0
 RunsPassed columns begun passed color here = (front : Row) × (length front ≡ passed)
     × (line_1d false columns begun ≡ line_from columns (pen_of_runs front color here))
 
--- the step of a line that isn't full is its next run
-run_is_next : (columns : ℕ) (front : Row) (color : Color) (here : Bits) → length front < columns
-    → line_from columns (pen_of_runs front color here)
-    ≡ after_turn (line_from columns) (run_then false columns (pen_of_runs front color here) Turn.next)
-run_is_next columns front color here few =
-    drawn1 false columns (pen_of_runs front color here) ∙ ap (after_turn (line_from columns)) (step_1d_is false columns
-    (pen_of_runs front color here) ∙ cond-false (leb columns (length front)) _ _ (lt-leb columns (length front) few))
-
 -- a run more
 pub run_passed : (columns : ℕ) (begun : Bits) (passed : ℕ) (color : Color) (here rest : Bits) (n : ℕ) → passed < columns
     → RunsPassed columns begun passed color here → read_run color here ≡ Ok (n, rest)
     → RunsPassed columns begun (passed + min n (columns - passed)) (opposite color) rest
 run_passed columns begun passed color here rest n few (front, long, is) read =
-    grind (arith, common_steps, length-append, length-replicate, run_is_next)
+    let next = run_open false columns (pen_of_runs front color here) (omega (arith, few, long)) in
+    grind (arith, common_steps, length-append, length-replicate, next)
 
 -- all its columns
 pub runs_whole : (columns : ℕ) (begun : Bits) (passed : ℕ) (color : Color) (here : Bits) → columns ≤ passed
@@ -54,7 +45,9 @@ runs_whole columns begun passed color here full (front, long, is) =
 pub runs_broken : (columns : ℕ) (begun : Bits) (passed : ℕ) (color : Color) (here : Bits) (fault : DecodeError)
     → passed < columns → RunsPassed columns begun passed color here → read_run color here ≡ Err fault
     → (row : Row) (rest : Bits) → line_1d false columns begun ≡ Line.whole row rest → ⊥
-runs_broken columns begun passed color here fault few (front, long, is) read row rest e = grind (arith, common_steps, run_is_next)
+runs_broken columns begun passed color here fault few (front, long, is) read row rest e =
+    let next = run_open false columns (pen_of_runs front color here) (omega (arith, few, long)) in
+    grind (arith, common_steps, next)
 
 -- the words of a run are no more than the bits that it takes
 run_counted : (color : Color) (here : Bits) (r : Result (ℕ × Bits) DecodeError) → read_run color here ≡ r → (n : ℕ) (rest : Bits)
@@ -115,56 +108,6 @@ words_end Group4 columns after line (inr is) ends modes = absurd cc
 pub modes_end : (encoding : EncodingMode) (columns : ℕ) (after line : Bits) → EndsByWords encoding columns after line
     → encoding ≡ Group3_2D → (modes : Bits) → line ≡ false ∷ modes → ModesEndBefore after modes
 modes_end encoding columns after line ends two modes tag = grind (arith, common_steps)
-
--- ---- An EOL alone
-
-none_counted : (n : ℕ) (here rest : Bits) (found : ℕ × Bits) → one_more found ≡ (0, rest) → ⊥
-none_counted n here rest (count, left) e = grind (arith, common_steps)
-
-one_is_none : (rest : Bits) (found : ℕ × Bits) → one_more found ≡ (1, rest) → found ≡ (0, rest)
-one_is_none rest (count, left) e = grind (arith, common_steps)
-
-not_one : (here rest : Bits) → ◌≡◌ {A = ℕ × Bits} (0, here) (1, rest) → ⊥
-not_one here rest e = let both : 0 ≡ 1 = ap (λ (f : ℕ × Bits). f.0) e in omega (arith, both)
-
--- it is here, and behind it none is
-abbrev pub IsAlone : Bits → Bits → Type 0
-IsAlone here line = (after_eol 0 here ≡ Some line) × (after_eol 0 line ≡ None)
-
-none_behind : (rest line : Bits) → all_eols rest ≡ (0, line) → (rest ≡ line) × (after_eol 0 rest ≡ None)
-none_behind rest line e = grind (arith, common_steps, all_eols-none, none_counted, all_eols-some)
-
-none_tagged : (rest line : Bits) → all_tagged rest ≡ (0, line) → (rest ≡ line) × (after_eol 0 rest ≡ None)
-none_tagged rest line e = grind (arith, common_steps, all_tagged-none, none_counted, all_tagged-some)
-
-one_plain : (here line : Bits) → all_eols here ≡ (1, line) → IsAlone here line
-one_plain here line e = by_after_eol (after_eol 0 here) refl
-  where
-    by_after_eol : (o : Option Bits) → after_eol 0 here ≡ o → IsAlone here line
-    by_after_eol None f = absurd (not_one here line (sym (all_eols-none here f) ∙ e))
-    by_after_eol (Some rest) f =
-        let behind = none_behind rest line (one_is_none line (all_eols rest) (sym (all_eols-some here rest f) ∙ e)) in
-        (f ∙ ap (λ (b : Bits). Some b) behind.0, subst (λ (b : Bits). after_eol 0 b ≡ None) behind.0 behind.1)
-
-one_raw : (here line : Bits) → all_tagged here ≡ (1, line) → IsAlone here line
-one_raw here line e = by_after_eol (after_eol 0 here) refl
-  where
-    by_after_eol : (o : Option Bits) → after_eol 0 here ≡ o → IsAlone here line
-    by_after_eol None f = absurd (not_one here line (sym (all_tagged-none here f) ∙ e))
-    by_after_eol (Some rest) f = let behind = none_tagged (past_tag rest) line
-        (one_is_none line (all_tagged (past_tag rest)) (sym (all_tagged-some here rest f) ∙ e)) in
-        grind (arith)
-
-pub one_alone : (settings : DecodeSettings) (here line : Bits) → IsGroup3 settings.encoding
-    → eols_here settings here ≡ (1, line) → IsAlone here line
-one_alone settings here line group3 e = by_encoding settings.encoding settings.end_of_block group3 e
-  where
-    by_encoding : (encoding : EncodingMode) (block : Bool) → IsGroup3 encoding → eols_by encoding block here ≡ (1, line)
-        → IsAlone here line
-    by_encoding Group3_1D block is f = one_plain here line f
-    by_encoding Group3_2D block is f = one_raw here line (grind (arith, common_steps, last_tag_count, last_tag_few))
-    by_encoding Group4 block (inl is) f = absurd cc
-    by_encoding Group4 block (inr is) f = absurd cc
 
 -- ---- The line behind the second EOL
 
@@ -237,7 +180,7 @@ line_test_work settings here line next after begun at_line sought read now group
     tested = grind (
       arith,
       looked_eol 0 next after after_is,
-      after_eol_shorter 0 here line (one_alone settings here line group3 alone).0,
+      after_eol_shorter 0 here line (one_alone settings here line group3 alone).0.0,
       next_eol_found line next next_is,
     )
 

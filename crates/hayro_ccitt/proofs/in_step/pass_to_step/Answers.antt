@@ -3,8 +3,9 @@ use Rattle.hayro_ccitt.proofs.Names.{rules, ◌≡◌, ◌+◌, ◌*◌, ◌≤�
 use Rattle.hayro_ccitt.proofs.Names.{BitsAt, here, after_eol, next_eol, eols_here, EndsByWords, looked}
 use Rattle.hayro_ccitt.proofs.Names.{most_for_lines, Group3_2D, ComesBefore1D, false≢true}
 use Rattle.hayro_ccitt.proofs.DamagedLines.LinesPassed.{eol_passed}
-use Rattle.hayro_ccitt.proofs.KeptRows.StepsTold.{one_alone, told_by, no_step_beyond, step_next, eols_work, line_test_work}
+use Rattle.hayro_ccitt.proofs.KeptRows.StepsTold.{told_by, no_step_beyond, step_next, eols_work, line_test_work}
 use Rattle.fax_bits.proofs.BitReading.ConsecutiveEols.{next_eol_found}
+use Rattle.fax_reading.proofs.DamagedLines.EolsAlike.{one_alone}
 use Rattle.hayro_ccitt.proofs.in_step.pass_to_step.Goals.{After-line_ends_before, After-needs_no_reference}
 use Rattle.hayro_ccitt.proofs.in_step.pass_to_step.Goals as goal
 
@@ -35,7 +36,7 @@ counted c =
     let found = here c.skip_to_eol.new.self in
     let after = here c.pass_eol.new.reader in
     let same = ap (λ (at : BitsAt). length (here at)) c.copy-line.ensures.value in
-    let none = (one_alone settings begun line c.requires.group3 (alone c)).1 in
+    let none = (one_alone settings begun line c.requires.group3 (alone c)).0.1 in
     let skipped = c.if-not-skip_to_eol.ensures.ticks in
     let look = ap (λ (at : BitsAt). looked (here at)) c.copy-end.ensures.value in
     let tested = c.line_ends_before.ensures.at_most found after none (next c).0 (next c).1 in
