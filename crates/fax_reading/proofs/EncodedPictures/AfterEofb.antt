@@ -1,52 +1,35 @@
 -- What follows EOFB changes nothing.
-use Rattle.fax_reading.proofs.Names.{AreWholeBytes, line_of_turn, nothing_read, common_steps, append_assoc, row_of_line, or_parts}
-use Rattle.fax_reading.proofs.Names.{Bool, true, cond, ◌&&◌, ◌++◌, take, Some, ◌≡◌, suc, ◌+◌, ◌*◌, ◌/◌, ◌%◌, ◌<◌, not, leb, ◌∷◌}
-use Rattle.fax_reading.proofs.Names.{Result, length, subst, arith, plain, start, None, refl, Bits, Turn, Line, eols, Mode, zero}
+use Rattle.fax_reading.proofs.Names.{Turn, Line, eols, Mode, ◌≡◌, ◌+◌, ◌*◌, ◌/◌, ◌%◌, ◌<◌, not, ◌∷◌, sym, ◌∙◌, ◌⊎◌, inl, inr, Err}
 use Rattle.fax_reading.proofs.Names.{after_eol, eols_here, ends_with, AfterEofb, read_code, cases_lt, Progress, pass_gap, or_from}
-use Rattle.fax_reading.proofs.Names.{at_front, drop_at, Reaches, line_2d, is_over, aligned, Group4, Ending, end_of, for_t6, false}
-use Rattle.fax_reading.proofs.Names.{gap_and_row, DecodeError, cond-false, row_before, row_behind, append-nil, mode_codes, Option}
-use Rattle.fax_reading.proofs.Names.{sym, ◌∙◌, ◌⊎◌, inl, inr, Err, Has, Row, [], Ok, ap, ℕ}
-use Rattle.fax_reading.proofs.Names.{take-append-drop, length-take-le, DecodeSettings, add_row_alone, length-append, EncodingMode}
-use Rattle.fax_bits.proofs.{BitReading.ConsecutiveEols.eols-none, CodeWords.ReadCodes.read_code_found, CodeWords.ReadRuns.chosen}
-use Rattle.fax_bits.proofs.{BitReading.ZerosInWords.prefix_of_prefix, Repetition.Repeated.not_next, Repetition.Repeated.next_is}
-use Rattle.fax_reading.proofs.DrawingLines.{WhatFollows.line_2d_found, DrawnLines.line_open}
+use Rattle.fax_reading.proofs.Names.{at_front, drop_at, Reaches, line_2d, is_over, aligned, length, Group4, Ending, end_of, subst}
+use Rattle.fax_reading.proofs.Names.{for_t6, arith, plain, start, false, Bool, true, cond, ◌&&◌, ◌++◌, take, None, refl, Bits, []}
+use Rattle.fax_reading.proofs.Names.{gap_and_row, DecodeError, cond-false, row_before, row_behind, append-nil, mode_codes, Result}
+use Rattle.fax_reading.proofs.Names.{length-append, nothing_read, common_steps, append_assoc, EncodingMode, row_of_line, or_parts}
+use Rattle.fax_reading.proofs.Names.{take-append-drop, length-take-le, DecodeSettings, AreWholeBytes, add_row_alone, line_of_turn}
+use Rattle.fax_bits.proofs.BitReading.{ZerosInWords.prefix_of_prefix, ConsecutiveEols.counts_plain}
+use Rattle.fax_bits.proofs.{Repetition.Repeated.not_next, Repetition.Repeated.next_is, CodeWords.ReadCodes.read_code_found}
+use Rattle.fax_reading.proofs.DrawingLines.{LinesLeaveBits.LeavesBits, WhatFollows.line_2d_found, DrawnLines.line_open}
 use Rattle.fax_reading.proofs.EncodedPictures.PictureLines.{IsLineStart, plain_ends, between}
+use Rattle.fax_reading.proofs.GapsContinued.ContinuedEols.{count_then_more, eols_stop}
+use Rattle.fax_reading.proofs.{KeptRows.EqualFronts.eols_first, Names.Has, Names.Row, Names.Ok, Names.ap, Names.ℕ}
+use Rattle.fax_reading.proofs.{KeptRows.TurnsLeave.count_leaves, Readings.RowsAndGaps.unless_over}
 use Rattle.fax_reading.proofs.{Readings.GapsAndRows.gap_unsought, Readings.GapsAndRows.t6_end, EncodedPictures.Bodies.gap_at_eofb}
-use Rattle.fax_reading.proofs.{Readings.RowsAndGaps.unless_over, DamagedLines.EolsAlike.counted}
 
 -- ---- EOLs.
-after_eol_found : (seen : ℕ) (here rest : Bits) → after_eol seen here ≡ Some rest → (w : Bits) × (here ≡ w ++ rest)
-    × ((more : Bits) → after_eol seen (w ++ more) ≡ Some more)
-after_eol_found seen [] rest e = absurd cc
-after_eol_found seen (false ∷ here) rest e = let f = after_eol_found (suc seen) here rest e in
-    (false ∷ f.0, ap (λ (x : Bits). false ∷ x) f.1, f.2)
-after_eol_found seen (true ∷ here) rest e = elim (chosen (leb 11 seen) _ _ _ e) [
-  | inl a ↦ let same : here ≡ rest = cc in (true ∷ [], ap (λ (x : Bits). true ∷ x) same, λ more. rw a.0 refl)
-  | inr a ↦ absurd (cc)
-]
 
--- the EOLs that were counted are a prefix, and are counted again whatever follows, if no EOL does or enough were asked
--- for
-abbrev EolsFound : ℕ → Bits → ℕ × Bits → Type 0
-EolsFound most here found = (w : Bits) × (here ≡ w ++ found.1)
-    × ((more : Bits) → (found.0 ≡ most) ⊎ (after_eol 0 more ≡ None) → eols most (w ++ more) ≡ (found.0, more))
-
-eols_are_found : (most : ℕ) (here : Bits) → EolsFound most here (eols most here)
-eols_are_found zero here = ([], refl, λ more or. refl)
-eols_are_found (suc most) here = let by_after_eol : (o : Option Bits) → after_eol 0 here ≡ o
-    → EolsFound (suc most) here (eols (suc most) here) = λ o. elim o
-    as (λ (o : Option Bits). after_eol 0 here ≡ o → EolsFound (suc most) here (eols (suc most) here)) [
-      | None ↦ grind (arith, eols-none)
-      | Some rest ↦ λ e. let one = after_eol_found 0 here rest e in
-          let on = eols_are_found most rest in
-          let found : eols (suc most) here ≡ (suc (eols most rest).0, (eols most rest).1) = rw (e, eols)
-          (grind (arith, common_steps)) in
-          subst (EolsFound (suc most) here) (sym found) (
-            one.0 ++ on.0,
-            one.1 ∙ ap (λ (x : Bits). one.0 ++ x) on.1 ∙ sym (append_assoc one.0 on.0 (eols most rest).1),
-            λ more or. grind (arith, common_steps, append_assoc one.0 on.0 more),
-          )
-    ] in by_after_eol (after_eol 0 here) refl
+-- those that were counted are a prefix, and are counted again whatever follows, if no EOL does or enough were asked for
+eols_again : (most n : ℕ) (here rest : Bits) → eols most here ≡ (n, rest) → (w : Bits) × (here ≡ w ++ rest)
+    × ((more : Bits) → (n ≡ most) ⊎ (after_eol 0 more ≡ None) → eols most (w ++ more) ≡ (n, more))
+eols_again most n here rest e = let (w, is) = subst (λ (f : ℕ × Bits). LeavesBits here f.1) e
+    (count_leaves counts_plain (λ bits. ([], refl)) most here) in
+    let alone : eols most w ≡ (n, []) = eols_first rest most w [] n (sym (ap (eols most) is) ∙ e) in (
+      w,
+      is,
+      λ more or. eols_stop more most w (elim or [
+        | inl full ↦ inl (omega (arith, full, ap (λ (f : ℕ × Bits). f.0) alone))
+        | inr none ↦ inr (rw alone none)
+      ]) ∙ ap (count_then_more more) alone,
+    )
 
 -- ---- Alignment: only how many bits follow, modulo eight, matters.
 pub aligned_split : (b : Bool) (j : Bits) → (pad : Bits) × (j ≡ pad ++ cond b (aligned j) j)
@@ -99,7 +82,7 @@ module _ (settings : DecodeSettings) (four : settings.encoding ≡ Group4) (bloc
   by_line run after count t (Line.whole row j) unsought counted over read e =
       let b : Bool = settings.rows_are_byte_aligned && not run.has_eols in
       let line = line_2d_found settings.strict settings.columns (row_before settings.columns run.rows) t row j read in
-      let eol = subst (EolsFound 2 run.rest) counted (eols_are_found 2 run.rest) in
+      let eol = eols_again 2 count run.rest t counted in
       let split = aligned_split b j in
       let pad : Bits = split.0 in
       let then : Progress = record { rows = run.rows ++ row ∷ []; has_eols = run.has_eols; rest = cond b (aligned j) j } in
@@ -144,7 +127,7 @@ module _ (settings : DecodeSettings) (four : settings.encoding ≡ Group4) (bloc
       → Reaches (gap_and_row settings) run last → eols 2 last.rest ≡ (2, rest) → (w : Bits) × (run.rest ≡ w ++ rest)
       × ((more : Bits) → length more % 8 ≡ length rest % 8 → Ends settings (record run { rest = w ++ more }) (ended_at last more))
   closed_found run last rest unsought (Reaches.stays same) two =
-      let eol = subst (EolsFound 2 run.rest) two (eols_are_found 2 run.rest) in (
+      let eol = eols_again 2 2 run.rest rest two in (
         eol.0,
         eol.1,
         λ more e.

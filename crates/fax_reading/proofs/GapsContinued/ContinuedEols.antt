@@ -1,10 +1,10 @@
 -- EOLs with more bits behind.
-use Rattle.fax_reading.proofs.Names.{common_steps, ◌≡◌, ℕ, zero, suc, ◌<◌, ◌≤◌, Bool, true, false, [], ◌∷◌, ◌++◌, Option, Some}
-use Rattle.fax_reading.proofs.Names.{None, refl, sym, ap, ◌∙◌, ◌⊎◌, arith, length-append, Bits, after_eol, one_more}
-use Rattle.fax_reading.proofs.Names.{eols, all_eols, next_eol}
-use Rattle.fax_reading.specs.GapsContinued.{holds_one}
-use Rattle.fax_bits.proofs.BitReading.ConsecutiveEols.{eol_of, eols-some, eols-none}
+use Rattle.fax_reading.proofs.Names.{inl, [], ap, ℕ}
+use Rattle.fax_reading.proofs.Names.{length-append, common_steps, after_eol, one_more, all_eols, next_eol, Option, false, arith}
+use Rattle.fax_reading.proofs.Names.{zero, Bool, true, ◌++◌, Some, None, refl, Bits, eols, ◌≡◌, suc, ◌<◌, ◌≤◌, ◌∷◌, sym, ◌∙◌, ◌⊎◌}
+use Rattle.fax_bits.proofs.BitReading.ConsecutiveEols.{eols-some, eols-none, eol_of}
 use Rattle.fax_bits.proofs.BitReading.ZeroRuns.{eols_enough, eols_fewer}
+use Rattle.fax_reading.specs.GapsContinued.{holds_one}
 
 -- what follows an EOL, with more bits behind
 abbrev pub then_more : Bits → Option Bits → Option Bits
@@ -89,20 +89,29 @@ next_eol_may_come (bit ∷ here) e = by_after_eol (next_eol_may_come here) (afte
     by_after_eol on (Some rest) f = grind (arith, common_steps)
 
 -- ---- Consecutive EOLs without tags
--- as many as were sought are settled, and so are those before a one
-pub eols-more : (more : Bits) (most : ℕ) (here : Bits) → (most ≤ (eols most here).0)
-    ⊎ (holds_one (eols most here).1 ≡ true) → eols most (here ++ more) ≡ count_then_more more (eols most here)
-eols-more more zero here settled = refl
-eols-more more (suc most) here settled = by_after_eol (λ rest. eols-more more most rest) (after_eol 0 here) refl
+-- as many as were sought are counted whatever follows, and so are those behind which no EOL comes
+pub eols_stop : (more : Bits) (most : ℕ) (here : Bits) → (most ≤ (eols most here).0)
+    ⊎ (after_eol 0 ((eols most here).1 ++ more) ≡ None) → eols most (here ++ more) ≡ count_then_more more (eols most here)
+eols_stop more zero here settled = refl
+eols_stop more (suc most) here settled = by_after_eol (λ rest. eols_stop more most rest) (after_eol 0 here) refl
   where
-    by_after_eol : ((rest : Bits) → (most ≤ (eols most rest).0) ⊎ (holds_one (eols most rest).1 ≡ true)
+    by_after_eol : ((rest : Bits) → (most ≤ (eols most rest).0) ⊎ (after_eol 0 ((eols most rest).1 ++ more) ≡ None)
         → eols most (rest ++ more) ≡ count_then_more more (eols most rest)) → (o : Option Bits) → after_eol 0 here ≡ o
         → eols (suc most) (here ++ more) ≡ count_then_more more (eols (suc most) here)
-    by_after_eol on None e = grind (arith, common_steps, eols-none, after_eol-more)
+    by_after_eol on None e = grind (arith, common_steps, eols-none)
     by_after_eol on (Some rest) e = let stepped : eols (suc most) here ≡ one_more (eols most rest) = eols-some most here rest e in
-        let inside : (most ≤ (eols most rest).0) ⊎ (holds_one (eols most rest).1 ≡ true) = grind arith in
+        let inside : (most ≤ (eols most rest).0) ⊎ (after_eol 0 ((eols most rest).1 ++ more) ≡ None) = grind arith in
         eols-some most (here ++ more) (rest ++ more) (eol-more more here rest e) ∙ ap one_more (on rest inside)
         ∙ one_then_more more (eols most rest) ∙ sym (ap (count_then_more more) stepped)
+
+eols_left : (most : ℕ) (here : Bits) → (most ≤ (eols most here).0) ⊎ (after_eol 0 (eols most here).1 ≡ None)
+eols_left zero here = inl (omega arith)
+eols_left (suc most) here = grind (arith, eols_left most, eols-none, eols-some)
+
+-- so are those before a one
+pub eols-more : (more : Bits) (most : ℕ) (here : Bits) → (most ≤ (eols most here).0)
+    ⊎ (holds_one (eols most here).1 ≡ true) → eols most (here ++ more) ≡ count_then_more more (eols most here)
+eols-more more most here settled = grind (arith, eols_stop, eols_left most here, after_eol-more)
 
 pub all_eols-more : (more here : Bits) → holds_one (all_eols here).1 ≡ true
     → all_eols (here ++ more) ≡ count_then_more more (all_eols here)

@@ -101,7 +101,7 @@ module _ (x : Bits) where
             (omega (arith, shorter, counts.passes left))) (ap (count most) (sym tag) ∙ at)) ∙ ap (λ (k : ℕ). (k, more)) (sym is)
 
   -- a number of EOLs at most
-  eols_first : (most : ℕ) (bits more : Bits) (n : ℕ) → eols most (bits ++ x) ≡ (n, more ++ x) → eols most bits ≡ (n, more)
+  pub eols_first : (most : ℕ) (bits more : Bits) (n : ℕ) → eols most (bits ++ x) ≡ (n, more ++ x) → eols most bits ≡ (n, more)
   eols_first most bits more n e = count_first counts_plain (λ m b. Unit {0}) (λ m b left fits lt. tt) more
       (λ m k left fits f. refl) most bits n tt e
 
