@@ -1,19 +1,25 @@
 -- Damage to one line changes its row alone.
+use Rattle.fax_bits.proofs.BitReading.ConsecutiveEols.{counts_plain}
+use Rattle.fax_bits.proofs.Repetition.Repeated.{reached_follows}
+use Rattle.fax_reading.proofs.DamagedLines.EolsAlike.{all_eols_kept, IsLineIn, Ends}
+use Rattle.fax_reading.proofs.DamagedLines.LineTails.{eol_closes, line_in_1d, stays_1d}
+use Rattle.fax_reading.proofs.DamagedLines.LinesByEols.{seeks}
+use Rattle.fax_reading.proofs.DamagedLines.PastEol.{past_shorter, past}
+use Rattle.fax_reading.proofs.DamagedLines.RunsAlike.{moves_alike, LinesDiffer, not_group4, RowsAlike, EndsAlike, RunsAlike}
+use Rattle.fax_reading.proofs.DamagedLines.RunsAlike.{Begun}
+use Rattle.fax_reading.proofs.DamagedLines.SoughtTurns.{sought_line_is, sought}
+use Rattle.fax_reading.proofs.DrawingLines.LinesLeaveBits.{LeavesBits}
+use Rattle.fax_reading.proofs.GapsContinued.ContinuedEols.{count_then_more}
+use Rattle.fax_reading.proofs.KeptRows.TurnsLeave.{count_leaves}
 use Rattle.fax_reading.proofs.Names.{DecodeError, AreSettings, append-nil, row_before, first_line, after_eol, cases_lt, cases_eq}
 use Rattle.fax_reading.proofs.Names.{None, refl, Bits, Bool, ◌≡◌, suc, ◌+◌, ◌-◌, ◌*◌, ◌/◌, ◌<◌, ltb, ◌∷◌, Err, sym, ◌∙◌, ◌⊎◌, inl}
 use Rattle.fax_reading.proofs.Names.{UnexpectedEof, AreWholeBytes, OneRowDiffers, bytes_before, common_steps, length-drop, length}
 use Rattle.fax_reading.proofs.Names.{append_cancel_right, take-append-drop, DamageStaysInRow, DecodeSettings, length-append, true}
-use Rattle.fax_reading.proofs.Names.{inr, Row, Ok, ap, ℕ}
-use Rattle.fax_reading.proofs.Names.{repeated, all_eols, Progress, EndAlike, Locality, Reaches, move_on, IsLocal, Reading, Result}
-use Rattle.fax_reading.proofs.Names.{set_at, Ending, end_of, EndsAt, subst, arith, plain, IsEol, ◌||◌, List, ◌++◌, take, drop, []}
-use Rattle.fax_bits.proofs.{BitReading.ConsecutiveEols.counts_plain, Repetition.Repeated.reached_follows}
-use Rattle.fax_reading.proofs.DamagedLines.RunsAlike.{moves_alike, LinesDiffer, not_group4, RowsAlike, EndsAlike, RunsAlike}
-use Rattle.fax_reading.proofs.DamagedLines.{EolsAlike.all_eols_kept, EolsAlike.IsLineIn, EolsAlike.Ends, LinesByEols.seeks}
-use Rattle.fax_reading.proofs.DamagedLines.{LineTails.eol_closes, LineTails.line_in_1d, LineTails.stays_1d, PastEol.past_shorter}
-use Rattle.fax_reading.proofs.DamagedLines.{SoughtTurns.sought_line_is, SoughtTurns.sought, RunsAlike.Begun}
+use Rattle.fax_reading.proofs.Names.{inr, Row, Ok, ap, ℕ, repeated, all_eols, Progress, EndAlike, Locality, move_on, IsLocal}
+use Rattle.fax_reading.proofs.Names.{Reading, Result, set_at, Ending, end_of, EndsAt, subst, arith, plain, IsEol, ◌||◌, List}
+use Rattle.fax_reading.proofs.Names.{◌++◌, take, drop, []}
+use Rattle.fax_reading.proofs.Readings.GapsAndRows.{plain_is, end_t4}
 use Rattle.fax_reading.proofs.Readings.TurnsMoveOn.{left_to_read, move_shrinks, left_below}
-use Rattle.fax_reading.proofs.{GapsContinued.ContinuedEols.count_then_more, DrawingLines.LinesLeaveBits.LeavesBits}
-use Rattle.fax_reading.proofs.{Readings.GapsAndRows.plain_is, Readings.GapsAndRows.end_t4, KeptRows.TurnsLeave.count_leaves}
 
 -- ---- From the ends of two runs to their results
 
@@ -154,9 +160,7 @@ module _ (settings : DecodeSettings) (one two : Bits) (from : ℕ) (after : Bits
 
 -- if at most one row differs it is replaced
 one_row_differs : (settings : DecodeSettings) (one two : Bits) (from : ℕ) (rows others : List Row)
-    → RowsAlike 1 (λ before. Reaches (move_on settings) (first_line settings one) (sought before (drop from one))
-    × Reaches (move_on settings) (first_line settings two) (sought before (drop from two))) rows others
-    → OneRowDiffers settings one two from rows others
+    → RowsAlike 1 (Begun settings one two from) rows others → OneRowDiffers settings one two from rows others
 one_row_differs settings one two from rows others (inl e) = inl (sym e)
 one_row_differs settings one two from rows others (inr (before, [], [], more, same, few, e, f, begins)) = inl (f ∙ sym e)
 one_row_differs settings one two from rows others (inr (before, a ∷ [], b ∷ [], more, same, few, e, f, begins)) =

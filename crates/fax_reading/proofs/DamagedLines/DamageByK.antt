@@ -1,19 +1,22 @@
 -- Damage to a line of two-dimensional data ends at the next one-dimensional line.
-use Rattle.fax_reading.proofs.Names.{EncodesLine2D, pass_last_tag, ComesBefore1D, append_assoc, IsTaggedBody, ComeBefore1D, false}
-use Rattle.fax_reading.proofs.Names.{EncodingMode, DecodeError, AreSettings, tagged_eols, LocalityByK, first_line, RowsDiffer, []}
-use Rattle.fax_reading.proofs.Names.{EndAlike, IsLine2D, move_on, line_by, eols_by, IsEolAt, length, Result, eq-eqb, subst, arith}
-use Rattle.fax_reading.proofs.Names.{White, plain, zero, ◌++◌, take, drop, Some, None, refl, Bits, List, ◌≡◌, suc, ◌-◌, ◌<◌, ◌≤◌}
-use Rattle.fax_reading.proofs.Names.{cond-true, Group3_2D, after_eol, line_here, eols_here, cases_lt, cases_eq, one_more, Reaches}
-use Rattle.fax_reading.proofs.Names.{length-replicate, DecodeSettings, DamageEndsAt1D, length-append, AreWholeBytes, common_steps}
-use Rattle.fax_reading.proofs.Names.{◌∷◌, sym, ◌∙◌, ◌⊎◌, inl, inr, Row, ap, ℕ}
 use Rattle.fax_bits.proofs.BitReading.ConsecutiveEols.{after_eol_shorter, all_tagged-some, all_tagged-none, next_eol_found}
+use Rattle.fax_bits.proofs.Repetition.Repeated.{next_is}
 use Rattle.fax_reading.proofs.DamagedLines.AnyReference.{encoded_ends, quiet_line, modes_read, scan_past}
+use Rattle.fax_reading.proofs.DamagedLines.Damage.{damage}
+use Rattle.fax_reading.proofs.DamagedLines.EolsAlike.{IsLineIn}
 use Rattle.fax_reading.proofs.DamagedLines.LineTails.{line_past_by, past_before, line_in_2d, stays_2d}
 use Rattle.fax_reading.proofs.DamagedLines.PastEol.{after_eol_is, then_after, past_is, past}
-use Rattle.fax_reading.proofs.DamagedLines.RunsAlike.{LinesDiffer, Unreferred, RowsAlike, Settles}
+use Rattle.fax_reading.proofs.DamagedLines.RunsAlike.{LinesDiffer, Unreferred, RowsAlike, Settles, Begun}
 use Rattle.fax_reading.proofs.DamagedLines.SoughtTurns.{eols_here_same, found_next, rest_of, sought}
-use Rattle.fax_reading.proofs.{EncodedPictures.PicturesT4.line_2d_after_tag, DamagedLines.EolsAlike.IsLineIn}
-use Rattle.fax_reading.proofs.{Readings.TurnsMoveOn.eols_end, DamagedLines.Damage.damage}
+use Rattle.fax_reading.proofs.EncodedPictures.PicturesT4.{line_2d_after_tag}
+use Rattle.fax_reading.proofs.Names.{EncodesLine2D, pass_last_tag, ComesBefore1D, append_assoc, IsTaggedBody, ComeBefore1D, false}
+use Rattle.fax_reading.proofs.Names.{EncodingMode, DecodeError, AreSettings, tagged_eols, LocalityByK, RowsDiffer, [], EndAlike}
+use Rattle.fax_reading.proofs.Names.{IsLine2D, line_by, eols_by, IsEolAt, length, Result, eq-eqb, subst, arith, White, plain}
+use Rattle.fax_reading.proofs.Names.{zero, ◌++◌, take, drop, Some, None, refl, Bits, List, ◌≡◌, suc, ◌-◌, ◌<◌, ◌≤◌, cond-true}
+use Rattle.fax_reading.proofs.Names.{Group3_2D, after_eol, line_here, eols_here, cases_lt, cases_eq, one_more, length-replicate}
+use Rattle.fax_reading.proofs.Names.{DecodeSettings, DamageEndsAt1D, length-append, AreWholeBytes, common_steps, ◌∷◌, sym, ◌∙◌}
+use Rattle.fax_reading.proofs.Names.{◌⊎◌, inl, inr, Row, ap, ℕ}
+use Rattle.fax_reading.proofs.Readings.TurnsMoveOn.{eols_end}
 
 -- ---- The lines that follow
 
@@ -23,7 +26,7 @@ module _ (settings : DecodeSettings) (encoding : settings.encoding ≡ Group3_2D
   eol_before_lines lines here e3 = grind arith
 
   -- a one-dimensional line has no reference row
-  unreferred : (here : Bits) → ComesBefore1D settings here → Unreferred settings (eols_here settings here)
+  pub unreferred : (here : Bits) → ComesBefore1D settings here → Unreferred settings (eols_here settings here)
   unreferred here (eol, ends) = grind (arith, common_steps, eols_end)
 
   -- one EOL is counted before a two-dimensional line
@@ -93,9 +96,7 @@ take_front {A} (a ∷ front) rest = ap (λ (l : List A). a ∷ l) (take_front fr
 
 -- rows that are alike differ in that many at most
 rows_differ : (settings : DecodeSettings) (one two : Bits) (from differ : ℕ) (rows others : List Row)
-    → RowsAlike differ (λ before. Reaches (move_on settings) (first_line settings one) (sought before (drop from one))
-    × Reaches (move_on settings) (first_line settings two) (sought before (drop from two))) rows others
-    → RowsDiffer settings one two from differ rows others
+    → RowsAlike differ (Begun settings one two from) rows others → RowsDiffer settings one two from differ rows others
 rows_differ settings one two from differ rows others (inl e) = inl (sym e)
 rows_differ settings one two from differ rows others (inr (before, these, those, more, same, few, e, f, begins)) =
     grind (arith, common_steps, take_front before (these ++ more), append_assoc, drop_past)

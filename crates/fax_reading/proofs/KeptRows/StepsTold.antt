@@ -1,18 +1,25 @@
 -- An EOL and the line behind it, as they are tested.
-use Rattle.fax_reading.proofs.Names.{after_eol, eols_here, run_found, line_here, TellsStep, tag_tests, cond-true, leb-true, subst}
-use Rattle.fax_reading.proofs.Names.{leb, ◌∷◌, Err, ◌≡◌, inl, inr, min, Row, Pen, [], Ok, ap, ℕ}
-use Rattle.fax_reading.proofs.Names.{length-append, ComesBefore1D, AreWholeBytes, common_steps, EncodingMode, IsInStepFrom, false}
-use Rattle.fax_reading.proofs.Names.{length-replicate, is_end_of_block, DecodeSettings, ModesEndBefore, most_for_lines, Group3_1D}
-use Rattle.fax_reading.proofs.Names.{looked, arith, Color, None, refl, Bits, Line, drop, true, ◌+◌, ◌-◌, ◌*◌, ◌<◌, ◌≤◌, ◌⊎◌, ◌↔◌}
-use Rattle.fax_reading.proofs.Names.{looked_ahead, DecodeError, EndsByWords, length-drop, EndsBefore, RowsFollow, Group3_2D, Bool}
-use Rattle.fax_reading.proofs.Names.{next_eol, read_run, opposite, line_1d, line_by, length, Result, IsTrue, le-leb, Group4, Some}
-use Rattle.fax_bits.proofs.BitReading.{ConsecutiveEols.after_eol_shorter, ConsecutiveEols.next_eol_found, ZeroRuns.looked_eol}
+use Rattle.fax_bits.proofs.BitReading.ConsecutiveEols.{after_eol_shorter, next_eol_found}
+use Rattle.fax_bits.proofs.BitReading.ZeroRuns.{looked_eol}
 use Rattle.fax_bits.proofs.Repetition.Repeated.{next_is}
-use Rattle.fax_reading.proofs.DamagedLines.{EolsAlike.one_alone, EolsAlike.IsGroup3, EolsAlike.counted, AnyReference.modes_read}
-use Rattle.fax_reading.proofs.DrawingLines.{Drawings.step_1d_is, Drawings.drawn_by, Drawings.step_1d, ReadLines.drawn1}
-use Rattle.fax_reading.proofs.{CodeWords.WordsFound.run_stands, Work.WordsPay.stands_count}
-use Rattle.fax_reading.proofs.{EncodedPictures.PicturesT4.eols_here_two, KeptRows.RowsBehindDamage.rows_behind}
-use Rattle.fax_reading.proofs.{Work.EolsPassed.looked_ahead_most, Work.EolsPassed.few_tag_tests, DrawingLines.DrawnLines.run_open}
+use Rattle.fax_reading.proofs.CodeWords.WordsFound.{run_stands}
+use Rattle.fax_reading.proofs.DamagedLines.AnyReference.{modes_read}
+use Rattle.fax_reading.proofs.DamagedLines.EolsAlike.{one_alone, IsGroup3, counted}
+use Rattle.fax_reading.proofs.DamagedLines.RunsAlike.{Unreferred}
+use Rattle.fax_reading.proofs.DrawingLines.Drawings.{step_1d_is, drawn_by, step_1d}
+use Rattle.fax_reading.proofs.DrawingLines.DrawnLines.{run_open}
+use Rattle.fax_reading.proofs.DrawingLines.ReadLines.{drawn1}
+use Rattle.fax_reading.proofs.KeptRows.RowsBehindDamage.{rows_behind}
+use Rattle.fax_reading.proofs.Names.{after_eol, eols_here, run_found, line_here, TellsStep, tag_tests, cond-true, leb-true, subst}
+use Rattle.fax_reading.proofs.Names.{leb, ◌∷◌, Err, ◌≡◌, inl, inr, min, Row, Pen, [], Ok, ap, ℕ, length-append, ComesBefore1D}
+use Rattle.fax_reading.proofs.Names.{AreWholeBytes, common_steps, EncodingMode, IsInStepFrom, false, length-replicate}
+use Rattle.fax_reading.proofs.Names.{DecodeSettings, ModesEndBefore, most_for_lines, Group3_1D, looked, arith, Color, None, refl}
+use Rattle.fax_reading.proofs.Names.{Bits, Line, drop, true, ◌+◌, ◌-◌, ◌*◌, ◌<◌, ◌≤◌, ◌↔◌, looked_ahead, DecodeError, EndsByWords}
+use Rattle.fax_reading.proofs.Names.{length-drop, EndsBefore, RowsFollow, Group3_2D, Bool, next_eol, read_run, opposite, line_1d}
+use Rattle.fax_reading.proofs.Names.{line_by, length, Result, IsTrue, le-leb, Group4, Some}
+use Rattle.fax_reading.proofs.Work.EolsPassed.{looked_ahead_most, few_tag_tests}
+use Rattle.fax_reading.proofs.Work.WordsPay.{stands_count}
+use Rattle.fax_reading.proofs.DamagedLines.DamageByK.{unreferred}
 
 -- ---- Runs that are passed
 
@@ -111,27 +118,12 @@ modes_end encoding columns after line ends two modes tag = grind (arith, common_
 
 -- ---- The line behind the second EOL
 
-abbrev NeedsNoReference : DecodeSettings → ℕ → Bits → Type 0
-NeedsNoReference settings count behind = (is_end_of_block settings count ≡ true)
-    ⊎ ((reference other : Row) → line_here settings reference behind ≡ line_here settings other behind)
-
-one_dimensional : (settings : DecodeSettings) (count : ℕ) (behind : Bits) → settings.encoding ≡ Group3_1D
-    → NeedsNoReference settings count behind
-one_dimensional settings count behind is = inr (λ reference other. rw (is, line_here) refl)
-
-before_tag : (settings : DecodeSettings) (count : ℕ) (behind : Bits) → settings.encoding ≡ Group3_2D
-    → ((settings.end_of_block ≡ true) × (6 ≤ count)) ⊎ (((line : Bits) × (behind ≡ true ∷ line)) ⊎ (behind ≡ []))
-    → NeedsNoReference settings count behind
-before_tag settings count behind is (inl (block, six)) = inl (rw (block, is, le-leb 6 count six, is_end_of_block) refl)
-before_tag settings count behind is (inr (inl (line, tag))) = inr (λ reference other. rw (tag, is, line_here) refl)
-before_tag settings count behind is (inr (inr over)) = inr (λ reference other. rw (over, is, line_here) refl)
-
-pub unreferred_by : (settings : DecodeSettings) (next behind : Bits) (count : ℕ) → IsGroup3 settings.encoding
+unreferred_by : (settings : DecodeSettings) (next behind : Bits) (count : ℕ) → IsGroup3 settings.encoding
     → eols_here settings next ≡ (count, behind) → (settings.encoding ≡ Group3_2D → ComesBefore1D settings next)
-    → NeedsNoReference settings count behind
-unreferred_by settings next behind count (inl one) counted tag = one_dimensional settings count behind one
+    → Unreferred settings (count, behind)
+unreferred_by settings next behind count (inl one) counted tag = inr (λ reference other. rw (one, line_here) refl)
 unreferred_by settings next behind count (inr two) counted tag =
-    before_tag settings count behind two (grind (arith, common_steps, eols_here_two))
+    subst (Unreferred settings) counted (unreferred settings two next (tag two))
 
 -- ---- The tests together
 
