@@ -1,10 +1,10 @@
 -- Lines before zeros: none is short.
 use Rattle.fax_reading.proofs.Names.{DecodeSettings, is_prefix_free, UnexpectedEof, LineIsSettled, common_steps, EncodingMode, []}
-use Rattle.fax_reading.proofs.Names.{IsWord, Option, false, subst, arith, Color, paint, start, refl, Bits, Code, Turn, Some, Bool}
+use Rattle.fax_reading.proofs.Names.{Result, Group4, false, subst, arith, Color, paint, start, Bits, Code, Turn, Some, Bool, None}
 use Rattle.fax_reading.proofs.Names.{replicate, Group3_1D, Group3_2D, read_code, line_here, Overflow, codes_of, run_turn, line_by}
-use Rattle.fax_reading.proofs.Names.{run_from, is_short, cases_lt, line_1d, line_2d, le-ltb, lt-ltb, length, Result, Group4, None}
-use Rattle.fax_reading.proofs.Names.{true, cond, List, ◌++◌, Line, suc, ◌+◌, ◌∷◌, Err, sym, ◌∙◌, inl, inr, Has, Row, ◌≤◌, ◌≡◌, Ok}
-use Rattle.fax_reading.proofs.Names.{unless_fault, DecodeError, LinesSettle, StaysAsRead, mode_codes, place_from, misses_end, ◌↔◌}
+use Rattle.fax_reading.proofs.Names.{run_from, is_short, cases_lt, line_1d, line_2d, IsWord, Option, le-ltb, lt-ltb, length, refl}
+use Rattle.fax_reading.proofs.Names.{true, cond, List, ◌++◌, Line, ◌+◌, ◌∷◌, Err, sym, ◌∙◌, inl, inr, Has, Row, ◌≤◌, ◌≡◌, ◌↔◌, Ok}
+use Rattle.fax_reading.proofs.Names.{unless_fault, DecodeError, LinesSettle, StaysAsRead, mode_codes, place_from, misses_end, suc}
 use Rattle.fax_bits.proofs.BitReading.ZerosInWords.{scan-append, scan_below, scan_holds, word_quiet, codes_free, modes_free, scan}
 use Rattle.fax_bits.proofs.CodeWords.{ReadRuns.run_shrinks, ReadRuns.size, ReadCodes.read_code_found, CodeReadings.reads_codes}
 use Rattle.fax_bits.proofs.{Repetition.Repeated.repeated_induct, BitReading.ZerosInWords.quiet_is, ErrorKinds.not_missing_end}

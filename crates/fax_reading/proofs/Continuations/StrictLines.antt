@@ -1,9 +1,9 @@
 -- The strict reading of a line that isn't short.
-use Rattle.fax_reading.proofs.Names.{draw_2d, painted, line_by, line_1d, line_2d, length, Group4, arith, false, Color, paint, ◌≡◌}
-use Rattle.fax_reading.proofs.Names.{mode_here, line_here, Vertical, repeated, opposite, draw_run, run_here, is_short, draw_1d}
+use Rattle.fax_reading.proofs.Names.{Group3_2D, draw_mode, Vertical, repeated, opposite, draw_run, run_here, is_short, painted}
+use Rattle.fax_reading.proofs.Names.{line_by, line_1d, line_2d, draw_1d, Drawing, length, Group4, arith, false, Color, paint, ◌≡◌}
 use Rattle.fax_reading.proofs.Names.{start, go_on, ◌>>=◌, zero, Bool, true, refl, Mode, Pass, Bits, Turn, Line, suc, ◌∷◌, ◌⊎◌, []}
 use Rattle.fax_reading.proofs.Names.{too_many_pixels, DecodeSettings, UnexpectedEof, LineIsSettled, common_steps, EncodingMode, ℕ}
-use Rattle.fax_reading.proofs.Names.{unless_fault, unless_full, turn_behind, Horizontal, Group3_1D, Group3_2D, draw_mode, Drawing}
+use Rattle.fax_reading.proofs.Names.{unless_fault, unless_full, turn_behind, Horizontal, mode_here, line_here, Group3_1D, draw_2d}
 use Rattle.fax_reading.proofs.{Continuations.LinesContinued.line_settled, Names.inl, Names.inr, Names.Row, Names.Pen}
 use Rattle.fax_reading.specs.Laws.{strictly}
 

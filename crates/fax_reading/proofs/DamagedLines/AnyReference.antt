@@ -1,14 +1,14 @@
 -- A two-dimensional line, read against any reference row: it ends behind one of its modes or is broken, so that the next
 -- EOL is the one behind it.
-use Rattle.fax_reading.proofs.Names.{EncodesLine2D, append_assoc, EncodingMode, common_steps, DecodeError, InvalidCode, read_code}
-use Rattle.fax_reading.proofs.Names.{after_eol, Vertical, Overflow, opposite, codes_of, run_from, read_run, line_2d, line_by, ◌≡◌}
-use Rattle.fax_reading.proofs.Names.{behind_mode, behind_read, Horizontal, mode_codes, ReadsModes, line_here, Group3_2D, cases_lt}
+use Rattle.fax_reading.proofs.Names.{Group3_2D, Overflow, opposite, codes_of, run_from, read_run, cases_lt, line_2d, line_by, ◌≡◌}
+use Rattle.fax_reading.proofs.Names.{UnexpectedEof, append_assoc, EncodingMode, common_steps, DecodeError, InvalidCode, read_code}
+use Rattle.fax_reading.proofs.Names.{behind_mode, behind_read, Horizontal, mode_codes, ReadsModes, after_eol, line_here, Vertical}
 use Rattle.fax_reading.proofs.Names.{length, Option, lt-ltb, le-ltb, lt-leb, Spells, false, subst, arith, Color, White, paint, []}
-use Rattle.fax_reading.proofs.Names.{replicate-append-replicate, behind_first_run, DecodeSettings, length-append, UnexpectedEof}
+use Rattle.fax_reading.proofs.Names.{replicate-append-replicate, behind_first_run, DecodeSettings, EncodesLine2D, length-append}
 use Rattle.fax_reading.proofs.Names.{start, Bool, true, ◌++◌, Some, None, refl, Mode, Pass, Bits, Turn, Line, Step, suc, ◌+◌, ◌-◌}
 use Rattle.fax_reading.proofs.Names.{◌≤◌, ◌∷◌, Err, sym, ◌∙◌, ◌⊎◌, inl, inr, Has, Row, Pen, Ok, ap, ℕ}
-use Rattle.fax_bits.proofs.BitReading.ZerosInWords.{quiet_is}
-use Rattle.fax_bits.proofs.BitReading.ZerosInWords.{scan-append, scan_below, word_quiet, codes_free, modes_free, is_quiet, scan}
+use Rattle.fax_bits.proofs.BitReading.ZerosInWords.{is_quiet}
+use Rattle.fax_bits.proofs.BitReading.ZerosInWords.{scan-append, scan_below, word_quiet, codes_free, modes_free, quiet_is, scan}
 use Rattle.fax_bits.proofs.CodeWords.ReadRuns.{run_goes_on, run_passes, run_ends}
 use Rattle.fax_bits.proofs.{Repetition.Repeated.repeated_keeps, Repetition.Repeated.next_is, CodeWords.ReadCodes.read_code_again}
 use Rattle.fax_reading.proofs.DamagedLines.PastEol.{after_eol_is, past}

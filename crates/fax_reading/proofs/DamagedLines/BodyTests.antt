@@ -1,13 +1,14 @@
 -- The tests of a local body, as they are made.
-use Rattle.fax_reading.proofs.Names.{Group3_1D, DrawsLine, after_eol, ltb-true, leb-true, eqb-true, next_eol, is_some, line_1d, ℕ}
 use Rattle.fax_reading.proofs.Names.{IsLocal, length, Option, IsTrue, lt-ltb, le-leb, lt-leb, eq-eqb, BitsAt, false, subst, arith}
 use Rattle.fax_reading.proofs.Names.{fresh, zero, true, ◌++◌, take, drop, Some, None, refl, Line, Bits, Bool, Held, here, ◌≡◌, []}
-use Rattle.fax_reading.proofs.Names.{length-drop, DecodeError, OutOfMemory, EndsBefore, replicate, none-some, drop-drop, cases_lt}
+use Rattle.fax_reading.proofs.Names.{length-drop, DecodeError, OutOfMemory, EndsBefore, Group3_1D, DrawsLine, after_eol, ltb-true}
+use Rattle.fax_reading.proofs.Names.{replicate, none-some, drop-drop, leb-true, eqb-true, next_eol, cases_lt, is_some, line_1d, ℕ}
 use Rattle.fax_reading.proofs.Names.{take-append-drop, DecodeSettings, length-append, leading_zeros, line_from_1d, common_steps}
 use Rattle.fax_reading.proofs.Names.{◌≢◌, suc, ◌+◌, ◌-◌, ◌<◌, ◌≤◌, ◌⊎◌, eqb, ltb, leb, ◌∷◌, Err, sym, ◌∙◌, ◌↔◌, Row, ap}
 use Rattle.fax_bits.proofs.BitReading.ConsecutiveEols.{next_eol_found}
-use Rattle.fax_reading.proofs.DamagedLines.PastEol.{past_shorter, then_after, past-front, past_is, past}
+use Rattle.fax_reading.proofs.DamagedLines.PastEol.{then_after, past-front, past_is, past}
 use Rattle.fax_reading.proofs.DamagedLines.{LocalByTests.local_by_tests, LineStarts.not_some}
+use Rattle.fax_reading.proofs.KeptRows.EqualFronts.{past_front}
 
 -- ---- An EOL before a position.
 -- the EOL of the twelve bits before a position ends there
@@ -37,12 +38,6 @@ pub one_by_zeros : (m zeros : ℕ) (here : Bits) → m ≤ length here → zeros
 one_by_zeros m zeros here fits is = grind (arith, common_steps, cases_lt, lt-ltb, ltb-true, one_in_front, zeros_only)
 
 -- ---- An EOL in a body.
-past-behind : (seen : ℕ) (front after more : Bits) → past seen front ≡ None → past seen (front ++ more) ≡ Some after
-    → length after < length more
-past-behind seen [] after more none e = past_shorter seen more after e
-past-behind seen (false ∷ front) after more none e = past-behind (suc seen) front after more none e
-past-behind seen (true ∷ front) after more none e = grind (arith, past-behind 0 front after more)
-
 -- an EOL is found where one ends
 found_ends : (here : Bits) → is_some (next_eol here) ≡ is_some (past 0 here)
 found_ends here = by_next_eol (next_eol here) refl ∙ ap is_some (sym (past_is here))
@@ -71,7 +66,12 @@ eol_in_front m here found after next eol = found_ends (take m here) ∙ by_past 
 
     by_past : (o : Option Bits) → past 0 (take m here) ≡ o
         → is_some (past 0 (take m here)) ≡ leb (length (drop m here)) (length after)
-    by_past None e = grind (arith, lt-leb, past-behind, whole)
+    by_past None e = grind (
+      arith,
+      lt-leb,
+      cases_lt (length after) (length (drop m here)),
+      past_front (drop m here) 0 (take m here) after whole,
+    )
     by_past (Some front) e =
         grind (arith, common_steps, past-front 0 (take m here) front (drop m here) e, whole, le-leb, length-append)
 

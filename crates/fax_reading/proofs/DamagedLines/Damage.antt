@@ -1,25 +1,19 @@
 -- Damage to one line changes its row alone.
-use Rattle.fax_bits.proofs.BitReading.ConsecutiveEols.{counts_plain}
-use Rattle.fax_bits.proofs.Repetition.Repeated.{reached_follows}
-use Rattle.fax_reading.proofs.DamagedLines.EolsAlike.{all_eols_kept, IsLineIn, Ends}
-use Rattle.fax_reading.proofs.DamagedLines.LineTails.{eol_closes, line_in_1d, stays_1d}
-use Rattle.fax_reading.proofs.DamagedLines.LinesByEols.{seeks}
-use Rattle.fax_reading.proofs.DamagedLines.PastEol.{past_shorter, past}
+use Rattle.fax_reading.proofs.Names.{AreSettings, length-drop, append-nil, row_before, first_line, after_eol, cases_lt, cases_eq}
+use Rattle.fax_reading.proofs.Names.{AreWholeBytes, OneRowDiffers, length-append, bytes_before, common_steps, DecodeError, length}
+use Rattle.fax_reading.proofs.Names.{Ending, end_of, EndsAt, subst, arith, plain, IsEol, refl, Bits, Bool, true, ◌||◌, List, ◌++◌}
+use Rattle.fax_reading.proofs.Names.{Ok, ap, [], ℕ}
+use Rattle.fax_reading.proofs.Names.{append_cancel_right, take-append-drop, DamageStaysInRow, DecodeSettings, UnexpectedEof, None}
+use Rattle.fax_reading.proofs.Names.{repeated, all_eols, Progress, EndAlike, Locality, move_on, IsLocal, Reading, Result, set_at}
+use Rattle.fax_reading.proofs.Names.{take, drop, ◌≡◌, suc, ◌+◌, ◌-◌, ◌*◌, ◌/◌, ◌<◌, ltb, ◌∷◌, Err, sym, ◌∙◌, ◌⊎◌, inl, inr, Row}
+use Rattle.fax_bits.proofs.{BitReading.ConsecutiveEols.counts_plain, Repetition.Repeated.reached_follows}
 use Rattle.fax_reading.proofs.DamagedLines.RunsAlike.{moves_alike, LinesDiffer, not_group4, RowsAlike, EndsAlike, RunsAlike}
-use Rattle.fax_reading.proofs.DamagedLines.RunsAlike.{Begun}
-use Rattle.fax_reading.proofs.DamagedLines.SoughtTurns.{sought_line_is, sought}
-use Rattle.fax_reading.proofs.DrawingLines.LinesLeaveBits.{LeavesBits}
-use Rattle.fax_reading.proofs.GapsContinued.ContinuedEols.{count_then_more}
-use Rattle.fax_reading.proofs.KeptRows.TurnsLeave.{count_leaves}
-use Rattle.fax_reading.proofs.Names.{DecodeError, AreSettings, append-nil, row_before, first_line, after_eol, cases_lt, cases_eq}
-use Rattle.fax_reading.proofs.Names.{None, refl, Bits, Bool, ◌≡◌, suc, ◌+◌, ◌-◌, ◌*◌, ◌/◌, ◌<◌, ltb, ◌∷◌, Err, sym, ◌∙◌, ◌⊎◌, inl}
-use Rattle.fax_reading.proofs.Names.{UnexpectedEof, AreWholeBytes, OneRowDiffers, bytes_before, common_steps, length-drop, length}
-use Rattle.fax_reading.proofs.Names.{append_cancel_right, take-append-drop, DamageStaysInRow, DecodeSettings, length-append, true}
-use Rattle.fax_reading.proofs.Names.{inr, Row, Ok, ap, ℕ, repeated, all_eols, Progress, EndAlike, Locality, move_on, IsLocal}
-use Rattle.fax_reading.proofs.Names.{Reading, Result, set_at, Ending, end_of, EndsAt, subst, arith, plain, IsEol, ◌||◌, List}
-use Rattle.fax_reading.proofs.Names.{◌++◌, take, drop, []}
-use Rattle.fax_reading.proofs.Readings.GapsAndRows.{plain_is, end_t4}
+use Rattle.fax_reading.proofs.DamagedLines.{EolsAlike.all_eols_kept, EolsAlike.IsLineIn, EolsAlike.Ends, LinesByEols.seeks}
+use Rattle.fax_reading.proofs.DamagedLines.{LineTails.eol_closes, LineTails.line_in_1d, LineTails.stays_1d, PastEol.past_shorter}
+use Rattle.fax_reading.proofs.DamagedLines.{SoughtTurns.sought_line_is, SoughtTurns.sought, RunsAlike.Begun}
 use Rattle.fax_reading.proofs.Readings.TurnsMoveOn.{left_to_read, move_shrinks, left_below}
+use Rattle.fax_reading.proofs.{GapsContinued.ContinuedEols.count_then_more, DrawingLines.LinesLeaveBits.LeavesBits}
+use Rattle.fax_reading.proofs.{Readings.GapsAndRows.plain_is, Readings.GapsAndRows.end_t4, KeptRows.TurnsLeave.count_leaves}
 
 -- ---- From the ends of two runs to their results
 

@@ -1,22 +1,19 @@
 -- Damage to a line of two-dimensional data ends at the next one-dimensional line.
+use Rattle.fax_reading.proofs.Names.{ComesBefore1D, length-append, AreWholeBytes, IsTaggedBody, ComeBefore1D, EncodingMode, false}
+use Rattle.fax_reading.proofs.Names.{Group3_2D, after_eol, line_here, eols_here, EndAlike, IsLine2D, cases_lt, cases_eq, one_more}
+use Rattle.fax_reading.proofs.Names.{common_steps, DecodeError, AreSettings, tagged_eols, LocalityByK, RowsDiffer, cond-true, ◌≡◌}
+use Rattle.fax_reading.proofs.Names.{drop, Some, None, Bits, List, suc, ◌-◌, ◌<◌, ◌≤◌, ◌∷◌, sym, ◌∙◌, ◌⊎◌, inl, inr, Row, ◌+◌, ap}
+use Rattle.fax_reading.proofs.Names.{length-replicate, DecodeSettings, DamageEndsAt1D, EncodesLine2D, pass_last_tag, append_assoc}
+use Rattle.fax_reading.proofs.Names.{line_by, eols_by, IsEolAt, length, Result, eq-eqb, subst, arith, White, plain, zero, ◌++◌, ℕ}
+use Rattle.std.proofs.Math.Seq.{take-append_seam, drop-append-add}
 use Rattle.fax_bits.proofs.BitReading.ConsecutiveEols.{after_eol_shorter, all_tagged-some, all_tagged-none, next_eol_found}
-use Rattle.fax_bits.proofs.Repetition.Repeated.{next_is}
 use Rattle.fax_reading.proofs.DamagedLines.AnyReference.{encoded_ends, quiet_line, modes_read, scan_past}
-use Rattle.fax_reading.proofs.DamagedLines.Damage.{damage}
-use Rattle.fax_reading.proofs.DamagedLines.EolsAlike.{IsLineIn}
 use Rattle.fax_reading.proofs.DamagedLines.LineTails.{line_past_by, past_before, line_in_2d, stays_2d}
 use Rattle.fax_reading.proofs.DamagedLines.PastEol.{after_eol_is, then_after, past_is, past}
 use Rattle.fax_reading.proofs.DamagedLines.RunsAlike.{LinesDiffer, Unreferred, RowsAlike, Settles, Begun}
-use Rattle.fax_reading.proofs.DamagedLines.SoughtTurns.{eols_here_same, found_next, rest_of, sought}
-use Rattle.fax_reading.proofs.EncodedPictures.PicturesT4.{line_2d_after_tag}
-use Rattle.fax_reading.proofs.Names.{EncodesLine2D, pass_last_tag, ComesBefore1D, append_assoc, IsTaggedBody, ComeBefore1D, false}
-use Rattle.fax_reading.proofs.Names.{EncodingMode, DecodeError, AreSettings, tagged_eols, LocalityByK, RowsDiffer, [], EndAlike}
-use Rattle.fax_reading.proofs.Names.{IsLine2D, line_by, eols_by, IsEolAt, length, Result, eq-eqb, subst, arith, White, plain}
-use Rattle.fax_reading.proofs.Names.{zero, ◌++◌, take, drop, Some, None, refl, Bits, List, ◌≡◌, suc, ◌-◌, ◌<◌, ◌≤◌, cond-true}
-use Rattle.fax_reading.proofs.Names.{Group3_2D, after_eol, line_here, eols_here, cases_lt, cases_eq, one_more, length-replicate}
-use Rattle.fax_reading.proofs.Names.{DecodeSettings, DamageEndsAt1D, length-append, AreWholeBytes, common_steps, ◌∷◌, sym, ◌∙◌}
-use Rattle.fax_reading.proofs.Names.{◌⊎◌, inl, inr, Row, ap, ℕ}
-use Rattle.fax_reading.proofs.Readings.TurnsMoveOn.{eols_end}
+use Rattle.fax_reading.proofs.DamagedLines.SoughtTurns.{eols_here_same, found_next, rest_of}
+use Rattle.fax_reading.proofs.{EncodedPictures.PicturesT4.line_2d_after_tag, DamagedLines.EolsAlike.IsLineIn}
+use Rattle.fax_reading.proofs.{Readings.TurnsMoveOn.eols_end, DamagedLines.Damage.damage}
 
 -- ---- The lines that follow
 
@@ -86,20 +83,15 @@ module _ (settings : DecodeSettings) (encoding : settings.encoding ≡ Group3_2D
 -- ---- Rows of which some may differ
 
 drop_past : {A : Type 0} (n : ℕ) (front rest : List A) → length front ≤ n → drop n (front ++ rest) ≡ drop (n - length front) rest
-drop_past n [] rest le = ap (λ (m : ℕ). drop m rest) (let e : n ≡ n - 0 = omega arith in e)
-drop_past zero (a ∷ front) rest le = absurd (omega arith)
-drop_past (suc n) (a ∷ front) rest le = grind (arith, common_steps, drop_past n front rest (omega arith))
-
-pub take_front : {A : Type 0} (front rest : List A) → take (length front) (front ++ rest) ≡ front
-take_front [] rest = refl
-take_front {A} (a ∷ front) rest = ap (λ (l : List A). a ∷ l) (take_front front rest)
+drop_past n front rest le = let e : n ≡ length front + (n - length front) = omega arith in
+    ap (λ (m : ℕ). drop m (front ++ rest)) e ∙ drop-append-add front rest (n - length front)
 
 -- rows that are alike differ in that many at most
 rows_differ : (settings : DecodeSettings) (one two : Bits) (from differ : ℕ) (rows others : List Row)
     → RowsAlike differ (Begun settings one two from) rows others → RowsDiffer settings one two from differ rows others
 rows_differ settings one two from differ rows others (inl e) = inl (sym e)
 rows_differ settings one two from differ rows others (inr (before, these, those, more, same, few, e, f, begins)) =
-    grind (arith, common_steps, take_front before (these ++ more), append_assoc, drop_past)
+    grind (arith, common_steps, take-append_seam before (these ++ more), append_assoc, drop_past)
 
 -- the law
 pub locality_by_k : LocalityByK

@@ -1,15 +1,16 @@
 -- The lines of an encoding with EOLs are bodies that damage may change.
-use Rattle.fax_reading.proofs.Names.{DecodeSettings, length-append, EncodesLine1D, EncodesLine2D, append_assoc, IsTaggedBody, suc}
-use Rattle.fax_reading.proofs.Names.{EncodedLinesAreBodies, EncodesRowsWithEols, length-replicate, take-append-drop, common_steps}
-use Rattle.fax_reading.proofs.Names.{Pass, Line, ◌+◌, ◌-◌, ◌<◌, ◌≤◌, ◌∷◌, sym, ◌∙◌, ◌⊎◌, inl, inr, Row, eol, ◌≡◌, [], ap, ℕ}
+use Rattle.fax_reading.proofs.Names.{DecodeSettings, length-append, EncodesLine1D, EncodesLine2D, IsTaggedBody, common_steps, suc}
+use Rattle.fax_reading.proofs.Names.{EncodedLinesAreBodies, EncodesRowsWithEols, length-replicate, take-append-drop, append_assoc}
+use Rattle.fax_reading.proofs.Names.{None, refl, ◌+◌, ◌-◌, ◌<◌, ◌≤◌, ◌∷◌, sym, ◌∙◌, ◌⊎◌, inl, inr, Row, eol, ◌≡◌, [], ap, ℕ}
 use Rattle.fax_reading.proofs.Names.{length-drop, IsTagOfLine, EncodesLine, append-nil, Horizontal, row_before, Group3_2D, lt-leb}
 use Rattle.fax_reading.proofs.Names.{line_here, HaveWidth, after_eol, replicate, drop-drop, Vertical, opposite, one_more, left_of}
 use Rattle.fax_reading.proofs.Names.{past_tag, cases_lt, All-head, All-tail, le-leb, IsWord, Spells, Option, length, IsEol, false}
-use Rattle.fax_reading.proofs.Names.{subst, arith, Color, White, Bits, zero, Bool, true, List, ◌++◌, take, drop, Some, None, refl}
+use Rattle.fax_reading.proofs.Names.{subst, arith, Color, White, Pass, Line, Bits, zero, Bool, true, List, ◌++◌, take, drop, Some}
+use Rattle.std.proofs.Math.Seq.{drop-append_seam}
 use Rattle.fax_bits.proofs.BitReading.ConsecutiveEols.{after_eol_shorter, past_tag_shorter, all_tagged-some, all_tagged-none}
 use Rattle.fax_bits.proofs.BitReading.{ZerosInWords.holds_a_one, ZerosInWords.word_one, ConsecutiveEols.all_tagged}
 use Rattle.fax_reading.proofs.DamagedLines.AnyReference.{quiet_append, leaves_next, quiet_line, quiet_run, scan_past, Quiet}
-use Rattle.fax_reading.proofs.DamagedLines.LineTails.{after_eol_more, past_before, drop_front, first_one, drop_at}
+use Rattle.fax_reading.proofs.DamagedLines.LineTails.{after_eol_more, past_before, first_one, drop_at}
 use Rattle.fax_reading.proofs.DamagedLines.{PastEol.after_eol_is, PastEol.past-eol, PastEol.past, EolsAlike.one_tagged}
 use Rattle.fax_reading.proofs.DrawingLines.LinesLeaveBits.{leaves_trans, LeavesBits}
 use Rattle.fax_reading.proofs.EncodedPictures.{EncodedRuns.line_1d_again, PicturesT4.eol_stands}
@@ -224,7 +225,7 @@ module _ (settings : DecodeSettings) (encoding : settings.encoding ≡ Group3_2D
   to = from + length line
 
   line_on : drop from whole ≡ line ++ next
-  line_on = drop_front (front ++ eol fill) (line ++ next)
+  line_on = drop-append_seam (front ++ eol fill) (line ++ next)
 
   next_on : drop to whole ≡ next
   next_on = drop_at whole ((front ++ eol fill) ++ line) next to (sym (append_assoc (front ++ eol fill) line next))
@@ -286,7 +287,7 @@ module _ (settings : DecodeSettings) (encoding : settings.encoding ≡ Group3_2D
       sizes = grind (arith, common_steps, length-append, length-replicate)
 
       stands : after_eol 0 (drop (length front) whole) ≡ Some (drop from whole)
-      stands = grind (arith, common_steps, append_assoc, drop_front, eol_stands, line_on)
+      stands = grind (arith, common_steps, append_assoc, drop-append_seam, eol_stands, line_on)
 
       line_is : line ++ next ≡ (is.tag ∷ is.one.0) ++ true ∷ (is.one.1 ++ next)
       line_is = grind (arith, common_steps, append_assoc)
@@ -332,4 +333,4 @@ encoded_lines_are_bodies settings reference above row rows front line next fill 
     body settings encoding lenient (omega (arith, are.columns)) above row front line next after fill width encodes is eol_next
     (λ place count e. few_tags front (line ++ next) fill last (drop place ((front ++ eol fill) ++ (line ++ next))) count
     (take place ((front ++ eol fill) ++ (line ++ next)), sym (take-append-drop place ((front ++ eol fill) ++ (line ++ next)))) (e
-    ∙ ap (λ (b : Bits). (count, b)) (drop_front (front ++ eol fill) (line ++ next))))
+    ∙ ap (λ (b : Bits). (count, b)) (drop-append_seam (front ++ eol fill) (line ++ next))))

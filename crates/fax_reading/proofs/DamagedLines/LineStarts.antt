@@ -1,8 +1,8 @@
 -- Where lines begin, by positions.
+use Rattle.fax_reading.proofs.Names.{Bool, true, cond, ◌&&◌, ◌≡◌, suc, ◌+◌, ◌<◌, ◌≤◌, not, leb, ◌∷◌, sym, ◌∙◌, ◌⊎◌, inl, inr, All}
 use Rattle.fax_reading.proofs.Names.{Contains-append_right, Contains-append_cases, append_cancel_left, take-append-drop, Contains}
-use Rattle.fax_reading.proofs.Names.{List, ◌++◌, take, drop, ◌≡◌, suc, ◌+◌, ◌<◌, ◌≤◌, not, leb, ◌∷◌, sym, ◌∙◌, ◌⊎◌, inl, inr, All}
 use Rattle.fax_reading.proofs.Names.{cases_lt, leb-true, and_from, all_eols, Descends, is_some, All-nil, IsStart, length, Option}
-use Rattle.fax_reading.proofs.Names.{le-leb, at_end, starts, false, arith, Some, None, refl, Bits, zero, Bool, true, cond, ◌&&◌}
+use Rattle.fax_reading.proofs.Names.{le-leb, at_end, starts, false, arith, List, ◌++◌, take, drop, Some, None, refl, Bits, zero}
 use Rattle.fax_reading.proofs.Names.{length-drop, begins_line, All-append, All-weaker, replicate, and_parts, after_eol, StartsAre}
 use Rattle.fax_reading.proofs.Names.{length-replicate, not_from_false, length-append, append_assoc, later_starts, common_steps, ℕ}
 use Rattle.fax_bits.proofs.BitReading.ConsecutiveEols.{after_eol_shorter, all_eols-some, all_eols-none, eol_of}

@@ -1,24 +1,20 @@
 -- What the premises of locality say of the bits from a line on, and of those before it.
-use Rattle.fax_reading.proofs.Names.{DecodeSettings, length-append, line_of_turn, IsTaggedBody, common_steps, length-drop, length}
-use Rattle.fax_reading.proofs.Names.{IsPrefix, past_tag, Reaches, move_on, IsLocal, Option, lt-leb, le-leb, false, arith, IsEol}
-use Rattle.fax_reading.proofs.Names.{first_line, row_before, replicate, drop-drop, after_eol, line_here, Group3_2D, cases_lt, ◌≡◌}
-use Rattle.fax_reading.proofs.Names.{replicate-append-replicate, length-replicate, take-append-drop, length-take-le, append_assoc}
+use Rattle.fax_reading.proofs.Names.{first_line, row_before, replicate, drop-drop, after_eol, line_here, Group3_2D, IsPrefix, ◌≡◌}
+use Rattle.fax_reading.proofs.Names.{length-take-le, length-append, IsTaggedBody, common_steps, append_assoc, length-drop, length}
+use Rattle.fax_reading.proofs.Names.{past_tag, cases_lt, Reaches, move_on, IsLocal, Option, lt-leb, le-leb, false, arith, IsEol}
+use Rattle.fax_reading.proofs.Names.{replicate-append-replicate, length-replicate, take-append-drop, DecodeSettings, line_of_turn}
 use Rattle.fax_reading.proofs.Names.{zero, true, List, ◌++◌, take, drop, Some, None, refl, Line, Bits, suc, ◌+◌, ◌-◌, ◌<◌, ◌≤◌, ℕ}
 use Rattle.fax_reading.proofs.Names.{◌∷◌, sym, ◌∙◌, Row, inl, inr, [], ap}
+use Rattle.std.proofs.Math.Seq.{drop-append_seam}
 use Rattle.fax_bits.proofs.BitReading.ConsecutiveEols.{all_tagged}
 use Rattle.fax_reading.proofs.DamagedLines.EolsAlike.{IsLineIn, Closes}
 use Rattle.fax_reading.proofs.DamagedLines.PastEol.{next_eol_leaves, after_eol_is, past_later, eol_at_one, past-eol, past}
 use Rattle.fax_reading.proofs.DamagedLines.SoughtTurns.{sought_line_is, found_next, rest_of, sought}
 use Rattle.fax_reading.proofs.DrawingLines.LinesLeaveBits.{line_by_leaves, LineLeaves}
 
--- without a prefix the rest is left
-pub drop_front : {A : Type 0} (front rest : List A) → drop (length front) (front ++ rest) ≡ rest
-drop_front [] rest = refl
-drop_front (a ∷ front) rest = drop_front front rest
-
--- the same, at a number
+-- without a prefix, of this length, the rest is left
 pub drop_at : {A : Type 0} (whole front rest : List A) (n : ℕ) → whole ≡ front ++ rest → length front ≡ n → drop n whole ≡ rest
-drop_at whole front rest n e f = ap (drop n) e ∙ ap (λ (k : ℕ). drop k (front ++ rest)) (sym f) ∙ drop_front front rest
+drop_at whole front rest n e f = ap (drop n) e ∙ ap (λ (k : ℕ). drop k (front ++ rest)) (sym f) ∙ drop-append_seam front rest
 
 -- they are eleven zeros behind more
 pub zeros_of_eol : (here rest : Bits) → after_eol 0 here ≡ Some rest

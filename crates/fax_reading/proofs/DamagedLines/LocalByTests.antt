@@ -1,9 +1,10 @@
 -- Locality of a body, as tests of the bits.
-use Rattle.fax_reading.proofs.Names.{DecodeSettings, IsLocalByTests, length-append, LocalByTests, common_steps, length-drop, zero}
+use Rattle.fax_reading.proofs.Names.{IsLocalByTests, length-take-le, length-append, common_steps, append_assoc, length-drop, zero}
 use Rattle.fax_reading.proofs.Names.{replicate, drop-drop, after_eol, next_eol, IsLocal, length, Option, false, arith, IsEol, ◌≡◌}
-use Rattle.fax_reading.proofs.Names.{replicate-append-replicate, length-replicate, take-append-drop, length-take-le, append_assoc}
+use Rattle.fax_reading.proofs.Names.{replicate-append-replicate, length-replicate, take-append-drop, DecodeSettings, LocalByTests}
 use Rattle.fax_reading.proofs.Names.{true, List, ◌++◌, take, drop, Some, None, refl, Bits, ◌≢◌, suc, ◌+◌, ◌-◌, ◌<◌, ◌≤◌, ◌∷◌, sym}
 use Rattle.fax_reading.proofs.Names.{◌∙◌, inl, inr, [], ap, ℕ}
+use Rattle.std.proofs.Math.Seq.{take-add}
 use Rattle.fax_bits.proofs.BitReading.ConsecutiveEols.{next_eol_found, eol_of}
 use Rattle.fax_reading.proofs.DamagedLines.LineTails.{none_in_body, drop_at, body_1d}
 use Rattle.fax_reading.proofs.DamagedLines.PastEol.{after_eol_is, then_after, past_is}
@@ -38,10 +39,8 @@ take_zeros zero (suc m) rest lt = let e : suc m - (0 + 1) ≡ m = omega arith in
 take_zeros (suc k) (suc m) rest lt = grind (arith, common_steps, rest, take_zeros k m rest (omega arith))
 
 take-split : {A : Type 0} (j m : ℕ) (xs : List A) → j ≤ m → take m xs ≡ take j xs ++ take (m - j) (drop j xs)
-take-split zero m xs le = let e : m - 0 ≡ m = omega arith in ap (λ (n : ℕ). take n xs) (sym e)
-take-split (suc j) zero xs le = absurd (omega arith)
-take-split (suc j) (suc m) [] le = grind (arith, common_steps)
-take-split {A} (suc j) (suc m) (x ∷ xs) le = grind (arith, common_steps, take-split j m xs (omega arith))
+take-split j m xs le =
+    let e : m ≡ j + (m - j) = omega arith in ap (λ (n : ℕ). take n xs) e ∙ take-add j (m - j) xs
 
 -- how far an EOL reaches
 eol_lengths : (bits : Bits) (place end zeros : ℕ) → drop place bits ≡ replicate zeros false ++ true ∷ drop end bits

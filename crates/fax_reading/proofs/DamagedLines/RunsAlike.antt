@@ -1,9 +1,9 @@
 -- Two runs over data that differ in one line.
-use Rattle.fax_reading.proofs.Names.{Group4, Ending, false, subst, arith, IsEol, Turn, Line, Move, Bits, Bool, List, drop, take}
-use Rattle.fax_reading.proofs.Names.{eqb-true, next_eol, Progress, repaired, move_on, Reaches, at_end, row_of, length, Option, []}
-use Rattle.fax_reading.proofs.Names.{is_end_of_block, DecodeSettings, length-append, common_steps, append_assoc, EncodingMode, Ok}
+use Rattle.fax_reading.proofs.Names.{eqb-true, next_eol, Progress, repaired, move_on, Reaches, Group4, Ending, at_end, row_of, ap}
+use Rattle.fax_reading.proofs.Names.{is_end_of_block, DecodeSettings, length-append, common_steps, append_assoc, EncodingMode, []}
+use Rattle.fax_reading.proofs.Names.{length, Option, false, subst, arith, IsEol, Turn, Line, Move, Bits, Bool, List, drop, take}
 use Rattle.fax_reading.proofs.Names.{line_of_turn, length-drop, DecodeError, InvalidCode, after_line, first_line, cases_Bool, suc}
-use Rattle.fax_reading.proofs.Names.{misses_eol, row_before, and_parts, after_eol, limit_met, ends_with, eols_here, line_here, ap}
+use Rattle.fax_reading.proofs.Names.{misses_eol, row_before, and_parts, after_eol, limit_met, ends_with, eols_here, line_here, Ok}
 use Rattle.fax_reading.proofs.Names.{zero, true, cond, ◌&&◌, ◌++◌, Some, None, refl, ◌+◌, ◌<◌, ◌≤◌, not, eqb, ◌∷◌, Err, sym, ◌≡◌}
 use Rattle.fax_reading.proofs.Names.{◌∙◌, ◌⊎◌, inl, inr, ◌≢◌, Row, ℕ}
 use Rattle.fax_bits.proofs.BitReading.ConsecutiveEols.{next_eol_found, cond_le}

@@ -1,12 +1,12 @@
 -- What a step of a line paints, and what that says of the finished line.
-use Rattle.fax_reading.proofs.Names.{Bool, true, ◌++◌, Some, refl, OnOk, ◌+ℤ◌, ints, Mode, ◌≡◌, ◌≢◌, ◌-◌, ◌<◌, ◌≤◌, ◌∷◌, w32, Err}
 use Rattle.fax_reading.proofs.Names.{Contains-append_right, Contains-append_left, too_many_pixels, DecodeSettings, length-append}
-use Rattle.fax_reading.proofs.Names.{DecodeError, OutOfMemory, front_after, step_of_run, turn_behind, Horizontal, mode_codes, Row}
-use Rattle.fax_reading.proofs.Names.{SomeIff, nat_abs, kind_of, Option, Result, IsTrue, le-leb, lt-leb, length, pen_of, BitsAt, ℤ}
-use Rattle.fax_reading.proofs.Names.{StopsAtChange, common_steps, append_assoc, FitsUnsigned, StoresChange, step_of_mode, IsFault}
-use Rattle.fax_reading.proofs.Names.{false, subst, arith, IfErr, OnErr, Color, start, paint, Step, Bits, here, Held, Line, Turn}
-use Rattle.fax_reading.proofs.Names.{front_of, HasBlack, is_black, opposite, right_of, run_from, cases_lt, Context, redrawn, Pass}
-use Rattle.fax_reading.proofs.Names.{place_from, last_pixel, false≢true, replicate, DrawsLine, DrawsStep, read_code, Vertical, b2}
+use Rattle.fax_reading.proofs.Names.{DecodeError, OutOfMemory, front_after, step_of_run, turn_behind, Horizontal, mode_codes, ◌≡◌}
+use Rattle.fax_reading.proofs.Names.{HasBlack, is_black, opposite, right_of, run_from, cases_lt, Vertical, nat_abs, kind_of, Bool}
+use Rattle.fax_reading.proofs.Names.{IsFault, Context, redrawn, Option, Result, IsTrue, le-leb, lt-leb, length, pen_of, BitsAt, ℤ}
+use Rattle.fax_reading.proofs.Names.{StopsAtChange, common_steps, append_assoc, FitsUnsigned, StoresChange, step_of_mode, SomeIff}
+use Rattle.fax_reading.proofs.Names.{false, subst, arith, IfErr, OnErr, Color, start, paint, true, ◌++◌, Some, refl, OnOk, ◌+ℤ◌}
+use Rattle.fax_reading.proofs.Names.{ints, Mode, Step, Bits, here, Held, Line, Turn, Pass, ◌≢◌, ◌-◌, ◌<◌, ◌≤◌, ◌∷◌, w32, Err, Row}
+use Rattle.fax_reading.proofs.Names.{place_from, last_pixel, false≢true, replicate, DrawsLine, DrawsStep, read_code, front_of, b2}
 use Rattle.fax_reading.proofs.Names.{sym, ◌∙◌, ◌⊎◌, inl, inr, ◌↔◌, pos, Pen, [], ap, Ok, b1, ℕ}
 use Rattle.fax_bits.proofs.CodeWords.ReadRuns.{read_code_shorter, some_where, chosen}
 use Rattle.fax_bits.proofs.{ErrorKinds.of_fault_kind, ErrorKinds.kind_weaker, Repetition.Repeated.after_turn}

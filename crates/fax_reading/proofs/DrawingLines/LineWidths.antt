@@ -1,6 +1,6 @@
 -- No line has more pixels than there are columns.
-use Rattle.fax_reading.proofs.Names.{Bool, ◌≤◌, Row, ℕ}
-use Rattle.fax_reading.proofs.Names.{common_steps, EncodingMode, front_of, line_1d, line_2d, line_by, length, arith, start, Bits}
+use Rattle.fax_reading.proofs.Names.{Bits, ◌≤◌, Row, ℕ}
+use Rattle.fax_reading.proofs.Names.{common_steps, EncodingMode, front_of, line_1d, line_2d, line_by, length, arith, start, Bool}
 use Rattle.fax_reading.proofs.DrawingLines.KeptInLines.{line_1d_keeps, line_2d_keeps, fronts_kept, AreKept}
 
 -- no step paints beyond the columns

@@ -1,6 +1,6 @@
 -- What a line leaves is a suffix of the bits that it began with.
-use Rattle.fax_reading.proofs.Names.{Line, Step, ◌≡◌, ◌∷◌, sym, ◌∙◌, Row, Pen, ap, ℕ}
-use Rattle.fax_reading.proofs.Names.{append_assoc, EncodingMode, line_1d, line_2d, line_by, arith, start, Bool, ◌++◌, refl, Bits}
+use Rattle.fax_reading.proofs.Names.{append_assoc, EncodingMode, line_1d, line_2d, line_by, arith, start, Line, Step, Bool, ◌++◌}
+use Rattle.fax_reading.proofs.Names.{refl, Bits, ◌≡◌, ◌∷◌, sym, ◌∙◌, Row, Pen, ap, ℕ}
 use Rattle.fax_reading.proofs.DrawingLines.Drawings.{step_1d, step_2d}
 use Rattle.fax_reading.proofs.DrawingLines.WhatFollows.{line_2d_found, line_1d_found, LineFound}
 

@@ -1,12 +1,12 @@
 -- Lines, a step at a time.
-use Rattle.fax_reading.proofs.Names.{Bool, true, Mode, Pass, Bits, Turn, Line, Step, ◌∙◌, sym, ◌≡◌, suc, ◌<◌, ◌≤◌, ◌⊎◌, inl, inr}
 use Rattle.fax_reading.proofs.Names.{Row, Pen, [], Ok}
 use Rattle.fax_reading.proofs.Names.{UnexpectedEof, common_steps, DecodeError, Horizontal, mode_codes, read_code, leb-true, subst}
-use Rattle.fax_reading.proofs.Names.{Vertical, opposite, run_from, line_1d, line_2d, length, Result, arith, paint, start, refl, ℕ}
+use Rattle.fax_reading.proofs.Names.{Vertical, opposite, run_from, line_1d, line_2d, length, Result, arith, paint, start, Bool, ℕ}
+use Rattle.fax_reading.proofs.Names.{true, Mode, Pass, Bits, Turn, Line, Step, refl, ◌∙◌, sym, ◌≡◌, suc, ◌<◌, ◌≤◌, ◌⊎◌, inl, inr}
 use Rattle.fax_bits.proofs.CodeWords.ReadRuns.{read_code_shorter, has_no_empty_word, run_shorter, chosen}
 use Rattle.fax_bits.proofs.Repetition.Repeated.{repeated_keeps, repeated_turn, after_turn, not_next, Shrinks, next_is}
-use Rattle.fax_reading.proofs.DrawingLines.Drawings.{drawn_by, step_1d, step_2d, try}
-use Rattle.fax_reading.proofs.DrawingLines.Drawings.{step_unless_full, horizontal_is, step_1d_is, step_2d_is, mode_step, run_then}
+use Rattle.fax_reading.proofs.DrawingLines.Drawings.{run_then, step_1d, step_2d, try}
+use Rattle.fax_reading.proofs.DrawingLines.Drawings.{step_unless_full, horizontal_is, step_1d_is, step_2d_is, mode_step, drawn_by}
 
 pub modes_not_empty : has_no_empty_word mode_codes ≡ true
 modes_not_empty = refl

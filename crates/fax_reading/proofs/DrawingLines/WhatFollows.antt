@@ -1,8 +1,8 @@
 -- What is read doesn't depend on what follows it.
-use Rattle.fax_reading.proofs.Names.{Step, ◌≡◌, suc, ◌+◌, ◌<◌, leb, Err, sym, ◌∙◌, inl, inr, Row, Pen, Ok, ap, []}
+use Rattle.fax_reading.proofs.Names.{Line, ◌≡◌, suc, ◌+◌, ◌<◌, leb, Err, sym, ◌∙◌, inl, inr, Row, Pen, Ok, ap, []}
 use Rattle.fax_reading.proofs.Names.{UnexpectedEof, common_steps, append_assoc, DecodeError, Horizontal, mode_codes, cond-false}
-use Rattle.fax_reading.proofs.Names.{le-leb, length, paint, start, arith, zero, Bool, ◌++◌, refl, Mode, Pass, Bits, Turn, Line, ℕ}
-use Rattle.fax_reading.proofs.Names.{read_code, cases_lt, Vertical, opposite, codes_of, run_from, line_2d, line_1d, Result, Color}
+use Rattle.fax_reading.proofs.Names.{length, Result, start, arith, Color, Step, zero, Bool, ◌++◌, refl, Mode, Pass, Bits, Turn, ℕ}
+use Rattle.fax_reading.proofs.Names.{read_code, cases_lt, Vertical, opposite, codes_of, run_from, line_2d, line_1d, le-leb, paint}
 use Rattle.fax_bits.proofs.CodeWords.ReadCodes.{read_code_found, read_code_again}
 use Rattle.fax_bits.proofs.CodeWords.ReadRuns.{read_code_shorter, words_not_empty, run_goes_on, run_passes, run_fails, run_ends}
 use Rattle.fax_bits.proofs.Repetition.Repeated.{repeated_turn, after_turn, not_next}

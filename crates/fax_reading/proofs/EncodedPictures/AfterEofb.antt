@@ -1,11 +1,11 @@
 -- What follows EOFB changes nothing.
-use Rattle.fax_reading.proofs.Names.{Turn, Line, eols, Mode, ◌≡◌, ◌+◌, ◌*◌, ◌/◌, ◌%◌, ◌<◌, not, ◌∷◌, sym, ◌∙◌, ◌⊎◌, inl, inr, Err}
-use Rattle.fax_reading.proofs.Names.{after_eol, eols_here, ends_with, AfterEofb, read_code, cases_lt, Progress, pass_gap, or_from}
-use Rattle.fax_reading.proofs.Names.{at_front, drop_at, Reaches, line_2d, is_over, aligned, length, Group4, Ending, end_of, subst}
-use Rattle.fax_reading.proofs.Names.{for_t6, arith, plain, start, false, Bool, true, cond, ◌&&◌, ◌++◌, take, None, refl, Bits, []}
-use Rattle.fax_reading.proofs.Names.{gap_and_row, DecodeError, cond-false, row_before, row_behind, append-nil, mode_codes, Result}
-use Rattle.fax_reading.proofs.Names.{length-append, nothing_read, common_steps, append_assoc, EncodingMode, row_of_line, or_parts}
-use Rattle.fax_reading.proofs.Names.{take-append-drop, length-take-le, DecodeSettings, AreWholeBytes, add_row_alone, line_of_turn}
+use Rattle.fax_reading.proofs.Names.{DecodeError, row_of_line, cond-false, row_before, row_behind, append-nil, mode_codes, length}
+use Rattle.fax_reading.proofs.Names.{Result, arith, plain, start, false, Turn, Line, eols, Mode, Bool, true, cond, ◌&&◌, ◌++◌, []}
+use Rattle.fax_reading.proofs.Names.{add_row_alone, common_steps, append_assoc, EncodingMode, line_of_turn, gap_and_row, cases_lt}
+use Rattle.fax_reading.proofs.Names.{after_eol, eols_here, ends_with, AfterEofb, read_code, Progress, pass_gap, at_front, or_from}
+use Rattle.fax_reading.proofs.Names.{or_parts, drop_at, Reaches, line_2d, is_over, aligned, Group4, Ending, end_of, for_t6, subst}
+use Rattle.fax_reading.proofs.Names.{take, None, refl, Bits, ◌≡◌, ◌+◌, ◌*◌, ◌/◌, ◌%◌, ◌<◌, not, ◌∷◌, sym, ◌∙◌, ◌⊎◌, inl, inr, Err}
+use Rattle.fax_reading.proofs.Names.{take-append-drop, length-take-le, DecodeSettings, length-append, AreWholeBytes, nothing_read}
 use Rattle.fax_bits.proofs.BitReading.{ZerosInWords.prefix_of_prefix, ConsecutiveEols.counts_plain}
 use Rattle.fax_bits.proofs.{Repetition.Repeated.not_next, Repetition.Repeated.next_is, CodeWords.ReadCodes.read_code_found}
 use Rattle.fax_reading.proofs.DrawingLines.{LinesLeaveBits.LeavesBits, WhatFollows.line_2d_found, DrawnLines.line_open}

@@ -1,7 +1,7 @@
 -- EOLs with more bits behind.
-use Rattle.fax_reading.proofs.Names.{inl, [], ap, ℕ}
 use Rattle.fax_reading.proofs.Names.{length-append, common_steps, after_eol, one_more, all_eols, next_eol, Option, false, arith}
-use Rattle.fax_reading.proofs.Names.{zero, Bool, true, ◌++◌, Some, None, refl, Bits, eols, ◌≡◌, suc, ◌<◌, ◌≤◌, ◌∷◌, sym, ◌∙◌, ◌⊎◌}
+use Rattle.fax_reading.proofs.Names.{zero, Bool, true, ◌++◌, Some, None, refl, Bits, eols, inl, ◌≡◌, suc, ◌<◌, ◌≤◌, ◌∷◌, sym, ◌∙◌}
+use Rattle.fax_reading.proofs.Names.{◌⊎◌, [], ap, ℕ}
 use Rattle.fax_bits.proofs.BitReading.ConsecutiveEols.{eols-some, eols-none, eol_of}
 use Rattle.fax_bits.proofs.BitReading.ZeroRuns.{eols_enough, eols_fewer}
 use Rattle.fax_reading.specs.GapsContinued.{holds_one}

@@ -1,6 +1,6 @@
 -- Lines of two data that begin with the same bits.
-use Rattle.fax_reading.proofs.Names.{Group3_1D, Group3_2D, AreWords, line_by, Group4, joined, length, false, arith, true, List, ℕ}
-use Rattle.fax_reading.proofs.Names.{append_cancel_right, length-append, common_steps, EncodingMode, false≢true, line_found, Bool}
+use Rattle.fax_reading.proofs.Names.{Group3_1D, Group3_2D, AreWords, line_by, Group4, joined, length, false, arith, List, Bool, ℕ}
+use Rattle.fax_reading.proofs.Names.{append_cancel_right, length-append, common_steps, EncodingMode, false≢true, line_found, true}
 use Rattle.fax_reading.proofs.Names.{◌++◌, refl, Bits, Line, ◌≡◌, ◌<◌, ◌∷◌, sym, ◌∙◌, Row, [], ap}
 use Rattle.fax_bits.proofs.BitReading.ZerosInWords.{holds_a_one, word_one}
 use Rattle.fax_reading.proofs.DrawingLines.ReadLines.{line_1d_took_bits, line_2d_took_bits, TookBits}

@@ -5,23 +5,24 @@ use Rattle.fax_reading.proofs.Names.{ending_behind, length-append, append_assoc,
 use Rattle.fax_reading.proofs.Names.{first_line, RowsBefore, eols_here, limit_met, line_here, first_gap, replicate, cond-true, ap}
 use Rattle.fax_reading.proofs.Names.{not-false, Group3_1D, Group3_2D, after_eol, at_front, Progress, or_parts, IsPrefix, repeated}
 use Rattle.fax_reading.proofs.Names.{repaired, Reaches, length, Option, Group4, end_of, Ending, false, subst, arith, plain, true}
-use Rattle.fax_reading.proofs.Names.{◌%◌, ◌<◌, ◌≤◌, not, ◌∷◌, sym, ◌∙◌, ◌⊎◌, inl, inr, Err, Row, ℕ}
-use Rattle.fax_reading.proofs.Names.{◌&&◌, ◌||◌, ◌++◌, take, drop, Some, None, refl, Turn, Line, Bits, Bool, List, Move, ◌≡◌, suc}
+use Rattle.fax_reading.proofs.Names.{◌&&◌, ◌||◌, ◌++◌, take, drop, Some, None, refl, Turn, Line, Bits, Bool, List, Move, ◌%◌, ◌<◌}
+use Rattle.fax_reading.proofs.Names.{◌≤◌, not, ◌∷◌, sym, ◌∙◌, ◌⊎◌, inl, inr, Err, Row, ◌≡◌, suc, ℕ}
+use Rattle.std.proofs.Math.Seq.{take-append_seam}
 use Rattle.fax_bits.proofs.BitReading.{ConsecutiveEols.next_eol_found, ZerosInWords.prefix_of_prefix}
 use Rattle.fax_bits.proofs.CodeWords.ReadRuns.{chosen}
 use Rattle.fax_bits.proofs.Repetition.Repeated.{repeated_turn, repeated_same, after_turn, not_next, next_is}
 use Rattle.fax_reading.proofs.DamagedLines.EolsAlike.{turn_closed, eols_past, one_among, Closes}
 use Rattle.fax_reading.proofs.DamagedLines.PastEol.{next_eol_leaves, eols_here-none, past-front, past-eol, past_is, past}
 use Rattle.fax_reading.proofs.DamagedLines.SoughtTurns.{eols_here_same, sought_done, move_sought, found_next, row_past, sought}
-use Rattle.fax_reading.proofs.DamagedLines.{LineStarts.more_left, LineTails.eol_closes, RunsAlike.run_at}
 use Rattle.fax_reading.proofs.KeptRows.EqualFronts.{one_in_line, one_in_bits, past_front, eols_front, all_front}
 use Rattle.fax_reading.proofs.KeptRows.LinesAgain.{one_in_whole, line_again, one_stays}
 use Rattle.fax_reading.proofs.KeptRows.TurnsLeave.{after_row_leaves, reached_leaves}
 use Rattle.fax_reading.proofs.Readings.RowsAndGaps.{after_damage-is, after_whole-is, unless_over, pass_gap-is, after_row}
 use Rattle.fax_reading.proofs.Readings.TurnsAddRows.{after_row_keeps, first_gap_keeps, repeated_adds, turn_extends, move_adds}
 use Rattle.fax_reading.proofs.Readings.TurnsMoveOn.{eols_here_counted, unless_over_next, unless_over_open, left_to_read}
-use Rattle.fax_reading.proofs.Readings.{GapsAndRows.plain_is, RowsAndGaps.unmissed, TurnsAddRows.Keeps}
-use Rattle.fax_reading.proofs.{EncodedPictures.AfterEofb.aligned_split, DamagedLines.DamageByK.take_front}
+use Rattle.fax_reading.proofs.Readings.{GapsAndRows.plain_is, TurnsAddRows.Keeps}
+use Rattle.fax_reading.proofs.{DamagedLines.LineTails.eol_closes, DamagedLines.RunsAlike.run_at, Readings.RowsAndGaps.unmissed}
+use Rattle.fax_reading.proofs.{EncodedPictures.AfterEofb.aligned_split, DamagedLines.LineStarts.more_left}
 use Rattle.fax_reading.proofs.{Readings.TurnsMoveOn.move_shrinks, Readings.TurnsMoveOn.left_below, DamagedLines.LinesByEols.seeks}
 use Rattle.fax_reading.specs.GapsContinued.{holds_one}
 
@@ -355,7 +356,7 @@ first_front settings x y front bits first rest_is one begins = by_encoding setti
 -- rows that are the first of some
 first_rows : (rows all : List Row) (index : ℕ) → IsPrefix rows all → length rows ≡ index
     → (index ≤ length all) × (take index all ≡ rows)
-first_rows rows all index front is = grind (arith, common_steps, length-append, take_front)
+first_rows rows all index front is = grind (arith, common_steps, length-append, take-append_seam)
 
 -- the law
 pub rows_before : RowsBefore

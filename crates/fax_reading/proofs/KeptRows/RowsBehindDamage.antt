@@ -1,24 +1,24 @@
 -- Data that are the same from an EOL on have the same rows behind the next, whatever comes before.
-use Rattle.fax_reading.proofs.Names.{RowsBehind, false≢true, AreInStep, cond-true, Group3_2D, after_eol, eols_here, limit_met, []}
-use Rattle.fax_reading.proofs.Names.{length, Option, at_end, end_of, Ending, subst, arith, plain, zero, Bool, true, List, ◌++◌, ℕ}
-use Rattle.fax_reading.proofs.Names.{length-drop, append-nil, cond-false, row_before, first_line, MakesNoRtc, PutsInStep, is_over}
-use Rattle.fax_reading.proofs.Names.{line_here, all_eols, past_tag, Progress, or_parts, move_on, ComesTo, IsEolAt, Reaches, false}
+use Rattle.fax_reading.proofs.Names.{DecodeError, RowsBehind, false≢true, append-nil, cond-false, row_before, first_line, is_over}
+use Rattle.fax_reading.proofs.Names.{MakesNoRtc, PutsInStep, AreInStep, cond-true, Group3_2D, after_eol, eols_here, limit_met, Ok}
+use Rattle.fax_reading.proofs.Names.{length, Option, at_end, end_of, Ending, arith, plain, false, zero, Bool, true, List, ◌++◌, ℕ}
+use Rattle.fax_reading.proofs.Names.{line_here, all_eols, past_tag, Progress, or_parts, move_on, ComesTo, IsEolAt, Reaches, subst}
 use Rattle.fax_reading.proofs.Names.{take, drop, Some, None, refl, Turn, Bits, ◌≡◌, suc, ◌<◌, ◌≤◌, ◌∷◌, Err, sym, ◌∙◌, ◌⊎◌, inl}
-use Rattle.fax_reading.proofs.Names.{take-append-drop, DecodeSettings, AreWholeBytes, common_steps, append_assoc, DecodeError, Ok}
+use Rattle.fax_reading.proofs.Names.{take-append-drop, DecodeSettings, AreWholeBytes, common_steps, append_assoc, length-drop, []}
+use Rattle.std.proofs.Math.Seq.{drop-append_seam}
 use Rattle.fax_bits.proofs.BitReading.ConsecutiveEols.{after_eol_shorter, next_eol_found, last_tag_count, counts_tagged}
 use Rattle.fax_bits.proofs.BitReading.ConsecutiveEols.{counts_plain, count_moves, all_tagged}
 use Rattle.fax_bits.proofs.Repetition.Repeated.{repeated_follows, repeated_turn, after_turn, reaches_on, Follows}
 use Rattle.fax_reading.proofs.DamagedLines.EolsAlike.{leaves_length, all_eols_kept, turn_closed, left_closes, row_counted, Ends}
 use Rattle.fax_reading.proofs.DamagedLines.EolsAlike.{left_ends, past_ends, with_tail, one_alone, IsGroup3, IsLineIn, not_end}
-use Rattle.fax_reading.proofs.DamagedLines.PastEol.{then_after, past_is, past}
 use Rattle.fax_reading.proofs.DamagedLines.RunsAlike.{move_beyond, not_group4, StayAlike, SameLine, run_at}
 use Rattle.fax_reading.proofs.DamagedLines.SoughtTurns.{eols_here_same, move_sought, row_past, rest_of, sought}
-use Rattle.fax_reading.proofs.DamagedLines.{LineTails.line_past_by, LineTails.drop_front, LineTails.eol_closes, LinesByEols.seeks}
+use Rattle.fax_reading.proofs.DamagedLines.{LineTails.line_past_by, LineTails.eol_closes, EolsAlike.counted, EolsAlike.IsAlone}
+use Rattle.fax_reading.proofs.DamagedLines.{PastEol.then_after, PastEol.past_is, PastEol.past, LinesByEols.seeks}
 use Rattle.fax_reading.proofs.DrawingLines.LinesLeaveBits.{leaves_trans, LeavesBits}
-use Rattle.fax_reading.proofs.GapsContinued.ContinuedEols.{count_then_more}
 use Rattle.fax_reading.proofs.Readings.GapsAndRows.{ending_goes, plain_is, end_t4, late, goes}
 use Rattle.fax_reading.proofs.Readings.TurnsMoveOn.{eols_here_counted, left_to_read, move_shrinks}
-use Rattle.fax_reading.proofs.{DamagedLines.EolsAlike.counted, DamagedLines.EolsAlike.IsAlone, Names.inr, Names.Row, Names.ap}
+use Rattle.fax_reading.proofs.{GapsContinued.ContinuedEols.count_then_more, Names.inr, Names.Row, Names.ap}
 use Rattle.fax_reading.proofs.{Readings.RowsAndGaps.unless_over, Readings.RowsAndGaps.after_row, KeptRows.TurnsLeave.count_leaves}
 
 -- ---- One reading comes to the EOL behind the line
@@ -184,7 +184,7 @@ module _ (settings : DecodeSettings) (wide : 0 < settings.columns) where
       (length behind) (goes settings wide) (end_of settings one) (end_of settings two) → AreInStep settings one two behind
       (plain settings one).rows (plain settings two).rows (plain settings one).outcome (plain settings two).outcome
   in_step one two behind a b whole_one whole_two le le2 comes comes_too unlimited ((more, rows, others), ends) =
-      grind (arith, common_steps, plain_is, drop_front)
+      grind (arith, common_steps, plain_is, drop-append_seam)
 
   -- how a reading goes on behind the EOL after the line
   ends_from : (bits : Bits) (mid : Progress) (rows : List Row) (u : Bits) (found : ℕ × Bits) → IsGroup3 settings.encoding

@@ -1,25 +1,19 @@
 -- An EOL and the line behind it, as they are tested.
-use Rattle.fax_bits.proofs.BitReading.ConsecutiveEols.{after_eol_shorter, next_eol_found}
-use Rattle.fax_bits.proofs.BitReading.ZeroRuns.{looked_eol}
+use Rattle.fax_reading.proofs.Names.{ComesBefore1D, AreWholeBytes, common_steps, EncodingMode, IsInStepFrom, looked_ahead, looked}
+use Rattle.fax_reading.proofs.Names.{EndsByWords, length-drop, EndsBefore, RowsFollow, after_eol, eols_here, run_found, line_here}
+use Rattle.fax_reading.proofs.Names.{TellsStep, tag_tests, cond-true, Group3_1D, Group3_2D, leb-true, next_eol, read_run, line_1d}
+use Rattle.fax_reading.proofs.Names.{length-replicate, DecodeSettings, ModesEndBefore, most_for_lines, length-append, DecodeError}
+use Rattle.fax_reading.proofs.Names.{opposite, line_by, length, Result, IsTrue, le-leb, Group4, subst, false, arith, Color, None}
+use Rattle.fax_reading.proofs.Names.{refl, Bits, Line, drop, true, Bool, Some, leb, ◌∷◌, Err, ◌≡◌, inl, inr, min, Row, Pen, ◌+◌}
+use Rattle.fax_reading.proofs.Names.{◌-◌, ◌*◌, ◌<◌, ◌≤◌, ◌↔◌, [], Ok, ap, ℕ}
+use Rattle.fax_bits.proofs.BitReading.{ConsecutiveEols.after_eol_shorter, ConsecutiveEols.next_eol_found, ZeroRuns.looked_eol}
 use Rattle.fax_bits.proofs.Repetition.Repeated.{next_is}
-use Rattle.fax_reading.proofs.CodeWords.WordsFound.{run_stands}
-use Rattle.fax_reading.proofs.DamagedLines.AnyReference.{modes_read}
-use Rattle.fax_reading.proofs.DamagedLines.EolsAlike.{one_alone, IsGroup3, counted}
-use Rattle.fax_reading.proofs.DamagedLines.RunsAlike.{Unreferred}
+use Rattle.fax_reading.proofs.DamagedLines.{EolsAlike.one_alone, EolsAlike.IsGroup3, EolsAlike.counted, AnyReference.modes_read}
 use Rattle.fax_reading.proofs.DrawingLines.Drawings.{step_1d_is, drawn_by, step_1d}
-use Rattle.fax_reading.proofs.DrawingLines.DrawnLines.{run_open}
-use Rattle.fax_reading.proofs.DrawingLines.ReadLines.{drawn1}
-use Rattle.fax_reading.proofs.KeptRows.RowsBehindDamage.{rows_behind}
-use Rattle.fax_reading.proofs.Names.{after_eol, eols_here, run_found, line_here, TellsStep, tag_tests, cond-true, leb-true, subst}
-use Rattle.fax_reading.proofs.Names.{leb, ◌∷◌, Err, ◌≡◌, inl, inr, min, Row, Pen, [], Ok, ap, ℕ, length-append, ComesBefore1D}
-use Rattle.fax_reading.proofs.Names.{AreWholeBytes, common_steps, EncodingMode, IsInStepFrom, false, length-replicate}
-use Rattle.fax_reading.proofs.Names.{DecodeSettings, ModesEndBefore, most_for_lines, Group3_1D, looked, arith, Color, None, refl}
-use Rattle.fax_reading.proofs.Names.{Bits, Line, drop, true, ◌+◌, ◌-◌, ◌*◌, ◌<◌, ◌≤◌, ◌↔◌, looked_ahead, DecodeError, EndsByWords}
-use Rattle.fax_reading.proofs.Names.{length-drop, EndsBefore, RowsFollow, Group3_2D, Bool, next_eol, read_run, opposite, line_1d}
-use Rattle.fax_reading.proofs.Names.{line_by, length, Result, IsTrue, le-leb, Group4, Some}
-use Rattle.fax_reading.proofs.Work.EolsPassed.{looked_ahead_most, few_tag_tests}
 use Rattle.fax_reading.proofs.Work.WordsPay.{stands_count}
-use Rattle.fax_reading.proofs.DamagedLines.DamageByK.{unreferred}
+use Rattle.fax_reading.proofs.{DamagedLines.DamageByK.unreferred, CodeWords.WordsFound.run_stands, DrawingLines.ReadLines.drawn1}
+use Rattle.fax_reading.proofs.{KeptRows.RowsBehindDamage.rows_behind, DamagedLines.RunsAlike.Unreferred}
+use Rattle.fax_reading.proofs.{Work.EolsPassed.looked_ahead_most, Work.EolsPassed.few_tag_tests, DrawingLines.DrawnLines.run_open}
 
 -- ---- Runs that are passed
 

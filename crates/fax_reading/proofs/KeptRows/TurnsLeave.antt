@@ -1,8 +1,8 @@
 -- A turn leaves a suffix of the bits that it begins with, and seeks EOLs as before or has given them up.
-use Rattle.fax_reading.proofs.Names.{Group3_2D, after_eol, eols_here, line_here, next_eol, past_tag, one_more, Progress, with_row}
 use Rattle.fax_reading.proofs.Names.{Reaches, eols_by, aligned, move_on, length, Option, Group4, arith, false, subst, zero, Bool}
-use Rattle.fax_reading.proofs.Names.{append_assoc, row_before, behind_row, misses_eol, after_line, replicate, Group3_1D, repaired}
-use Rattle.fax_reading.proofs.Names.{take-append-drop, DecodeSettings, eols_with_tags, pass_last_tag, EncodingMode, common_steps}
+use Rattle.fax_reading.proofs.Names.{common_steps, row_before, behind_row, misses_eol, after_line, Group3_2D, after_eol, next_eol}
+use Rattle.fax_reading.proofs.Names.{eols_here, line_here, replicate, Group3_1D, past_tag, one_more, Progress, with_row, repaired}
+use Rattle.fax_reading.proofs.Names.{take-append-drop, DecodeSettings, eols_with_tags, pass_last_tag, append_assoc, EncodingMode}
 use Rattle.fax_reading.proofs.Names.{true, cond, ◌&&◌, ◌||◌, ◌++◌, take, Some, None, refl, Bits, Turn, Line, leb, ◌∷◌, sym, ◌∙◌}
 use Rattle.fax_reading.proofs.Names.{◌⊎◌, inl, inr, Row, ◌≡◌, suc, ◌%◌, not, [], ℕ}
 use Rattle.fax_bits.proofs.BitReading.ConsecutiveEols.{counts_tagged, counts_plain, CountsEols}

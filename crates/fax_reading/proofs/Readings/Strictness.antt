@@ -1,9 +1,9 @@
 -- What a strict run reads, a lenient run reads too.
-use Rattle.fax_reading.proofs.Names.{Ending, end_of, false, subst, arith, plain, true, cond, ◌&&◌, List, ◌++◌, IsOk, Bits, Turn}
-use Rattle.fax_reading.proofs.Names.{Line, Move, Bool, ◌<◌, not, ◌∷◌, inl, inr, Row, ℕ}
+use Rattle.fax_reading.proofs.Names.{IsPrefix, Progress, cases_lt, aligned, line_by, move_on, Ending, end_of, length, Result, ◌<◌}
+use Rattle.fax_reading.proofs.Names.{Line, Move, Bool, not, ◌∷◌, inl, inr, Row, ◌≡◌, ℕ}
 use Rattle.fax_reading.proofs.Names.{StrictThenLenient, DecodeSettings, EncodingMode, bytes_before, common_steps, DecodeError, []}
-use Rattle.fax_reading.proofs.Names.{cases_eq, IsPrefix, Progress, aligned, line_by, move_on, length, Result, eq-eqb, ne_eqb, ◌≡◌}
-use Rattle.fax_reading.proofs.Names.{ending_from, false≢true, row_before, misses_eol, after_line, eols_here, first_gap, cases_lt}
+use Rattle.fax_reading.proofs.Names.{ending_from, false≢true, row_before, misses_eol, after_line, eols_here, first_gap, cases_eq}
+use Rattle.fax_reading.proofs.Names.{eq-eqb, ne_eqb, false, subst, arith, plain, true, cond, ◌&&◌, List, ◌++◌, IsOk, Bits, Turn}
 use Rattle.fax_bits.proofs.Repetition.Repeated.{after_turn, Follows}
 use Rattle.fax_reading.proofs.Readings.RowsAndGaps.{after_whole-is, unless_over, after_row, seek_eol}
 use Rattle.fax_reading.proofs.Readings.TurnsAddRows.{seek_from_keeps, turn_extends, prefix_trans, move_adds, Adds}

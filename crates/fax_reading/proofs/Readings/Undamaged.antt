@@ -1,14 +1,14 @@
 -- A strict reading ends without a fault exactly if a lenient one does, and passes no damage.
+use Rattle.fax_reading.proofs.Names.{DecodeSettings, missed_by_turn, missed_behind, sum_by-append, ending_behind, length-append}
+use Rattle.fax_reading.proofs.Names.{EncodingMode, cuts_by_line, DecodeError, InvalidCode, AreSettings, repaired_in, cut_by_turn}
 use Rattle.fax_reading.proofs.Names.{PicturesAreUndamaged, StrictIsUndamaged, repaired_by_turn, IsLimitedPicture, damaged_by_turn}
-use Rattle.fax_reading.proofs.Names.{add_row, Reading, move_on, length, sum_by, Ending, at_gap, subst, arith, plain, zero, Bool}
-use Rattle.fax_reading.proofs.Names.{false≢true, row_before, after_line, misses_eol, behind_row, cond-true, damage_of, first_gap}
-use Rattle.fax_reading.proofs.Names.{flat_map, cuts_run, Progress, with_row, pass_gap, turns_of, repeated, gathered, Damaged, ◌≡◌}
-use Rattle.fax_reading.proofs.Names.{inr, suc, ◌∷◌, Err, sym, not, ◌∙◌, Gap, map, Row, [], ap, ℕ}
-use Rattle.fax_reading.proofs.Names.{line_of_turn, turns_behind, DecodeError, InvalidCode, AreSettings, repaired_in, cut_by_turn}
-use Rattle.fax_reading.proofs.Names.{missed_behind, sum_by-append, ending_behind, common_steps, EncodingMode, cuts_by_line, false}
-use Rattle.fax_reading.proofs.Names.{misses_by_line, gap_behind_row, length-append, flat_map-cons, UnexpectedEof, AreWholeBytes}
-use Rattle.fax_reading.proofs.Names.{repairs_by_line, IsClosedPicture, sum_by-take-le, DecodeSettings, missed_by_turn, cond-false}
-use Rattle.fax_reading.proofs.Names.{true, cond, ◌&&◌, List, ◌++◌, take, refl, IsOk, Bits, Line, Move, Turn, ◌+◌, ◌-◌, ◌⊎◌, inl}
+use Rattle.fax_reading.proofs.Names.{Reading, move_on, Damaged, length, sum_by, Ending, at_gap, arith, plain, false, zero, Bool}
+use Rattle.fax_reading.proofs.Names.{flat_map, cuts_run, Progress, with_row, pass_gap, turns_of, repeated, gathered, add_row, ◌≡◌}
+use Rattle.fax_reading.proofs.Names.{flat_map-cons, UnexpectedEof, AreWholeBytes, line_of_turn, turns_behind, common_steps, subst}
+use Rattle.fax_reading.proofs.Names.{repairs_by_line, IsClosedPicture, misses_by_line, gap_behind_row, sum_by-take-le, false≢true}
+use Rattle.fax_reading.proofs.Names.{row_before, after_line, misses_eol, behind_row, cond-false, cond-true, damage_of, first_gap}
+use Rattle.fax_reading.proofs.Names.{sym, not, ◌∙◌, Gap, map, Row, ◌+◌, ◌-◌, ◌⊎◌, inl, [], ap, ℕ}
+use Rattle.fax_reading.proofs.Names.{true, cond, ◌&&◌, List, ◌++◌, take, refl, IsOk, Bits, Line, Move, Turn, inr, suc, ◌∷◌, Err}
 use Rattle.fax_bits.proofs.Repetition.{Gathered.gathered_after, Repeated.after_turn}
 use Rattle.fax_reading.proofs.EncodedPictures.PicturesOfEachKind.{limited_pictures, closed_pictures}
 use Rattle.fax_reading.proofs.Readings.Strictness.{line_by_agrees, strict_first, ok_outcome, Agrees}

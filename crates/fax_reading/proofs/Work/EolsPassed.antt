@@ -1,8 +1,8 @@
 -- The EOLs that are consumed before a line, and the bits that are examined ahead of it.
-use Rattle.fax_reading.proofs.Names.{EncodingMode, looked_ahead, DecodeError, InvalidCode, behind_eols, false≢true, misses_eol, ℕ}
-use Rattle.fax_reading.proofs.Names.{gap_said, is_over, length, Option, Result, Group4, at_end, looked, arith, OnErr, Bool, true}
-use Rattle.fax_reading.proofs.Names.{length-replicate, DecodeSettings, gap_behind_row, length-append, from_next_eol, common_steps}
-use Rattle.fax_reading.proofs.Names.{replicate, Group3_1D, Group3_2D, after_eol, limit_met, eols_here, tag_tests, next_eol, false}
+use Rattle.fax_reading.proofs.Names.{length-replicate, DecodeSettings, gap_behind_row, length-append, from_next_eol, EncodingMode}
+use Rattle.fax_reading.proofs.Names.{looked_ahead, common_steps, DecodeError, InvalidCode, behind_eols, false≢true, misses_eol, ℕ}
+use Rattle.fax_reading.proofs.Names.{next_eol, is_over, length, Option, Result, Group4, at_end, looked, OnErr, false, Bool, true}
+use Rattle.fax_reading.proofs.Names.{replicate, Group3_1D, Group3_2D, after_eol, limit_met, eols_here, tag_tests, gap_said, arith}
 use Rattle.fax_reading.proofs.Names.{◌++◌, drop, Some, None, refl, Bits, IfOk, ◌<◌, ◌≡◌, ◌+◌, ◌*◌, ◌≤◌, ◌∷◌, Err, sym, ◌∙◌, ◌⊎◌}
 use Rattle.fax_bits.proofs.{BitReading.ConsecutiveEols.next_eol_found, BitReading.ZeroRuns.looked_eol, CodeWords.ReadRuns.chosen}
 use Rattle.fax_reading.proofs.DamagedLines.{LineTails.zeros_of_eol, PastEol.eols_here-none, EolsAlike.eols_past}

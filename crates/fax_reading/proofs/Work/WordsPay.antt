@@ -1,11 +1,11 @@
 -- What the words that a line finds say of the bits that it consumed: they pay for what it counts.
-use Rattle.fax_bits.proofs.BitReading.ZerosInWords.{holds_a_one, word_one, no_eleven_in, prefix_of_prefix}
-use Rattle.fax_reading.proofs.CodeWords.WordsFound.{WordsStand, LineEnds, line_1d_stands, line_2d_stands, words_synchronised}
-use Rattle.fax_reading.proofs.DrawingLines.ReadLines.{TookBits, line_1d_took_bits, line_2d_took_bits}
-use Rattle.fax_reading.proofs.Names.{common_steps, ◌≡◌, ℕ, ◌+◌, cond, ◌<◌, ◌≤◌, Bool, true, false, List, [], ◌∷◌, ◌++◌, length}
-use Rattle.fax_reading.proofs.Names.{replicate, ap, arith, append_assoc, false≢true, cases_lt, length-append, length-drop}
-use Rattle.fax_reading.proofs.Names.{EncodingMode, Bits, AreWords, joined, Line, found_1d, found_2d, line_1d, line_2d, line_found}
-use Rattle.fax_reading.proofs.Names.{aligned, Row, looked, tag_at}
+use Rattle.fax_reading.proofs.Names.{length-append, common_steps, append_assoc, EncodingMode, length-drop, false≢true, line_found}
+use Rattle.fax_reading.proofs.Names.{looked, tag_at, false, arith, cond, Bool, true, List, ◌++◌, Bits, Line, ◌≡◌, ◌+◌, ◌<◌, ◌≤◌}
+use Rattle.fax_reading.proofs.Names.{replicate, cases_lt, AreWords, found_1d, found_2d, line_1d, line_2d, aligned, length, joined}
+use Rattle.fax_reading.proofs.Names.{◌∷◌, Row, [], ap, ℕ}
+use Rattle.fax_bits.proofs.BitReading.ZerosInWords.{prefix_of_prefix, no_eleven_in, holds_a_one, word_one}
+use Rattle.fax_reading.proofs.CodeWords.WordsFound.{words_synchronised, line_1d_stands, line_2d_stands, WordsStand, LineEnds}
+use Rattle.fax_reading.proofs.DrawingLines.ReadLines.{line_1d_took_bits, line_2d_took_bits, TookBits}
 
 -- ---- Consecutive words have a bit each, and contain a one.
 
