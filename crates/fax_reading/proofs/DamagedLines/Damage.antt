@@ -8,7 +8,7 @@ use Rattle.fax_reading.proofs.Names.{repeated, all_eols, Progress, EndAlike, Loc
 use Rattle.fax_reading.proofs.Names.{take, drop, ◌≡◌, suc, ◌+◌, ◌-◌, ◌*◌, ◌/◌, ◌<◌, ltb, ◌∷◌, Err, sym, ◌∙◌, ◌⊎◌, inl, inr, Row}
 use Rattle.fax_bits.proofs.{BitReading.ConsecutiveEols.counts_plain, Repetition.Repeated.reached_follows}
 use Rattle.fax_reading.proofs.DamagedLines.RunsAlike.{moves_alike, LinesDiffer, not_group4, RowsAlike, EndsAlike, RunsAlike}
-use Rattle.fax_reading.proofs.DamagedLines.{EolsAlike.all_eols_kept, EolsAlike.IsLineIn, EolsAlike.Ends, LinesByEols.seeks}
+use Rattle.fax_reading.proofs.DamagedLines.{EolsAlike.all_eols_kept, EolsAlike.IsLineIn, EolsAlike.EndsByOne, LinesByEols.seeks}
 use Rattle.fax_reading.proofs.DamagedLines.{LineTails.eol_closes, LineTails.line_in_1d, LineTails.stays_1d, PastEol.past_shorter}
 use Rattle.fax_reading.proofs.DamagedLines.{SoughtTurns.sought_line_is, SoughtTurns.sought, RunsAlike.Begun}
 use Rattle.fax_reading.proofs.Readings.TurnsMoveOn.{left_to_read, move_shrinks, left_below}
@@ -95,7 +95,7 @@ module _ (settings : DecodeSettings) (one two : Bits) (from : ℕ) (after : Bits
   abbrev front : Bits
   front = take from one
 
-  front_ends : ((from ≡ 0) ⊎ ((place : ℕ) × IsEol one place from)) → Ends 11 front
+  front_ends : ((from ≡ 0) ⊎ ((place : ℕ) × IsEol one place from)) → EndsByOne 11 front
   front_ends (inl zero_from) = inl (rw zero_from refl)
   front_ends (inr (place, eol)) = let (first, closes, is) = eol_closes (take place one) (drop place one) (drop from one) eol.2 in
       let same : front ≡ first = append_cancel_right front first (drop from one)

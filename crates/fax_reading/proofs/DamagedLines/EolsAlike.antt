@@ -18,8 +18,8 @@ use Rattle.fax_reading.proofs.{Readings.RowsAndGaps.unless_over, Readings.RowsAn
 use Rattle.fax_reading.specs.GapsContinued.{holds_one}
 
 -- bits before a line: none, or they end with a one behind at least so many zeros
-abbrev pub Ends : ℕ → Bits → Type 0
-Ends n bits = (bits ≡ []) ⊎ ((first : Bits) × (bits ≡ first ++ (replicate n false ++ true ∷ [])))
+abbrev pub EndsByOne : ℕ → Bits → Type 0
+EndsByOne n bits = (bits ≡ []) ⊎ ((first : Bits) × (bits ≡ first ++ (replicate n false ++ true ∷ [])))
 
 -- bits that end with an EOL
 abbrev pub Closes : Bits → Type 0
@@ -32,19 +32,19 @@ last_one (suc n) [] after e = absurd cc
 last_one (suc n) (b ∷ before) after e = grind (arith, last_one n before after)
 
 ends_after : (n : ℕ) (first before after : Bits) → first ++ (replicate n false ++ true ∷ []) ≡ before ++ true ∷ after
-    → Ends n after
+    → EndsByOne n after
 ends_after n [] before after e = inl (last_one n before after e)
 ends_after n (b ∷ first) [] after e = inr (first, cc)
 ends_after n (b ∷ first) (c ∷ before) after e = grind (arith, ends_after n first before after)
 
 -- behind a one they end so too
-pub still_ends : (n : ℕ) (bits before after : Bits) → Ends n bits → bits ≡ before ++ true ∷ after → Ends n after
+pub still_ends : (n : ℕ) (bits before after : Bits) → EndsByOne n bits → bits ≡ before ++ true ∷ after → EndsByOne n after
 still_ends n bits before after (inl none) e =
     absurd (omega (arith, ap length (sym none ∙ e), length-append before (true ∷ after)))
 still_ends n bits before after (inr (first, is)) e = ends_after n first before after (sym is ∙ e)
 
 -- the last of them end with a one
-pub ends_last : (before left first : Bits) → before ++ left ≡ first ++ true ∷ [] → Ends 0 left
+pub ends_last : (before left first : Bits) → before ++ left ≡ first ++ true ∷ [] → EndsByOne 0 left
 ends_last [] left first e = inr (first, e)
 ends_last (b ∷ before) [] first e = inl refl
 ends_last (b ∷ before) (c ∷ left) [] e = absurd (omega (arith, ap length e, length-append before (c ∷ left)))
@@ -69,7 +69,7 @@ past_last seen [] z e = grind (arith, common_steps)
 past_last seen (false ∷ first) z e = past_last (suc seen) first z e
 past_last seen (true ∷ first) z e = grind (arith, common_steps, past_last 0 first z)
 
-pub past_ends : (left z : Bits) → Ends 0 left → past 0 left ≡ None → past 0 (left ++ z) ≡ past 0 z
+pub past_ends : (left z : Bits) → EndsByOne 0 left → past 0 left ≡ None → past 0 (left ++ z) ≡ past 0 z
 past_ends left z (inl none) e = rw none refl
 past_ends left z (inr (first, is)) e = ap (λ (b : Bits). past 0 (b ++ z)) is ∙ ap (past 0) (append_assoc first (true ∷ []) z)
     ∙ past_last 0 first z (ap (past 0) (sym is) ∙ e)
@@ -77,25 +77,25 @@ past_ends left z (inr (first, is)) e = ap (λ (b : Bits). past 0 (b ++ z)) is �
 -- ---- EOLs, where none begins at the line
 
 module _ (n : ℕ) (z : Bits) (none : after_eol 0 z ≡ None) where
-  eol_kept : (here : Bits) → Ends n here → after_eol 0 (here ++ z) ≡ then_more z (after_eol 0 here)
+  eol_kept : (here : Bits) → EndsByOne n here → after_eol 0 (here ++ z) ≡ then_more z (after_eol 0 here)
   eol_kept here (inl is) = rw is none
   eol_kept here (inr (first, is)) = after_eol-more z 0 here
       (ap holds_one (is ∙ sym (append_assoc first (replicate n false) (true ∷ []))) ∙ one_among (first ++ replicate n false) [])
 
   -- what is counted is counted among the bits before it, and they end so behind that
   abbrev Kept : ℕ × Bits → ℕ × Bits → Type 0
-  Kept found whole = (whole ≡ count_then_more z found) × Ends n found.1
+  Kept found whole = (whole ≡ count_then_more z found) × EndsByOne n found.1
 
-  one_more_kept : (found : ℕ × Bits) → Ends n found.1 → Kept (one_more found) (one_more (count_then_more z found))
+  one_more_kept : (found : ℕ × Bits) → EndsByOne n found.1 → Kept (one_more found) (one_more (count_then_more z found))
   one_more_kept (count, rest) ends = (refl, ends)
 
   module _ {pass : Bits → Bits} {count : ℕ → Bits → ℕ × Bits} (counts : CountsEols pass count)
-      (passes : (here : Bits) → Ends n here → (pass (here ++ z) ≡ pass here ++ z) × Ends n (pass here)) where
-    count_kept : (most : ℕ) (here : Bits) → Ends n here → Kept (count most here) (count most (here ++ z))
+      (passes : (here : Bits) → EndsByOne n here → (pass (here ++ z) ≡ pass here ++ z) × EndsByOne n (pass here)) where
+    count_kept : (most : ℕ) (here : Bits) → EndsByOne n here → Kept (count most here) (count most (here ++ z))
     count_kept zero here ends = rw (counts.start here, counts.start (here ++ z)) (refl, ends)
     count_kept (suc most) here ends = by_after_eol (λ rest behind. count_kept most rest behind) (after_eol 0 here) refl
       where
-        by_after_eol : ((rest : Bits) → Ends n rest → Kept (count most rest) (count most (rest ++ z))) → (o : Option Bits)
+        by_after_eol : ((rest : Bits) → EndsByOne n rest → Kept (count most rest) (count most (rest ++ z))) → (o : Option Bits)
             → after_eol 0 here ≡ o → Kept (count (suc most) here) (count (suc most) (here ++ z))
         by_after_eol on None e =
             rw (counts.none (suc most) here e, counts.none (suc most) (here ++ z) (eol_kept here ends ∙ ap (then_more z) e))
@@ -110,29 +110,29 @@ module _ (n : ℕ) (z : Bits) (none : after_eol 0 z ≡ None) where
               more.0,
             ) (one_more_kept (count most (pass rest)) more.1)
 
-    all_kept : (here : Bits) → Ends n here → Kept (count (length here) here) (count (length (here ++ z)) (here ++ z))
+    all_kept : (here : Bits) → EndsByOne n here → Kept (count (length here) here) (count (length (here ++ z)) (here ++ z))
     all_kept here ends = subst (λ (found : ℕ × Bits). Kept found (count (length (here ++ z)) (here ++ z)))
         (count_same counts (length (here ++ z)) (length here) here (omega (arith, length-append here z)) (omega arith))
         (count_kept (length (here ++ z)) here ends)
 
-  pub all_eols_kept : (here : Bits) → Ends n here → Kept (all_eols here) (all_eols (here ++ z))
+  pub all_eols_kept : (here : Bits) → EndsByOne n here → Kept (all_eols here) (all_eols (here ++ z))
   all_eols_kept here ends = all_kept counts_plain (λ bits same. (refl, same)) here ends
 
-  past_tag_kept : past_tag z ≡ z → (here : Bits) → Ends n here
-      → (past_tag (here ++ z) ≡ past_tag here ++ z) × Ends n (past_tag here)
+  past_tag_kept : past_tag z ≡ z → (here : Bits) → EndsByOne n here
+      → (past_tag (here ++ z) ≡ past_tag here ++ z) × EndsByOne n (past_tag here)
   past_tag_kept tag [] ends = (tag, ends)
   past_tag_kept tag (false ∷ here) ends = (refl, ends)
   past_tag_kept tag (true ∷ here) ends = by_after_eol (after_eol 0 here) refl
     where
-      behind : Ends n here
+      behind : EndsByOne n here
       behind = still_ends n (true ∷ here) [] here ends refl
 
       by_after_eol : (o : Option Bits) → after_eol 0 here ≡ o
-          → (past_tag (true ∷ here ++ z) ≡ past_tag (true ∷ here) ++ z) × Ends n (past_tag (true ∷ here))
+          → (past_tag (true ∷ here ++ z) ≡ past_tag (true ∷ here) ++ z) × EndsByOne n (past_tag (true ∷ here))
       by_after_eol None e = rw (e, eol_kept here behind ∙ ap (then_more z) e, past_tag) (refl, ends)
       by_after_eol (Some rest) e = rw (e, eol_kept here behind ∙ ap (then_more z) e, past_tag) (refl, behind)
 
-  last_tag_kept : (found : ℕ × Bits) → Ends n found.1 → (found.1 ≡ [] → found.0 < 6)
+  last_tag_kept : (found : ℕ × Bits) → EndsByOne n found.1 → (found.1 ≡ [] → found.0 < 6)
       → Kept (pass_last_tag found) (pass_last_tag (count_then_more z found))
   last_tag_kept (m, []) ends few = (last_tag_few m z (few refl), ends)
   last_tag_kept (m, false ∷ rest) ends few = (refl, ends)
@@ -224,7 +224,7 @@ abbrev pub counted : DecodeSettings → Bits → ℕ × Bits
 counted settings more = eols_here settings (replicate 11 false ++ true ∷ more)
 
 module _ (settings : DecodeSettings) (whole z after : Bits) (line : IsLineIn settings whole z after) where
-  eols_kept : (n : ℕ) (here : Bits) → Ends n here
+  eols_kept : (n : ℕ) (here : Bits) → EndsByOne n here
       → (settings.encoding ≡ Group3_2D → (count : ℕ) → all_tagged (here ++ z) ≡ (count, z) → count < 6)
       → Kept n z line.none (eols_here settings here) (eols_here settings (here ++ z))
   eols_kept n here ends few = by_encoding settings.encoding settings.end_of_block refl line.group3
@@ -241,13 +241,13 @@ module _ (settings : DecodeSettings) (whole z after : Bits) (line : IsLineIn set
       by_encoding Group4 block same (inr is) = absurd cc
 
   -- the EOLs where a row ends before it
-  pub eols_left : (left : Bits) → Ends 0 left → LeavesBits whole (left ++ z)
+  pub eols_left : (left : Bits) → EndsByOne 0 left → LeavesBits whole (left ++ z)
       → eols_here settings (left ++ z) ≡ count_then_more z (eols_here settings left)
   eols_left left ends leaves = (eols_kept 0 left ends (λ same count e. line.few same (left ++ z) count leaves e)).0
 
   -- the same from an EOL on that ends before it
-  pub eols_found : (found more : Bits) → Ends 11 more → LeavesBits whole found → after_eol 0 found ≡ Some (more ++ z)
-      → (eols_here settings found ≡ count_then_more z (counted settings more)) × Ends 11 (counted settings more).1
+  pub eols_found : (found more : Bits) → EndsByOne 11 more → LeavesBits whole found → after_eol 0 found ≡ Some (more ++ z)
+      → (eols_here settings found ≡ count_then_more z (counted settings more)) × EndsByOne 11 (counted settings more).1
       × LeavesBits whole ((counted settings more).1 ++ z)
   eols_found found more ends leaves e =
       let eol : Bits = replicate 11 false ++ true ∷ more in
@@ -260,7 +260,7 @@ module _ (settings : DecodeSettings) (whole z after : Bits) (line : IsLineIn set
             (eols_leave_bits settings found)),
       )
     where
-      in_front : Ends 11 more → Ends 11 (replicate 11 false ++ true ∷ more)
+      in_front : EndsByOne 11 more → EndsByOne 11 (replicate 11 false ++ true ∷ more)
       in_front (inl none) = inr ([], ap (λ (b : Bits). replicate 11 false ++ true ∷ b) none)
       in_front (inr (first, is)) = inr (replicate 11 false ++ true ∷ first, ap (λ (b : Bits). replicate 11 false ++ true ∷ b) is)
 
@@ -271,8 +271,8 @@ module _ (settings : DecodeSettings) (whole z after : Bits) (line : IsLineIn set
 
   -- after a row that ends before it, and before another EOL
   pub row_counted : (rows : List Row) (left more : Bits) → limit_met settings (length rows) ≡ false → LeavesBits whole (left ++ z)
-      → past 0 left ≡ Some more → Ends 11 more → (found : Bits) × LeavesBits whole found × (length z < length found)
-      × (eols_here settings found ≡ count_then_more z (counted settings more)) × Ends 11 (counted settings more).1
+      → past 0 left ≡ Some more → EndsByOne 11 more → (found : Bits) × LeavesBits whole found × (length z < length found)
+      × (eols_here settings found ≡ count_then_more z (counted settings more)) × EndsByOne 11 (counted settings more).1
       × LeavesBits whole ((counted settings more).1 ++ z) × (after_row settings (sought rows (left ++ z))
       ≡ unless_over settings (sought rows (left ++ z)) (count_then_more z (counted settings more)))
       × (length (counted settings more).1 < length left)
@@ -320,11 +320,11 @@ turn_closed settings lenient rows bits (first, is) = by_line (line_here settings
     by_line (Line.broken front fault) leaves turn = (repaired settings.columns front, bits, ([], refl), turn)
 
 -- where such a line ends: with a one, and with an EOL behind one
-pub left_ends : (bits left : Bits) → Closes bits → LeavesBits bits left → Ends 0 left
+pub left_ends : (bits left : Bits) → Closes bits → LeavesBits bits left → EndsByOne 0 left
 left_ends bits left (first, is) (before, e) =
     ends_last before left (first ++ replicate 11 false) (sym e ∙ is ∙ sym (append_assoc first (replicate 11 false) (true ∷ [])))
 
-pub left_closes : (bits left more : Bits) → Closes bits → LeavesBits bits left → past 0 left ≡ Some more → Ends 11 more
+pub left_closes : (bits left more : Bits) → Closes bits → LeavesBits bits left → past 0 left ≡ Some more → EndsByOne 11 more
 left_closes bits left more closes (before, e) f = let next = found_next left more f in
     let on = next_eol_leaves left next.0 next.1 in
     let is = after_eol_is 0 next.0 more next.2 in

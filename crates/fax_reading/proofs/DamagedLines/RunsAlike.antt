@@ -1,21 +1,21 @@
 -- Two runs over data that differ in one line.
-use Rattle.fax_reading.proofs.Names.{eqb-true, next_eol, Progress, repaired, move_on, Reaches, Group4, Ending, at_end, row_of, ap}
-use Rattle.fax_reading.proofs.Names.{is_end_of_block, DecodeSettings, length-append, common_steps, append_assoc, EncodingMode, []}
+use Rattle.fax_reading.proofs.Names.{eqb-true, next_eol, Progress, repaired, move_on, Reaches, Group4, Ending, at_end, row_of, Ok}
+use Rattle.fax_reading.proofs.Names.{is_end_of_block, DecodeSettings, length-append, common_steps, append_assoc, EncodingMode, ap}
 use Rattle.fax_reading.proofs.Names.{length, Option, false, subst, arith, IsEol, Turn, Line, Move, Bits, Bool, List, drop, take}
 use Rattle.fax_reading.proofs.Names.{line_of_turn, length-drop, DecodeError, InvalidCode, after_line, first_line, cases_Bool, suc}
-use Rattle.fax_reading.proofs.Names.{misses_eol, row_before, and_parts, after_eol, limit_met, ends_with, eols_here, line_here, Ok}
+use Rattle.fax_reading.proofs.Names.{misses_eol, row_before, and_parts, after_eol, limit_met, ends_with, eols_here, line_here, []}
 use Rattle.fax_reading.proofs.Names.{zero, true, cond, ◌&&◌, ◌++◌, Some, None, refl, ◌+◌, ◌<◌, ◌≤◌, not, eqb, ◌∷◌, Err, sym, ◌≡◌}
 use Rattle.fax_reading.proofs.Names.{◌∙◌, ◌⊎◌, inl, inr, ◌≢◌, Row, ℕ}
 use Rattle.fax_bits.proofs.BitReading.ConsecutiveEols.{next_eol_found, cond_le}
 use Rattle.fax_bits.proofs.Repetition.Repeated.{Follows}
 use Rattle.fax_reading.proofs.DamagedLines.EolsAlike.{leaves_length, turn_closed, left_closes, row_counted, eols_left, eols_past}
-use Rattle.fax_reading.proofs.DamagedLines.EolsAlike.{left_ends, past_ends, with_tail, IsGroup3, IsLineIn, not_end, counted, Ends}
+use Rattle.fax_reading.proofs.DamagedLines.EolsAlike.{left_ends, past_ends, with_tail, EndsByOne, IsGroup3, IsLineIn, not_end}
 use Rattle.fax_reading.proofs.DamagedLines.SoughtTurns.{eols_here_same, move_sought, sought_done, row_past, rest_of, sought}
+use Rattle.fax_reading.proofs.DamagedLines.{PastEol.past_shorter, PastEol.past, EolsAlike.counted, EolsAlike.Closes}
 use Rattle.fax_reading.proofs.DrawingLines.LinesLeaveBits.{line_by_leaves, leaves_trans, LeavesBits, LineLeaves}
 use Rattle.fax_reading.proofs.Readings.RowsAndGaps.{after_damage-is, after_whole-is, unless_over, seek_from, after_row, row_added}
-use Rattle.fax_reading.proofs.{DamagedLines.EolsAlike.Closes, Readings.RowsAndGaps.seek_eol}
-use Rattle.fax_reading.proofs.{DamagedLines.PastEol.past_shorter, DamagedLines.PastEol.past, KeptRows.TurnsLeave.eols_leave_bits}
 use Rattle.fax_reading.proofs.{EncodedPictures.PictureLines.row_before_push, Readings.TurnsMoveOn.eols_here_counted}
+use Rattle.fax_reading.proofs.{KeptRows.TurnsLeave.eols_leave_bits, Readings.RowsAndGaps.seek_eol}
 
 -- ---- Rows of which some may differ
 
@@ -142,7 +142,7 @@ Settles settings (suc n) after = (next : Bits) × (length next ≤ length after)
 -- past them
 pub data RunsAlike (settings : DecodeSettings) (one two : Bits) (from : ℕ) (after : Bits) (lines : ℕ)
     (s t : Progress) : Type 0 where
-  ahead : (rows : List Row) (bits : Bits) → Ends 11 bits → LeavesBits one (bits ++ drop from one)
+  ahead : (rows : List Row) (bits : Bits) → EndsByOne 11 bits → LeavesBits one (bits ++ drop from one)
       → LeavesBits two (bits ++ drop from two) → s ≡ sought rows (bits ++ drop from one) → t ≡ sought rows (bits ++ drop from two)
       → RunsAlike settings one two from after lines s t
   among : (before these those : List Row) (here : Bits) (left : ℕ) → Begun settings one two from before → length these
@@ -209,7 +209,7 @@ module _ (settings : DecodeSettings) (one two : Bits) (from : ℕ) (after : Bits
       omega (arith, leaves_length one (bits ++ x) leaves, length-append bits x, length-drop from one, given.fits_one)
 
   -- after EOLs that end up to there
-  unless_ahead : (rows : List Row) (u v bits : Bits) (count : ℕ) → Ends 11 bits → LeavesBits one (bits ++ x)
+  unless_ahead : (rows : List Row) (u v bits : Bits) (count : ℕ) → EndsByOne 11 bits → LeavesBits one (bits ++ x)
       → LeavesBits two (bits ++ y)
       → Both (unless_over settings (sought rows u) (count, bits ++ x)) (unless_over settings (sought rows v) (count, bits ++ y))
   unless_ahead rows u v bits count ends leaves leaves2 = rw (
@@ -227,7 +227,7 @@ module _ (settings : DecodeSettings) (one two : Bits) (from : ℕ) (after : Bits
       two (left ++ y) → Both (after_row settings (sought rows (left ++ x))) (after_row settings (sought rows (left ++ y)))
   row_ahead rows bits left closes within leaves leaves2 = by_limit (cases_Bool (limit_met settings (length rows)))
     where
-      ends : Ends 0 left
+      ends : EndsByOne 0 left
       ends = left_ends bits left closes within
 
       by_past : limit_met settings (length rows) ≡ false → (o : Option Bits) → past 0 left ≡ o

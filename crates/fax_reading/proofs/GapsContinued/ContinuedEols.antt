@@ -104,14 +104,14 @@ eols_stop more (suc most) here settled = by_after_eol (λ rest. eols_stop more m
         eols-some most (here ++ more) (rest ++ more) (eol-more more here rest e) ∙ ap one_more (on rest inside)
         ∙ one_then_more more (eols most rest) ∙ sym (ap (count_then_more more) stepped)
 
-eols_left : (most : ℕ) (here : Bits) → (most ≤ (eols most here).0) ⊎ (after_eol 0 (eols most here).1 ≡ None)
-eols_left zero here = inl (omega arith)
-eols_left (suc most) here = grind (arith, eols_left most, eols-none, eols-some)
+eols_over : (most : ℕ) (here : Bits) → (most ≤ (eols most here).0) ⊎ (after_eol 0 (eols most here).1 ≡ None)
+eols_over zero here = inl (omega arith)
+eols_over (suc most) here = grind (arith, eols_over most, eols-none, eols-some)
 
 -- so are those before a one
 pub eols-more : (more : Bits) (most : ℕ) (here : Bits) → (most ≤ (eols most here).0)
     ⊎ (holds_one (eols most here).1 ≡ true) → eols most (here ++ more) ≡ count_then_more more (eols most here)
-eols-more more most here settled = grind (arith, eols_stop, eols_left most here, after_eol-more)
+eols-more more most here settled = grind (arith, eols_stop, eols_over most here, after_eol-more)
 
 pub all_eols-more : (more here : Bits) → holds_one (all_eols here).1 ≡ true
     → all_eols (here ++ more) ≡ count_then_more more (all_eols here)

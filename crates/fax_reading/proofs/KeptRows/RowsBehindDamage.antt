@@ -1,20 +1,21 @@
 -- Data that are the same from an EOL on have the same rows behind the next, whatever comes before.
-use Rattle.fax_reading.proofs.Names.{DecodeError, RowsBehind, false≢true, append-nil, cond-false, row_before, first_line, is_over}
-use Rattle.fax_reading.proofs.Names.{MakesNoRtc, PutsInStep, AreInStep, cond-true, Group3_2D, after_eol, eols_here, limit_met, Ok}
-use Rattle.fax_reading.proofs.Names.{length, Option, at_end, end_of, Ending, arith, plain, false, zero, Bool, true, List, ◌++◌, ℕ}
-use Rattle.fax_reading.proofs.Names.{line_here, all_eols, past_tag, Progress, or_parts, move_on, ComesTo, IsEolAt, Reaches, subst}
+use Rattle.fax_reading.proofs.Names.{MakesNoRtc, PutsInStep, AreInStep, cond-true, Group3_2D, after_eol, eols_here, limit_met, []}
+use Rattle.fax_reading.proofs.Names.{length, Option, at_end, end_of, Ending, plain, false, subst, zero, Bool, true, List, ◌++◌, ℕ}
+use Rattle.fax_reading.proofs.Names.{length-drop, RowsBehind, false≢true, append-nil, cond-false, row_before, first_line, is_over}
+use Rattle.fax_reading.proofs.Names.{line_here, all_eols, past_tag, Progress, or_parts, move_on, ComesTo, IsEolAt, Reaches, arith}
 use Rattle.fax_reading.proofs.Names.{take, drop, Some, None, refl, Turn, Bits, ◌≡◌, suc, ◌<◌, ◌≤◌, ◌∷◌, Err, sym, ◌∙◌, ◌⊎◌, inl}
-use Rattle.fax_reading.proofs.Names.{take-append-drop, DecodeSettings, AreWholeBytes, common_steps, append_assoc, length-drop, []}
+use Rattle.fax_reading.proofs.Names.{take-append-drop, DecodeSettings, AreWholeBytes, common_steps, append_assoc, DecodeError, Ok}
 use Rattle.std.proofs.Math.Seq.{drop-append_seam}
 use Rattle.fax_bits.proofs.BitReading.ConsecutiveEols.{after_eol_shorter, next_eol_found, last_tag_count, counts_tagged}
 use Rattle.fax_bits.proofs.BitReading.ConsecutiveEols.{counts_plain, count_moves, all_tagged}
 use Rattle.fax_bits.proofs.Repetition.Repeated.{repeated_follows, repeated_turn, after_turn, reaches_on, Follows}
-use Rattle.fax_reading.proofs.DamagedLines.EolsAlike.{leaves_length, all_eols_kept, turn_closed, left_closes, row_counted, Ends}
-use Rattle.fax_reading.proofs.DamagedLines.EolsAlike.{left_ends, past_ends, with_tail, one_alone, IsGroup3, IsLineIn, not_end}
+use Rattle.fax_reading.proofs.DamagedLines.EolsAlike.{EndsByOne, left_ends, past_ends, with_tail, one_alone, IsGroup3, IsLineIn}
+use Rattle.fax_reading.proofs.DamagedLines.EolsAlike.{leaves_length, all_eols_kept, turn_closed, left_closes, row_counted}
+use Rattle.fax_reading.proofs.DamagedLines.LineTails.{line_past_by, eol_closes}
+use Rattle.fax_reading.proofs.DamagedLines.PastEol.{then_after, past_is, past}
 use Rattle.fax_reading.proofs.DamagedLines.RunsAlike.{move_beyond, not_group4, StayAlike, SameLine, run_at}
 use Rattle.fax_reading.proofs.DamagedLines.SoughtTurns.{eols_here_same, move_sought, row_past, rest_of, sought}
-use Rattle.fax_reading.proofs.DamagedLines.{LineTails.line_past_by, LineTails.eol_closes, EolsAlike.counted, EolsAlike.IsAlone}
-use Rattle.fax_reading.proofs.DamagedLines.{PastEol.then_after, PastEol.past_is, PastEol.past, LinesByEols.seeks}
+use Rattle.fax_reading.proofs.DamagedLines.{EolsAlike.not_end, EolsAlike.counted, EolsAlike.IsAlone, LinesByEols.seeks}
 use Rattle.fax_reading.proofs.DrawingLines.LinesLeaveBits.{leaves_trans, LeavesBits}
 use Rattle.fax_reading.proofs.Readings.GapsAndRows.{ending_goes, plain_is, end_t4, late, goes}
 use Rattle.fax_reading.proofs.Readings.TurnsMoveOn.{eols_here_counted, left_to_read, move_shrinks}
@@ -47,7 +48,7 @@ module _ (settings : DecodeSettings) (unlimited : settings.rows ≡ 0) (whole x 
   not_over rows u (count, rest) few open_end = grind (arith, common_steps, cond-false, open_limit)
 
   abbrev Ahead : ℕ → Type 0
-  Ahead n = (rows : List Row) (bits : Bits) → length bits < n → Ends 11 bits → LeavesBits whole (bits ++ x)
+  Ahead n = (rows : List Row) (bits : Bits) → length bits < n → EndsByOne 11 bits → LeavesBits whole (bits ++ x)
       → ComesBehind settings next (sought rows (bits ++ x))
 
   pub from_ahead : (n : ℕ) → Ahead n
