@@ -3,7 +3,7 @@
 use Rattle.std.specs.Prelude.{◌≡◌, ◌+◌, ◌≤◌, suc, max, length, Result, OnOk}
 use Rattle.fax_bits.specs.declared.codes.Mode.{Mode}
 use Rattle.fax_bits.specs.declared.error.DecodeError.{DecodeError}
-use Rattle.hayro_ccitt.specs.Answers.{DrawsStep, OnAnswer, TellsCut, pen_of, step_of_mode, strict_step_of_mode, words_of_mode}
+use Rattle.hayro_ccitt.specs.Answers.{OnAnswer, TellsCut, pen_of, strict_step_of_mode, words_of_mode}
 use Rattle.hayro_ccitt.specs.Bits.{BitsAt, here}
 use Rattle.hayro_ccitt.specs.Context.{Context, passed_changes, redrawn}
 use Rattle.hayro_ccitt.specs.Rows.{changes}
@@ -24,11 +24,10 @@ pub record SeeksB1 (old new : Context) : Type 0 where
   pub work : new.ticks + old.passed ≡ old.ticks + new.passed + 1
   pub space : new.space ≡ old.space
 
--- What a call leaves that draws a mode: a tick for each word of its runs, one for each change that is passed, and at most three more
+-- What a call leaves that draws a mode, besides the pen: a tick for each word of its runs, one for each change that is passed, and at most three more
 -- (T.4, 4.2.1.3; T.6, 2.2).
 pub record DrawsOneMode (mode : Mode) (old new : Context) (answer : Result (Unit {0}) DecodeError)
     (before after : BitsAt) : Type 0 where
-  pub step : DrawsStep (step_of_mode old.held (here before) mode) answer (pen_of new.held (here after))
   pub held : new.held ≡ redrawn old.held new.held.front new.held.color
   pub same_bits : after.bits ≡ before.bits
   pub counts : old.ticks ≤ new.ticks

@@ -14,7 +14,7 @@ ghost use Rattle.hayro_ccitt.specs.ContextSteps.{DrawsOneMode, DrawsUsualModes, 
 ghost use Rattle.hayro_ccitt.specs.Context.{ArePassed, exceeds, right_of_painted, with_cut};
 ghost use Rattle.hayro_ccitt.specs.WhiteLines.{AreKnown, MayFollow};
 ghost use Rattle.hayro_ccitt.specs.Answers.{DrawsLine, DrawsStep, OnAnswer, words_of_run, words_from_1d};
-ghost use Rattle.hayro_ccitt.specs.Answers.{words_from_2d, StoresChange, RepairStoresChange, pen_of, step_of_run};
+ghost use Rattle.hayro_ccitt.specs.Answers.{words_from_2d, StoresChange, RepairStoresChange, pen_of, step_of_run, step_of_mode};
 ghost use Rattle.hayro_ccitt.specs.Answers.{line_from_1d, line_from_2d, front_of, is_broken, strict_step_of_run};
 ghost use Rattle.hayro_ccitt.specs.Answers.{TellsCut};
 ghost use Rattle.hayro_ccitt.specs.Lines.{line_1d, line_2d};
@@ -1178,7 +1178,9 @@ impl DecoderContext {
     /// Draws the two runs of a horizontal mode (T.4, 4.2.1.3).
     #[inline(never)]
     fn draw_both_runs(&mut self, reader: &mut BitReader<'_>) -> Result<()>
-        ensures { DrawsOneMode Mode.Horizontal self.old self.new result reader.old reader.new }
+        ensures step { DrawsStep (step_of_mode self.old.held (here reader.old) Mode.Horizontal)
+            result (pen_of self.new.held (here reader.new)) }
+        ensures leaves { DrawsOneMode Mode.Horizontal self.old self.new result reader.old reader.new }
     {
         self.draw_run(reader)?;
         self.draw_run(reader)
@@ -1187,7 +1189,9 @@ impl DecoderContext {
     /// Draws a mode, the runs of a horizontal one by a call.
     #[inline(never)]
     fn draw_other_mode(&mut self, mode: Mode, reader: &mut BitReader<'_>) -> Result<()>
-        ensures { DrawsOneMode mode self.old self.new result reader.old reader.new }
+        ensures step { DrawsStep (step_of_mode self.old.held (here reader.old) mode)
+            result (pen_of self.new.held (here reader.new)) }
+        ensures leaves { DrawsOneMode mode self.old self.new result reader.old reader.new }
     {
         match mode {
             Mode::Pass => {
@@ -1217,7 +1221,9 @@ impl DecoderContext {
     /// Draws a mode (T.4, 4.2.1.3).
     #[inline(always)]
     fn draw_mode(&mut self, mode: Mode, reader: &mut BitReader<'_>) -> Result<()>
-        ensures { DrawsOneMode mode self.old self.new result reader.old reader.new }
+        ensures step { DrawsStep (step_of_mode self.old.held (here reader.old) mode)
+            result (pen_of self.new.held (here reader.new)) }
+        ensures leaves { DrawsOneMode mode self.old self.new result reader.old reader.new }
     {
         match mode {
             Mode::Horizontal => self.draw_both_runs(reader),

@@ -2,7 +2,7 @@ use Rattle.hayro_ccitt.specs.Lines.{place_from}
 use Rattle.hayro_ccitt.proofs.Names.{common_steps}
 use Rattle.hayro_ccitt.proofs.Names.{◌≡◌, ℕ, ℤ, ◌-◌, ◌≤◌, ◌+ℤ◌, ◌∙◌, pos, negsuc, length, ap, Ok, w8, SFits, arith, rules}
 use Rattle.hayro_ccitt.proofs.Names.{to_z-of_z, err_from_is_err_and, on_err_weaker, on_ok_weaker, Context, DecodeError, Held}
-use Rattle.hayro_ccitt.proofs.Names.{b1, here, right_of, DrawsStep, step_of_mode, Pass, pen_of}
+use Rattle.hayro_ccitt.proofs.Names.{b1, here, right_of}
 use Rattle.hayro_ccitt.proofs.DrawingLines.CutRuns.{pass_cuts}
 use Rattle.hayro_ccitt.proofs.DrawingLines.Drawings.{try}
 use Rattle.hayro_ccitt.proofs.DrawingLines.DrawnLines.{IsUnpainted, paint_draws, pass_draws, unpainted, vertical_unpainted}
@@ -13,8 +13,8 @@ placed : (painted : ℕ) (z : ℤ) (p : ℕ) → place_from painted z ≡ Ok p �
 placed painted (pos n) p is = grind (arith, common_steps)
 placed painted (negsuc n) p is = grind (arith, common_steps)
 
-pub returns-in_err-push_pixels-in-Vertical : goal.returns-in_err-push_pixels-in-Vertical
-returns-in_err-push_pixels-in-Vertical c =
+pub returns-in_err-push_pixels-in-Vertical-clause-step : goal.returns-in_err-push_pixels-in-Vertical-clause-step
+returns-in_err-push_pixels-in-Vertical-clause-step c =
     let e = c.in_err-push_pixels-in-Vertical.ensures in
     let p = err_from_is_err_and c.from_residual-in_err-push_pixels-in-Vertical.result
     c.from_residual-in_err-push_pixels-in-Vertical.ensures.1 in
@@ -33,13 +33,13 @@ returns-in_err-push_pixels-in-Vertical c =
     let why : IsUnpainted c.b1-b1.new.self.held (place - c.pixels_painted-painted.result) fault =
     record { too_many = e.too_many.0; memory = e.memory; only = e.only } in
     let why_old : IsUnpainted old (place - length old.front) fault = rw (painted, same) at why in
-    let step = vertical_unpainted old c.push_pixels-in-Vertical.new.self.held c.in-Vertical.offset place (here c.args.reader.now)
-    fault named.0 named.1 named.2 (ap (λ (x : Context). x.held) e.unchanged ∙ same) why_old in
-    rw (c.in-Vertical.is, p.1, p.2) (grind (arith, common_steps))
+    rw (c.in-Vertical.is, p.1, p.2)
+    (vertical_unpainted old c.push_pixels-in-Vertical.new.self.held c.in-Vertical.offset place (here c.args.reader.now) fault
+    named.0 named.1 named.2 (ap (λ (x : Context). x.held) e.unchanged ∙ same) why_old)
 
-pub returns-in-Pass : goal.returns-in-Pass
-returns-in-Pass c =
-    let step : DrawsStep (step_of_mode c.args.self.now.held (here c.args.reader.now) Pass) c.push_pixels.result
-    (pen_of c.push_pixels.new.self.held (here c.args.reader.now)) =
-    grind (arith, common_steps, try, paint_draws, on_ok_weaker, on_err_weaker, unpainted, pass_draws) in
-    grind (arith, common_steps, pass_cuts c.args.self.now c.b2-b2.new.self c.push_pixels.new.self)
+pub returns-in-Pass-clause-step : goal.returns-in-Pass-clause-step
+returns-in-Pass-clause-step c =
+    grind (arith, common_steps, try, paint_draws, on_ok_weaker, on_err_weaker, unpainted, pass_draws)
+
+pub returns-in-Pass-clause-leaves : goal.returns-in-Pass-clause-leaves
+returns-in-Pass-clause-leaves c = grind (arith, common_steps, pass_cuts c.args.self.now c.b2-b2.new.self c.push_pixels.new.self)
