@@ -1,5 +1,5 @@
--- What the calls of a context leave that draw a part of a line. This is not part of the trusted specification: of public calls only
--- those of b1 and b2 cite it.
+-- What the calls of a context leave that draw a part of a line. This is not part of the trusted specification: of public calls
+-- only those of b1 and b2 cite it.
 use Rattle.std.specs.Prelude.{◌≡◌, ◌+◌, ◌≤◌, suc, max, length, Result, OnOk}
 use Rattle.fax_bits.specs.declared.codes.Mode.{Mode}
 use Rattle.fax_bits.specs.declared.error.DecodeError.{DecodeError}
@@ -11,8 +11,8 @@ use Rattle.hayro_ccitt.specs.Space.{room_for}
 use Rattle.hayro_ccitt.specs.UsualModes.{GoesOn2d}
 use Rattle.hayro_ccitt.specs.UsualRuns.{GoesOn}
 
--- What a call leaves that looks for b1: the changes that aren't right of a0 are passed, each with a tick, and there is one tick more
--- (T.4, 4.2.1.1).
+-- What a call leaves that looks for b1: the changes that aren't right of a0 are passed, each with a tick, and there is one tick
+-- more (T.4, 4.2.1.1).
 pub record SeeksB1 (old new : Context) : Type 0 where
   pub edge : length old.held.reference ≡ old.held.settings.columns
   pub within : length old.held.front ≤ old.held.settings.columns
@@ -24,8 +24,8 @@ pub record SeeksB1 (old new : Context) : Type 0 where
   pub work : new.ticks + old.passed ≡ old.ticks + new.passed + 1
   pub space : new.space ≡ old.space
 
--- What a call leaves that draws a mode, besides the pen: a tick for each word of its runs, one for each change that is passed, and at most three more
--- (T.4, 4.2.1.3; T.6, 2.2).
+-- What a call leaves that draws a mode, besides the pen: a tick for each word of its runs, one for each change that is passed, and
+-- at most three more (T.4, 4.2.1.3; T.6, 2.2).
 pub record DrawsOneMode (mode : Mode) (old new : Context) (answer : Result (Unit {0}) DecodeError)
     (before after : BitsAt) : Type 0 where
   pub held : new.held ≡ redrawn old.held new.held.front new.held.color
@@ -48,8 +48,8 @@ pub record DrawsUsualRuns (old new : Context) (before after : BitsAt) : Type 0 w
   pub onward : before.place ≤ after.place
   pub space : new.space ≡ old.space
 
--- What a call leaves that draws modes from the start of a line as long as they are usual: the line goes on from there (T.4, 4.2.1.3;
--- T.6, 2.2).
+-- What a call leaves that draws modes from the start of a line as long as they are usual: the line goes on from there (T.4,
+-- 4.2.1.3; T.6, 2.2).
 pub record DrawsUsualModes (old new : Context) (before after : BitsAt) : Type 0 where
   pub drawn : GoesOn2d old.held.settings.strict old.held.settings.columns old.held.reference (pen_of old.held (here before))
       (pen_of new.held (here after)) old.ticks new.ticks old.passed new.passed

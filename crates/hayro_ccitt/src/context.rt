@@ -11,6 +11,7 @@ ghost use Rattle.hayro_ccitt.specs.Bits.{here};
 ghost use Rattle.hayro_ccitt.specs.Context.{redrawn, painted_front, taken_row, after_repair, with_missed};
 ghost use Rattle.hayro_ccitt.specs.CodeReading.{read_code};
 ghost use Rattle.hayro_ccitt.specs.ContextSteps.{DrawsOneMode, DrawsUsualModes, DrawsUsualRuns, SeeksB1};
+ghost use Rattle.hayro_ccitt.specs.Counting.{OnlyCounts};
 ghost use Rattle.hayro_ccitt.specs.Context.{ArePassed, exceeds, right_of_painted, with_cut};
 ghost use Rattle.hayro_ccitt.specs.WhiteLines.{AreKnown, MayFollow};
 ghost use Rattle.hayro_ccitt.specs.Answers.{DrawsLine, DrawsStep, OnAnswer, words_of_run, words_from_1d};
@@ -692,12 +693,10 @@ impl DecoderContext {
         ensures run { (n : ℕ) → result ≡ Some n → read_run color (here reader.old) ≡ Ok (n, here reader.new) }
         ensures none { result ≡ None → (fault : DecodeError) × (read_run color (here reader.old) ≡ Err fault) }
         ensures same_bits { reader.new.bits ≡ reader.old.bits }
-        ensures held { self.new.held ≡ self.old.held }
+        ensures only_ticks { OnlyCounts self.old self.new }
         ensures cut { self.new.cut ≡ self.old.cut }
-        ensures counts { self.old.ticks ≤ self.new.ticks }
         ensures at_most { self.new.ticks
             ≤ self.old.ticks + length (run_found color (0, here reader.old)) + (if is_some result then 0 else 1) }
-        ensures space { self.new.space ≡ self.old.space }
     {
         match reader.decode_run(color, &self.tables, &mut self.ticks) {
             Ok(run) => Some(run),
@@ -711,12 +710,10 @@ impl DecoderContext {
         ensures run { result ≡ true → (n : ℕ) × (read_run color (here reader.old) ≡ Ok (n, here reader.new)) }
         ensures none { result ≡ false → (fault : DecodeError) × (read_run color (here reader.old) ≡ Err fault) }
         ensures same_bits { reader.new.bits ≡ reader.old.bits }
-        ensures held { self.new.held ≡ self.old.held }
+        ensures only_ticks { OnlyCounts self.old self.new }
         ensures cut { self.new.cut ≡ self.old.cut }
-        ensures counts { self.old.ticks ≤ self.new.ticks }
         ensures at_most { self.new.ticks
             ≤ self.old.ticks + length (run_found color (0, here reader.old)) + (if result then 0 else 1) }
-        ensures space { self.new.space ≡ self.old.space }
     {
         self.run_length(color, reader).is_some()
     }
@@ -727,12 +724,10 @@ impl DecoderContext {
     pub(crate) fn pass_mode(&mut self, color: Color, reader: &mut BitReader<'_>) -> Option<Color>
         ensures behind { option_map (λ behind. (behind, here reader.new)) result ≡ behind_mode color (here reader.old) }
         ensures same_bits { reader.new.bits ≡ reader.old.bits }
-        ensures held { self.new.held ≡ self.old.held }
+        ensures only_ticks { OnlyCounts self.old self.new }
         ensures cut { self.new.cut ≡ self.old.cut }
-        ensures counts { self.old.ticks ≤ self.new.ticks }
         ensures at_most { self.new.ticks
             ≤ self.old.ticks + length (mode_found color (here reader.old)) + (if is_some result then 0 else 1) }
-        ensures space { self.new.space ≡ self.old.space }
     {
         let Ok(mode) = reader.decode_mode(&mut self.ticks) else {
             return None;

@@ -46,4 +46,5 @@ returns-then-not-put_ends c =
 pub returns : goal.returns
 returns c =
     let none = none_stored (goal.at.returns c).After-has_mode in
-    grind (arith, common_steps, ends_taken, none_painted_yet, changes-pixels, are_passed, c.put_ends.ensures.ended c.if-not-put_ends.false)
+    let ended = c.put_ends.ensures.ended c.if-not-put_ends.false in
+    grind (arith, common_steps, ends_taken, none_painted_yet, changes-pixels, are_passed)

@@ -28,7 +28,8 @@ returns-then-self-clause-too_many c = grind (arith, common_steps, paint-strict)
 
 pub returns-in_err-append_pixels-clause-too_many : goal.returns-in_err-append_pixels-clause-too_many
 returns-in_err-append_pixels-clause-too_many c =
-    grind (arith, common_steps, is_painted (goal.at.returns-in_err-append_pixels-clause-too_many c).After-append_pixels, err_from_is_err_and)
+    let painted = is_painted (goal.at.returns-in_err-append_pixels-clause-too_many c).After-append_pixels in
+    grind (arith, common_steps, err_from_is_err_and)
 
 pub returns-in_err-append_pixels-clause-memory : goal.returns-in_err-append_pixels-clause-memory
 returns-in_err-append_pixels-clause-memory c =
