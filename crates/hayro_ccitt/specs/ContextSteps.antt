@@ -24,8 +24,8 @@ pub record SeeksB1 (old new : Context) : Type 0 where
   pub work : new.ticks + old.passed ≡ old.ticks + new.passed + 1
   pub space : new.space ≡ old.space
 
--- What a call leaves that draws a mode, besides the pen: a tick for each word of its runs, one for each change that is passed, and
--- at most three more (T.4, 4.2.1.3; T.6, 2.2).
+-- What a call leaves that draws a mode, besides the pen: a tick for each word of its runs, one for each change that is passed,
+-- and at most three more (T.4, 4.2.1.3; T.6, 2.2).
 pub record DrawsOneMode (mode : Mode) (old new : Context) (answer : Result (Unit {0}) DecodeError)
     (before after : BitsAt) : Type 0 where
   pub held : new.held ≡ redrawn old.held new.held.front new.held.color
