@@ -1,3 +1,4 @@
+pub mod ContextSteps
 pub mod ContextView
 pub mod Contract
 pub mod Counting

@@ -3,9 +3,10 @@ use Rattle.std.specs.Prelude.{◌≤◌, ℕ, Bool, Option, length}
 use Rattle.fax_bits.specs.declared.bit_reader.BitOrder.{BitOrder}
 use Rattle.fax_bits.specs.declared.error.DecodeError.{DecodeError}
 use Rattle.hayro_ccitt.specs.declared.row_cursor.RowCursor.TheInside.{Inside}
+use Rattle.hayro_ccitt.specs.declared.row_reader.RowState.{RowState}
 use Rattle.hayro_ccitt.specs.declared.row_reader.Stand.{Stand}
 use Rattle.hayro_ccitt.specs.Bits.{Bits}
-use Rattle.hayro_ccitt.specs.Context.{Held}
+use Rattle.hayro_ccitt.specs.Context.{Context, Held}
 use Rattle.hayro_ccitt.specs.Space.{most_room}
 use Rattle.hayro_ccitt.specs.RowsRead.{RowsRead, ReaderStands, DamageIsCounted, MissIsTold, WorkIsPaid, read_so_far}
 
@@ -24,19 +25,22 @@ pub record Paused : Type 0 where
   pub ticks : ℕ
   pub space : ℕ
 
-abbrev pub paused_of : Inside → Paused
-paused_of r = record {
-  held = r.ctx.held;
-  order = r.order;
-  place = r.place;
-  line_start = r.rows.started_at;
-  damage = r.rows.damage;
-  cut = r.rows.cut;
-  missed = r.rows.missed;
-  stand = r.rows.stand;
-  ticks = r.ctx.ticks;
-  space = r.ctx.space;
+abbrev pub paused_at : Context → BitOrder → ℕ → RowState → Paused
+paused_at ctx order place rows = record {
+  held = ctx.held;
+  order = order;
+  place = place;
+  line_start = rows.started_at;
+  damage = rows.damage;
+  cut = rows.cut;
+  missed = rows.missed;
+  stand = rows.stand;
+  ticks = ctx.ticks;
+  space = ctx.space;
 }
+
+abbrev pub paused_of : Inside → Paused
+paused_of r = paused_at r.ctx r.order r.place r.rows
 
 -- what was read of these bits
 abbrev pub rows_over : Bits → Paused → RowsRead

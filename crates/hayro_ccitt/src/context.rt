@@ -8,16 +8,16 @@ ghost use Rattle.hayro_ccitt.specs.{Ticks.run_found, Work.mode_found};
 ghost use Rattle.hayro_ccitt.specs.Runs.{codes_of, read_run};
 ghost use Rattle.hayro_ccitt.specs.Rows.{AreChanges, right_of, b1, b2, changes, opposite, too_many_pixels};
 ghost use Rattle.hayro_ccitt.specs.Bits.{here};
-ghost use Rattle.hayro_ccitt.specs.Context.{redrawn, painted_front, taken_row, after_repair, passed_changes, with_missed};
+ghost use Rattle.hayro_ccitt.specs.Context.{redrawn, painted_front, taken_row, after_repair, with_missed};
 ghost use Rattle.hayro_ccitt.specs.CodeReading.{read_code};
+ghost use Rattle.hayro_ccitt.specs.ContextSteps.{DrawsOneMode, DrawsUsualModes, DrawsUsualRuns, SeeksB1};
+ghost use Rattle.hayro_ccitt.specs.Counting.{OnlyCounts};
 ghost use Rattle.hayro_ccitt.specs.Context.{ArePassed, exceeds, right_of_painted, with_cut};
-ghost use Rattle.hayro_ccitt.specs.UsualModes.{GoesOn2d};
-ghost use Rattle.hayro_ccitt.specs.UsualRuns.{GoesOn};
 ghost use Rattle.hayro_ccitt.specs.WhiteLines.{AreKnown, MayFollow};
-ghost use Rattle.hayro_ccitt.specs.Answers.{DrawsLine, DrawsStep, OnAnswer, words_of_run, words_of_mode, words_from_1d};
+ghost use Rattle.hayro_ccitt.specs.Answers.{DrawsLine, DrawsStep, OnAnswer, words_of_run, words_from_1d};
 ghost use Rattle.hayro_ccitt.specs.Answers.{words_from_2d, StoresChange, RepairStoresChange, pen_of, step_of_run, step_of_mode};
 ghost use Rattle.hayro_ccitt.specs.Answers.{line_from_1d, line_from_2d, front_of, is_broken, strict_step_of_run};
-ghost use Rattle.hayro_ccitt.specs.Answers.{strict_step_of_mode, TellsCut};
+ghost use Rattle.hayro_ccitt.specs.Answers.{TellsCut};
 ghost use Rattle.hayro_ccitt.specs.Lines.{line_1d, line_2d};
 ghost use Rattle.hayro_ccitt.specs.Space.{room_for, most_stored};
 
@@ -447,16 +447,7 @@ impl DecoderContext {
         ensures b2 { b2 self.old.held.reference (right_of self.old.held.front) self.old.held.color
             ≡ get_or (changes self.old.held.reference) (result + 1) self.old.held.settings.columns }
         ensures fits { result + 1 < 2 ^ 64 }
-        ensures edge { length self.old.held.reference ≡ self.old.held.settings.columns }
-        ensures within { length self.old.held.front ≤ self.old.held.settings.columns }
-        ensures unchanged { self.new.held ≡ self.old.held }
-        ensures cut { self.new.cut ≡ self.old.cut }
-        ensures passed { self.new.passed
-            ≡ passed_changes (changes self.old.held.reference) (length self.old.held.front) }
-        ensures passed_within { self.new.passed ≤ length (changes self.old.held.reference) }
-        ensures forward { self.old.passed ≤ self.new.passed }
-        ensures work { self.new.ticks + self.old.passed ≡ self.old.ticks + self.new.passed + 1 }
-        ensures space { self.new.space ≡ self.old.space }
+        ensures seeks { SeeksB1 self.old self.new }
     {
         b1_index(
             self.ref_changes.as_slice(),
@@ -481,17 +472,7 @@ impl DecoderContext {
     #[inline(always)]
     pub fn b1(&mut self) -> u32
         ensures value { result ≡ b1 self.old.held.reference (right_of self.old.held.front) self.old.held.color }
-        ensures edge { length self.old.held.reference ≡ self.old.held.settings.columns }
-        ensures within { length self.old.held.front ≤ self.old.held.settings.columns }
-        ensures unchanged { self.new.held ≡ self.old.held }
-        ensures cut { self.new.cut ≡ self.old.cut }
-        ensures passed { self.new.passed
-            ≡ passed_changes (changes self.old.held.reference) (length self.old.held.front) }
-        ensures passed_within { self.new.passed ≤ length (changes self.old.held.reference) }
-        ensures forward { self.old.passed ≤ self.new.passed }
-        ensures at_least { self.old.ticks + self.new.passed ≤ self.new.ticks + self.old.passed }
-        ensures at_most { self.new.ticks + self.old.passed ≤ self.old.ticks + self.new.passed + 3 }
-        ensures space { self.new.space ≡ self.old.space }
+        ensures seeks { SeeksB1 self.old self.new }
     {
         let place = self.b1_place();
         self.reference_change(place)
@@ -502,18 +483,8 @@ impl DecoderContext {
     #[inline(always)]
     pub fn b2(&mut self) -> u32
         ensures value { result ≡ b2 self.old.held.reference (right_of self.old.held.front) self.old.held.color }
-        ensures edge { length self.old.held.reference ≡ self.old.held.settings.columns }
-        ensures within { length self.old.held.front ≤ self.old.held.settings.columns }
         ensures right { length self.old.held.front ≤ result }
-        ensures unchanged { self.new.held ≡ self.old.held }
-        ensures cut { self.new.cut ≡ self.old.cut }
-        ensures passed { self.new.passed
-            ≡ passed_changes (changes self.old.held.reference) (length self.old.held.front) }
-        ensures passed_within { self.new.passed ≤ length (changes self.old.held.reference) }
-        ensures forward { self.old.passed ≤ self.new.passed }
-        ensures at_least { self.old.ticks + self.new.passed ≤ self.new.ticks + self.old.passed }
-        ensures at_most { self.new.ticks + self.old.passed ≤ self.old.ticks + self.new.passed + 3 }
-        ensures space { self.new.space ≡ self.old.space }
+        ensures seeks { SeeksB1 self.old self.new }
     {
         let place = self.b1_place();
         self.reference_change(place + 1)
@@ -722,12 +693,10 @@ impl DecoderContext {
         ensures run { (n : ℕ) → result ≡ Some n → read_run color (here reader.old) ≡ Ok (n, here reader.new) }
         ensures none { result ≡ None → (fault : DecodeError) × (read_run color (here reader.old) ≡ Err fault) }
         ensures same_bits { reader.new.bits ≡ reader.old.bits }
-        ensures held { self.new.held ≡ self.old.held }
+        ensures only_ticks { OnlyCounts self.old self.new }
         ensures cut { self.new.cut ≡ self.old.cut }
-        ensures counts { self.old.ticks ≤ self.new.ticks }
         ensures at_most { self.new.ticks
             ≤ self.old.ticks + length (run_found color (0, here reader.old)) + (if is_some result then 0 else 1) }
-        ensures space { self.new.space ≡ self.old.space }
     {
         match reader.decode_run(color, &self.tables, &mut self.ticks) {
             Ok(run) => Some(run),
@@ -741,12 +710,10 @@ impl DecoderContext {
         ensures run { result ≡ true → (n : ℕ) × (read_run color (here reader.old) ≡ Ok (n, here reader.new)) }
         ensures none { result ≡ false → (fault : DecodeError) × (read_run color (here reader.old) ≡ Err fault) }
         ensures same_bits { reader.new.bits ≡ reader.old.bits }
-        ensures held { self.new.held ≡ self.old.held }
+        ensures only_ticks { OnlyCounts self.old self.new }
         ensures cut { self.new.cut ≡ self.old.cut }
-        ensures counts { self.old.ticks ≤ self.new.ticks }
         ensures at_most { self.new.ticks
             ≤ self.old.ticks + length (run_found color (0, here reader.old)) + (if result then 0 else 1) }
-        ensures space { self.new.space ≡ self.old.space }
     {
         self.run_length(color, reader).is_some()
     }
@@ -757,12 +724,10 @@ impl DecoderContext {
     pub(crate) fn pass_mode(&mut self, color: Color, reader: &mut BitReader<'_>) -> Option<Color>
         ensures behind { option_map (λ behind. (behind, here reader.new)) result ≡ behind_mode color (here reader.old) }
         ensures same_bits { reader.new.bits ≡ reader.old.bits }
-        ensures held { self.new.held ≡ self.old.held }
+        ensures only_ticks { OnlyCounts self.old self.new }
         ensures cut { self.new.cut ≡ self.old.cut }
-        ensures counts { self.old.ticks ≤ self.new.ticks }
         ensures at_most { self.new.ticks
             ≤ self.old.ticks + length (mode_found color (here reader.old)) + (if is_some result then 0 else 1) }
-        ensures space { self.new.space ≡ self.old.space }
     {
         let Ok(mode) = reader.decode_mode(&mut self.ticks) else {
             return None;
@@ -806,13 +771,7 @@ impl DecoderContext {
     /// Draws pairs of runs as long as they are usual, from a white one on.
     #[inline(always)]
     fn draw_by_twos(&mut self, hand: &mut BitsAtHand<'_>)
-        ensures drawn { GoesOn self.old.held.settings.strict self.old.held.settings.columns
-            (pen_of self.old.held (here hand.old.at)) (pen_of self.new.held (here hand.new.at)) self.old.ticks self.new.ticks }
-        ensures held { self.new.held ≡ redrawn self.old.held self.new.held.front self.new.held.color }
-        ensures cut { self.new.cut ≡ self.old.cut }
-        ensures same_bits { hand.new.at.bits ≡ hand.old.at.bits }
-        ensures onward { hand.old.at.place ≤ hand.new.at.place }
-        ensures space { self.new.space ≡ self.old.space }
+        ensures { DrawsUsualRuns self.old self.new hand.old.at hand.new.at }
     {
         if !self.color.is_white() {
             return;
@@ -840,13 +799,7 @@ impl DecoderContext {
     /// The same for a reader, in whichever order its bits are.
     #[inline(never)]
     fn draw_runs_of(&mut self, reader: &mut BitReader<'_>)
-        ensures drawn { GoesOn self.old.held.settings.strict self.old.held.settings.columns
-            (pen_of self.old.held (here reader.old)) (pen_of self.new.held (here reader.new)) self.old.ticks self.new.ticks }
-        ensures held { self.new.held ≡ redrawn self.old.held self.new.held.front self.new.held.color }
-        ensures cut { self.new.cut ≡ self.old.cut }
-        ensures same_bits { reader.new.bits ≡ reader.old.bits }
-        ensures onward { reader.old.place ≤ reader.new.place }
-        ensures space { self.new.space ≡ self.old.space }
+        ensures { DrawsUsualRuns self.old self.new reader.old reader.new }
     {
         if !self.color.is_white() {
             return;
@@ -902,13 +855,7 @@ impl DecoderContext {
     /// The same, without a call where the row is full or black is next.
     #[inline(always)]
     fn draw_usual_runs(&mut self, reader: &mut BitReader<'_>)
-        ensures drawn { GoesOn self.old.held.settings.strict self.old.held.settings.columns
-            (pen_of self.old.held (here reader.old)) (pen_of self.new.held (here reader.new)) self.old.ticks self.new.ticks }
-        ensures held { self.new.held ≡ redrawn self.old.held self.new.held.front self.new.held.color }
-        ensures cut { self.new.cut ≡ self.old.cut }
-        ensures same_bits { reader.new.bits ≡ reader.old.bits }
-        ensures onward { reader.old.place ≤ reader.new.place }
-        ensures space { self.new.space ≡ self.old.space }
+        ensures { DrawsUsualRuns self.old self.new reader.old reader.new }
     {
         // After the first run of a line black is next, unless the row is full.
         if !self.color.is_white() {
@@ -929,14 +876,8 @@ impl DecoderContext {
     #[inline(always)]
     fn draw_window(&mut self, hand: &mut BitsAtHand<'_>) -> bool
         requires within { 32 ≤ hand.old.left }
-        ensures drawn { GoesOn self.old.held.settings.strict self.old.held.settings.columns
-            (pen_of self.old.held (here hand.old.at)) (pen_of self.new.held (here hand.new.at)) self.old.ticks self.new.ticks }
-        ensures held { self.new.held ≡ redrawn self.old.held self.new.held.front self.new.held.color }
-        ensures cut { self.new.cut ≡ self.old.cut }
-        ensures same_bits { hand.new.at.bits ≡ hand.old.at.bits }
-        ensures onward { hand.old.at.place ≤ hand.new.at.place }
+        ensures draws { DrawsUsualRuns self.old self.new hand.old.at hand.new.at }
         ensures left { result ≡ false → hand.new.at ≡ hand.old.at }
-        ensures space { self.new.space ≡ self.old.space }
     {
         if !self.color.is_white() {
             return false;
@@ -973,13 +914,7 @@ impl DecoderContext {
     /// The same for a reader, with the bits that it has in its window.
     #[inline(always)]
     fn draw_window_of(&mut self, reader: &mut BitReader<'_>)
-        ensures drawn { GoesOn self.old.held.settings.strict self.old.held.settings.columns
-            (pen_of self.old.held (here reader.old)) (pen_of self.new.held (here reader.new)) self.old.ticks self.new.ticks }
-        ensures held { self.new.held ≡ redrawn self.old.held self.new.held.front self.new.held.color }
-        ensures cut { self.new.cut ≡ self.old.cut }
-        ensures same_bits { reader.new.bits ≡ reader.old.bits }
-        ensures onward { reader.old.place ≤ reader.new.place }
-        ensures space { self.new.space ≡ self.old.space }
+        ensures { DrawsUsualRuns self.old self.new reader.old reader.new }
     {
         if let Some(mut hand) = window_at_hand(reader) {
             if self.draw_window(&mut hand) {
@@ -991,12 +926,7 @@ impl DecoderContext {
     /// Draws such runs until the row is full, or one isn't usual.
     #[inline(always)]
     fn draw_windows_of(&mut self, reader: &mut BitReader<'_>)
-        ensures drawn { GoesOn self.old.held.settings.strict self.old.held.settings.columns
-            (pen_of self.old.held (here reader.old)) (pen_of self.new.held (here reader.new)) self.old.ticks self.new.ticks }
-        ensures held { self.new.held ≡ redrawn self.old.held self.new.held.front self.new.held.color }
-        ensures cut { self.new.cut ≡ self.old.cut }
-        ensures same_bits { reader.new.bits ≡ reader.old.bits }
-        ensures space { self.new.space ≡ self.old.space }
+        ensures { DrawsUsualRuns self.old self.new reader.old reader.new }
     {
         let mut before = 0;
         'windows: while before < self.pixels_decoded {
@@ -1014,13 +944,8 @@ impl DecoderContext {
     fn draw_white_row(&mut self, reader: &mut BitReader<'_>) -> bool
         requires begins { self.old.held.front ≡ [] }
         requires white { self.old.held.color ≡ Color.White }
-        ensures drawn { result ≡ true → GoesOn self.old.held.settings.strict self.old.held.settings.columns
-            (pen_of self.old.held (here reader.old)) (pen_of self.new.held (here reader.new)) self.old.ticks self.new.ticks }
-        ensures held { self.new.held ≡ redrawn self.old.held self.new.held.front self.new.held.color }
-        ensures cut { self.new.cut ≡ self.old.cut }
-        ensures same_bits { reader.new.bits ≡ reader.old.bits }
+        ensures draws { DrawsUsualRuns self.old self.new reader.old reader.new }
         ensures unchanged { result ≡ false → (self.new ≡ self.old) × (reader.new ≡ reader.old) }
-        ensures space { self.new.space ≡ self.old.space }
     {
         if !is_white_row(&self.ref_changes) {
             return false;
@@ -1050,12 +975,7 @@ impl DecoderContext {
     fn draw_first_runs(&mut self, reader: &mut BitReader<'_>)
         requires begins { self.old.held.front ≡ [] }
         requires white { self.old.held.color ≡ Color.White }
-        ensures drawn { GoesOn self.old.held.settings.strict self.old.held.settings.columns
-            (pen_of self.old.held (here reader.old)) (pen_of self.new.held (here reader.new)) self.old.ticks self.new.ticks }
-        ensures held { self.new.held ≡ redrawn self.old.held self.new.held.front self.new.held.color }
-        ensures cut { self.new.cut ≡ self.old.cut }
-        ensures same_bits { reader.new.bits ≡ reader.old.bits }
-        ensures space { self.new.space ≡ self.old.space }
+        ensures { DrawsUsualRuns self.old self.new reader.old reader.new }
     {
         if self.settings.columns > 64 {
             if self.draw_white_row(reader) {
@@ -1095,15 +1015,7 @@ impl DecoderContext {
         requires begins { self.old.held.front ≡ [] }
         requires white { self.old.held.color ≡ Color.White }
         requires none { self.old.passed ≡ 0 }
-        ensures drawn { GoesOn2d self.old.held.settings.strict self.old.held.settings.columns self.old.held.reference
-            (pen_of self.old.held (here hand.old.at)) (pen_of self.new.held (here hand.new.at)) self.old.ticks self.new.ticks
-            self.old.passed self.new.passed }
-        ensures held { self.new.held ≡ redrawn self.old.held self.new.held.front self.new.held.color }
-        ensures cut { self.new.cut ≡ self.old.cut }
-        ensures within { self.new.passed ≤ length (changes self.old.held.reference) }
-        ensures same_bits { hand.new.at.bits ≡ hand.old.at.bits }
-        ensures space { self.new.space ≤ max self.old.space (room_for
-            (max (length (changes self.old.held.reference)) (suc (length (changes self.new.held.front))))) }
+        ensures { DrawsUsualModes self.old self.new hand.old.at hand.new.at }
     {
         let columns = self.settings.columns;
         // A place and three more fit a lane of 32 bits with a sign.
@@ -1138,15 +1050,7 @@ impl DecoderContext {
         requires begins { self.old.held.front ≡ [] }
         requires white { self.old.held.color ≡ Color.White }
         requires none { self.old.passed ≡ 0 }
-        ensures drawn { GoesOn2d self.old.held.settings.strict self.old.held.settings.columns self.old.held.reference
-            (pen_of self.old.held (here reader.old)) (pen_of self.new.held (here reader.new)) self.old.ticks self.new.ticks
-            self.old.passed self.new.passed }
-        ensures held { self.new.held ≡ redrawn self.old.held self.new.held.front self.new.held.color }
-        ensures cut { self.new.cut ≡ self.old.cut }
-        ensures within { self.new.passed ≤ length (changes self.old.held.reference) }
-        ensures same_bits { reader.new.bits ≡ reader.old.bits }
-        ensures space { self.new.space ≤ max self.old.space (room_for
-            (max (length (changes self.old.held.reference)) (suc (length (changes self.new.held.front))))) }
+        ensures { DrawsUsualModes self.old self.new reader.old reader.new }
     {
         let mut hand = none_at_hand(reader);
         self.draw_modes_at_hand(&mut hand);
@@ -1165,13 +1069,8 @@ impl DecoderContext {
         requires begins { self.old.held.front ≡ [] }
         requires white { self.old.held.color ≡ Color.White }
         requires none { self.old.passed ≡ 0 }
-        ensures drawn { result ≡ true → GoesOn2d self.old.held.settings.strict self.old.held.settings.columns self.old.held.reference
-            (pen_of self.old.held (here reader.old)) (pen_of self.new.held (here reader.new)) self.old.ticks self.new.ticks
-            self.old.passed self.new.passed }
-        ensures held { self.new.held ≡ redrawn self.old.held self.new.held.front self.new.held.color }
-        ensures cut { self.new.cut ≡ self.old.cut }
+        ensures draws { DrawsUsualModes self.old self.new reader.old reader.new }
         ensures none { self.new.passed ≡ 0 }
-        ensures same_bits { reader.new.bits ≡ reader.old.bits }
         ensures unchanged { result ≡ false → (self.new ≡ self.old) × (reader.new ≡ reader.old) }
         ensures space { self.new.space ≡ self.old.space }
     {
@@ -1200,13 +1099,7 @@ impl DecoderContext {
         requires begins { self.old.held.front ≡ [] }
         requires white { self.old.held.color ≡ Color.White }
         requires none { self.old.passed ≡ 0 }
-        ensures drawn { result ≡ true → GoesOn2d self.old.held.settings.strict self.old.held.settings.columns self.old.held.reference
-            (pen_of self.old.held (here reader.old)) (pen_of self.new.held (here reader.new)) self.old.ticks self.new.ticks
-            self.old.passed self.new.passed }
-        ensures held { self.new.held ≡ redrawn self.old.held self.new.held.front self.new.held.color }
-        ensures cut { self.new.cut ≡ self.old.cut }
-        ensures within { self.new.passed ≤ length (changes self.old.held.reference) }
-        ensures same_bits { reader.new.bits ≡ reader.old.bits }
+        ensures draws { DrawsUsualModes self.old self.new reader.old reader.new }
         ensures unchanged { result ≡ false → (self.new ≡ self.old) × (reader.new ≡ reader.old) }
         ensures space { self.new.space ≡ self.old.space }
     {
@@ -1238,15 +1131,7 @@ impl DecoderContext {
         requires begins { self.old.held.front ≡ [] }
         requires white { self.old.held.color ≡ Color.White }
         requires none { self.old.passed ≡ 0 }
-        ensures drawn { GoesOn2d self.old.held.settings.strict self.old.held.settings.columns self.old.held.reference
-            (pen_of self.old.held (here reader.old)) (pen_of self.new.held (here reader.new)) self.old.ticks self.new.ticks
-            self.old.passed self.new.passed }
-        ensures held { self.new.held ≡ redrawn self.old.held self.new.held.front self.new.held.color }
-        ensures cut { self.new.cut ≡ self.old.cut }
-        ensures within { self.new.passed ≤ length (changes self.old.held.reference) }
-        ensures same_bits { reader.new.bits ≡ reader.old.bits }
-        ensures space { self.new.space ≤ max self.old.space (room_for
-            (max (length (changes self.old.held.reference)) (suc (length (changes self.new.held.front))))) }
+        ensures { DrawsUsualModes self.old self.new reader.old reader.new }
     {
         if self.is_filled_by_runs || self.begins_with_long_runs(reader) {
             return;
@@ -1261,15 +1146,7 @@ impl DecoderContext {
         requires begins { self.old.held.front ≡ [] }
         requires white { self.old.held.color ≡ Color.White }
         requires none { self.old.passed ≡ 0 }
-        ensures drawn { GoesOn2d self.old.held.settings.strict self.old.held.settings.columns self.old.held.reference
-            (pen_of self.old.held (here reader.old)) (pen_of self.new.held (here reader.new)) self.old.ticks self.new.ticks
-            self.old.passed self.new.passed }
-        ensures held { self.new.held ≡ redrawn self.old.held self.new.held.front self.new.held.color }
-        ensures cut { self.new.cut ≡ self.old.cut }
-        ensures within { self.new.passed ≤ length (changes self.old.held.reference) }
-        ensures same_bits { reader.new.bits ≡ reader.old.bits }
-        ensures space { self.new.space ≤ max self.old.space (room_for
-            (max (length (changes self.old.held.reference)) (suc (length (changes self.new.held.front))))) }
+        ensures { DrawsUsualModes self.old self.new reader.old reader.new }
     {
         if self.ref_changes.len() < 2 {
             if self.draw_white_line(reader) {
@@ -1298,18 +1175,7 @@ impl DecoderContext {
     fn draw_both_runs(&mut self, reader: &mut BitReader<'_>) -> Result<()>
         ensures step { DrawsStep (step_of_mode self.old.held (here reader.old) Mode.Horizontal)
             result (pen_of self.new.held (here reader.new)) }
-        ensures held { self.new.held ≡ redrawn self.old.held self.new.held.front self.new.held.color }
-        ensures same_bits { reader.new.bits ≡ reader.old.bits }
-        ensures counts { self.old.ticks ≤ self.new.ticks }
-        ensures at_least { OnAnswer result (self.old.ticks
-            + length (words_of_mode self.old.held (here reader.old) Mode.Horizontal) ≤ self.new.ticks) }
-        ensures at_most { self.new.ticks + self.old.passed
-            ≤ self.old.ticks + length (words_of_mode self.old.held (here reader.old) Mode.Horizontal) + self.new.passed + 3 }
-        ensures within { self.old.passed ≤ length (changes self.old.held.reference)
-            → self.new.passed ≤ length (changes self.old.held.reference) }
-        ensures cut { OnOk result (TellsCut (strict_step_of_mode self.old.held (here reader.old) Mode.Horizontal)
-            (pen_of self.new.held (here reader.new)) self.old.cut self.new.cut) }
-        ensures space { self.new.space ≤ max self.old.space (room_for (suc (length (changes self.old.held.front)))) }
+        ensures leaves { DrawsOneMode Mode.Horizontal self.old self.new result reader.old reader.new }
     {
         self.draw_run(reader)?;
         self.draw_run(reader)
@@ -1320,18 +1186,7 @@ impl DecoderContext {
     fn draw_other_mode(&mut self, mode: Mode, reader: &mut BitReader<'_>) -> Result<()>
         ensures step { DrawsStep (step_of_mode self.old.held (here reader.old) mode)
             result (pen_of self.new.held (here reader.new)) }
-        ensures held { self.new.held ≡ redrawn self.old.held self.new.held.front self.new.held.color }
-        ensures same_bits { reader.new.bits ≡ reader.old.bits }
-        ensures counts { self.old.ticks ≤ self.new.ticks }
-        ensures at_least { OnAnswer result (self.old.ticks
-            + length (words_of_mode self.old.held (here reader.old) mode) ≤ self.new.ticks) }
-        ensures at_most { self.new.ticks + self.old.passed
-            ≤ self.old.ticks + length (words_of_mode self.old.held (here reader.old) mode) + self.new.passed + 3 }
-        ensures within { self.old.passed ≤ length (changes self.old.held.reference)
-            → self.new.passed ≤ length (changes self.old.held.reference) }
-        ensures cut { OnOk result (TellsCut (strict_step_of_mode self.old.held (here reader.old) mode)
-            (pen_of self.new.held (here reader.new)) self.old.cut self.new.cut) }
-        ensures space { self.new.space ≤ max self.old.space (room_for (suc (length (changes self.old.held.front)))) }
+        ensures leaves { DrawsOneMode mode self.old self.new result reader.old reader.new }
     {
         match mode {
             Mode::Pass => {
@@ -1363,18 +1218,7 @@ impl DecoderContext {
     fn draw_mode(&mut self, mode: Mode, reader: &mut BitReader<'_>) -> Result<()>
         ensures step { DrawsStep (step_of_mode self.old.held (here reader.old) mode)
             result (pen_of self.new.held (here reader.new)) }
-        ensures held { self.new.held ≡ redrawn self.old.held self.new.held.front self.new.held.color }
-        ensures same_bits { reader.new.bits ≡ reader.old.bits }
-        ensures counts { self.old.ticks ≤ self.new.ticks }
-        ensures at_least { OnAnswer result (self.old.ticks
-            + length (words_of_mode self.old.held (here reader.old) mode) ≤ self.new.ticks) }
-        ensures at_most { self.new.ticks + self.old.passed
-            ≤ self.old.ticks + length (words_of_mode self.old.held (here reader.old) mode) + self.new.passed + 3 }
-        ensures within { self.old.passed ≤ length (changes self.old.held.reference)
-            → self.new.passed ≤ length (changes self.old.held.reference) }
-        ensures cut { OnOk result (TellsCut (strict_step_of_mode self.old.held (here reader.old) mode)
-            (pen_of self.new.held (here reader.new)) self.old.cut self.new.cut) }
-        ensures space { self.new.space ≤ max self.old.space (room_for (suc (length (changes self.old.held.front)))) }
+        ensures leaves { DrawsOneMode mode self.old self.new result reader.old reader.new }
     {
         match mode {
             Mode::Horizontal => self.draw_both_runs(reader),

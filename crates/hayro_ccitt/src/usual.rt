@@ -368,6 +368,7 @@ pub(crate) fn pass_white_row(
     ensures drawn { result ≡ true → (strict : Bool) → GoesOn strict columns (pen_at 0 [] Color.White hand.old.at)
         (pen_at columns [] Color.Black hand.new.at) ticks.old ticks.new }
     ensures same_bits { hand.new.at.bits ≡ hand.old.at.bits }
+    ensures onward { hand.old.at.place ≤ hand.new.at.place }
     ensures left { result ≡ false → (hand.new.at ≡ hand.old.at) × (ticks.new ≡ ticks.old) }
 {
     let Some((run, width, words)) = run_at_hand(hand, 0, Color::White, white) else {

@@ -1,4 +1,5 @@
 -- Runs that are drawn by their changes alone.
+use Rattle.hayro_ccitt.specs.ContextSteps.{DrawsUsualRuns}
 use Rattle.hayro_ccitt.proofs.Names.{common_steps}
 use Rattle.hayro_ccitt.proofs.Names.{◌≡◌, ◌≢◌, ℕ, suc, ◌+◌, ◌-◌, ◌%◌, ◌<◌, ◌≤◌, ◌⊎◌, inl, inr, Bool, true, false, min, List}
 use Rattle.hayro_ccitt.proofs.Names.{[], ◌∷◌, ◌++◌, length, replicate, Ok, refl, sym, ap, subst, ◌∙◌, arith, cases_lt, le-ltb}
@@ -265,39 +266,36 @@ begun_1d before now begun frame =
     rw frame (record { line = refl; held = refl; same_bits = refl; counts = omega arith }, refl)
 
 -- and more, where drawing continues
-pub drawn_on : (before now new : Context) (begun at next : BitsAt) → IsDrawn1d before now begun at → GoesOn
-    now.held.settings.strict now.held.settings.columns (pen_of now.held (here at)) (pen_of new.held (here next)) now.ticks
-    new.ticks → new.held ≡ redrawn now.held new.held.front new.held.color → next.bits ≡ at.bits → IsDrawn1d before new begun next
-drawn_on before now new begun at next so_far goes held same =
-    let settings : now.held.settings ≡ before.held.settings = ap (λ (h : Held). h.settings) so_far.0.held in
+pub drawn_on : {before now new : Context} {begun at next : BitsAt} → IsDrawn1d before now begun at
+    → DrawsUsualRuns now new at next → IsDrawn1d before new begun next
+drawn_on {before = before} {now = now} {new = new} {at = at} {next = next} so_far draws =
     let on : GoesOn before.held.settings.strict before.held.settings.columns (pen_of now.held (here at))
     (pen_of new.held (here next)) now.ticks new.ticks = subst (λ (s : DecodeSettings). GoesOn s.strict s.columns
-    (pen_of now.held (here at)) (pen_of new.held (here next)) now.ticks new.ticks) settings goes in (
+    (pen_of now.held (here at)) (pen_of new.held (here next)) now.ticks new.ticks)
+    (ap (λ (h : Held). h.settings) so_far.0.held) draws.drawn in (
       record {
         line = on.line ∙ so_far.0.line;
-        held = held ∙ ap (λ (h : Held). redrawn h new.held.front new.held.color) so_far.0.held;
-        same_bits = same ∙ so_far.0.same_bits;
+        held = draws.held ∙ ap (λ (h : Held). redrawn h new.held.front new.held.color) so_far.0.held;
+        same_bits = draws.same_bits ∙ so_far.0.same_bits;
         counts = omega (arith, on.counts, so_far.0.counts);
       },
       omega (arith, on.counted, so_far.1),
     )
 
 -- drawing continues twice, in a context
-pub drawn_twice : (before now new : Context) (begun at next : BitsAt) → GoesOn before.held.settings.strict
-    before.held.settings.columns (pen_of before.held (here begun)) (pen_of now.held (here at)) before.ticks now.ticks → now.held
-    ≡ redrawn before.held now.held.front now.held.color → GoesOn now.held.settings.strict now.held.settings.columns (pen_of
-    now.held (here at)) (pen_of new.held (here next)) now.ticks new.ticks → GoesOn before.held.settings.strict
-    before.held.settings.columns (pen_of before.held (here begun)) (pen_of new.held (here next)) before.ticks new.ticks
-drawn_twice before now new begun at next first held second =
-    let settings : now.held.settings ≡ before.held.settings = ap (λ (h : Held). h.settings) held in
-    goes_on_twice before.held.settings.strict before.held.settings.columns _ _ _ _ _ _ first
-    (subst (λ (s : DecodeSettings). GoesOn s.strict s.columns (pen_of now.held (here at)) (pen_of new.held (here next)) now.ticks
-    new.ticks) settings second)
-
--- and the rest of it stays
-pub held_twice : (before now new : Held) → now ≡ redrawn before now.front now.color → new ≡ redrawn now new.front new.color
-    → new ≡ redrawn before new.front new.color
-held_twice before now new first second = second ∙ ap (λ (h : Held). redrawn h new.front new.color) first
+pub runs_twice : {before now new : Context} {begun at next : BitsAt} → DrawsUsualRuns before now begun at
+    → DrawsUsualRuns now new at next → DrawsUsualRuns before new begun next
+runs_twice {before = before} {now = now} {new = new} {at = at} {next = next} first second =
+    record {
+      drawn = goes_on_twice before.held.settings.strict before.held.settings.columns _ _ _ _ _ _ first.drawn
+          (subst (λ (s : DecodeSettings). GoesOn s.strict s.columns (pen_of now.held (here at)) (pen_of new.held (here next))
+          now.ticks new.ticks) (ap (λ (h : Held). h.settings) first.held) second.drawn);
+      held = second.held ∙ ap (λ (h : Held). redrawn h new.held.front new.held.color) first.held;
+      cut = second.cut ∙ first.cut;
+      same_bits = second.same_bits ∙ first.same_bits;
+      onward = omega (arith, first.onward, second.onward);
+      space = second.space ∙ first.space;
+    }
 
 -- a reader that is further on has no more bits
 pub not_longer : (from to : BitsAt) (n : ℕ) → length (here from) < n → to.bits ≡ from.bits → from.place ≤ to.place

@@ -10,7 +10,8 @@ returns-clause-mode c = let at = c.args.reader.now in
     let v0 : c.mode_of-mode.result.0 ≡ Some (Vertical (pos 0)) = c.if-not-is_v0.ensures.v0 refl in
     let there : 0 < length (here at) = v0_there (here at) (sym v0 ∙ ap (λ (t : Option Mode × ℕ). t.0) told) in
     let one : c.mode_of-mode.result.1 ≡ 1 = c.mode_of-mode.ensures.v0 v0 in
-    λ e. rw (v0, one) at (mode_stands at c.mode_of-mode.result told (omega (arith, there, one)))
+    λ e. rw (v0, one) at (mode_stands at c.mode_of-mode.result told
+    (λ past. omega (arith, past, there, one, length-drop at.place at.bits)))
 
 pub returns-clause-passed : goal.returns-clause-passed
 returns-clause-passed c = let at = c.args.reader.now in

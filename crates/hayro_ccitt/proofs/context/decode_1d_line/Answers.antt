@@ -16,9 +16,7 @@ pub runs-init : goal.runs-init
 runs-init c =
     let begun = c.begin_line.new.self in
     let first = c.draw_first_runs in
-    let so_far = drawn_on c.args.ctx.now begun first.new.self c.args.reader.now c.args.reader.now first.new.reader
-    (begun_1d c.args.ctx.now begun c.args.reader.now c.begin_line.ensures.frame)
-    first.ensures.drawn first.ensures.held first.ensures.same_bits in
+    let so_far = drawn_on (begun_1d c.args.ctx.now begun c.args.reader.now c.begin_line.ensures.frame) first.ensures in
     let space = first.ensures.space ∙ ap (λ (x : Context). x.space) c.begin_line.ensures.frame in (
       so_far.0,
       so_far.1,
@@ -56,8 +54,7 @@ runs-preserved c =
       step_1d,
     ) in
     let twos = c.draw_usual_runs in
-    let on = drawn_on c.args.ctx.now c.draw_run.new.self twos.new.self c.args.reader.now c.draw_run.new.reader twos.new.reader
-    by_run twos.ensures.drawn twos.ensures.held twos.ensures.same_bits in
+    let on = drawn_on by_run twos.ensures in
     let few = drawn_so_far_1d c.args.ctx.now c.runs.ctx c.args.reader.now c.runs.reader so_far in
     let whole : Line = line_1d true before.settings.columns (here c.args.reader.now) in
     let cut = cut_by_run before now new whole c.runs.ctx.cut c.draw_run.new.self.cut so_far.held (here c.runs.reader)

@@ -53,7 +53,7 @@ modes-preserved c =
     let rest : Bits = here c.decode_mode.new.self in
     let mode : Mode = c.in_ok-mode.mode in
     let so_far = c.modes.invariant.0 in
-    let drawing = c.in_ok-draw_mode.ensures in
+    let drawing = c.in_ok-draw_mode.ensures.leaves in
     let left : context_of c.ctx.inside ≡ c.modes.ctx = c.ctx.view_is in
     let open_row = open_by c.is_full.result (length now.front) now.settings.columns c.modes-test.true c.is_full.ensures.1 in
     let draws : step_of_mode now rest mode ≡ Turn.next (pen_of new (here c.draw_mode.new.reader)) = grind (arith, common_steps) in
@@ -82,7 +82,7 @@ modes-preserved c =
         within = omega (arith, drawing.within (omega (arith, work.within, passed, changed, reference)), changed, reference);
         no_words = λ none. absurd (omega (arith, (work.no_words none).1, words));
       },
-      grown_again _ _ _ _ _ c.modes.invariant.2 (drawn_room left c.draw_mode.ensures.space)
+      grown_again _ _ _ _ _ c.modes.invariant.2 (drawn_room left c.draw_mode.ensures.leaves.space)
           (drawn_so_far_2d c.args.ctx.now c.modes.ctx c.args.reader.now c.modes.reader so_far),
       cut_by_mode before now new (line_2d true before.settings.columns before.reference (here c.args.reader.now)) c.modes.ctx.cut
           c.draw_mode.new.self.cut so_far.held (here c.modes.reader) rest (here c.draw_mode.new.reader) mode open_row
@@ -141,7 +141,7 @@ module _ (c : In_err-draw_mode) where
         fault,
         pen,
         draws,
-        c.in_err-draw_mode.ensures.at_least is,
+        c.in_err-draw_mode.ensures.leaves.at_least is,
       )
 
 pub returns-in_err-draw_mode-clause-line : goal.returns-in_err-draw_mode-clause-line
@@ -156,7 +156,7 @@ returns-in_err-draw_mode-clause-at_least c =
 
 pub returns-in_err-draw_mode-clause-space : goal.returns-in_err-draw_mode-clause-space
 returns-in_err-draw_mode-clause-space c =
-    grind (arith, common_steps, grown_again, drawn_so_far_2d, drawn_room c.ctx.view_is c.draw_mode.ensures.space)
+    grind (arith, common_steps, grown_again, drawn_so_far_2d, drawn_room c.ctx.view_is c.draw_mode.ensures.leaves.space)
 
 pub returns-clause-space : goal.returns-clause-space
 returns-clause-space c = c.modes.invariant.2

@@ -19,8 +19,8 @@ runs-preserved c =
     let more = run_passed columns begun c.runs.passed c.runs.color (here c.runs.reader) (here c.run_length.new.reader)
     c.in-Some.run' c.runs-test.true c.runs.invariant.6 read in (
       c.in-Some.ensures.same_bits ∙ c.runs.invariant.0,
-      c.in-Some.ensures.held ∙ c.runs.invariant.1,
-      omega (arith, c.in-Some.ensures.counts, c.runs.invariant.2),
+      c.in-Some.ensures.only_ticks.held ∙ c.runs.invariant.1,
+      omega (arith, c.in-Some.ensures.only_ticks.counts, c.runs.invariant.2),
       omega (
         arith,
         c.in-Some.ensures.at_most,
@@ -34,7 +34,7 @@ runs-preserved c =
           (subst (λ (color : Color). RunsPassed columns begun (c.runs.passed + min c.in-Some.run' (columns - c.runs.passed)) color
           (here c.run_length.new.reader))
           (sym c.opposite-color.ensures) more),
-      c.in-Some.ensures.space ∙ c.runs.invariant.7,
+      c.in-Some.ensures.only_ticks.space ∙ c.runs.invariant.7,
     )
 
 pub returns-in-None-clause-broken : goal.returns-in-None-clause-broken

@@ -1,4 +1,4 @@
-use Rattle.hayro_ccitt.proofs.Names.{◌≤◌, ℕ, Option, length, ap, ◌∙◌, arith, length-drop, Mode, here, mode_told}
+use Rattle.hayro_ccitt.proofs.Names.{ℕ, Option, ap, ◌∙◌, arith, Mode, here, mode_told}
 use Rattle.hayro_ccitt.proofs.CodeWords.LookedUpModes.{mode_stands, some_mode_bits}
 use Rattle.std.proofs.lemmas.Option.{IfSome_then}
 use Rattle.hayro_ccitt.proofs.modes.mode_at_hand.Goals as goal
@@ -7,10 +7,10 @@ pub returns-clause-mode : goal.returns-clause-mode
 returns-clause-mode c =
     let at = c.args.hand.now.at in
     let told = c.mode_of.ensures.told ∙ ap mode_told c.seven.ensures.bits in
-    let there : 7 ≤ length (here at) = omega (arith, length-drop at.place at.bits, c.seven.ensures.there, c.requires) in
     let width = ap (λ (t : Option Mode × ℕ). t.1) told in
     let few = c.mode_of.ensures.few in
-    IfSome_then c.mode_of.result.0 (mode_stands at c.mode_of.result told (omega (arith, there, few))) (λ mode read. record {
+    IfSome_then c.mode_of.result.0 (mode_stands at c.mode_of.result told
+    (λ past. omega (arith, past, few, c.seven.ensures.there, c.requires))) (λ mode read. record {
       read = read;
       some = omega (arith, width, some_mode_bits (here at));
       few = omega (arith, few);

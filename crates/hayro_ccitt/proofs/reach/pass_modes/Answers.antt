@@ -13,8 +13,8 @@ modes-preserved c =
     let read =
     ap (λ (at : BitsAt). behind_mode c.modes.color (here at)) (sym c.copy-next.ensures.value) ∙ sym c.in-Some.ensures.behind in (
       c.in-Some.ensures.same_bits ∙ ap (λ (at : BitsAt). at.bits) c.copy-next.ensures.value ∙ c.modes.invariant.0,
-      c.in-Some.ensures.held ∙ c.modes.invariant.1,
-      omega (arith, c.in-Some.ensures.counts, c.modes.invariant.2),
+      c.in-Some.ensures.only_ticks.held ∙ c.modes.invariant.1,
+      omega (arith, c.in-Some.ensures.only_ticks.counts, c.modes.invariant.2),
       further (here c.args.reader.now) c.modes.color (here c.modes.reader) c.in-Some.behind (here c.pass_mode.new.reader)
           c.modes.invariant.3 read,
       passed_mode (here c.args.reader.now) c.modes.color (here c.modes.reader) c.in-Some.behind (here c.pass_mode.new.reader)
@@ -23,7 +23,7 @@ modes-preserved c =
             c.in-Some.ensures.at_most,
             ap (λ (at : BitsAt). length (mode_found c.modes.color (here at))) c.copy-next.ensures.value,
           )),
-      c.in-Some.ensures.space ∙ c.modes.invariant.5,
+      c.in-Some.ensures.only_ticks.space ∙ c.modes.invariant.5,
     )
 
 pub returns-in-None-clause-read : goal.returns-in-None-clause-read

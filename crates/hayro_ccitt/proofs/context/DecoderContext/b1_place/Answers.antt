@@ -10,15 +10,5 @@ returns-clause-b1 c = grind (arith, common_steps, right_of-pixels, changes-pixel
 pub returns-clause-b2 : goal.returns-clause-b2
 returns-clause-b2 c = grind (arith, common_steps, right_of-pixels, changes-pixels)
 
-pub returns-clause-edge : goal.returns-clause-edge
-returns-clause-edge c =
-    rw (← c.self.view_is) (row_length c.self.inside.settings.columns c.self.inside.ref_changes.items c.self.invariant.reference)
-
-pub returns-clause-within : goal.returns-clause-within
-returns-clause-within c = grind (arith, common_steps, row_length)
-
-pub returns-clause-passed : goal.returns-clause-passed
-returns-clause-passed c = grind (arith, common_steps, row_length, changes-pixels)
-
-pub returns-clause-passed_within : goal.returns-clause-passed_within
-returns-clause-passed_within c = grind (arith, common_steps, changes-pixels)
+pub returns-clause-seeks : goal.returns-clause-seeks
+returns-clause-seeks c = grind (arith, common_steps, row_length, changes-pixels)

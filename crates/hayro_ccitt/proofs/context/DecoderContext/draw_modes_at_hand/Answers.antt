@@ -31,47 +31,20 @@ invariant_of-self-2 c =
           (are_passed some c.self.invariant.reference stroke);
     }
 
-pub returns-clause-drawn : goal.returns-clause-drawn
-returns-clause-drawn c =
-    grind (arith, common_steps, ends_taken, none_painted_yet, c.put_ends.ensures.ended c.if-not-put_ends.false)
-
-pub returns-clause-within : goal.returns-clause-within
-returns-clause-within c =
-    grind (arith, common_steps, ends_taken, changes-pixels, are_passed, c.put_ends.ensures.ended c.if-not-put_ends.false)
-
 -- nothing is drawn yet
 none_stored : (c : After-has_mode) → vec_len c.self.inside.coding_changes ≡ 0
 none_stored c = grind (arith, common_steps, empty_row)
 
-pub returns-then-not-has_mode-clause-space : goal.returns-then-not-has_mode-clause-space
-returns-then-not-has_mode-clause-space c =
-    let none = none_stored (goal.at.returns-then-not-has_mode-clause-space c).After-has_mode in
-    rw (← c.self.view_is) (omega (arith, none, c.has_mode.ensures.space))
+pub returns-then-not-has_mode : goal.returns-then-not-has_mode
+returns-then-not-has_mode c =
+    grind (arith, common_steps, changes-pixels, none_stored (goal.at.returns-then-not-has_mode c).After-has_mode)
 
-pub returns-then-not-put_ends-clause-space : goal.returns-then-not-put_ends-clause-space
-returns-then-not-put_ends-clause-space c =
-    let s = c.self.inside in
-    let none = none_stored (goal.at.returns-then-not-put_ends-clause-space c).After-has_mode in
-    let before = changes-pixels s.settings.columns s.ref_changes.items c.self.invariant.reference in
-    rw (← c.self.view_is, before)
-    (omega (arith, none, c.has_mode.ensures.space, c.put_ends.ensures.space, s.ref_changes.ok.0))
+pub returns-then-not-put_ends : goal.returns-then-not-put_ends
+returns-then-not-put_ends c =
+    grind (arith, common_steps, changes-pixels, none_stored (goal.at.returns-then-not-put_ends c).After-has_mode)
 
-pub returns-clause-space : goal.returns-clause-space
-returns-clause-space c =
-    let s = c.self.inside in
-    let none = none_stored (goal.at.returns-clause-space c).After-has_mode in
-    let laid = c.lay_down_row in
-    let before = changes-pixels s.settings.columns s.ref_changes.items c.self.invariant.reference in
-    let after = changes-pixels _ laid.new.changes.items laid.ensures.lawful in
-    rw (← c.self.view_is, before, after) (omega (
-      arith,
-      none,
-      c.take_ends.ensures.space,
-      c.put_ends.ensures.space,
-      laid.ensures.space,
-      laid.ensures.few,
-      c.draw_modes-reached.ensures.space,
-      c.has_mode.ensures.space,
-      s.ref_changes.ok.0,
-      laid.new.changes.ok.0,
-    ))
+pub returns : goal.returns
+returns c =
+    let none = none_stored (goal.at.returns c).After-has_mode in
+    let ended = c.put_ends.ensures.ended c.if-not-put_ends.false in
+    grind (arith, common_steps, ends_taken, none_painted_yet, changes-pixels, are_passed)

@@ -52,16 +52,14 @@ invariant_of-self c =
       passed = are_passed some c.self.invariant.reference stroke;
     }
 
-pub returns-clause-drawn : goal.returns-clause-drawn
-returns-clause-drawn c =
-    λ e. grind (
+pub returns-clause-draws : goal.returns-clause-draws
+returns-clause-draws c =
+    grind (
       arith,
       common_steps,
-      painted_nothing ((goal.at.returns-clause-drawn c).After-opposite-self-inside),
-      same_changes ((goal.at.returns-clause-drawn c).After-opposite-self-inside),
-      drawn ((goal.at.returns-clause-drawn c).After-opposite-self-inside),
+      changes-pixels,
+      painted_nothing ((goal.at.returns-clause-draws c).After-opposite-self-inside),
+      same_changes ((goal.at.returns-clause-draws c).After-opposite-self-inside),
+      drawn ((goal.at.returns-clause-draws c).After-opposite-self-inside),
       c.if-not-pass_bits.ensures.moved refl,
     )
-
-pub returns-clause-within : goal.returns-clause-within
-returns-clause-within c = grind (arith, common_steps, changes-pixels)

@@ -28,11 +28,8 @@ returns-then-self-clause-too_many c = grind (arith, common_steps, paint-strict)
 
 pub returns-in_err-append_pixels-clause-too_many : goal.returns-in_err-append_pixels-clause-too_many
 returns-in_err-append_pixels-clause-too_many c =
-    let s = c.self.inside in
     let painted = is_painted (goal.at.returns-in_err-append_pixels-clause-too_many c).After-append_pixels in
-    let p = err_from_is_err_and c.from_residual.result c.from_residual.ensures.1 in
-    let memory = c.in_err-append_pixels.ensures.only_memory in
-    rw (← c.self.view_is) (λ e. cc, λ e. cc)
+    grind (arith, common_steps, err_from_is_err_and)
 
 pub returns-in_err-append_pixels-clause-memory : goal.returns-in_err-append_pixels-clause-memory
 returns-in_err-append_pixels-clause-memory c =
@@ -46,23 +43,15 @@ returns-in_err-append_pixels-clause-memory c =
 
 pub returns-then-fitting-count-2-clause-painted : goal.returns-then-fitting-count-2-clause-painted
 returns-then-fitting-count-2-clause-painted c =
-    let s = c.self.inside in
-    let painted = is_painted (goal.at.returns-then-fitting-count-2-clause-painted c).After-append_pixels in
-    let less : c.min-fitting.result ≡ min c.args.count (s.settings.columns - s.pixels_decoded) = c.min-fitting.ensures in
-    rw (← c.self.view_is, c.in_ok-append_pixels.ensures.painted, less) painted
+    grind (arith, common_steps, is_painted (goal.at.returns-then-fitting-count-2-clause-painted c).After-append_pixels)
 
 pub returns-else-fitting-count-2-clause-painted : goal.returns-else-fitting-count-2-clause-painted
 returns-else-fitting-count-2-clause-painted c =
-    let s = c.self.inside in
-    let painted = is_painted (goal.at.returns-else-fitting-count-2-clause-painted c).After-append_pixels in
-    let less : c.min-fitting.result ≡ min c.args.count (s.settings.columns - s.pixels_decoded) = c.min-fitting.ensures in
-    rw (← c.self.view_is, c.in_ok-append_pixels.ensures.painted, less) painted
+    grind (arith, common_steps, is_painted (goal.at.returns-else-fitting-count-2-clause-painted c).After-append_pixels)
 
 pub returns-else-fitting-count-2-clause-too_many : goal.returns-else-fitting-count-2-clause-too_many
 returns-else-fitting-count-2-clause-too_many c =
-    let s = c.self.inside in
-    let painted = is_painted (goal.at.returns-else-fitting-count-2-clause-too_many c).After-append_pixels in
-    rw (← c.self.view_is) (λ e. cc, λ e. cc)
+    grind (arith, common_steps, is_painted (goal.at.returns-else-fitting-count-2-clause-too_many c).After-append_pixels)
 
 pub returns-then-fitting-count-2-clause-frame : goal.returns-then-fitting-count-2-clause-frame
 returns-then-fitting-count-2-clause-frame c =

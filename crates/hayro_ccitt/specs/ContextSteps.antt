@@ -1,0 +1,61 @@
+-- What the calls of a context leave that draw a part of a line. This is not part of the trusted specification: of public calls
+-- only those of b1 and b2 cite it.
+use Rattle.std.specs.Prelude.{◌≡◌, ◌+◌, ◌≤◌, suc, max, length, Result, OnOk}
+use Rattle.fax_bits.specs.declared.codes.Mode.{Mode}
+use Rattle.fax_bits.specs.declared.error.DecodeError.{DecodeError}
+use Rattle.hayro_ccitt.specs.Answers.{OnAnswer, TellsCut, pen_of, strict_step_of_mode, words_of_mode}
+use Rattle.hayro_ccitt.specs.Bits.{BitsAt, here}
+use Rattle.hayro_ccitt.specs.Context.{Context, passed_changes, redrawn}
+use Rattle.hayro_ccitt.specs.Rows.{changes}
+use Rattle.hayro_ccitt.specs.Space.{room_for}
+use Rattle.hayro_ccitt.specs.UsualModes.{GoesOn2d}
+use Rattle.hayro_ccitt.specs.UsualRuns.{GoesOn}
+
+-- What a call leaves that looks for b1: the changes that aren't right of a0 are passed, each with a tick, and there is one tick
+-- more (T.4, 4.2.1.1).
+pub record SeeksB1 (old new : Context) : Type 0 where
+  pub edge : length old.held.reference ≡ old.held.settings.columns
+  pub within : length old.held.front ≤ old.held.settings.columns
+  pub held : new.held ≡ old.held
+  pub cut : new.cut ≡ old.cut
+  pub passed : new.passed ≡ passed_changes (changes old.held.reference) (length old.held.front)
+  pub passed_within : new.passed ≤ length (changes old.held.reference)
+  pub forward : old.passed ≤ new.passed
+  pub work : new.ticks + old.passed ≡ old.ticks + new.passed + 1
+  pub space : new.space ≡ old.space
+
+-- What a call leaves that draws a mode, besides the pen: a tick for each word of its runs, one for each change that is passed,
+-- and at most three more (T.4, 4.2.1.3; T.6, 2.2).
+pub record DrawsOneMode (mode : Mode) (old new : Context) (answer : Result (Unit {0}) DecodeError)
+    (before after : BitsAt) : Type 0 where
+  pub held : new.held ≡ redrawn old.held new.held.front new.held.color
+  pub same_bits : after.bits ≡ before.bits
+  pub counts : old.ticks ≤ new.ticks
+  pub at_least : OnAnswer answer (old.ticks + length (words_of_mode old.held (here before) mode) ≤ new.ticks)
+  pub at_most : new.ticks + old.passed ≤ old.ticks + length (words_of_mode old.held (here before) mode) + new.passed + 3
+  pub within : old.passed ≤ length (changes old.held.reference) → new.passed ≤ length (changes old.held.reference)
+  pub cut : OnOk answer
+      (TellsCut (strict_step_of_mode old.held (here before) mode) (pen_of new.held (here after)) old.cut new.cut)
+  pub space : new.space ≤ max old.space (room_for (suc (length (changes old.held.front))))
+
+-- What a call leaves that draws runs of a line as long as they are usual: the line goes on from there (T.4, 4.1.1).
+pub record DrawsUsualRuns (old new : Context) (before after : BitsAt) : Type 0 where
+  pub drawn : GoesOn old.held.settings.strict old.held.settings.columns (pen_of old.held (here before))
+      (pen_of new.held (here after)) old.ticks new.ticks
+  pub held : new.held ≡ redrawn old.held new.held.front new.held.color
+  pub cut : new.cut ≡ old.cut
+  pub same_bits : after.bits ≡ before.bits
+  pub onward : before.place ≤ after.place
+  pub space : new.space ≡ old.space
+
+-- What a call leaves that draws modes from the start of a line as long as they are usual: the line goes on from there (T.4,
+-- 4.2.1.3; T.6, 2.2).
+pub record DrawsUsualModes (old new : Context) (before after : BitsAt) : Type 0 where
+  pub drawn : GoesOn2d old.held.settings.strict old.held.settings.columns old.held.reference (pen_of old.held (here before))
+      (pen_of new.held (here after)) old.ticks new.ticks old.passed new.passed
+  pub held : new.held ≡ redrawn old.held new.held.front new.held.color
+  pub cut : new.cut ≡ old.cut
+  pub within : new.passed ≤ length (changes old.held.reference)
+  pub same_bits : after.bits ≡ before.bits
+  pub space : new.space ≤ max old.space
+      (room_for (max (length (changes old.held.reference)) (suc (length (changes new.held.front)))))
