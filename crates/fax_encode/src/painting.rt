@@ -8,7 +8,9 @@ ghost use Rattle.fax_encode.specs.Chosen.{filled_up};
 ghost use Rattle.fax_encode.specs.Painting.{under, StandsAt};
 
 use crate::black_runs::{paint_apart, paint_cleared};
-use crate::pixel_words::{fill_all, fill_bytes, ones_from, plain_byte, plain_word, put_pixels};
+use crate::pixel_words::{
+    MOST_CLEARED, fill_all, fill_bytes, ones_from, plain_byte, plain_word, put_pixels,
+};
 use crate::turned_words::{MOST_TURNED, paint_by_words};
 
 /// The most changes of a row that is cleared first.
@@ -85,7 +87,7 @@ fn move_by_filling(row: &mut [u8], brush: Brush, place: u32) -> Brush
         return brush;
     }
     put_pixels(row, brush.start, brush.word);
-    fill_all(&mut row[brush.start + 8..start], plain_byte(brush.is_black));
+    fill_bytes(&mut row[brush.start + 8..start], plain_byte(brush.is_black));
     Brush {
         start,
         word: plain_word(brush.is_black),
@@ -255,7 +257,7 @@ fn paint_narrow(row: &mut [u8], columns: u32, changes: &[u32])
 pub fn most_cleared_first(bytes: usize) -> usize
     ensures { 0 < result → 8 ≤ bytes }
 {
-    if bytes >= 8 && bytes <= MOST_TURNED {
+    if bytes >= 8 && bytes <= MOST_CLEARED {
         FEW
     } else {
         0
@@ -277,7 +279,7 @@ pub fn paint_over(row: &mut [u8], columns: u32, changes: &[u32])
         paint_changes(row, columns, changes);
     } else if row.len() <= MOST_TURNED {
         paint_by_words(row, columns, changes);
-    } else if changes.len() <= FEW_FAR {
+    } else if row.len() > MOST_CLEARED && changes.len() <= FEW_FAR {
         paint_wide(row, columns, changes);
     } else {
         paint_apart(row, columns, changes);

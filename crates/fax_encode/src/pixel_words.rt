@@ -99,8 +99,8 @@ pub fn put_pixels(bytes: &mut [u8], start: usize, word: u64)
     bytes[start..behind].copy_from_slice(&word.to_be_bytes());
 }
 
-/// The most bytes that one call fills: it is fastest below 2 KiB.
-pub const MOST_FILLED: usize = 2047;
+/// The most bytes that are cleared before a row is painted. A wider row is written by one call for each of its parts.
+pub const MOST_CLEARED: usize = 2047;
 
 /// Fills all bytes, by one call of the library's: `fill` writes the last byte apart.
 #[inline(always)]
@@ -114,35 +114,35 @@ pub fn fill_bytes(bytes: &mut [u8], byte: u8)
     }
 }
 
-/// Fills a piece by a call of its own: inlined into a loop, all its calls would become one.
+/// Fills all bytes by a call of its own: inlined into a loop, all its calls would become one.
 #[inline(never)]
-fn fill_apart(bytes: &mut [u8], byte: u8)
+pub fn fill_all(bytes: &mut [u8], byte: u8)
     ensures { bytes.new ≡ replicate (length bytes.old) byte }
 {
     fill_bytes(bytes, byte);
 }
 
-/// Fills all bytes, as many at a time as are filled fast.
+/// Fills all bytes, as many at a time as are cleared with a row.
 #[inline(never)]
 fn fill_by_pieces(bytes: &mut [u8], byte: u8)
     ensures { bytes.new ≡ replicate (length bytes.old) byte }
 {
     let mut from = 0;
-    'pieces: while bytes.len() - from > MOST_FILLED {
-        fill_apart(&mut bytes[from..from + MOST_FILLED], byte);
-        from += MOST_FILLED;
+    'pieces: while bytes.len() - from > MOST_CLEARED {
+        fill_all(&mut bytes[from..from + MOST_CLEARED], byte);
+        from += MOST_CLEARED;
     }
-    fill_apart(&mut bytes[from..], byte);
+    fill_all(&mut bytes[from..], byte);
 }
 
-/// Fills all bytes: many by pieces, and few by one call.
+/// Fills rows of so many bytes: wide ones by one call, and narrow ones by pieces.
 #[inline(always)]
-pub fn fill_all(bytes: &mut [u8], byte: u8)
+pub fn fill_rows(bytes: &mut [u8], width: usize, byte: u8)
     ensures { bytes.new ≡ replicate (length bytes.old) byte }
 {
-    if bytes.len() > MOST_FILLED {
+    if width <= MOST_CLEARED && bytes.len() > MOST_CLEARED {
         fill_by_pieces(bytes, byte);
     } else {
-        fill_apart(bytes, byte);
+        fill_all(bytes, byte);
     }
 }

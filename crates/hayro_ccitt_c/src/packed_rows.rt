@@ -7,7 +7,7 @@ ghost use Rattle.hayro_ccitt.specs.Rows.{AreChanges, pixels};
 ghost use Rattle.hayro_ccitt_c.specs.Packing.{packed_row, packing_up_to, spaced, white_byte};
 
 use crate::change_count::counted;
-use fax_encode::{fill_all, fill_bytes, most_cleared_first, paint_cleared, paint_over, paint_row};
+use fax_encode::{fill_all, fill_bytes, fill_rows, most_cleared_first, paint_cleared, paint_over, paint_row};
 use hayro_ccitt::{DecodeError, Decoder};
 
 /// A white row of fewer bytes is written at once.
@@ -244,8 +244,9 @@ impl<'a> PackedRows<'a> {
     {
         let from = self.written;
         self.written = self.start;
-        fill_all(
+        fill_rows(
             &mut self.bitmap[from..self.start],
+            self.bytes,
             white_byte(self.layout.black_is_0),
         );
     }
