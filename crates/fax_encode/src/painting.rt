@@ -9,15 +9,18 @@ ghost use Rattle.fax_encode.specs.Painting.{under, StandsAt};
 
 use crate::black_runs::{paint_apart, paint_cleared};
 use crate::pixel_words::{
-    MOST_CLEARED, fill_all, fill_bytes, ones_from, plain_byte, plain_word, put_pixels,
+    MOST_NARROW, fill_all, fill_bytes, ones_from, plain_byte, plain_word, put_pixels,
 };
 use crate::turned_words::{MOST_TURNED, paint_by_words};
 
 /// The most changes of a row that is cleared first.
 const FEW: usize = 24;
 
-/// The most changes of a wide row of which each byte is written once.
+/// The most changes of a wide row of which each byte is written once, if it has a long black run.
 const FEW_FAR: usize = 6;
+
+/// The least pixels of a long black run: one that is written faster alone than over cleared bytes.
+const LONG: u32 = 6144;
 
 /// How far a row is painted.
 #[derive(Copy, Clone)]
@@ -257,11 +260,24 @@ fn paint_narrow(row: &mut [u8], columns: u32, changes: &[u32])
 pub fn most_cleared_first(bytes: usize) -> usize
     ensures { 0 < result → 8 ≤ bytes }
 {
-    if bytes >= 8 && bytes <= MOST_CLEARED {
+    if bytes >= 8 && bytes <= MOST_NARROW {
         FEW
     } else {
         0
     }
+}
+
+/// Returns whether a row has a long black run.
+#[inline(always)]
+fn has_long_run(columns: u32, changes: &[u32]) -> bool {
+    let mut done = 0;
+    'runs: while done + 1 < changes.len() {
+        if changes[done + 1].saturating_sub(changes[done]) >= LONG {
+            return true;
+        }
+        done += 2;
+    }
+    done < changes.len() && columns.saturating_sub(changes[done]) >= LONG
 }
 
 /// Paints a row that isn't best cleared first.
@@ -279,7 +295,10 @@ pub fn paint_over(row: &mut [u8], columns: u32, changes: &[u32])
         paint_changes(row, columns, changes);
     } else if row.len() <= MOST_TURNED {
         paint_by_words(row, columns, changes);
-    } else if row.len() > MOST_CLEARED && changes.len() <= FEW_FAR {
+    } else if row.len() > MOST_NARROW
+        && changes.len() <= FEW_FAR
+        && has_long_run(columns, changes)
+    {
         paint_wide(row, columns, changes);
     } else {
         paint_apart(row, columns, changes);

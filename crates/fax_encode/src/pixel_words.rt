@@ -99,8 +99,8 @@ pub fn put_pixels(bytes: &mut [u8], start: usize, word: u64)
     bytes[start..behind].copy_from_slice(&word.to_be_bytes());
 }
 
-/// The most bytes that are cleared before a row is painted. A wider row is written by one call for each of its parts.
-pub const MOST_CLEARED: usize = 2047;
+/// The most bytes of a row that isn't wide. More rows are filled by pieces of at most as many, a wide row by one call.
+pub const MOST_NARROW: usize = 2047;
 
 /// Fills all bytes, by one call of the library's: `fill` writes the last byte apart.
 #[inline(always)]
@@ -122,25 +122,25 @@ pub fn fill_all(bytes: &mut [u8], byte: u8)
     fill_bytes(bytes, byte);
 }
 
-/// Fills all bytes, as many at a time as are cleared with a row.
+/// Fills rows, as many bytes at a time as a narrow row has at most.
 #[inline(never)]
 fn fill_by_pieces(bytes: &mut [u8], byte: u8)
     ensures { bytes.new ≡ replicate (length bytes.old) byte }
 {
     let mut from = 0;
-    'pieces: while bytes.len() - from > MOST_CLEARED {
-        fill_all(&mut bytes[from..from + MOST_CLEARED], byte);
-        from += MOST_CLEARED;
+    'pieces: while bytes.len() - from > MOST_NARROW {
+        fill_all(&mut bytes[from..from + MOST_NARROW], byte);
+        from += MOST_NARROW;
     }
     fill_all(&mut bytes[from..], byte);
 }
 
-/// Fills rows of so many bytes: wide ones by one call, and narrow ones by pieces.
+/// Fills narrow rows: many by pieces, and few by one call.
 #[inline(always)]
-pub fn fill_rows(bytes: &mut [u8], width: usize, byte: u8)
+pub fn fill_rows(bytes: &mut [u8], byte: u8)
     ensures { bytes.new ≡ replicate (length bytes.old) byte }
 {
-    if width <= MOST_CLEARED && bytes.len() > MOST_CLEARED {
+    if bytes.len() > MOST_NARROW {
         fill_by_pieces(bytes, byte);
     } else {
         fill_all(bytes, byte);
