@@ -280,6 +280,21 @@ fn has_long_run(columns: u32, changes: &[u32]) -> bool {
     done < changes.len() && columns.saturating_sub(changes[done]) >= LONG
 }
 
+/// Paints a row that has too many bytes to be painted by words that are turned apart.
+#[inline(never)]
+fn paint_long(row: &mut [u8], columns: u32, changes: &[u32])
+    requires changes { AreChanges columns changes.now }
+    requires room { length row.old ≡ (columns + 7) / 8 }
+    requires long { 8 ≤ length row.old }
+    ensures painted { bits_of row.new ≡ filled_up (pixels columns changes.now) }
+{
+    if row.len() > MOST_NARROW && changes.len() <= FEW_FAR && has_long_run(columns, changes) {
+        paint_wide(row, columns, changes);
+    } else {
+        paint_apart(row, columns, changes);
+    }
+}
+
 /// Paints a row that isn't best cleared first.
 #[inline(never)]
 pub fn paint_over(row: &mut [u8], columns: u32, changes: &[u32])
@@ -295,13 +310,8 @@ pub fn paint_over(row: &mut [u8], columns: u32, changes: &[u32])
         paint_changes(row, columns, changes);
     } else if row.len() <= MOST_TURNED {
         paint_by_words(row, columns, changes);
-    } else if row.len() > MOST_NARROW
-        && changes.len() <= FEW_FAR
-        && has_long_run(columns, changes)
-    {
-        paint_wide(row, columns, changes);
     } else {
-        paint_apart(row, columns, changes);
+        paint_long(row, columns, changes);
     }
 }
 
