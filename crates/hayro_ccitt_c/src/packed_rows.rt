@@ -370,7 +370,7 @@ impl<'a> PackedRows<'a> {
         self.write_white();
         let end = self.start + self.bytes;
         let white = white_byte(self.layout.black_is_0);
-        fill_all(&mut self.bitmap[self.start..end], white);
+        fill_bytes(&mut self.bitmap[self.start..end], white);
         self.go_on(&[]);
         Ok(())
     }
