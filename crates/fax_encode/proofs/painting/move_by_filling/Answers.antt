@@ -13,7 +13,8 @@ returns-clause-painted c =
     let end : start + 8 + count ≡ to = omega (arith, further) in
     let within : start + 8 + count ≤ length c.args.row.now = omega (arith, end, c.requires.within) in
     let there : length (take count (drop (start + 8) one)) ≡ count =
-    length-take-le count (drop (start + 8) one) (omega (arith, length-drop (start + 8) one, c.put_pixels.ensures.length, within)) in
+    length-take-le count (drop (start + 8) one)
+    (omega (arith, length-drop (start + 8) one, c.put_pixels.ensures.length, within)) in
     let filled : c.fill_bytes.new.bytes ≡ replicate count c.plain_byte.result =
     c.fill_bytes.ensures ∙ ap (λ (n : ℕ). replicate n c.plain_byte.result) there in
     let done =
