@@ -5,7 +5,7 @@ use crate::cases::{check, says};
 use crate::same;
 use fax_encode::{
     BitmapSink, EncodeError, bitmap_by_group3, bitmap_by_group4, encode_1d, encode_bitmap_1d,
-    encode_bitmap_g4, encode_g4, fill_all, fill_rows, paint_row, rows_of_bitmap,
+    encode_bitmap_g4, encode_g4, fill_all, paint_row, rows_of_bitmap,
 };
 use hayro_ccitt::{
     DecodeError, DecodeSettings, Decoder, DecoderContext, EncodingMode, bits_fit, decode,
@@ -150,11 +150,8 @@ fn paints_over_words(rt: HostRuntime) {
 /// Fills bytes that were filled with another byte.
 fn fills(rt: &(impl Abort + AllocGlobal), count: usize) {
     let mut bytes = vec![in rt.alloc(); 0x55u8; count].expect(rt, "memory");
-    let mut filled = vec![in rt.alloc(); 0xA3u8; count].expect(rt, "memory");
+    let filled = vec![in rt.alloc(); 0xA3u8; count].expect(rt, "memory");
     fill_all(&mut bytes, 0xA3);
-    same(rt, bytes.as_slice(), filled.as_slice());
-    fill_rows(&mut bytes, 0x5C);
-    fill_all(&mut filled, 0x5C);
     same(rt, bytes.as_slice(), filled.as_slice());
 }
 

@@ -9,7 +9,7 @@ ghost use Rattle.fax_encode.specs.Painting.{under, StandsAt};
 
 use crate::black_runs::{paint_apart, paint_cleared};
 use crate::pixel_words::{
-    MOST_NARROW, fill_all, fill_bytes, ones_from, plain_byte, plain_word, put_pixels,
+    MOST_FILLED, fill_all, fill_bytes, ones_from, plain_byte, plain_word, put_pixels,
 };
 use crate::turned_words::{MOST_TURNED, paint_by_words};
 
@@ -90,7 +90,7 @@ fn move_by_filling(row: &mut [u8], brush: Brush, place: u32) -> Brush
         return brush;
     }
     put_pixels(row, brush.start, brush.word);
-    fill_bytes(&mut row[brush.start + 8..start], plain_byte(brush.is_black));
+    fill_all(&mut row[brush.start + 8..start], plain_byte(brush.is_black));
     Brush {
         start,
         word: plain_word(brush.is_black),
@@ -260,7 +260,7 @@ fn paint_narrow(row: &mut [u8], columns: u32, changes: &[u32])
 pub fn most_cleared_first(bytes: usize) -> usize
     ensures { 0 < result → 8 ≤ bytes }
 {
-    if bytes >= 8 && bytes <= MOST_NARROW {
+    if bytes >= 8 && bytes <= MOST_FILLED {
         FEW
     } else {
         0
@@ -288,7 +288,7 @@ fn paint_long(row: &mut [u8], columns: u32, changes: &[u32])
     requires long { 8 ≤ length row.old }
     ensures painted { bits_of row.new ≡ filled_up (pixels columns changes.now) }
 {
-    if row.len() > MOST_NARROW && changes.len() <= FEW_FAR && has_long_run(columns, changes) {
+    if row.len() > MOST_FILLED && changes.len() <= FEW_FAR && has_long_run(columns, changes) {
         paint_wide(row, columns, changes);
     } else {
         paint_apart(row, columns, changes);

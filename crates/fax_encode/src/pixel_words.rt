@@ -99,8 +99,8 @@ pub fn put_pixels(bytes: &mut [u8], start: usize, word: u64)
     bytes[start..behind].copy_from_slice(&word.to_be_bytes());
 }
 
-/// The most bytes of a row that isn't wide. More rows are filled by pieces of at most as many, a wide row by one call.
-pub const MOST_NARROW: usize = 2047;
+/// The most bytes that one call fills: it is fastest below 2 KiB.
+pub const MOST_FILLED: usize = 2047;
 
 /// Fills all bytes, by one call of the library's: `fill` writes the last byte apart.
 #[inline(always)]
@@ -114,35 +114,35 @@ pub fn fill_bytes(bytes: &mut [u8], byte: u8)
     }
 }
 
-/// Fills all bytes by a call of its own: inlined into a loop, all its calls would become one.
+/// Fills a piece by a call of its own: inlined into a loop, all its calls would become one.
 #[inline(never)]
-pub fn fill_all(bytes: &mut [u8], byte: u8)
+fn fill_apart(bytes: &mut [u8], byte: u8)
     ensures { bytes.new ≡ replicate (length bytes.old) byte }
 {
     fill_bytes(bytes, byte);
 }
 
-/// Fills rows, as many bytes at a time as a narrow row has at most.
+/// Fills all bytes, as many at a time as are filled fast.
 #[inline(never)]
 fn fill_by_pieces(bytes: &mut [u8], byte: u8)
     ensures { bytes.new ≡ replicate (length bytes.old) byte }
 {
     let mut from = 0;
-    'pieces: while bytes.len() - from > MOST_NARROW {
-        fill_all(&mut bytes[from..from + MOST_NARROW], byte);
-        from += MOST_NARROW;
+    'pieces: while bytes.len() - from > MOST_FILLED {
+        fill_apart(&mut bytes[from..from + MOST_FILLED], byte);
+        from += MOST_FILLED;
     }
-    fill_all(&mut bytes[from..], byte);
+    fill_apart(&mut bytes[from..], byte);
 }
 
-/// Fills narrow rows: many by pieces, and few by one call.
+/// Fills all bytes: many by pieces, and few by one call.
 #[inline(always)]
-pub fn fill_rows(bytes: &mut [u8], byte: u8)
+pub fn fill_all(bytes: &mut [u8], byte: u8)
     ensures { bytes.new ≡ replicate (length bytes.old) byte }
 {
-    if bytes.len() > MOST_NARROW {
+    if bytes.len() > MOST_FILLED {
         fill_by_pieces(bytes, byte);
     } else {
-        fill_all(bytes, byte);
+        fill_apart(bytes, byte);
     }
 }

@@ -7,9 +7,7 @@ ghost use Rattle.hayro_ccitt.specs.Rows.{AreChanges, pixels};
 ghost use Rattle.hayro_ccitt_c.specs.Packing.{packed_row, packing_up_to, spaced, white_byte};
 
 use crate::change_count::counted;
-use fax_encode::{
-    fill_all, fill_bytes, fill_rows, most_cleared_first, paint_cleared, paint_over, paint_row,
-};
+use fax_encode::{fill_all, fill_bytes, most_cleared_first, paint_cleared, paint_over, paint_row};
 use hayro_ccitt::{DecodeError, Decoder};
 
 /// A white row of fewer bytes is written at once.
@@ -91,13 +89,13 @@ fn pack_black_as_0(row: &mut [u8], columns: u32, changes: &[u32])
 }
 
 /// Returns the byte before which a white row of so many bytes begins that need not be written when it comes: it fits, and no bytes
-/// are between it and the next one. It is 0 if there is none, or a row is so short or so wide that it is written at once.
+/// are between it and the next one. It is 0 if there is none, or a row is so short that it is written at once.
 #[inline(always)]
 fn last_waiting(bitmap: &[u8], bytes: usize, layout: Layout) -> usize
     ensures together { 0 < result → bytes ≡ layout.stride }
     ensures ready { 0 < result → result + bytes ≤ length bitmap.now + 1 }
 {
-    if bytes != layout.stride as usize || bytes < LEAST_WAITING || bytes > MOST_TOGETHER {
+    if bytes != layout.stride as usize || bytes < LEAST_WAITING {
         return 0;
     }
     if bitmap.len() < bytes {
@@ -246,7 +244,7 @@ impl<'a> PackedRows<'a> {
     {
         let from = self.written;
         self.written = self.start;
-        fill_rows(
+        fill_all(
             &mut self.bitmap[from..self.start],
             white_byte(self.layout.black_is_0),
         );
@@ -370,7 +368,7 @@ impl<'a> PackedRows<'a> {
         self.write_white();
         let end = self.start + self.bytes;
         let white = white_byte(self.layout.black_is_0);
-        fill_bytes(&mut self.bitmap[self.start..end], white);
+        fill_all(&mut self.bitmap[self.start..end], white);
         self.go_on(&[]);
         Ok(())
     }

@@ -15,8 +15,8 @@ returns-clause-painted c =
     let there : length (take count (drop (start + 8) one)) ≡ count =
     length-take-le count (drop (start + 8) one)
     (omega (arith, length-drop (start + 8) one, c.put_pixels.ensures.length, within)) in
-    let filled : c.fill_bytes.new.bytes ≡ replicate count c.plain_byte.result =
-    c.fill_bytes.ensures ∙ ap (λ (n : ℕ). replicate n c.plain_byte.result) there in
+    let filled : c.fill_all.new.bytes ≡ replicate count c.plain_byte.result =
+    c.fill_all.ensures ∙ ap (λ (n : ℕ). replicate n c.plain_byte.result) there in
     let done =
     words_filled start count c.plain_byte.result c.args.brush.word c.plain_word.result c.args.row.now one _ c.args.brush.is_black
     within c.put_pixels.ensures.length c.put_pixels.ensures.written (ap (put_mid (start + 8) count one) filled)
