@@ -6,6 +6,8 @@ use Rattle.fax_encode.proofs.Names.{drop_all, replicate-append-replicate, take-r
 use Rattle.fax_encode.proofs.Names.{HighestFirst, Bits, bits_of, bits_of_byte, low_bits, Row, AscendFrom, AreChanges, pixels}
 use Rattle.fax_encode.proofs.Names.{pixels_from, length-bits_of, length-pixels, filled_up, under, StandsAt, Brush, White}
 use Rattle.fax_encode.proofs.PaintedWords.{bits_of-take, turned_under}
+use Rattle.std.proofs.lemmas.List.{take_at}
+use Rattle.fax_encode.proofs.Names.{length-low_bits}
 use Rattle.fax_encode.proofs.RunsWritten.{next_is, next_right, next_within, next_ascends, one_part}
 
 -- ---- moving to another word
@@ -50,6 +52,48 @@ pub no_word : (before : Bits) (start : ℕ) (color : Bool) → before ≡ before
 no_word before start color =
     let none : 0 ≡ 8 * (start - start) = omega arith in
     sym (append-nil before) ∙ ap (λ (n : ℕ). before ++ replicate n color) none
+
+-- bytes of one colour
+pub bits_of_plain : (byte n : ℕ) (color : Bool) → bits_of_byte HighestFirst byte ≡ replicate 8 color
+    → bits_of (replicate n byte) ≡ replicate (8 * n) color
+bits_of_plain byte zero color plain = refl
+bits_of_plain byte (suc n) color plain =
+    let sum : 8 + 8 * n ≡ 8 * suc n = omega arith in
+    ap (λ (b : Bits). b ++ bits_of (replicate n byte)) plain ∙ ap (λ (b : Bits). replicate 8 color ++ b)
+    (bits_of_plain byte n color plain) ∙ replicate-append-replicate 8 (8 * n) color ∙ ap (λ (m : ℕ). replicate m color) sum
+
+-- the word goes to the row, bytes of the colour are filled, and a word of it is begun
+pub words_filled : (start count byte word word' : ℕ) (row one two : List ℕ) (color : Bool) → start + 8 + count ≤ length row
+    → length one ≡ length row → bits_of one ≡ bits_of (take start row) ++ (low_bits 64 word ++ bits_of (drop (start + 8) row))
+    → two ≡ put_mid (start + 8) count one (replicate count byte) → bits_of_byte HighestFirst byte ≡ replicate 8 color
+    → low_bits 64 word' ≡ replicate 64 color → bits_of (take (start + 8 + count) two) ++ low_bits 64 word'
+    ≡ (bits_of (take start row) ++ low_bits 64 word) ++ replicate (8 * (start + 8 + count - start)) color
+words_filled start count byte word word' row one two color within same written filled plain begun =
+    let before : Bits = bits_of (take start row) ++ low_bits 64 word in
+    let behind : Bits = bits_of (drop (start + 8) row) in
+    let end : start + 8 + count ≡ start + 8 + length (replicate count byte) = omega (arith, length-replicate count byte) in
+    let long : length before ≡ 8 * (start + 8) =
+    omega (
+      arith,
+      length-append (bits_of (take start row)) (low_bits 64 word),
+      length-bits_of (take start row),
+      length-take start row,
+      length-low_bits 64 word,
+      within,
+    ) in
+    let first : bits_of (take (start + 8) one) ≡ before =
+    bits_of-take (start + 8) one ∙ ap (take (8 * (start + 8))) (written
+    ∙ sym (append_assoc (bits_of (take start row)) (low_bits 64 word) behind)) ∙ take_at before behind (8 * (start + 8)) long in
+    let sum : 8 * count + 64 ≡ 8 * (start + 8 + count - start) = omega arith in
+    let all : bits_of (take (start + 8 + count) two) ≡ before ++ replicate (8 * count) color =
+    ap (λ (l : List ℕ). bits_of (take (start + 8 + count) l)) filled
+    ∙ ap bits_of (take-put_mid (start + 8) count one (replicate count byte) (start + 8 + count) end (omega (arith, same, within)))
+    ∙ flat_map-append (bits_of_byte HighestFirst) (take (start + 8) one) (replicate count byte)
+    ∙ ap (λ (b : Bits). b ++ bits_of (replicate count byte)) first
+    ∙ ap (λ (b : Bits). before ++ b) (bits_of_plain byte count color plain) in
+    ap (λ (b : Bits). b ++ low_bits 64 word') all ∙ ap (λ (b : Bits). (before ++ replicate (8 * count) color) ++ b) begun
+    ∙ append_assoc before (replicate (8 * count) color) (replicate 64 color) ∙ ap (λ (b : Bits). before ++ b)
+    (replicate-append-replicate (8 * count) 64 color ∙ ap (λ (n : ℕ). replicate n color) sum)
 
 -- ---- what is left to paint
 -- A row is painted up to a position, after which the word continues in its colour; this many changes are done.
@@ -244,15 +288,6 @@ last_word_written start row row' bytes word within last eight spelled put =
     ap bits_of all ∙ flat_map-append (bits_of_byte HighestFirst) head part
     ∙ ap (λ (b : Bits). bits_of head ++ b) (bits_of-take count bytes ∙ ap (take (8 * count)) spelled) ∙ sym (take-append-add
     (bits_of head) (low_bits 64 word) (8 * count)) ∙ sym (ap (λ (n : ℕ). take n (bits_of head ++ low_bits 64 word)) split)
-
--- bytes of one colour
-pub bits_of_plain : (byte n : ℕ) (color : Bool) → bits_of_byte HighestFirst byte ≡ replicate 8 color
-    → bits_of (replicate n byte) ≡ replicate (8 * n) color
-bits_of_plain byte zero color plain = refl
-bits_of_plain byte (suc n) color plain =
-    let sum : 8 + 8 * n ≡ 8 * suc n = omega arith in
-    ap (λ (b : Bits). b ++ bits_of (replicate n byte)) plain ∙ ap (λ (b : Bits). replicate 8 color ++ b)
-    (bits_of_plain byte n color plain) ∙ replicate-append-replicate 8 (8 * n) color ∙ ap (λ (m : ℕ). replicate m color) sum
 
 -- a row without changes is white
 pub white : (columns : ℕ) (changes row row' : List ℕ) → length changes ≡ 0 → length row ≡ (columns + 7) / 8

@@ -8,11 +8,19 @@ ghost use Rattle.fax_encode.specs.Chosen.{filled_up};
 ghost use Rattle.fax_encode.specs.Painting.{under, StandsAt};
 
 use crate::black_runs::{paint_apart, paint_cleared};
-use crate::pixel_words::{MOST_FILLED, fill_all, fill_bytes, ones_from, plain_word};
+use crate::pixel_words::{
+    MOST_FILLED, fill_all, fill_bytes, ones_from, plain_byte, plain_word, put_pixels,
+};
 use crate::turned_words::{MOST_TURNED, paint_by_words};
 
 /// The most changes of a row that is cleared first.
 const FEW: usize = 24;
+
+/// The most changes of a wide row of which each byte is written once, if it has a long black run.
+const FEW_FAR: usize = 6;
+
+/// The least pixels of a long black run: one that is written faster alone than over cleared bytes.
+const LONG: u32 = 6144;
 
 /// How far a row is painted.
 #[derive(Copy, Clone)]
@@ -45,7 +53,7 @@ fn next_word(row: &mut [u8], brush: Brush) -> Brush
 
 /// Moves to the word of a position, and writes the words before it.
 #[inline(always)]
-fn move_to(row: &mut [u8], brush: Brush, place: u32) -> Brush
+fn move_by_words(row: &mut [u8], brush: Brush, place: u32) -> Brush
     requires begun { brush.start % 8 ≡ 0 }
     requires right { 8 * brush.start ≤ place }
     requires within { place ≤ 8 * length row.old }
@@ -62,6 +70,52 @@ fn move_to(row: &mut [u8], brush: Brush, place: u32) -> Brush
         at = next_word(row, at);
     }
     at
+}
+
+/// Moves to the word of a position, and writes the present word and fills those between them.
+#[inline(always)]
+fn move_by_filling(row: &mut [u8], brush: Brush, place: u32) -> Brush
+    requires begun { brush.start % 8 ≡ 0 }
+    requires right { 8 * brush.start ≤ place }
+    requires within { place ≤ 8 * length row.old }
+    ensures stands { StandsAt result place }
+    ensures right { brush.start ≤ result.start }
+    ensures color { result.is_black ≡ brush.is_black }
+    ensures painted { under result row.new
+        ≡ under brush row.old ++ replicate (8 * (result.start - brush.start)) brush.is_black }
+    ensures length { length row.new ≡ length row.old }
+{
+    let start = place as usize / 64 * 8;
+    if start <= brush.start {
+        return brush;
+    }
+    put_pixels(row, brush.start, brush.word);
+    fill_all(&mut row[brush.start + 8..start], plain_byte(brush.is_black));
+    Brush {
+        start,
+        word: plain_word(brush.is_black),
+        is_black: brush.is_black,
+    }
+}
+
+/// Moves to the word of a position, which is far if most are. All before it is written.
+#[inline(always)]
+fn move_to(row: &mut [u8], brush: Brush, place: u32, is_far: bool) -> Brush
+    requires begun { brush.start % 8 ≡ 0 }
+    requires right { 8 * brush.start ≤ place }
+    requires within { place ≤ 8 * length row.old }
+    ensures stands { StandsAt result place }
+    ensures right { brush.start ≤ result.start }
+    ensures color { result.is_black ≡ brush.is_black }
+    ensures painted { under result row.new
+        ≡ under brush row.old ++ replicate (8 * (result.start - brush.start)) brush.is_black }
+    ensures length { length row.new ≡ length row.old }
+{
+    if is_far {
+        move_by_filling(row, brush, place)
+    } else {
+        move_by_words(row, brush, place)
+    }
 }
 
 /// Turns the colour from a position of the word on.
@@ -91,9 +145,9 @@ fn finish(row: &mut [u8], brush: Brush)
     row[brush.start..].copy_from_slice(&brush.word.to_be_bytes()[..length]);
 }
 
-/// Paints a row by its changes, a word at a time, from the left to the right. That is fast where changes are many.
-#[inline(never)]
-fn paint_changes(row: &mut [u8], columns: u32, changes: &[u32])
+/// Paints a row by its changes, from the left to the right, so that each byte is written once.
+#[inline(always)]
+fn paint_from_left(row: &mut [u8], columns: u32, changes: &[u32], are_far: bool)
     requires changes { AreChanges columns changes.now }
     requires room { length row.old ≡ (columns + 7) / 8 }
     ensures painted { bits_of row.new ≡ filled_up (pixels columns changes.now) }
@@ -107,8 +161,8 @@ fn paint_changes(row: &mut [u8], columns: u32, changes: &[u32])
     'runs: while done + 1 < changes.len() {
         let first = changes[done];
         let behind = changes[done + 1];
-        brush = turned(move_to(row, brush, first), first);
-        brush = turned(move_to(row, brush, behind), behind);
+        brush = turned(move_to(row, brush, first, are_far), first);
+        brush = turned(move_to(row, brush, behind, are_far), behind);
         done += 2;
         // The black runs that lie within the word.
         'word: while done + 1 < changes.len()
@@ -120,13 +174,33 @@ fn paint_changes(row: &mut [u8], columns: u32, changes: &[u32])
     }
     if done < changes.len() {
         let last = changes[done];
-        brush = turned(move_to(row, brush, last), last);
+        brush = turned(move_to(row, brush, last, are_far), last);
     }
-    let mut at = move_to(row, brush, columns);
+    let mut at = move_to(row, brush, columns, are_far);
     if at.is_black {
         at = turned(at, columns);
     }
     finish(row, at);
+}
+
+/// Paints a row by its changes, a word at a time. That is fast where changes are many.
+#[inline(never)]
+fn paint_changes(row: &mut [u8], columns: u32, changes: &[u32])
+    requires changes { AreChanges columns changes.now }
+    requires room { length row.old ≡ (columns + 7) / 8 }
+    ensures painted { bits_of row.new ≡ filled_up (pixels columns changes.now) }
+{
+    paint_from_left(row, columns, changes, false);
+}
+
+/// Paints a row by its changes, and fills the words between them. That is fast where a wide row has few changes.
+#[inline(never)]
+fn paint_wide(row: &mut [u8], columns: u32, changes: &[u32])
+    requires changes { AreChanges columns changes.now }
+    requires room { length row.old ≡ (columns + 7) / 8 }
+    ensures painted { bits_of row.new ≡ filled_up (pixels columns changes.now) }
+{
+    paint_from_left(row, columns, changes, true);
 }
 
 /// Writes the first bytes of a word over as many bytes.
@@ -193,6 +267,34 @@ pub fn most_cleared_first(bytes: usize) -> usize
     }
 }
 
+/// Returns whether a row has a long black run.
+#[inline(always)]
+fn has_long_run(columns: u32, changes: &[u32]) -> bool {
+    let mut done = 0;
+    'runs: while done + 1 < changes.len() {
+        if changes[done + 1].saturating_sub(changes[done]) >= LONG {
+            return true;
+        }
+        done += 2;
+    }
+    done < changes.len() && columns.saturating_sub(changes[done]) >= LONG
+}
+
+/// Paints a row that has too many bytes to be painted by words that are turned apart.
+#[inline(never)]
+fn paint_long(row: &mut [u8], columns: u32, changes: &[u32])
+    requires changes { AreChanges columns changes.now }
+    requires room { length row.old ≡ (columns + 7) / 8 }
+    requires long { 8 ≤ length row.old }
+    ensures painted { bits_of row.new ≡ filled_up (pixels columns changes.now) }
+{
+    if row.len() > MOST_FILLED && changes.len() <= FEW_FAR && has_long_run(columns, changes) {
+        paint_wide(row, columns, changes);
+    } else {
+        paint_apart(row, columns, changes);
+    }
+}
+
 /// Paints a row that isn't best cleared first.
 #[inline(never)]
 pub fn paint_over(row: &mut [u8], columns: u32, changes: &[u32])
@@ -209,7 +311,7 @@ pub fn paint_over(row: &mut [u8], columns: u32, changes: &[u32])
     } else if row.len() <= MOST_TURNED {
         paint_by_words(row, columns, changes);
     } else {
-        paint_apart(row, columns, changes);
+        paint_long(row, columns, changes);
     }
 }
 

@@ -1,7 +1,8 @@
 //! Words of 64 pixels, the leftmost in the highest bit.
 
 ghost use Rattle.std.specs.Prelude.{◌≡◌, ◌+◌, ◌-◌, ◌^◌, ◌<◌, ◌≤◌, ◌++◌, true, false, length, get_or, replicate, take, drop};
-ghost use Rattle.hayro_ccitt.specs.Bits.{bits_of, low_bits};
+ghost use Rattle.hayro_ccitt.specs.BitOrder.TheVariants.{HighestFirst};
+ghost use Rattle.hayro_ccitt.specs.Bits.{bits_of, bits_of_byte, low_bits};
 
 /// Returns a word of pixels of one colour.
 #[inline(always)]
@@ -9,6 +10,14 @@ pub fn plain_word(is_black: bool) -> u64
     ensures { low_bits 64 result ≡ replicate 64 is_black }
 {
     if is_black { u64::MAX } else { 0 }
+}
+
+/// Returns a byte of pixels of one colour.
+#[inline(always)]
+pub fn plain_byte(is_black: bool) -> u8
+    ensures { bits_of_byte HighestFirst result ≡ replicate 8 is_black }
+{
+    if is_black { u8::MAX } else { 0 }
 }
 
 /// For each offset a word of 64 bits that are zeros left of it, and ones from there on.

@@ -1,6 +1,6 @@
 use Rattle.fax_encode.proofs.Names.{◌≡◌, ◌-◌, ◌*◌, ◌++◌, ℕ, Bool, replicate, sym, ap, ◌∙◌, arith, under}
 use Rattle.fax_encode.proofs.PaintedRows.{word_more}
-use Rattle.fax_encode.proofs.painting.move_to.Goals as goal
+use Rattle.fax_encode.proofs.painting.move_by_words.Goals as goal
 
 pub words-preserved : goal.words-preserved
 words-preserved c =

@@ -1,9 +1,9 @@
 use Rattle.fax_encode.proofs.Names.{◌≡◌, ◌+◌, ◌-◌, ◌*◌, ◌/◌, ◌≤◌, ◌++◌, ℕ, List, false, length, replicate, ap, ◌∙◌, arith}
 use Rattle.fax_encode.proofs.Names.{pixels, Brush, under}
 use Rattle.fax_encode.proofs.PaintedRows.{one_change, run_at_hand, all_painted, ends_white, filled}
-use Rattle.fax_encode.proofs.painting.paint_changes.Goals.{then-at, else-at}
-use Rattle.fax_encode.proofs.painting.paint_changes.Goals.{then-done-changes, else-done-changes}
-use Rattle.fax_encode.proofs.painting.paint_changes.Goals as goal
+use Rattle.fax_encode.proofs.painting.paint_from_left.Goals.{then-at, else-at}
+use Rattle.fax_encode.proofs.painting.paint_from_left.Goals.{then-done-changes, else-done-changes}
+use Rattle.fax_encode.proofs.painting.paint_from_left.Goals as goal
 
 pub word-init : goal.word-init
 word-init c =

@@ -1,5 +1,5 @@
 use Rattle.fax_encode.proofs.Names.{◌≡◌, ◌≤◌, ◌-◌, ◌*◌, ◌%◌, ◌++◌, length, replicate, under}
-use Rattle.fax_encode.proofs.painting.move_to.Given as goal
+use Rattle.fax_encode.proofs.painting.move_by_words.Given as goal
 
 abbrev pub invariant-words : goal.invariant-words
 invariant-words l =

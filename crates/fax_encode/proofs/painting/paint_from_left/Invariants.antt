@@ -1,6 +1,6 @@
 use Rattle.fax_encode.proofs.Names.{◌≡◌, ◌≤◌, ◌-◌, length}
 use Rattle.fax_encode.proofs.PaintedRows.{IsPainted}
-use Rattle.fax_encode.proofs.painting.paint_changes.Given as goal
+use Rattle.fax_encode.proofs.painting.paint_from_left.Given as goal
 
 abbrev pub invariant-runs : goal.invariant-runs
 invariant-runs l =

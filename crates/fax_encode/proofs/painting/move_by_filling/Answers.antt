@@ -1,0 +1,24 @@
+use Rattle.fax_encode.proofs.Names.{◌≡◌, ◌+◌, ◌-◌, ◌*◌, ◌/◌, ◌≤◌, ℕ, List, length, take, drop, replicate, ap, ◌∙◌, arith}
+use Rattle.fax_encode.proofs.Names.{length-drop, length-take-le, put_mid}
+use Rattle.fax_encode.proofs.PaintedRows.{words_filled}
+use Rattle.fax_encode.proofs.painting.move_by_filling.Goals as goal
+
+pub returns-clause-painted : goal.returns-clause-painted
+returns-clause-painted c =
+    let start : ℕ = c.args.brush.start in
+    let to : ℕ = c.args.place / 64 * 8 in
+    let count : ℕ = to - (start + 8) in
+    let one : List ℕ = c.put_pixels.new.bytes in
+    let further : start + 8 ≤ to = omega (arith, c.if-start-brush.false, c.requires.begun) in
+    let end : start + 8 + count ≡ to = omega (arith, further) in
+    let within : start + 8 + count ≤ length c.args.row.now = omega (arith, end, c.requires.within) in
+    let there : length (take count (drop (start + 8) one)) ≡ count =
+    length-take-le count (drop (start + 8) one)
+    (omega (arith, length-drop (start + 8) one, c.put_pixels.ensures.length, within)) in
+    let filled : c.fill_all.new.bytes ≡ replicate count c.plain_byte.result =
+    c.fill_all.ensures ∙ ap (λ (n : ℕ). replicate n c.plain_byte.result) there in
+    let done =
+    words_filled start count c.plain_byte.result c.args.brush.word c.plain_word.result c.args.row.now one _ c.args.brush.is_black
+    within c.put_pixels.ensures.length c.put_pixels.ensures.written (ap (put_mid (start + 8) count one) filled)
+    c.plain_byte.ensures c.plain_word.ensures in
+    rw end at done
