@@ -97,7 +97,7 @@ FEW_RUNS = {
     "blank": {"changes": 1.65, "packed": 1.3, "next_changes": 0.4, "next_packed": 0.4},
     "borders": {"changes": 1.4, "packed": 1.29, "next_changes": 1, "next_packed": 1},
 }
-BYTES = {("blank", 256): 7.8, ("text", 300): 7.9, ("dither", 10): 9.0}
+BYTES = {("blank", 256): 7.7, ("text", 300): 7.4, ("dither", 10): 8.45}
 # the place of a reader, and of single bytes, among the ways of measured_pages.c
 READER, SINGLE = cost.WAYS.index("next_changes"), len(cost.WAYS)
 

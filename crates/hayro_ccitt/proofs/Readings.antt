@@ -14,6 +14,7 @@ pub mod LinesRead
 pub mod LooksKept
 pub mod OpenBits
 pub mod PartsFed
+pub mod PartsScanned
 pub mod RowByRow
 pub mod RowsAgain
 pub mod RowsDrawn
