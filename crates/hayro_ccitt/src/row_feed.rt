@@ -13,7 +13,7 @@ ghost use Rattle.hayro_ccitt.specs.RowFeeds.{Begins, ComeNext, ComesInFeed, Drop
 ghost use Rattle.hayro_ccitt.specs.RowFeeds.{IsFeedOf, KeepsBits, TriesLine, fed_bits, fed_end, fed_none, fed_row, is_left};
 ghost use Rattle.hayro_ccitt.specs.RowFeeds.{HoldsMore, KeepsPart, LineGoesOn, Scans, ScansLine, StaysShort, line_answer};
 ghost use Rattle.hayro_ccitt.specs.RowFeeds.{some_line};
-ghost use Rattle.hayro_ccitt.specs.RowFeeds.{CountsRow, PushesRows, unused};
+ghost use Rattle.hayro_ccitt.specs.RowFeeds.{CountsRow, Feeding, FeedsRow, PushesRows, unused};
 ghost use Rattle.hayro_ccitt.specs.Rows.{AreChanges, changes};
 
 use crate::context::DecoderContext;
@@ -708,6 +708,22 @@ impl RowFeed {
         ensures outside { result ≡ false → self.now.part ≡ None }
     {
         self.part.is_some()
+    }
+
+    /// Reads on in the line that is next, where it was found to be short, and returns whether it still is: then
+    /// [`next_row`](RowFeed::next_row) would return [`Fed::NeedsMore`]. If it isn't, `next_row` goes on from here; where
+    /// `is_within_line` is false, nothing is done.
+    #[inline(always)]
+    pub fn stays_within_line(&mut self) -> bool
+        ensures more { result ≡ true → FeedsRow self.old self.new (Ok Fed.NeedsMore) }
+        ensures scans { Scans self.old self.new }
+        ensures goes_on { result ≡ false → (next : Feeding) (answer : Result Fed DecodeError) → FeedsRow self.new next answer
+            → FeedsRow self.old next answer }
+    {
+        if self.part.is_none() {
+            return false;
+        }
+        self.is_still_short()
     }
 
     /// Reads the next row, if no data that follows can change it. After [`Fed::NeedsMore`] feed more, or finish the data. At the
