@@ -932,6 +932,7 @@ impl RowFeed {
     }
 
     /// Feeds bytes, as [`feed`](RowFeed::feed) does, by a call.
+    #[cold]
     #[inline(never)]
     fn feed_all(&mut self, bytes: &[u8]) -> Result<()>
         requires unfinished { self.old.finished ≡ false }

@@ -216,6 +216,7 @@ impl Feeding {
     }
 
     /// Packs the row that is next and those behind it, as `pack_rows` does.
+    #[cold]
     #[inline(never)]
     fn pack_next_rows(&mut self, bytes: &mut [u8], count: &mut usize) -> u32
         ensures { PacksRows self.old self.new bytes.old bytes.new count.new result }
@@ -253,6 +254,7 @@ impl Feeding {
     }
 
     /// Lists the row that is next and those behind it, as `list_rows` does.
+    #[cold]
     #[inline(never)]
     fn list_next_rows(&mut self, lists: &mut [u32], count: &mut usize) -> u32
         ensures { ListsRows self.old self.new lists.old lists.new count.new result }
