@@ -105,10 +105,9 @@ fn byte_or_zero(bytes: &[u8], index: usize) -> u8
     bytes.get(index).copied().unwrap_or(0)
 }
 
-/// Returns the bits of the last bytes, fewer than eight, the first in the highest position, with zeros after them.
-#[cold]
-#[inline(never)]
-fn last_word(bytes: &[u8], order: BitOrder) -> u64
+/// Returns the bits of the first eight bytes, the first in the highest position, with zeros after the last one.
+#[inline(always)]
+fn few_bytes(bytes: &[u8], order: BitOrder) -> u64
     ensures { (k : ℕ) → k < 64 → bit_of result (63 - k) ≡ get_or (bits_in order bytes.now) k false }
 {
     let last = u64::from_be_bytes([
@@ -122,6 +121,15 @@ fn last_word(bytes: &[u8], order: BitOrder) -> u64
         byte_or_zero(bytes, 7),
     ]);
     in_order(last, order)
+}
+
+/// Returns the bits of the last bytes, fewer than eight, as `few_bytes` does, by a call.
+#[cold]
+#[inline(never)]
+fn last_word(bytes: &[u8], order: BitOrder) -> u64
+    ensures { (k : ℕ) → k < 64 → bit_of result (63 - k) ≡ get_or (bits_in order bytes.now) k false }
+{
+    few_bytes(bytes, order)
 }
 
 /// Returns the 64 bits from one of the last eight bytes on, or from the end, the first in the highest position, with zeros past the
@@ -906,6 +914,43 @@ pub fn scanner_near_end<'a>(data: &'a [u8], order: BitOrder, place: usize) -> Op
     })
 }
 
+/// Returns the last `left` bits, as `last_bits` does, without a call. There may be none.
+#[inline(always)]
+fn last_bits_here(data: &[u8], order: BitOrder, left: usize) -> u64
+    requires few { left ≤ 63 }
+    requires within { left ≤ 8 * length «data».now }
+    requires fit { BitsFit «data».now }
+    ensures { (k : ℕ) → k < 64
+        → bit_of result (63 - k) ≡ get_or (bits_in order «data».now) (8 * length «data».now - left + k) false }
+{
+    if data.len() < 8 {
+        return few_bytes(data, order) << (data.len() * 8 - left);
+    }
+    whole_word(&data[data.len() - 8..], order) << 1 << (63 - left)
+}
+
+/// Creates a scanner of the last `left` bits, or returns `None` if they are more than 63. No call is made, so that a caller that
+/// makes none saves no registers.
+#[inline(always)]
+pub fn scanner_of_last<'a>(data: &'a [u8], order: BitOrder, left: usize) -> Option<BitScanner<'a>>
+    requires fit { BitsFit «data».now }
+    requires within { left ≤ 8 * length «data».now }
+    ensures same { IfSome result (λ scanner. scanner
+        ≡ record { bits = bits_in order «data».now; place = 8 * length «data».now - left }) }
+{
+    if left > 63 {
+        return None;
+    }
+    Some(BitScanner {
+        data,
+        window: last_bits_here(data, order, left),
+        left,
+        limit: data.len() * 8,
+        are_all: true,
+        order,
+    })
+}
+
 /// Creates a scanner at a bit offset.
 #[inline(always)]
 pub fn scanner_at<'a>(data: &'a [u8], order: BitOrder, place: usize) -> BitScanner<'a>
@@ -977,6 +1022,14 @@ impl<'a> BitScanner<'a> {
         self.window = window;
         self.left = left;
         Ok(())
+    }
+
+    /// Returns the number of bits that are left.
+    #[inline(always)]
+    pub fn bits_left(&self) -> usize
+        ensures left { result + self.now.place ≡ length self.now.bits }
+    {
+        self.data.len() * 8 - self.offset()
     }
 
     /// Returns the number of bits before the offset.

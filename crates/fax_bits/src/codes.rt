@@ -788,13 +788,15 @@ impl<'a> BitScanner<'a> {
     ///
     /// # Errors
     ///
-    /// `UnexpectedEof` if the data ends inside a word, and `InvalidCode` if there is none. The offset is then unspecified.
+    /// `UnexpectedEof` if the data ends inside a word: then the offset is the same. `InvalidCode` if there is none.
     #[inline(always)]
     pub fn read_word(&mut self, color: Color, tables: &Tables, ticks: &mut Ticks) -> Result<u16>
         ensures word { MatchResult result
             (λ n. read_code (codes_of color) (here self.old) ≡ Ok (n, here self.new))
             (λ e. read_code (codes_of color) (here self.old) ≡ Err e) }
         ensures same_bits { self.new.bits ≡ self.old.bits }
+        ensures onward { self.old.place ≤ self.new.place }
+        ensures lacking { result ≡ Err DecodeError.UnexpectedEof → self.new ≡ self.old }
         ensures ticks { ticks.new ≡ ticks.old + 1 }
     {
         // The look-up counts even if no word is here.

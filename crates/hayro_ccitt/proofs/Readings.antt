@@ -15,6 +15,7 @@ pub mod LinesRead
 pub mod LooksKept
 pub mod OpenBits
 pub mod PartsFed
+pub mod PartsScanned
 pub mod RowByRow
 pub mod RowsAgain
 pub mod RowsDrawn

@@ -1,10 +1,11 @@
 -- A line that is read a word at a time and not drawn, in data of which more may come: what is kept of it.
-use Rattle.std.specs.Prelude.{◌≡◌, ◌≤◌, ◌+◌, ◌*◌, ℕ, Bool, true, false, ◌++◌, length}
+use Rattle.std.specs.Prelude.{◌≡◌, ◌≤◌, ◌<◌, ◌+◌, ◌*◌, ℕ, Bool, true, false, ◌++◌, length, Option, None, Some}
 use Rattle.fax_bits.specs.declared.settings.DecodeSettings.{DecodeSettings}
 use Rattle.fax_bits.specs.declared.codes.Color.{Color}
 use Rattle.std.specs.Prelude.{Ok}
 use Rattle.hayro_ccitt.specs.declared.line_parts.KeptPart.{KeptPart}
 use Rattle.fax_bits.specs.declared.codes.Color.TheVariants.{White}
+use Rattle.hayro_ccitt.specs.declared.line_parts.RunStep.{RunStep}
 use Rattle.hayro_ccitt.specs.declared.line_parts.Word.{Word}
 use Rattle.hayro_ccitt.specs.Bits.{Bits, BitsAt, here}
 use Rattle.hayro_ccitt.specs.Context.{ArePassed, Context}
@@ -13,7 +14,7 @@ use Rattle.hayro_ccitt.specs.Lines.{Line, Pen}
 use Rattle.hayro_ccitt.specs.LinesGoOn.{LinePart, OpenRun, line_from_part, read_on}
 use Rattle.hayro_ccitt.specs.PlainReading.{line_here}
 use Rattle.hayro_ccitt.specs.Repetition.{Turn}
-use Rattle.hayro_ccitt.specs.Rows.{Row, changes, paint}
+use Rattle.hayro_ccitt.specs.Rows.{Row, changes, opposite, paint}
 
 -- the pen of a part that is kept, with a front, where these bits are left to read (T.4, 4.1.1 and 4.2.1.3)
 abbrev pub pen_of_part : KeptPart → Row → Bits → Pen
@@ -112,12 +113,11 @@ pub record ContinuesLine (old new : KeptPart) (ctx now : Context) (before after 
   pub counts : ctx.ticks ≤ now.ticks
   pub work : now.ticks + old.passed + 2 * length (here after) ≤ ctx.ticks + new.passed + 2 * length (here before) + 2
 
--- a run of a one-dimensional line begins, of which no word is read (T.4, 4.1.1)
-pub record IsAtRun (part : KeptPart) : Type 0 where
+-- a part is within a run of a one-dimensional line (T.4, 4.1.1)
+pub record IsInRun (part : KeptPart) : Type 0 where
   pub line : part.is_2d ≡ false
   pub run : part.in_run ≡ true
   pub last : part.another ≡ false
-  pub none : part.total ≡ 0
 
 -- What a call leaves that reads some words of a part of a line, which goes on.
 pub record WentOn (old new : KeptPart) (ctx now : Context) (before after : BitsAt) : Type 0 where
@@ -129,3 +129,26 @@ pub record WentOn (old new : KeptPart) (ctx now : Context) (before after : BitsA
   pub onward : length (here after) ≤ length (here before)
   pub counts : ctx.ticks ≤ now.ticks
   pub work : now.ticks + old.passed + 2 * length (here after) ≤ ctx.ticks + new.passed + 2 * length (here before)
+
+-- a call that reads some words of a one-dimensional line leaves a part within a run of this colour
+pub record GoesInRun (old new : KeptPart) (ctx now : Context) (before after : BitsAt) (color : Color) : Type 0 where
+  pub went : WentOn old new ctx now before after
+  pub run : IsInRun new
+  pub color_is : new.color ≡ color
+  pub shorter : length (here after) < length (here before)
+
+-- What a call leaves that reads a word of a run of this colour: the next run, the same one, or the line ends, short or not.
+abbrev pub StepsInRun : RunStep → KeptPart → KeptPart → Context → Context → BitsAt → BitsAt → Color → Type 0
+StepsInRun RunStep.Next old new ctx now before after color = GoesInRun old new ctx now before after (opposite color)
+StepsInRun RunStep.Same old new ctx now before after color = GoesInRun old new ctx now before after color
+StepsInRun RunStep.Short old new ctx now before after color = ContinuesLine old new ctx now before after true
+StepsInRun RunStep.Ended old new ctx now before after color = ContinuesLine old new ctx now before after false
+
+-- What a call leaves that reads all words of a run of this colour: the next run, or the line ends, short or not.
+abbrev pub PassesRun : Option Bool → KeptPart → KeptPart → Context → Context → BitsAt → BitsAt → Color → Type 0
+PassesRun None old new ctx now before after color = GoesInRun old new ctx now before after (opposite color)
+PassesRun (Some short) old new ctx now before after color = ContinuesLine old new ctx now before after short
+
+-- what a word of a one-dimensional line changes of a part
+abbrev pub OnlyPaints : KeptPart → KeptPart → Type 0
+OnlyPaints old new = new ≡ record old { color = new.color; total = new.total; painted = new.painted }

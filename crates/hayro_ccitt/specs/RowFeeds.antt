@@ -8,6 +8,7 @@ use Rattle.fax_bits.specs.declared.error.DecodeError.{DecodeError}
 use Rattle.fax_bits.specs.declared.error.DecodeError.TheVariants.{InvalidCode, OutOfMemory, Refused}
 use Rattle.hayro_ccitt.specs.declared.line_parts.KeptPart.{KeptPart}
 use Rattle.hayro_ccitt.specs.declared.row_feed.Fed.{Fed}
+use Rattle.hayro_ccitt.specs.declared.row_feed.LineState.{LineState}
 use Rattle.hayro_ccitt.specs.declared.row_feed.RowFeed.TheInside.{Inside}
 use Rattle.hayro_ccitt.specs.declared.row_reader.RowState.{RowState}
 use Rattle.hayro_ccitt.specs.declared.row_reader.Stand.{Stand}
@@ -512,6 +513,11 @@ pub record ScansLine (passed read : ℕ) (old new : Feeding) (short : Bool) : Ty
   pub kept : short ≡ true → (new.place ≤ length new.kept) × (paid_for_line new ≤ most_for_line new + 2)
   pub work : short ≡ true → new.ctx.ticks + (passed + 2 * read) ≤ old.ctx.ticks + paid_for_line new
   pub most : new.ctx.ticks + (passed + 2 * read) ≤ old.ctx.ticks + most_for_line old + 2
+
+-- whether a line still is short
+abbrev pub says_short : LineState → Bool
+says_short LineState.Short = true
+says_short LineState.Settled = false
 
 -- from the part that is kept, if one is
 pub record StaysShort (old new : Feeding) (short : Bool) : Type 0 where

@@ -678,6 +678,8 @@ impl DecoderContext {
             (λ n. read_code (codes_of color) (here reader.old) ≡ Ok (n, here reader.new))
             (λ e. read_code (codes_of color) (here reader.old) ≡ Err e) }
         ensures same_bits { reader.new.bits ≡ reader.old.bits }
+        ensures onward { reader.old.place ≤ reader.new.place }
+        ensures lacking { result ≡ Err DecodeError.UnexpectedEof → reader.new ≡ reader.old }
         ensures frame { self.new ≡ record self.old { ticks = self.old.ticks + 1 } }
     {
         reader.read_word(color, &self.tables, &mut self.ticks)
@@ -696,6 +698,8 @@ impl DecoderContext {
         requires { ArePassed (changes self.old.held.reference) painted passed.old }
         ensures b1 { result.0 ≡ b1 self.old.held.reference (right_of_painted painted) color }
         ensures b2 { result.1 ≡ b2 self.old.held.reference (right_of_painted painted) color }
+        ensures within { result.0 ≤ self.old.held.settings.columns }
+        ensures onward { painted ≤ self.old.held.settings.columns → painted ≤ result.0 }
         ensures passed { ArePassed (changes self.old.held.reference) painted passed.new }
         ensures frame { self.new ≡ record self.old { ticks = self.new.ticks } }
         ensures forward { passed.old ≤ passed.new }

@@ -1,12 +1,12 @@
 //! A line that is read a word at a time and not drawn: whether the data ends within it.
 
-ghost use Rattle.std.specs.Prelude.{◌≡◌, ◌≢◌, ◌≤◌, ◌<◌, ◌+◌, ◌*◌, true, false, length, IfSome, IfNone, Err, None, [], not};
+ghost use Rattle.std.specs.Prelude.{◌≡◌, ◌≢◌, ◌≤◌, ◌<◌, ◌+◌, ◌*◌, true, false, length, IfSome, IfNone, Err, None, [], not, pos};
 ghost use Rattle.hayro_ccitt.specs.Bits.{Bits, here};
 ghost use Rattle.hayro_ccitt.specs.Context.{right_of_painted};
 ghost use Rattle.hayro_ccitt.specs.Continuations.{is_short};
 ghost use Rattle.hayro_ccitt.specs.Faults.{misses_end};
-ghost use Rattle.hayro_ccitt.specs.LineParts.{ContinuesLine, GoesOnBy, IsAtRun, IsLawfulPart, IsPartOf, Leads, PaintsTo};
-ghost use Rattle.hayro_ccitt.specs.LineParts.{ReadsWord, WentOn, first_kept, is_missing, left_to_read, pen_of_part};
+ghost use Rattle.hayro_ccitt.specs.LineParts.{ContinuesLine, GoesOnBy, IsInRun, IsLawfulPart, IsPartOf, Leads, OnlyPaints, PaintsTo, PassesRun};
+ghost use Rattle.hayro_ccitt.specs.LineParts.{ReadsWord, StepsInRun, first_kept, is_missing, left_to_read, pen_of_part};
 ghost use Rattle.hayro_ccitt.specs.LineParts.{run_of_part};
 ghost use Rattle.hayro_ccitt.specs.LinesGoOn.{OpenRun, mode_added, word_added};
 ghost use Rattle.hayro_ccitt.specs.PlainReading.{line_here};
@@ -129,6 +129,24 @@ fn turn(ctx: &mut DecoderContext, part: &mut KeptPart, offset: i8) -> Word
     Word::GoesOn
 }
 
+/// Goes on behind V0: the colour turns at b1 (T.4, 4.2.1.3), which is in the row and not left of a0.
+#[inline(always)]
+fn turn_below(ctx: &mut DecoderContext, part: &mut KeptPart)
+    requires lawful { IsLawfulPart ctx.old.held.settings ctx.old.held.reference part.old }
+    requires run { part.old.in_run ≡ false }
+    requires mode { part.old.is_2d ≡ true }
+    ensures goes { (rest : Bits) → GoesOnBy ctx.old.held.settings ctx.old.held.reference
+        (λ front. (mode_added ctx.old.held.settings.strict ctx.old.held.settings.columns ctx.old.held.reference
+        (pen_of_part part.old front rest) (Mode.Vertical (pos 0))).turn) part.old part.new rest Word.GoesOn }
+    ensures frame { ctx.new ≡ record ctx.old { ticks = ctx.new.ticks } }
+    ensures counts { ctx.old.ticks ≤ ctx.new.ticks }
+    ensures work { ctx.new.ticks + part.old.passed ≤ ctx.old.ticks + part.new.passed + 1 }
+{
+    let (b1, _) = ctx.places_behind(part.painted, part.color, &mut part.passed);
+    part.painted = b1;
+    part.color = part.color.opposite();
+}
+
 /// Goes on behind a mode (T.4, 4.2.1.3).
 #[inline(always)]
 fn add_mode(ctx: &mut DecoderContext, part: &mut KeptPart, mode: Mode) -> Word
@@ -181,7 +199,8 @@ fn read_mode(ctx: &mut DecoderContext, reader: &mut BitScanner<'_>, part: &mut K
 {
     if reader.pass_v0() {
         ctx.ticks().tick();
-        return turn(ctx, part, 0);
+        turn_below(ctx, part);
+        return Word::GoesOn;
     }
     read_any_mode(ctx, reader, part)
 }
@@ -322,10 +341,10 @@ fn is_black(part: &KeptPart) -> bool
     }
 }
 
-/// Returns whether a run of a one-dimensional line begins, of which no word is read.
+/// Returns whether a part is within a run of a one-dimensional line.
 #[inline(always)]
-fn is_at_run(part: &KeptPart) -> bool
-    ensures { result ≡ true → IsAtRun part.now }
+pub(crate) fn is_in_1d_run(part: &KeptPart) -> bool
+    ensures { result ≡ true → IsInRun part.now }
 {
     if part.is_2d {
         return false;
@@ -333,123 +352,172 @@ fn is_at_run(part: &KeptPart) -> bool
     if !part.in_run {
         return false;
     }
-    if part.another {
-        return false;
-    }
-    part.total == 0
+    !part.another
 }
 
-/// Goes on behind a word of a run of a one-dimensional line that is read here. Mostly the run ends with it within the row, and
-/// then the next one begins: so it is where the second value is true.
+/// What a word of a run of a one-dimensional line leads to.
+pub(crate) enum RunStep {
+    /// The run ends with it, and the next one begins.
+    Next,
+    /// The run goes on after it.
+    Same,
+    /// The data ends before the word does.
+    Short,
+    /// The line ends with it: the row is full, or the word is wrong.
+    Ended,
+}
+
+/// Returns whether a word is missing that is read with this error.
+#[inline(always)]
+fn misses_end(error: DecodeError) -> bool
+    ensures { result ≡ misses_end error }
+{
+    matches!(error, DecodeError::UnexpectedEof)
+}
+
+/// Reads a word of a run of a one-dimensional line. A run that ends at the row's end or beyond it ends the line.
 #[inline(always)]
 fn read_next_run(
     ctx: &mut DecoderContext,
     reader: &mut BitScanner<'_>,
     part: &mut KeptPart,
     color: Color,
-) -> (Word, bool)
+) -> RunStep
     requires lawful { IsLawfulPart ctx.old.held.settings ctx.old.held.reference part.old }
-    requires start { IsAtRun part.old }
+    requires run { IsInRun part.old }
     requires color { part.old.color ≡ color }
-    ensures goes { result.0 ≡ Word.GoesOn → WentOn part.old part.new ctx.old ctx.new reader.old reader.new }
-    ensures stops { result.0 ≢ Word.GoesOn → ReadsWord part.old part.new ctx.old ctx.new reader.old reader.new result.0 }
-    ensures shorter { result.0 ≡ Word.GoesOn → length (here reader.new) < length (here reader.old) }
-    ensures next { result.1 ≡ true → IsAtRun part.new }
-    ensures turned { result.1 ≡ true → part.new.color ≡ opposite color }
+    ensures steps { StepsInRun result part.old part.new ctx.old ctx.new reader.old reader.new color }
+    ensures paints { OnlyPaints part.old part.new }
 {
     match ctx.read_word(color, reader) {
         Ok(n) => {
-            let end = u64::from(part.painted) + u64::from(n);
-            if n < 64 && end < u64::from(ctx.settings().columns) {
-                part.painted = end as u32;
-                part.color = color.opposite();
-                return (Word::GoesOn, true);
+            if n >= 64 {
+                let Some(total) = part.total.checked_add(u32::from(n)) else {
+                    return RunStep::Ended;
+                };
+                part.total = total;
+                return RunStep::Same;
             }
-            (add_word(part, ctx.settings(), u32::from(n)), false)
+            let end = u64::from(part.painted) + u64::from(part.total) + u64::from(n);
+            if end >= u64::from(ctx.settings().columns) {
+                return RunStep::Ended;
+            }
+            part.painted = end as u32;
+            part.total = 0;
+            part.color = color.opposite();
+            RunStep::Next
         }
-        Err(error) => (word_of_fault(error), false),
+        Err(error) => {
+            if misses_end(error) {
+                RunStep::Short
+            } else {
+                RunStep::Ended
+            }
+        }
     }
 }
 
-/// Reads a word of a run of a one-dimensional line on, as `continue_line` does. The first value is `None` where the line goes on
-/// behind it, and the second is true where the next run begins there.
+/// Reads on to the end of a run of a one-dimensional line that has a make-up word. Returns `None` if the next run begins there,
+/// and else whether the line is short.
+#[inline(always)]
+fn finish_run(
+    ctx: &mut DecoderContext,
+    reader: &mut BitScanner<'_>,
+    part: &mut KeptPart,
+    color: Color,
+) -> Option<bool>
+    requires lawful { IsLawfulPart ctx.old.held.settings ctx.old.held.reference part.old }
+    requires run { IsInRun part.old }
+    requires color { part.old.color ≡ color }
+    ensures passes { PassesRun result part.old part.new ctx.old ctx.new reader.old reader.new color }
+    ensures paints { OnlyPaints part.old part.new }
+{
+    // An offset is known to be within the data once it is read.
+    let _start = reader.offset();
+    'words: loop {
+        match read_next_run(ctx, reader, part, color) {
+            RunStep::Next => return None,
+            RunStep::Same => {}
+            RunStep::Short => return Some(true),
+            RunStep::Ended => return Some(false),
+        }
+    }
+}
+
+/// Reads a run of a one-dimensional line as `finish_run` does, mostly one word, which has code of its own.
 #[inline(always)]
 fn continue_run(
     ctx: &mut DecoderContext,
     reader: &mut BitScanner<'_>,
     part: &mut KeptPart,
     color: Color,
-) -> (Option<(bool, usize)>, bool)
+) -> Option<bool>
     requires lawful { IsLawfulPart ctx.old.held.settings ctx.old.held.reference part.old }
-    requires start { IsAtRun part.old }
+    requires run { IsInRun part.old }
     requires color { part.old.color ≡ color }
-    ensures stops { IfSome result.0 (λ r. ContinuesLine part.old part.new ctx.old ctx.new reader.old
-        (record reader.old { place = r.1 }) r.0) }
-    ensures within { IfSome result.0 (λ r. r.1 ≤ length reader.old.bits) }
-    ensures goes { IfNone result.0 (WentOn part.old part.new ctx.old ctx.new reader.old reader.new) }
-    ensures shorter { IfNone result.0 (length (here reader.new) < length (here reader.old)) }
-    ensures next { result.1 ≡ true → IsAtRun part.new }
-    ensures turned { result.1 ≡ true → part.new.color ≡ opposite color }
-{
-    let run_start = reader.offset();
-    let (word, is_next) = read_next_run(ctx, reader, part, color);
-    match word {
-        Word::GoesOn => (None, is_next),
-        Word::Missing => (Some((true, run_start)), false),
-        Word::Ends => (Some((false, run_start)), false),
-    }
-}
-
-/// Reads runs from a part of a one-dimensional line on, as `continue_line` does, as long as one word ends each within the row.
-/// Returns `None` where the line goes on otherwise. Each colour has code of its own.
-#[inline(always)]
-fn continue_runs(
-    ctx: &mut DecoderContext,
-    reader: &mut BitScanner<'_>,
-    part: &mut KeptPart,
-) -> Option<(bool, usize)>
-    requires { IsLawfulPart ctx.old.held.settings ctx.old.held.reference part.old }
-    ensures stops { IfSome result (λ r. ContinuesLine part.old part.new ctx.old ctx.new reader.old
-        (record reader.old { place = r.1 }) r.0) }
-    ensures within { IfSome result (λ r. r.1 ≤ length reader.old.bits) }
-    ensures goes { IfNone result (WentOn part.old part.new ctx.old ctx.new reader.old reader.new) }
+    ensures passes { PassesRun result part.old part.new ctx.old ctx.new reader.old reader.new color }
+    ensures paints { OnlyPaints part.old part.new }
 {
     // An offset is known to be within the data once it is read.
     let _start = reader.offset();
-    if !is_at_run(part) {
-        return None;
+    match read_next_run(ctx, reader, part, color) {
+        RunStep::Next => None,
+        RunStep::Same => finish_run(ctx, reader, part, color),
+        RunStep::Short => Some(true),
+        RunStep::Ended => Some(false),
     }
+}
+
+/// Keeps what words of a one-dimensional line changed of a part.
+#[inline(always)]
+fn keep_painted(part: &mut KeptPart, now: &KeptPart)
+    requires { OnlyPaints part.old now.now }
+    ensures { part.new ≡ now.now }
+{
+    part.color = now.color;
+    part.total = now.total;
+    part.painted = now.painted;
+}
+
+/// Reads words from a part within a run of a one-dimensional line on, and returns whether the data ends within the line. If it
+/// does, the part is then that from which the line goes on, and the reader is there. Each colour has code of its own.
+#[inline(always)]
+pub(crate) fn continue_runs(
+    ctx: &mut DecoderContext,
+    reader: &mut BitScanner<'_>,
+    part: &mut KeptPart,
+) -> bool
+    requires lawful { IsLawfulPart ctx.old.held.settings ctx.old.held.reference part.old }
+    requires run { IsInRun part.old }
+    ensures { ContinuesLine part.old part.new ctx.old ctx.new reader.old reader.new result }
+{
+    // An offset is known to be within the data once it is read.
+    let _start = reader.offset();
     // A part of its own, so that its fields are values of this call.
     let mut now = *part;
     if is_black(&now) {
-        let (stopped, is_next) = continue_run(ctx, reader, &mut now, Color::Black);
-        if let Some(stopped) = stopped {
-            *part = now;
-            return Some(stopped);
+        if let Some(short) = finish_run(ctx, reader, &mut now, Color::Black) {
+            keep_painted(part, &now);
+            return short;
         }
-        if !is_next {
-            *part = now;
-            return None;
+    } else if now.total > 0 {
+        if let Some(short) = finish_run(ctx, reader, &mut now, Color::White) {
+            keep_painted(part, &now);
+            return short;
+        }
+        if let Some(short) = continue_run(ctx, reader, &mut now, Color::Black) {
+            keep_painted(part, &now);
+            return short;
         }
     }
     'runs: loop {
-        let (stopped, is_next) = continue_run(ctx, reader, &mut now, Color::White);
-        if let Some(stopped) = stopped {
-            *part = now;
-            return Some(stopped);
+        if let Some(short) = continue_run(ctx, reader, &mut now, Color::White) {
+            keep_painted(part, &now);
+            return short;
         }
-        if !is_next {
-            *part = now;
-            return None;
-        }
-        let (stopped, is_next) = continue_run(ctx, reader, &mut now, Color::Black);
-        if let Some(stopped) = stopped {
-            *part = now;
-            return Some(stopped);
-        }
-        if !is_next {
-            *part = now;
-            return None;
+        if let Some(short) = continue_run(ctx, reader, &mut now, Color::Black) {
+            keep_painted(part, &now);
+            return short;
         }
     }
 }
@@ -490,24 +558,4 @@ pub(crate) fn continue_line(
             }
         }
     }
-}
-
-/// Reads words from a part of a line on, as `continue_line` does, where the line is mostly one-dimensional.
-#[inline(always)]
-pub(crate) fn continue_1d_line(
-    ctx: &mut DecoderContext,
-    reader: &mut BitScanner<'_>,
-    part: &mut KeptPart,
-) -> (bool, usize)
-    requires { IsLawfulPart ctx.old.held.settings ctx.old.held.reference part.old }
-    ensures goes_on { ContinuesLine part.old part.new ctx.old ctx.new reader.old
-        (record reader.old { place = result.1 }) result.0 }
-    ensures within { result.1 ≤ length reader.old.bits }
-{
-    // An offset is known to be within the data once it is read.
-    let _start = reader.offset();
-    if let Some(stopped) = continue_runs(ctx, reader, part) {
-        return stopped;
-    }
-    continue_line(ctx, reader, part)
 }

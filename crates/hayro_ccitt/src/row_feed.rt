@@ -12,7 +12,7 @@ ghost use Rattle.hayro_ccitt.specs.RowsTried.{IsLeft};
 ghost use Rattle.hayro_ccitt.specs.RowFeeds.{Begins, ComeNext, ComesInFeed, DropsRead, ReadsInFeed, ComesOn, FeedsNext};
 ghost use Rattle.hayro_ccitt.specs.RowFeeds.{IsFeedOf, KeepsBits, TriesLine, fed_bits, fed_end, fed_none, fed_row, is_left};
 ghost use Rattle.hayro_ccitt.specs.RowFeeds.{HoldsMore, KeepsPart, LineGoesOn, Scans, ScansLine, StaysShort, line_answer};
-ghost use Rattle.hayro_ccitt.specs.RowFeeds.{some_line};
+ghost use Rattle.hayro_ccitt.specs.RowFeeds.{says_short, some_line};
 ghost use Rattle.hayro_ccitt.specs.RowFeeds.{CountsRow, Feeding, FeedsRow, PushesRows, unused};
 ghost use Rattle.hayro_ccitt.specs.Rows.{AreChanges, changes};
 
@@ -20,13 +20,15 @@ use crate::context::DecoderContext;
 use crate::gap_look::{
     GapLook, GapRules, GapStage, first_rules, is_settled_at_once, rules_behind_row,
 };
-use crate::line_parts::{KeptPart, begin_part, continue_1d_line, continue_line, is_1d};
+use crate::line_parts::{KeptPart, begin_part, continue_line, continue_runs, is_1d, is_in_1d_run};
 use crate::push_rows::push_white_rows;
 use crate::row_reader::{RowState, Stand, first_stand, has_ended, is_at_line};
 use crate::rows::try_row;
 use crate::{DecodeError, Decoder, EncodingMode, Result};
 use fax_bits::DecodeSettings;
-use fax_bits::bit_reader::{BitOrder, BitReader, at_bit, placed_at, scanner_at, scanner_near_end};
+use fax_bits::bit_reader::{
+    BitOrder, BitReader, at_bit, placed_at, scanner_at, scanner_near_end, scanner_of_last,
+};
 use fax_bits::codes::Color;
 use std::alloc::Global;
 use std::marker::Model;
@@ -41,6 +43,24 @@ pub enum Fed {
     NeedsMore,
     /// The image has ended.
     End,
+}
+
+/// What is known of a line that goes on from a part that was kept. A function that returns this, and no `bool`, can pass on what
+/// another returns by a jump.
+#[derive(Copy, Clone)]
+pub(crate) enum LineState {
+    /// It still is short.
+    Short,
+    /// It is whole, or broken, whatever data follows.
+    Settled,
+}
+
+/// Returns whether a line still is short.
+#[inline(always)]
+fn says_short(state: LineState) -> bool
+    ensures { result ≡ says_short state }
+{
+    matches!(state, LineState::Short)
 }
 
 /// The most bytes whose bits have offsets that fit, with 64 bits more.
@@ -490,15 +510,18 @@ impl RowFeed {
     /// Reads on from the part of the line here that is kept, by a call, and returns whether the line is still short.
     #[cold]
     #[inline(never)]
-    fn go_on_by_call(&mut self) -> bool
+    fn go_on_by_call(&mut self) -> LineState
         requires more { self.old.finished ≡ false }
-        ensures { StaysShort self.old self.new result }
+        ensures { StaysShort self.old self.new (says_short result) }
     {
         let Some(part) = self.part else {
-            return false;
+            return LineState::Settled;
         };
         let read = self.line_read;
-        self.go_on_from(part, read)
+        if self.go_on_from(part, read) {
+            return LineState::Short;
+        }
+        LineState::Settled
     }
 
     /// Returns whether the part of the line here that is kept is of a one-dimensional line. What it returns decides nothing but
@@ -513,31 +536,65 @@ impl RowFeed {
         }
     }
 
-    /// Reads on from the part of the line here that is kept, mostly of a one-dimensional line, and returns whether the line is
-    /// still short. By a call, so that its callers stay small.
+    /// Reads on from the part of the line here that is kept, mostly within a run of a one-dimensional line, and returns whether the
+    /// line is still short. Each call that it makes is its last step, so that mostly no registers are saved.
+    #[inline(always)]
+    fn read_on_1d(&mut self, order: BitOrder) -> LineState
+        requires more { self.old.finished ≡ false }
+        requires order { self.old.order ≡ order }
+        ensures { StaysShort self.old self.new (says_short result) }
+    {
+        let Some(part) = &mut self.part else {
+            return self.go_on_by_call();
+        };
+        if !is_in_1d_run(part) {
+            return self.go_on_by_call();
+        }
+        let known = self.data.len() * 8 - self.place;
+        let Some(mut reader) = scanner_of_last(&self.data, order, known - self.line_read) else {
+            return self.go_on_by_call();
+        };
+        if continue_runs(&mut self.ctx, &mut reader, part) {
+            self.line_read = known - reader.bits_left();
+            return LineState::Short;
+        }
+        self.line_read = 0;
+        self.part = None;
+        LineState::Settled
+    }
+
+    /// Reads on as `read_on_1d` does, where the highest bit of each byte comes first.
     #[inline(never)]
+    fn read_on_high(&mut self) -> LineState
+        requires more { self.old.finished ≡ false }
+        requires order { self.old.order ≡ BitOrder.HighestFirst }
+        ensures { StaysShort self.old self.new (says_short result) }
+    {
+        self.read_on_1d(BitOrder::HighestFirst)
+    }
+
+    /// Reads on as `read_on_1d` does, where the lowest bit of each byte comes first.
+    #[inline(never)]
+    fn read_on_low(&mut self) -> LineState
+        requires more { self.old.finished ≡ false }
+        requires order { self.old.order ≡ BitOrder.LowestFirst }
+        ensures { StaysShort self.old self.new (says_short result) }
+    {
+        self.read_on_1d(BitOrder::LowestFirst)
+    }
+
+    /// Returns whether the line here, which goes on from a part of a one-dimensional line, still is short. By a call, so that its
+    /// callers stay small, and each order of bits has code of its own.
+    #[inline(always)]
     fn stays_short_1d(&mut self) -> bool
         requires more { self.old.finished ≡ false }
         ensures { StaysShort self.old self.new result }
     {
-        if self.part.is_none() {
-            return false;
-        }
-        let place = self.place + self.line_read;
-        let Some(mut reader) = scanner_near_end(&self.data, self.order, place) else {
-            return self.go_on_by_call();
+        let state = match self.order {
+            BitOrder::HighestFirst => self.read_on_high(),
+            BitOrder::LowestFirst => self.read_on_low(),
         };
-        let Some(part) = &mut self.part else {
-            return false;
-        };
-        let (is_short, reached) = continue_1d_line(&mut self.ctx, &mut reader, part);
-        if is_short {
-            self.line_read = reached - self.place;
-            return true;
-        }
-        self.line_read = 0;
-        self.part = None;
-        false
+        says_short(state)
     }
 
     /// Returns whether the line here is known to be short: whether it goes on from a part that was kept, and still is short.
@@ -558,7 +615,7 @@ impl RowFeed {
         }
         let place = self.place + self.line_read;
         let Some(mut reader) = scanner_near_end(&self.data, self.order, place) else {
-            return self.go_on_by_call();
+            return says_short(self.go_on_by_call());
         };
         let Some(part) = &mut self.part else {
             return false;

@@ -11,6 +11,8 @@ use Rattle.hayro_ccitt.proofs.Names.{line_1d, line_2d, line_by, start, not, Enco
 use Rattle.hayro_ccitt.proofs.Names.{here, length-drop}
 use Rattle.std.specs.Prelude.{if◌then◌else◌}
 use Rattle.fax_bits.proofs.CodeWords.ReadRuns.{read_code_shorter, words_not_empty}
+use Rattle.hayro_ccitt.proofs.Names.{and_parts, cases_lt, leb-true}
+use Rattle.fax_reading.proofs.PixelRows.ChangePlaces.{is_least}
 use Rattle.hayro_ccitt.proofs.Names.{Pass, Vertical, b1, b2, right_of, right_of_painted, opposite, ℤ, pos, ◌+ℤ◌, ◌∷◌}
 use Rattle.fax_bits.specs.declared.error.DecodeError.TheVariants.{Overflow}
 use Rattle.hayro_ccitt.specs.declared.line_parts.KeptPart.{KeptPart}
@@ -20,7 +22,11 @@ use Rattle.hayro_ccitt.specs.Lines.{Pen, place_from}
 use Rattle.hayro_ccitt.specs.LinesGoOn.{LinePart, OpenRun, behind_run, left_of, line_from_part, mode_added, part_before}
 use Rattle.hayro_ccitt.specs.LinesGoOn.{read_on, word_added}
 use Rattle.hayro_ccitt.specs.LineParts.{GoesOnBy, ContinuesLine, IsLawfulPart, IsPartOf, Leads, ReadsWord, EndsLine}
-use Rattle.hayro_ccitt.specs.LineParts.{IsAtRun, LeadsToPart, PaintsTo, WentOn, part_at, part_by}
+use Rattle.hayro_ccitt.proofs.Names.{Option, None, Some}
+use Rattle.hayro_ccitt.specs.LineParts.{GoesInRun, IsInRun, LeadsToPart, PaintsTo, PassesRun, WentOn, part_at, part_by}
+use Rattle.hayro_ccitt.specs.Faults.{misses_end}
+use Rattle.fax_bits.specs.declared.error.DecodeError.{DecodeError}
+use Rattle.hayro_ccitt.proofs.Names.{inl, inr}
 use Rattle.hayro_ccitt.specs.LineParts.{first_kept, left_to_read, pen_of_part, run_of_part}
 use Rattle.fax_reading.proofs.Continuations.LinesGoOn.{LeadsOn, line_from_is, part_leads_on, part_size, word_leads}
 use Rattle.hayro_ccitt.proofs.Names.{too_many_pixels}
@@ -63,6 +69,23 @@ paints_row settings front color count painted is within gt lenient = (
   ),
   rw lenient refl,
 )
+
+-- strict data has no more pixels than there is room for
+unpainted : (settings : DecodeSettings) (front : Row) (color : Color) (count painted : ℕ) → length front ≡ painted
+    → settings.strict ≡ true → settings.columns - painted < count
+    → paint settings.strict settings.columns front color count ≡ Err too_many_pixels
+unpainted settings front color count painted is strict more = grind (arith, common_steps)
+
+-- ---- Where b1 is
+
+-- b1 is in the row, or at its end
+pub b1_in_row : (reference : Row) (from : ℕ) (color : Color) → b1 reference from color ≤ length reference
+b1_in_row reference from color = grind (arith, common_steps, is_least)
+
+-- nor is it left of what is painted
+pub b1_not_left : (reference : Row) (painted : ℕ) (color : Color) → painted ≤ length reference
+    → painted ≤ b1 reference (right_of_painted painted) color
+b1_not_left reference painted color within = grind (arith, common_steps, and_parts, cases_lt, is_least, leb-true, right_of_painted)
 
 -- ---- The line that begins some bits goes on from a part of it
 
@@ -232,7 +255,7 @@ pub at_mode_is : (part : KeptPart) (row : Row) (color : Color) (rest : Bits) →
 at_mode_is part row color rest none is_2d same = rw (none, is_2d, same) refl
 
 -- the changes that are passed are not right of a0 where more pixels are painted
-passed_on : (places : List ℕ) (painted more passed : ℕ) → painted ≤ more → ArePassed places painted passed
+pub passed_on : (places : List ℕ) (painted more passed : ℕ) → painted ≤ more → ArePassed places painted passed
     → ArePassed places more passed
 passed_on places painted more passed le are = grind (arith, common_steps)
 
@@ -379,50 +402,75 @@ pub put_back : (old part : KeptPart) (ctx now : Context) (before at : BitsAt) (p
 put_back old part ctx now before at place went is =
     ap (λ (n : ℕ). record before { place = n }) is ∙ ap (λ (b : Bits). record at { bits = b }) (sym went.same_bits)
 
--- none was read yet
-pub went_none : (part : KeptPart) (ctx : Context) (at : BitsAt) → IsLawfulPart ctx.held.settings ctx.held.reference part
-    → WentOn part part ctx ctx at at
-went_none part ctx at lawful = record {
-  part = λ start is. is;
-  lawful = lawful;
-  frame = refl;
-  same_bits = refl;
-  onward = omega arith;
-  counts = omega arith;
-  work = omega arith;
-}
+-- what was read before is read on from
+module _ (old mid new : KeptPart) (ctx there now : Context) (before at after : BitsAt)
+    (so_far : WentOn old mid ctx there before at) where
+  pub went_further : WentOn mid new there now at after → WentOn old new ctx now before after
+  went_further on = grind (arith, common_steps)
 
--- one word was read
-pub went_by_word : (old new : KeptPart) (ctx now : Context) (before after : BitsAt)
-    → IsLawfulPart ctx.held.settings ctx.held.reference old → ReadsWord old new ctx now before after Word.GoesOn
-    → WentOn old new ctx now before after
-went_by_word old new ctx now before after lawful reads =
-    went_on old old new ctx ctx.ticks now before before after (went_none old ctx before lawful) reads
+  pub went_then_stopped : (short : Bool) → before.place ≤ length before.bits → ContinuesLine mid new there now at after short
+      → ContinuesLine old new ctx now before after short
+  went_then_stopped short begun on = grind (arith, common_steps, length-drop)
 
--- ---- A run that one word ends
+-- ---- A word of a run of a one-dimensional line
 
-module _ (settings : DecodeSettings) (reference : Row) (part : KeptPart) (at : IsAtRun part) (n : ℕ) (rest after : Bits)
-    (reads : read_code (codes_of part.color) rest ≡ Ok (n, after)) (last : n < 64)
-    (within : part.painted + n < settings.columns) where
+module _ (settings : DecodeSettings) (reference : Row) (part : KeptPart) (at : IsInRun part) (rest : Bits) where
+  -- by the word that is next
+  word_turns : (front : Row) (n : ℕ) (after : Bits) → read_code (codes_of part.color) rest ≡ Ok (n, after)
+      → (read_on settings reference (part_at part front rest)).turn
+      ≡ (word_added settings.strict settings.columns (run_of_part part) (pen_of_part part front after) n).turn
+  word_turns front n after reads = rw at.run (word_is_read settings reference front part.color rest (run_of_part part) n after reads)
+
+  -- if none is, the line ends
+  pub word_fails : (error : DecodeError) → read_code (codes_of part.color) rest ≡ Err error → (start : Bits)
+      → IsPartOf settings reference start part rest → is_short (line_here settings reference start) ≡ misses_end error
+  word_fails error reads start is =
+      let ends : EndsLine (misses_end error) (read_on settings reference (part_at part is.front rest)).turn
+      = rw (at.run, reads) (Line.broken is.front error, refl, refl) in
+      ends_behind settings reference part part rest rest is ends
+
+  module _ (n : ℕ) (after : Bits) (reads : read_code (codes_of part.color) rest ≡ Ok (n, after)) where
+    -- a make-up word
+    makeup_adds : (front : Row) → 64 ≤ n → part.total + n ≤ 4294967295
+        → (word_added settings.strict settings.columns (run_of_part part) (pen_of_part part front after) n).turn
+        ≡ Turn.next (part_at (record part { total = part.total + n }) front after)
+    makeup_adds front long fits = rw at.run (grind (arith, common_steps, fits_32))
+
+    pub part_behind_makeup : 64 ≤ n → part.total + n ≤ 4294967295 → (start : Bits) → IsPartOf settings reference start part rest
+        → IsPartOf settings reference start (record part { total = part.total + n }) after
+    part_behind_makeup long fits start is =
+        goes_on_behind settings reference part (record part { total = part.total + n }) rest after is
+        (is.front, is.painted, word_turns is.front n after reads ∙ makeup_adds is.front long fits)
+
+    -- too many of them
+    pub makeup_ends : 4294967295 < part.total + n → (start : Bits) → IsPartOf settings reference start part rest
+        → is_short (line_here settings reference start) ≡ false
+    makeup_ends over start is =
+        let ends : EndsLine false (read_on settings reference (part_at part is.front rest)).turn
+        = subst (EndsLine false) (sym (word_turns is.front n after reads))
+        (word_overflows settings reference is.front part.color after (run_of_part part) n over) in
+        ends_behind settings reference part part rest rest is ends
+
+-- ---- A run that a word ends
+
+module _ (settings : DecodeSettings) (reference : Row) (part : KeptPart) (at : IsInRun part) (n : ℕ) (rest after : Bits)
+    (reads : read_code (codes_of part.color) rest ≡ Ok (n, after)) (last : n < 64) (fits : part.total + n ≤ 4294967295) where
   -- where the next run begins
   abbrev pub next_run : KeptPart
-  next_run = record part { painted = part.painted + n; color = opposite part.color }
+  next_run = record part { painted = part.painted + (part.total + n); color = opposite part.color; total = 0 }
 
-  -- before it
-  abbrev behind : KeptPart
-  behind = record next_run { in_run = false }
+  -- before it, with as many pixels
+  abbrev behind : ℕ → KeptPart
+  behind painted = record part { painted = painted; color = opposite part.color; in_run = false }
 
-  run_leads : (front : Row) → length front ≡ part.painted
-      → LeadsToPart behind after (read_on settings reference (part_at part front rest)).turn
-  run_leads front is =
-      let sum : part.total + n ≡ n = omega (arith, at.none) in
-      let paints = paints_all settings front part.color n part.painted is (omega (arith, within)) (omega (arith, within)) in
-      let leads = word_is_read settings reference front part.color rest (run_of_part part) n after reads
-      ∙ run_turns settings reference front part.color after (run_of_part part) n paints.0 (omega (arith, sum, last)) last
-      (ap (λ (m : ℕ). paint settings.strict settings.columns front part.color m) sum ∙ paints.2) in (
+  run_leads : (front : Row) (painted : ℕ) → PaintsTo settings front part.color (part.total + n) painted
+      → LeadsToPart (behind painted) after (read_on settings reference (part_at part front rest)).turn
+  run_leads front painted paints =
+      let leads = word_turns settings reference part at rest front n after reads
+      ∙ run_turns settings reference front part.color after (run_of_part part) n paints.0 fits last paints.2 in (
         paints.0,
         paints.1,
-        rw at.run (leads ∙ ap (λ (b : Bool). Turn.next (if b then LinePart.in_run (record {
+        leads ∙ ap (λ (b : Bool). Turn.next (if b then LinePart.in_run (record {
           is_2d = part.is_2d;
           another = false;
           total = 0;
@@ -430,41 +478,119 @@ module _ (settings : DecodeSettings) (reference : Row) (part : KeptPart) (at : I
           front = paints.0;
           color = opposite part.color;
           rest = after;
-        }))) at.last),
+        }))) at.last,
       )
 
-  begins : (front : Row) → length front ≡ part.painted + n
-      → LeadsToPart next_run after (read_on settings reference (part_at behind front after)).turn
-  begins front is = (
+  begins : (front : Row) → length front ≡ part.painted + (part.total + n) → part.painted + (part.total + n) < settings.columns
+      → LeadsToPart next_run after (read_on settings reference (part_at (behind (part.painted + (part.total + n))) front after)).turn
+  begins front is within = (
     front,
     is,
-    rw (at.line, at.run, at.last, at.none)
+    rw (at.line, at.run, at.last)
         (run_begins settings reference front (opposite part.color) after (omega (arith, is, within))),
   )
 
-  pub part_behind_run : (start : Bits) → IsPartOf settings reference start part rest
-      → IsPartOf settings reference start next_run after
-  part_behind_run start is =
-      let there = goes_on_behind settings reference part behind rest after is (run_leads is.front is.painted) in
-      goes_on_behind settings reference behind next_run after after there (begins there.front there.painted)
+  pub part_behind_run : part.painted + (part.total + n) < settings.columns → (start : Bits)
+      → IsPartOf settings reference start part rest → IsPartOf settings reference start next_run after
+  part_behind_run within start is =
+      let painted : ℕ = part.painted + (part.total + n) in
+      let paints = paints_all settings is.front part.color (part.total + n) part.painted is.painted (omega (arith, within))
+      (omega (arith, within)) in
+      let there = goes_on_behind settings reference part (behind painted) rest after is (run_leads is.front painted paints) in
+      goes_on_behind settings reference (behind painted) next_run after after there (begins there.front there.painted within)
 
-pub went_behind_run : (part : KeptPart) (ctx now : Context) (before after : BitsAt) (n painted : ℕ) (color : Color) → IsAtRun part
-    → IsLawfulPart ctx.held.settings ctx.held.reference part
-    → read_code (codes_of part.color) (here before) ≡ Ok (n, here after) → n < 64
-    → part.painted + n < ctx.held.settings.columns → painted ≡ part.painted + n → color ≡ opposite part.color
-    → now ≡ record ctx { ticks = ctx.ticks + 1 } → after.bits ≡ before.bits
-    → WentOn part (record part { painted = painted; color = color }) ctx now before after
-went_behind_run part ctx now before after n painted color at lawful reads last within is turned frame same =
-    let held = ctx.held in
-    let shorter = read_code_shorter (codes_of part.color) (here before) n (here after) (words_not_empty part.color) reads in
+  -- a row that is full ends the line
+  full_behind : (start : Bits) (is : IsPartOf settings reference start part rest)
+      → PaintsTo settings is.front part.color (part.total + n) settings.columns
+      → is_short (line_here settings reference start) ≡ false
+  full_behind start is paints =
+      let full : KeptPart = behind settings.columns in
+      let there = goes_on_behind settings reference part full rest after is (run_leads is.front settings.columns paints) in
+      ends_behind settings reference full full after after there
+      (full_ends settings reference there.front (opposite part.color) after part.is_2d (omega (arith, there.painted)))
+
+  -- so does one that has no room for the run
+  pub run_ends_line : part.painted ≤ settings.columns → settings.columns ≤ part.painted + (part.total + n) → (start : Bits)
+      → IsPartOf settings reference start part rest → is_short (line_here settings reference start) ≡ false
+  run_ends_line within full start is = elim (cases_lt (settings.columns - part.painted) (part.total + n)) [
+    | inl more ↦ by_rule settings.strict refl more
+    | inr fit ↦ full_behind start is (subst (PaintsTo settings is.front part.color (part.total + n)) (omega (arith, full, fit, within))
+        (paints_all settings is.front part.color (part.total + n) part.painted is.painted within fit))
+  ]
+    where
+      by_rule : (strict : Bool) → settings.strict ≡ strict → settings.columns - part.painted < part.total + n
+          → is_short (line_here settings reference start) ≡ false
+      by_rule false lenient more =
+          full_behind start is (paints_row settings is.front part.color (part.total + n) part.painted is.painted within more lenient)
+      by_rule true strict more =
+          let ends : EndsLine false (read_on settings reference (part_at part is.front rest)).turn
+          = subst (EndsLine false) (sym (word_turns settings reference part at rest is.front n after reads))
+          (run_ends settings reference is.front part.color after (run_of_part part) n fits last
+          (unpainted settings is.front part.color (part.total + n) part.painted is.painted strict more)) in
+          ends_behind settings reference part part rest rest is ends
+
+-- ---- What a word of a run leaves
+
+-- the line goes on within a run
+pub goes_in_run : (old new : KeptPart) (ctx now : Context) (before after : BitsAt) (n : ℕ) (color : Color)
+    → read_code (codes_of old.color) (here before) ≡ Ok (n, here after) → now ≡ record ctx { ticks = ctx.ticks + 1 }
+    → after.bits ≡ before.bits → IsLawfulPart ctx.held.settings ctx.held.reference new → new.passed ≡ old.passed → IsInRun new
+    → new.color ≡ color → ((start : Bits) → IsPartOf ctx.held.settings ctx.held.reference start old (here before)
+    → IsPartOf ctx.held.settings ctx.held.reference start new (here after)) → GoesInRun old new ctx now before after color
+goes_in_run old new ctx now before after n color reads frame same lawful passed run turned part =
+    let shorter = read_code_shorter (codes_of old.color) (here before) n (here after) (words_not_empty old.color) reads in
     let ticks = ap (λ (x : Context). x.ticks) frame in
-    rw (is, turned) (record {
-      part = part_behind_run held.settings held.reference part at n (here before) (here after) reads last within;
-      lawful = lawful_behind held.settings held.reference (next_run held.settings held.reference part at n (here before)
-          (here after) reads last within) part.painted part.passed lawful.passed refl (omega arith) (omega (arith, within));
+    record {
+      went = record {
+        part = part;
+        lawful = lawful;
+        frame = frame ∙ ap (λ (m : ℕ). record ctx { ticks = m }) (sym ticks);
+        same_bits = same;
+        onward = omega (arith, shorter);
+        counts = omega (arith, ticks);
+        work = omega (arith, ticks, shorter, passed);
+      };
+      run = run;
+      color_is = turned;
+      shorter = shorter;
+    }
+
+-- or it ends
+pub stops_in_run : (part : KeptPart) (ctx now : Context) (before after : BitsAt) (short : Bool)
+    → now ≡ record ctx { ticks = ctx.ticks + 1 } → after.bits ≡ before.bits → before.place ≤ after.place
+    → IsLawfulPart ctx.held.settings ctx.held.reference part → (short ≡ true → after ≡ before)
+    → ((start : Bits) → IsPartOf ctx.held.settings ctx.held.reference start part (here before)
+    → is_short (line_here ctx.held.settings ctx.held.reference start) ≡ short)
+    → ContinuesLine part part ctx now before after short
+stops_in_run part ctx now before after short frame same onward lawful stays said =
+    let ticks = ap (λ (x : Context). x.ticks) frame in
+    record {
+      part = λ e start is. subst (λ (b : BitsAt). IsPartOf ctx.held.settings ctx.held.reference start part (here b)) (sym (stays e)) is;
+      said = said;
+      lawful = lawful;
       frame = frame ∙ ap (λ (m : ℕ). record ctx { ticks = m }) (sym ticks);
       same_bits = same;
-      onward = omega (arith, shorter);
+      onward = onward;
       counts = omega (arith, ticks);
-      work = omega (arith, ticks, shorter);
-    })
+      work = omega (
+        arith,
+        ticks,
+        onward,
+        ap length same,
+        length-drop after.place after.bits,
+        length-drop before.place before.bits,
+      );
+    }
+
+-- a run goes on behind its first word
+pub passes_further : (result : Option Bool) (old mid new : KeptPart) (ctx there now : Context) (before at after : BitsAt)
+    (color : Color) → before.place ≤ length before.bits → GoesInRun old mid ctx there before at color
+    → PassesRun result mid new there now at after color → PassesRun result old new ctx now before after color
+passes_further None old mid new ctx there now before at after color begun goes on = record {
+  went = went_further old mid new ctx there now before at after goes.went on.went;
+  run = on.run;
+  color_is = on.color_is;
+  shorter = omega (arith, goes.shorter, on.shorter);
+}
+passes_further (Some short) old mid new ctx there now before at after color begun goes on =
+    went_then_stopped old mid new ctx there now before at after goes.went short begun on

@@ -1,86 +1,119 @@
-use Rattle.hayro_ccitt.proofs.Names.{◌≡◌, ◌∙◌, ap, sym, subst, arith, here, codes_of, Bool, DecodeSettings, Context}
-use Rattle.hayro_ccitt.proofs.Names.{ℕ, ◌+◌, Color, Bits, Ok, opposite, read_code}
-use Rattle.hayro_ccitt.specs.LineParts.{Leads, ReadsWord, part_by, pen_of_part, run_of_part}
-use Rattle.hayro_ccitt.specs.LinesGoOn.{read_on, word_added}
-use Rattle.fax_bits.proofs.CodeWords.ReadRuns.{read_code_shorter, words_not_empty}
-use Rattle.hayro_ccitt.proofs.DrawingLines.PartsOfLines.{lawful_behind, went_behind_run, went_by_word, word_is_read}
-use Rattle.hayro_ccitt.proofs.line_parts.read_next_run.Goals.{After-add_word}
+use Rattle.hayro_ccitt.proofs.Names.{◌≡◌, ◌≤◌, ◌<◌, ◌+◌, ◌∙◌, ap, sym, subst, refl, arith, common_steps, here, codes_of, cases_lt, inl, inr}
+use Rattle.hayro_ccitt.proofs.Names.{Color, Context, DecodeSettings, Ok, Err, opposite, read_code, false, true}
+use Rattle.fax_bits.specs.declared.error.DecodeError.{DecodeError}
+use Rattle.fax_bits.specs.declared.error.DecodeError.TheVariants.{UnexpectedEof}
+use Rattle.hayro_ccitt.specs.Faults.{misses_end}
+use Rattle.hayro_ccitt.specs.declared.line_parts.KeptPart.{KeptPart}
+use Rattle.fax_bits.proofs.CodeWords.ReadRuns.{some_where}
+use Rattle.hayro_ccitt.proofs.DrawingLines.PartsOfLines.{goes_in_run, lawful_behind, makeup_ends, part_behind_makeup, part_behind_run}
+use Rattle.hayro_ccitt.proofs.DrawingLines.PartsOfLines.{run_ends_line, stops_in_run, word_fails}
+use Rattle.hayro_ccitt.proofs.line_parts.read_next_run.Goals.{In-Ok, In-Err, After-from-in-Ok-4}
 use Rattle.hayro_ccitt.proofs.line_parts.read_next_run.Goals as goal
 
--- a word of the part's colour is read
-reads_own : (own color : Color) (before : Bits) (n : ℕ) (after : Bits) → own ≡ color
-    → read_code (codes_of color) before ≡ Ok (n, after) → read_code (codes_of own) before ≡ Ok (n, after)
-reads_own own color before n after same reads =
-    subst (λ (k : Color). read_code (codes_of k) before ≡ Ok (n, after)) (sym same) reads
+-- the word is one of the part's colour
+reads : (c : In-Ok) → read_code (codes_of c.args.part.now.color) (here c.args.reader.now)
+    ≡ Ok (c.in-Ok.n, here c.read_word.new.reader)
+reads c = subst (λ (k : Color). read_code (codes_of k) (here c.args.reader.now) ≡ Ok (c.in-Ok.n, here c.read_word.new.reader))
+    (sym c.requires.color) c.in-Ok.ensures.word
 
-pub returns-then-end-from-clause-goes : goal.returns-then-end-from-clause-goes
-returns-then-end-from-clause-goes c = λ e.
-    let part = c.args.part.now in
-    let n = c.in-Ok.n in
-    let columns = ap (λ (x : Context). x.held.settings.columns) c.read_word.ensures.frame in
-    went_behind_run part c.args.ctx.now c.read_word.new.self c.args.reader.now c.read_word.new.reader n
-    (c.from.result + c.from-in-Ok.result) c.opposite-part.result c.requires.start c.requires.lawful
-    (reads_own c.args.part.now.color c.args.color (here c.args.reader.now) n
-    (here c.read_word.new.reader) c.requires.color c.in-Ok.ensures.word)
-    (omega (arith, c.if-n-lt64.true)) (omega (
-      arith,
-      c.if-end-from.true,
-      columns,
-      c.from.ensures,
-      c.from-in-Ok.ensures,
-      c.from-then-n-lt64.ensures,
-      ap (λ (s : DecodeSettings). s.columns) c.settings.ensures.value,
-    )) (omega (arith, c.from.ensures, c.from-in-Ok.ensures)) (c.opposite-part.ensures ∙ ap opposite (sym c.requires.color))
-    c.read_word.ensures.frame
-    c.read_word.ensures.same_bits
+fails : (c : In-Err) → read_code (codes_of c.args.part.now.color) (here c.args.reader.now) ≡ Err c.in-Err.error
+fails c = subst (λ (k : Color). read_code (codes_of k) (here c.args.reader.now) ≡ Err c.in-Err.error) (sym c.requires.color)
+    c.in-Err.ensures.word
 
-pub returns-else-n-lt64-clause-goes : goal.returns-else-n-lt64-clause-goes
-returns-else-n-lt64-clause-goes c = λ e.
+-- a word is missing where the data ends
+is_missing : (error : DecodeError) → misses_end error ≡ true → error ≡ UnexpectedEof
+is_missing error missing = grind (arith, common_steps)
+
+pub returns-in_default-clause-steps : goal.returns-in_default-clause-steps
+returns-in_default-clause-steps c =
     let held = c.args.ctx.now.held in
     let part = c.args.part.now in
-    let new = c.add_word.new.part in
-    let before = here c.args.reader.now in
-    let after = here c.read_word.new.reader in
-    let n = c.in-Ok.n in
-    let reads = reads_own part.color c.args.color before n after c.requires.color c.in-Ok.ensures.word in
-    let same : c.settings-in-Ok.result ≡ held.settings
-    = c.settings-in-Ok.ensures.value ∙ ap (λ (x : Context). x.held.settings) c.read_word.ensures.frame in
-    let shorter = read_code_shorter (codes_of part.color) before n after (words_not_empty part.color) reads in
-    let ticks = ap (λ (x : Context). x.ticks) c.read_word.ensures.frame in
-    went_by_word part new c.args.ctx.now c.read_word.new.self c.args.reader.now c.read_word.new.reader c.requires.lawful
-    (subst (ReadsWord part new c.args.ctx.now c.read_word.new.self c.args.reader.now c.read_word.new.reader) e (record {
-      goes = record {
-        leads = λ front is. subst (Leads c.add_word.result new after)
-            (sym (ap (λ (b : Bool). (read_on held.settings held.reference
-            (part_by b (run_of_part part) (pen_of_part part front before))).turn) c.requires.start.run
-            ∙ word_is_read held.settings held.reference front part.color before
-            (run_of_part part) n after reads))
-            (subst (λ (m : ℕ). Leads c.add_word.result new after (word_added held.settings.strict held.settings.columns
-            (run_of_part part) (pen_of_part part front after) m).turn)
-            c.from-in-Ok-2.ensures
-            (subst (λ (s : DecodeSettings). Leads c.add_word.result new after (word_added s.strict s.columns
-            (run_of_part part) (pen_of_part part front after)
-            c.from-in-Ok-2.result).turn) same (c.add_word.ensures.goes after front is)));
-        lawful = lawful_behind held.settings held.reference new part.painted part.passed c.requires.lawful.passed
-            c.add_word.ensures.passed c.add_word.ensures.onward
-            (omega (arith, c.add_word.ensures.within, ap (λ (s : DecodeSettings). s.columns) same));
-      };
-      frame = c.read_word.ensures.frame ∙ ap (λ (m : ℕ). record c.args.ctx.now { ticks = m }) (sym ticks);
-      same_bits = c.read_word.ensures.same_bits;
-      missing = λ e. absurd (c.add_word.ensures.known e);
-      counts = omega (arith, ticks);
-      work = omega (arith, ticks, c.add_word.ensures.passed);
-      paid = λ e. omega (arith, ticks, shorter, c.add_word.ensures.passed);
-    }))
+    let over : 4294967295 < part.total + c.in-Ok.n
+    = grind (arith, common_steps, c.checked_add.ensures, c.in_default.is, c.from.ensures) in
+    stops_in_run part c.args.ctx.now c.read_word.new.self c.args.reader.now c.read_word.new.reader false c.read_word.ensures.frame
+    c.read_word.ensures.same_bits c.read_word.ensures.onward c.requires.lawful (λ e. cc)
+    (makeup_ends held.settings held.reference part c.requires.run (here c.args.reader.now) c.in-Ok.n (here c.read_word.new.reader)
+    (reads (goal.at.returns-in_default-clause-steps c).In-Ok) over)
 
-pub returns-then-end-from-clause-shorter : goal.returns-then-end-from-clause-shorter
-returns-then-end-from-clause-shorter c = λ e.
-    read_code_shorter (codes_of c.args.part.now.color) (here c.args.reader.now) c.in-Ok.n (here c.read_word.new.reader)
-    (words_not_empty c.args.part.now.color) (reads_own c.args.part.now.color c.args.color (here c.args.reader.now) c.in-Ok.n
-    (here c.read_word.new.reader) c.requires.color c.in-Ok.ensures.word)
+pub returns-then-n-ge64-clause-steps : goal.returns-then-n-ge64-clause-steps
+returns-then-n-ge64-clause-steps c =
+    let held = c.args.ctx.now.held in
+    let part = c.args.part.now in
+    let own = reads (goal.at.returns-then-n-ge64-clause-steps c).In-Ok in
+    let sum = some_where c.checked_add.result c.in-Some.total c.checked_add.ensures c.in-Some.is in
+    let total : c.in-Some.total ≡ part.total + c.in-Ok.n = omega (arith, sum.1, c.from.ensures) in
+    goes_in_run part (record part { total = c.in-Some.total }) c.args.ctx.now c.read_word.new.self c.args.reader.now
+    c.read_word.new.reader c.in-Ok.n c.args.color own c.read_word.ensures.frame c.read_word.ensures.same_bits
+    (record { within = c.requires.lawful.within; passed = c.requires.lawful.passed }) refl
+    (record { line = c.requires.run.line; run = c.requires.run.run; last = c.requires.run.last }) c.requires.color
+    (rw total (part_behind_makeup held.settings held.reference part c.requires.run (here c.args.reader.now) c.in-Ok.n
+    (here c.read_word.new.reader) own (omega (arith, c.if-n-ge64.true)) (omega (arith, sum.0, c.from.ensures))))
 
-pub returns-else-n-lt64-clause-shorter : goal.returns-else-n-lt64-clause-shorter
-returns-else-n-lt64-clause-shorter c = λ e.
-    read_code_shorter (codes_of c.args.part.now.color) (here c.args.reader.now) c.in-Ok.n (here c.read_word.new.reader)
-    (words_not_empty c.args.part.now.color) (reads_own c.args.part.now.color c.args.color (here c.args.reader.now) c.in-Ok.n
-    (here c.read_word.new.reader) c.requires.color c.in-Ok.ensures.word)
+-- the width
+columns_are : (c : After-from-in-Ok-4) → c.from-in-Ok-4.result ≡ c.args.ctx.now.held.settings.columns
+columns_are c = c.from-in-Ok-4.ensures ∙ ap (λ (s : DecodeSettings). s.columns) c.settings.ensures.value
+    ∙ ap (λ (x : Context). x.held.settings.columns) c.read_word.ensures.frame
+
+pub returns-then-end-from-clause-steps : goal.returns-then-end-from-clause-steps
+returns-then-end-from-clause-steps c =
+    let held = c.args.ctx.now.held in
+    let part = c.args.part.now in
+    let at = goal.at.returns-then-end-from-clause-steps c in
+    let own = reads at.In-Ok in
+    let full : held.settings.columns ≤ part.painted + (part.total + c.in-Ok.n)
+    = omega (
+      arith,
+      c.if-end-from.true,
+      columns_are at.After-from-in-Ok-4,
+      c.from-in-Ok.ensures,
+      c.from-in-Ok-2.ensures,
+      c.from-in-Ok-3.ensures,
+    ) in
+    stops_in_run part c.args.ctx.now c.read_word.new.self c.args.reader.now c.read_word.new.reader false c.read_word.ensures.frame
+    c.read_word.ensures.same_bits c.read_word.ensures.onward c.requires.lawful (λ e. cc)
+    (elim (cases_lt 4294967295 (part.total + c.in-Ok.n)) [
+      | inl over ↦ makeup_ends held.settings held.reference part c.requires.run (here c.args.reader.now) c.in-Ok.n
+          (here c.read_word.new.reader) own over
+      | inr fits ↦ run_ends_line held.settings held.reference part c.requires.run c.in-Ok.n (here c.args.reader.now)
+          (here c.read_word.new.reader) own (omega (arith, c.if-n-ge64.false)) fits c.requires.lawful.within full
+    ])
+
+pub returns-else-end-from-clause-steps : goal.returns-else-end-from-clause-steps
+returns-else-end-from-clause-steps c =
+    let held = c.args.ctx.now.held in
+    let part = c.args.part.now in
+    let at = goal.at.returns-else-end-from-clause-steps c in
+    let own = reads at.In-Ok in
+    let painted = c.from-in-Ok.result + c.from-in-Ok-2.result + c.from-in-Ok-3.result in
+    let new : KeptPart = record part { color = c.opposite-part.result; total = 0; painted = painted } in
+    let there : painted ≡ part.painted + (part.total + c.in-Ok.n)
+    = omega (arith, c.from-in-Ok.ensures, c.from-in-Ok-2.ensures, c.from-in-Ok-3.ensures) in
+    let within : painted < held.settings.columns = omega (arith, c.if-end-from.false, columns_are at.After-from-in-Ok-4) in
+    goes_in_run part new c.args.ctx.now c.read_word.new.self c.args.reader.now c.read_word.new.reader c.in-Ok.n
+    (opposite c.args.color) own c.read_word.ensures.frame c.read_word.ensures.same_bits
+    (lawful_behind held.settings held.reference new part.painted part.passed c.requires.lawful.passed refl (omega (arith, there))
+    (omega (arith, within))) refl (record { line = c.requires.run.line; run = c.requires.run.run; last = c.requires.run.last })
+    c.opposite-part.ensures
+    (rw (there, c.opposite-part.ensures, sym c.requires.color) (part_behind_run held.settings held.reference part c.requires.run c.in-Ok.n (here c.args.reader.now)
+    (here c.read_word.new.reader) own (omega (arith, c.if-n-ge64.false)) (omega (arith, there, within)) (omega (arith, there, within))))
+
+pub returns-then-misses_end-clause-steps : goal.returns-then-misses_end-clause-steps
+returns-then-misses_end-clause-steps c =
+    let held = c.args.ctx.now.held in
+    let part = c.args.part.now in
+    let missing : misses_end c.in-Err.error ≡ true = sym c.misses_end.ensures ∙ c.if-misses_end.true in
+    stops_in_run part c.args.ctx.now c.read_word.new.self c.args.reader.now c.read_word.new.reader true c.read_word.ensures.frame
+    c.read_word.ensures.same_bits c.read_word.ensures.onward c.requires.lawful (λ e. c.read_word.ensures.lacking (c.in-Err.is
+    ∙ ap Err (is_missing c.in-Err.error missing)))
+    (λ start is. word_fails held.settings held.reference part c.requires.run (here c.args.reader.now) c.in-Err.error
+    (fails (goal.at.returns-then-misses_end-clause-steps c).In-Err) start is ∙ missing)
+
+pub returns-else-misses_end-clause-steps : goal.returns-else-misses_end-clause-steps
+returns-else-misses_end-clause-steps c =
+    let held = c.args.ctx.now.held in
+    let part = c.args.part.now in
+    stops_in_run part c.args.ctx.now c.read_word.new.self c.args.reader.now c.read_word.new.reader false c.read_word.ensures.frame
+    c.read_word.ensures.same_bits c.read_word.ensures.onward c.requires.lawful (λ e. cc)
+    (λ start is. word_fails held.settings held.reference part c.requires.run (here c.args.reader.now) c.in-Err.error
+    (fails (goal.at.returns-else-misses_end-clause-steps c).In-Err) start is
+    ∙ sym c.misses_end.ensures ∙ c.if-misses_end.false)
