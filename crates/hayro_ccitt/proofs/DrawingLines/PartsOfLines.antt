@@ -85,7 +85,8 @@ b1_in_row reference from color = grind (arith, common_steps, is_least)
 -- nor is it left of what is painted
 pub b1_not_left : (reference : Row) (painted : ℕ) (color : Color) → painted ≤ length reference
     → painted ≤ b1 reference (right_of_painted painted) color
-b1_not_left reference painted color within = grind (arith, common_steps, and_parts, cases_lt, is_least, leb-true, right_of_painted)
+b1_not_left reference painted color within =
+    grind (arith, common_steps, and_parts, cases_lt, is_least, leb-true, right_of_painted)
 
 -- ---- The line that begins some bits goes on from a part of it
 
@@ -419,7 +420,8 @@ module _ (settings : DecodeSettings) (reference : Row) (part : KeptPart) (at : I
   word_turns : (front : Row) (n : ℕ) (after : Bits) → read_code (codes_of part.color) rest ≡ Ok (n, after)
       → (read_on settings reference (part_at part front rest)).turn
       ≡ (word_added settings.strict settings.columns (run_of_part part) (pen_of_part part front after) n).turn
-  word_turns front n after reads = rw at.run (word_is_read settings reference front part.color rest (run_of_part part) n after reads)
+  word_turns front n after reads =
+      rw at.run (word_is_read settings reference front part.color rest (run_of_part part) n after reads)
 
   -- if none is, the line ends
   pub word_fails : (error : DecodeError) → read_code (codes_of part.color) rest ≡ Err error → (start : Bits)
@@ -482,7 +484,8 @@ module _ (settings : DecodeSettings) (reference : Row) (part : KeptPart) (at : I
       )
 
   begins : (front : Row) → length front ≡ part.painted + (part.total + n) → part.painted + (part.total + n) < settings.columns
-      → LeadsToPart next_run after (read_on settings reference (part_at (behind (part.painted + (part.total + n))) front after)).turn
+      → LeadsToPart next_run after
+      (read_on settings reference (part_at (behind (part.painted + (part.total + n))) front after)).turn
   begins front is within = (
     front,
     is,
@@ -514,14 +517,16 @@ module _ (settings : DecodeSettings) (reference : Row) (part : KeptPart) (at : I
       → IsPartOf settings reference start part rest → is_short (line_here settings reference start) ≡ false
   run_ends_line within full start is = elim (cases_lt (settings.columns - part.painted) (part.total + n)) [
     | inl more ↦ by_rule settings.strict refl more
-    | inr fit ↦ full_behind start is (subst (PaintsTo settings is.front part.color (part.total + n)) (omega (arith, full, fit, within))
+    | inr fit ↦ full_behind start is
+        (subst (PaintsTo settings is.front part.color (part.total + n)) (omega (arith, full, fit, within))
         (paints_all settings is.front part.color (part.total + n) part.painted is.painted within fit))
   ]
     where
       by_rule : (strict : Bool) → settings.strict ≡ strict → settings.columns - part.painted < part.total + n
           → is_short (line_here settings reference start) ≡ false
       by_rule false lenient more =
-          full_behind start is (paints_row settings is.front part.color (part.total + n) part.painted is.painted within more lenient)
+          full_behind start is
+          (paints_row settings is.front part.color (part.total + n) part.painted is.painted within more lenient)
       by_rule true strict more =
           let ends : EndsLine false (read_on settings reference (part_at part is.front rest)).turn
           = subst (EndsLine false) (sym (word_turns settings reference part at rest is.front n after reads))
@@ -565,7 +570,8 @@ pub stops_in_run : (part : KeptPart) (ctx now : Context) (before after : BitsAt)
 stops_in_run part ctx now before after short frame same onward lawful stays said =
     let ticks = ap (λ (x : Context). x.ticks) frame in
     record {
-      part = λ e start is. subst (λ (b : BitsAt). IsPartOf ctx.held.settings ctx.held.reference start part (here b)) (sym (stays e)) is;
+      part = λ e start is. subst (λ (b : BitsAt). IsPartOf ctx.held.settings ctx.held.reference start part (here b))
+          (sym (stays e)) is;
       said = said;
       lawful = lawful;
       frame = frame ∙ ap (λ (m : ℕ). record ctx { ticks = m }) (sym ticks);

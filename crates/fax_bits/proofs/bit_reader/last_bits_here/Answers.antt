@@ -1,4 +1,5 @@
-use Rattle.fax_bits.proofs.Names.{◌≡◌, ℕ, ◌+◌, ◌-◌, ◌*◌, ◌<◌, ◌∙◌, ap, get_or, false, length, arith, take_rest, Bits, bit_of, bits_in}
+use Rattle.fax_bits.proofs.Names.{◌≡◌, ℕ, ◌+◌, ◌-◌, ◌*◌, ◌<◌, ◌∙◌, ap, get_or, false, length, arith, take_rest}
+use Rattle.fax_bits.proofs.Names.{Bits, bit_of, bits_in}
 use Rattle.fax_bits.proofs.BitReading.{BitLists.length-bits_in, FilledWindows.all_behind, WindowWords.bits_in-drop}
 use Rattle.fax_bits.proofs.bit_reader.last_bits_here.Goals as goal
 

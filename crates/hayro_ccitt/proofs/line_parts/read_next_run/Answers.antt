@@ -1,28 +1,30 @@
-use Rattle.hayro_ccitt.proofs.Names.{◌≡◌, ◌≤◌, ◌<◌, ◌+◌, ◌∙◌, ap, sym, subst, refl, arith, common_steps, here, codes_of, cases_lt, inl, inr}
+use Rattle.hayro_ccitt.proofs.Names.{◌≡◌, ◌≤◌, ◌<◌, ◌+◌, ◌∙◌, ap, sym, subst, refl, arith, common_steps, here}
+use Rattle.hayro_ccitt.proofs.Names.{codes_of, cases_lt, inl, inr}
 use Rattle.hayro_ccitt.proofs.Names.{Color, Context, DecodeSettings, Ok, Err, opposite, read_code, false, true}
 use Rattle.fax_bits.specs.declared.error.DecodeError.{DecodeError}
 use Rattle.fax_bits.specs.declared.error.DecodeError.TheVariants.{UnexpectedEof}
 use Rattle.hayro_ccitt.specs.Faults.{misses_end}
 use Rattle.hayro_ccitt.specs.declared.line_parts.KeptPart.{KeptPart}
 use Rattle.fax_bits.proofs.CodeWords.ReadRuns.{some_where}
-use Rattle.hayro_ccitt.proofs.DrawingLines.PartsOfLines.{goes_in_run, lawful_behind, makeup_ends, part_behind_makeup, part_behind_run}
+use Rattle.hayro_ccitt.proofs.DrawingLines.PartsOfLines.{goes_in_run, lawful_behind, makeup_ends, part_behind_makeup}
+use Rattle.hayro_ccitt.proofs.DrawingLines.PartsOfLines.{part_behind_run}
 use Rattle.hayro_ccitt.proofs.DrawingLines.PartsOfLines.{run_ends_line, stops_in_run, word_fails}
 use Rattle.hayro_ccitt.proofs.line_parts.read_next_run.Goals.{In-Ok, In-Err, After-from-in-Ok-4}
 use Rattle.hayro_ccitt.proofs.line_parts.read_next_run.Goals as goal
 
 -- the word is one of the part's colour
-reads : (c : In-Ok) → read_code (codes_of c.args.part.now.color) (here c.args.reader.now)
+own_word : (c : In-Ok) → read_code (codes_of c.args.part.now.color) (here c.args.reader.now)
     ≡ Ok (c.in-Ok.n, here c.read_word.new.reader)
-reads c = subst (λ (k : Color). read_code (codes_of k) (here c.args.reader.now) ≡ Ok (c.in-Ok.n, here c.read_word.new.reader))
+own_word c = subst (λ (k : Color). read_code (codes_of k) (here c.args.reader.now) ≡ Ok (c.in-Ok.n, here c.read_word.new.reader))
     (sym c.requires.color) c.in-Ok.ensures.word
 
-fails : (c : In-Err) → read_code (codes_of c.args.part.now.color) (here c.args.reader.now) ≡ Err c.in-Err.error
-fails c = subst (λ (k : Color). read_code (codes_of k) (here c.args.reader.now) ≡ Err c.in-Err.error) (sym c.requires.color)
+own_fault : (c : In-Err) → read_code (codes_of c.args.part.now.color) (here c.args.reader.now) ≡ Err c.in-Err.error
+own_fault c = subst (λ (k : Color). read_code (codes_of k) (here c.args.reader.now) ≡ Err c.in-Err.error) (sym c.requires.color)
     c.in-Err.ensures.word
 
 -- a word is missing where the data ends
-is_missing : (error : DecodeError) → misses_end error ≡ true → error ≡ UnexpectedEof
-is_missing error missing = grind (arith, common_steps)
+data_ends : (error : DecodeError) → misses_end error ≡ true → error ≡ UnexpectedEof
+data_ends error missing = grind (arith, common_steps)
 
 pub returns-in_default-clause-steps : goal.returns-in_default-clause-steps
 returns-in_default-clause-steps c =
@@ -33,13 +35,13 @@ returns-in_default-clause-steps c =
     stops_in_run part c.args.ctx.now c.read_word.new.self c.args.reader.now c.read_word.new.reader false c.read_word.ensures.frame
     c.read_word.ensures.same_bits c.read_word.ensures.onward c.requires.lawful (λ e. cc)
     (makeup_ends held.settings held.reference part c.requires.run (here c.args.reader.now) c.in-Ok.n (here c.read_word.new.reader)
-    (reads (goal.at.returns-in_default-clause-steps c).In-Ok) over)
+    (own_word (goal.at.returns-in_default-clause-steps c).In-Ok) over)
 
 pub returns-then-n-ge64-clause-steps : goal.returns-then-n-ge64-clause-steps
 returns-then-n-ge64-clause-steps c =
     let held = c.args.ctx.now.held in
     let part = c.args.part.now in
-    let own = reads (goal.at.returns-then-n-ge64-clause-steps c).In-Ok in
+    let own = own_word (goal.at.returns-then-n-ge64-clause-steps c).In-Ok in
     let sum = some_where c.checked_add.result c.in-Some.total c.checked_add.ensures c.in-Some.is in
     let total : c.in-Some.total ≡ part.total + c.in-Ok.n = omega (arith, sum.1, c.from.ensures) in
     goes_in_run part (record part { total = c.in-Some.total }) c.args.ctx.now c.read_word.new.self c.args.reader.now
@@ -59,7 +61,7 @@ returns-then-end-from-clause-steps c =
     let held = c.args.ctx.now.held in
     let part = c.args.part.now in
     let at = goal.at.returns-then-end-from-clause-steps c in
-    let own = reads at.In-Ok in
+    let own = own_word at.In-Ok in
     let full : held.settings.columns ≤ part.painted + (part.total + c.in-Ok.n)
     = omega (
       arith,
@@ -83,7 +85,7 @@ returns-else-end-from-clause-steps c =
     let held = c.args.ctx.now.held in
     let part = c.args.part.now in
     let at = goal.at.returns-else-end-from-clause-steps c in
-    let own = reads at.In-Ok in
+    let own = own_word at.In-Ok in
     let painted = c.from-in-Ok.result + c.from-in-Ok-2.result + c.from-in-Ok-3.result in
     let new : KeptPart = record part { color = c.opposite-part.result; total = 0; painted = painted } in
     let there : painted ≡ part.painted + (part.total + c.in-Ok.n)
@@ -94,8 +96,10 @@ returns-else-end-from-clause-steps c =
     (lawful_behind held.settings held.reference new part.painted part.passed c.requires.lawful.passed refl (omega (arith, there))
     (omega (arith, within))) refl (record { line = c.requires.run.line; run = c.requires.run.run; last = c.requires.run.last })
     c.opposite-part.ensures
-    (rw (there, c.opposite-part.ensures, sym c.requires.color) (part_behind_run held.settings held.reference part c.requires.run c.in-Ok.n (here c.args.reader.now)
-    (here c.read_word.new.reader) own (omega (arith, c.if-n-ge64.false)) (omega (arith, there, within)) (omega (arith, there, within))))
+    (rw (there, c.opposite-part.ensures, sym c.requires.color)
+    (part_behind_run held.settings held.reference part c.requires.run c.in-Ok.n (here c.args.reader.now)
+    (here c.read_word.new.reader) own (omega (arith, c.if-n-ge64.false)) (omega (arith, there, within))
+    (omega (arith, there, within))))
 
 pub returns-then-misses_end-clause-steps : goal.returns-then-misses_end-clause-steps
 returns-then-misses_end-clause-steps c =
@@ -104,9 +108,9 @@ returns-then-misses_end-clause-steps c =
     let missing : misses_end c.in-Err.error ≡ true = sym c.misses_end.ensures ∙ c.if-misses_end.true in
     stops_in_run part c.args.ctx.now c.read_word.new.self c.args.reader.now c.read_word.new.reader true c.read_word.ensures.frame
     c.read_word.ensures.same_bits c.read_word.ensures.onward c.requires.lawful (λ e. c.read_word.ensures.lacking (c.in-Err.is
-    ∙ ap Err (is_missing c.in-Err.error missing)))
+    ∙ ap Err (data_ends c.in-Err.error missing)))
     (λ start is. word_fails held.settings held.reference part c.requires.run (here c.args.reader.now) c.in-Err.error
-    (fails (goal.at.returns-then-misses_end-clause-steps c).In-Err) start is ∙ missing)
+    (own_fault (goal.at.returns-then-misses_end-clause-steps c).In-Err) start is ∙ missing)
 
 pub returns-else-misses_end-clause-steps : goal.returns-else-misses_end-clause-steps
 returns-else-misses_end-clause-steps c =
@@ -115,5 +119,5 @@ returns-else-misses_end-clause-steps c =
     stops_in_run part c.args.ctx.now c.read_word.new.self c.args.reader.now c.read_word.new.reader false c.read_word.ensures.frame
     c.read_word.ensures.same_bits c.read_word.ensures.onward c.requires.lawful (λ e. cc)
     (λ start is. word_fails held.settings held.reference part c.requires.run (here c.args.reader.now) c.in-Err.error
-    (fails (goal.at.returns-else-misses_end-clause-steps c).In-Err) start is
+    (own_fault (goal.at.returns-else-misses_end-clause-steps c).In-Err) start is
     ∙ sym c.misses_end.ensures ∙ c.if-misses_end.false)

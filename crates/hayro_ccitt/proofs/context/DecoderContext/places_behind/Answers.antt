@@ -26,7 +26,8 @@ returns-clause-b2 c = grind (arith, common_steps, changes-pixels)
 
 -- the reference row has as many pixels as there are columns
 width : (c : After-as_slice) → length c.args.self.now.held.reference ≡ c.args.self.now.held.settings.columns
-width c = rw (← c.self.view_is) (row_length c.self.inside.settings.columns c.self.inside.ref_changes.items c.self.invariant.reference)
+width c = rw (← c.self.view_is)
+    (row_length c.self.inside.settings.columns c.self.inside.ref_changes.items c.self.invariant.reference)
 
 pub returns-clause-within : goal.returns-clause-within
 returns-clause-within c =

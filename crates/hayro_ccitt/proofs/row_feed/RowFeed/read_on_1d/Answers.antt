@@ -71,7 +71,8 @@ invariant_of-self-then-continue_runs c =
     let left = (goal.at.invariant_of-self-then-continue_runs c).After-bits_left in
     kept_short c.self.inside c.continue_runs.new.ctx c.in-Some.part c.continue_runs.new.part c.self.inside.line_read
     c.in-Some-scanner_of_last.reader c.continue_runs.new.reader c.continue_runs.result c.self.invariant (starts_at at)
-    c.continue_runs.ensures (kept at) (c.len.result * 8 - c.self.inside.place - c.bits_left.result) (reached left (starts_at at)) (inside left (starts_at at))
+    c.continue_runs.ensures (kept at) (c.len.result * 8 - c.self.inside.place - c.bits_left.result)
+    (reached left (starts_at at)) (inside left (starts_at at))
     c.if-continue_runs.true
 
 pub returns-then-continue_runs : goal.returns-then-continue_runs
@@ -82,7 +83,8 @@ returns-then-continue_runs c =
     (ap (λ (f : Feeding). f.finished) c.self.view_is ∙ c.requires.more) (kept at).none_drawn
     (short_scans c.self.inside c.continue_runs.new.ctx c.in-Some.part c.continue_runs.new.part c.self.inside.line_read
     c.in-Some-scanner_of_last.reader c.continue_runs.new.reader c.continue_runs.result c.self.invariant (starts_at at)
-    c.continue_runs.ensures (kept at) (c.len.result * 8 - c.self.inside.place - c.bits_left.result) (reached left (starts_at at)) (inside left (starts_at at))
+    c.continue_runs.ensures (kept at) (c.len.result * 8 - c.self.inside.place - c.bits_left.result)
+    (reached left (starts_at at)) (inside left (starts_at at))
     c.if-continue_runs.true))
 
 pub returns : goal.returns
