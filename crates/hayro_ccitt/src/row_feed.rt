@@ -583,18 +583,16 @@ impl RowFeed {
         self.read_on_1d(BitOrder::LowestFirst)
     }
 
-    /// Returns whether the line here, which goes on from a part of a one-dimensional line, still is short. By a call, so that its
-    /// callers stay small, and each order of bits has code of its own.
-    #[inline(always)]
-    fn stays_short_1d(&mut self) -> bool
+    /// Reads on as `read_on_1d` does, by a call, so that its callers stay small: each order of bits has code of its own.
+    #[inline(never)]
+    fn read_on_in_order(&mut self) -> LineState
         requires more { self.old.finished ≡ false }
-        ensures { StaysShort self.old self.new result }
+        ensures { StaysShort self.old self.new (says_short result) }
     {
-        let state = match self.order {
+        match self.order {
             BitOrder::HighestFirst => self.read_on_high(),
             BitOrder::LowestFirst => self.read_on_low(),
-        };
-        says_short(state)
+        }
     }
 
     /// Returns whether the line here is known to be short: whether it goes on from a part that was kept, and still is short.
@@ -611,7 +609,7 @@ impl RowFeed {
             return false;
         }
         if self.is_within_1d_line() {
-            return self.stays_short_1d();
+            return says_short(self.read_on_in_order());
         }
         let place = self.place + self.line_read;
         let Some(mut reader) = scanner_near_end(&self.data, self.order, place) else {
