@@ -5,6 +5,7 @@ pub mod FeedTurns
 pub mod FeedWhite
 pub mod FeedsKeepLittle
 pub mod FeedsOn
+pub mod FeedsWait
 pub mod FeedsPaid
 pub mod FirstGaps
 pub mod GapsNear

@@ -13,7 +13,7 @@ ghost use Rattle.hayro_ccitt.specs.RowFeeds.{Begins, ComeNext, ComesInFeed, Drop
 ghost use Rattle.hayro_ccitt.specs.RowFeeds.{IsFeedOf, KeepsBits, TriesLine, fed_bits, fed_end, fed_none, fed_row, is_left};
 ghost use Rattle.hayro_ccitt.specs.RowFeeds.{HoldsMore, KeepsPart, LineGoesOn, Scans, ScansLine, StaysShort, line_answer};
 ghost use Rattle.hayro_ccitt.specs.RowFeeds.{says_short, some_line};
-ghost use Rattle.hayro_ccitt.specs.RowFeeds.{CountsRow, PushesRows, unused};
+ghost use Rattle.hayro_ccitt.specs.RowFeeds.{CountsRow, Feeding, FeedsRow, PushesRows, unused};
 ghost use Rattle.hayro_ccitt.specs.Rows.{AreChanges, changes};
 
 use crate::context::DecoderContext;
@@ -583,18 +583,16 @@ impl RowFeed {
         self.read_on_1d(BitOrder::LowestFirst)
     }
 
-    /// Returns whether the line here, which goes on from a part of a one-dimensional line, still is short. By a call, so that its
-    /// callers stay small, and each order of bits has code of its own.
-    #[inline(always)]
-    fn stays_short_1d(&mut self) -> bool
+    /// Reads on as `read_on_1d` does, by a call, so that its callers stay small: each order of bits has code of its own.
+    #[inline(never)]
+    fn read_on_in_order(&mut self) -> LineState
         requires more { self.old.finished ≡ false }
-        ensures { StaysShort self.old self.new result }
+        ensures { StaysShort self.old self.new (says_short result) }
     {
-        let state = match self.order {
+        match self.order {
             BitOrder::HighestFirst => self.read_on_high(),
             BitOrder::LowestFirst => self.read_on_low(),
-        };
-        says_short(state)
+        }
     }
 
     /// Returns whether the line here is known to be short: whether it goes on from a part that was kept, and still is short.
@@ -611,7 +609,7 @@ impl RowFeed {
             return false;
         }
         if self.is_within_1d_line() {
-            return self.stays_short_1d();
+            return says_short(self.read_on_in_order());
         }
         let place = self.place + self.line_read;
         let Some(mut reader) = scanner_near_end(&self.data, self.order, place) else {
@@ -765,6 +763,22 @@ impl RowFeed {
         ensures outside { result ≡ false → self.now.part ≡ None }
     {
         self.part.is_some()
+    }
+
+    /// Reads on in the line that is next, where it was found to be short, and returns whether it still is: then
+    /// [`next_row`](RowFeed::next_row) would return [`Fed::NeedsMore`]. If it isn't, `next_row` goes on from here; where
+    /// `is_within_line` is false, nothing is done.
+    #[inline(always)]
+    pub fn stays_within_line(&mut self) -> bool
+        ensures more { result ≡ true → FeedsRow self.old self.new (Ok Fed.NeedsMore) }
+        ensures scans { Scans self.old self.new }
+        ensures goes_on { result ≡ false → (next : Feeding) (answer : Result Fed DecodeError) → FeedsRow self.new next answer
+            → FeedsRow self.old next answer }
+    {
+        if self.part.is_none() {
+            return false;
+        }
+        self.is_still_short()
     }
 
     /// Reads the next row, if no data that follows can change it. After [`Fed::NeedsMore`] feed more, or finish the data. At the
@@ -973,6 +987,7 @@ impl RowFeed {
     }
 
     /// Feeds bytes, as [`feed`](RowFeed::feed) does, by a call.
+    #[cold]
     #[inline(never)]
     fn feed_all(&mut self, bytes: &[u8]) -> Result<()>
         requires unfinished { self.old.finished ≡ false }

@@ -6,24 +6,19 @@ use Rattle.hayro_ccitt.specs.DecodeSettings.{DecodeSettings}
 use Rattle.hayro_ccitt.specs.Answers.{meaning_after}
 use Rattle.hayro_ccitt.specs.Decoding.{SinkState}
 use Rattle.hayro_ccitt.specs.Rows.{HaveWidth, Row, changes}
-use Rattle.hayro_ccitt.specs.RowFeeds.{Feeding as RowsFed, FeedsRow as ReadsFed, FeedsRows, PushesRows, last_left, rows_left}
+use Rattle.hayro_ccitt.specs.RowFeeds.{Feeding as RowsFed, FeedsRow, FeedsRows, PushesRows, last_left, rows_left}
 use Rattle.hayro_ccitt.specs.declared.row_feed.Fed.{Fed}
 use Rattle.hayro_ccitt_c.specs.GivenRows.{ComesToNone, GivesEach, GivesRows, PassesAll, RefusesOne, columns_of, feeding_after}
 use Rattle.hayro_ccitt_c.specs.GivenRows.{rows_given, status_behind}
 use Rattle.hayro_ccitt_c.specs.Packing.{bytes_of_row}
-use Rattle.hayro_ccitt_c.specs.RowsFed.{FeedsRow, GivesFed, TurnsToFed, is_fed_row, status_of_fed}
+use Rattle.hayro_ccitt_c.specs.RowsFed.{GivesFed, TurnsToFed, is_fed_row, status_of_fed}
 use Rattle.hayro_ccitt_c.specs.declared.feeding.Feeding.{Feeding}
 use Rattle.hayro_ccitt_c.specs.declared.status.TheConstants.{OK, REFUSED}
 
--- what a call of one row leaves
-fed : (old new : RowsFed) (answer : Result Fed DecodeError) → ReadsFed old new answer → FeedsRow old new answer
-fed old new answer call =
-    record { reads = call.reads; keeps = call.keeps; settings = call.counts.settings; over = call.over }
-
-pub turned : (kept : Bool) (old new : RowsFed) (answer : Result Fed DecodeError) → kept ≡ false → ReadsFed old new answer
+-- what a call of one row leaves, where none is kept
+pub turned : (kept : Bool) (old new : RowsFed) (answer : Result Fed DecodeError) → kept ≡ false → FeedsRow old new answer
     → TurnsToFed kept old new answer
-turned kept old new answer none call =
-    subst (λ (k : Bool). TurnsToFed k old new answer) (sym none) (fed old new answer call)
+turned kept old new answer none call = subst (λ (k : Bool). TurnsToFed k old new answer) (sym none) call
 
 -- a reading with these rows of which none is kept
 abbrev pub reading_of : (old : Feeding) (rows : RowsFed) → rows.ctx.held.settings ≡ old.rows.ctx.held.settings → Feeding
@@ -142,13 +137,13 @@ passed_all {M} {step} {before} {after} {old} {new} {answer} none unrefused pushe
         | inl end ↦ inl (record {
           flag = end.flag ∙ unrefused;
           turns = turned last.is_kept last.rows new.rows answer each.none_kept
-              (subst (λ (r : RowsFed). ReadsFed r new.rows answer) mid end.call);
+              (subst (λ (r : RowsFed). FeedsRow r new.rows answer) mid end.call);
           no_row = no_row_is answer end.no_row;
         })
         | inr end ↦ inr (record {
           flag = end.flag;
           turns = turned last.is_kept last.rows new.rows (Ok Fed.Row) each.none_kept
-              (subst (λ (r : RowsFed). ReadsFed r new.rows (Ok Fed.Row)) mid end.call);
+              (subst (λ (r : RowsFed). FeedsRow r new.rows (Ok Fed.Row)) mid end.call);
           row = end.row;
         })
       ];
@@ -280,7 +275,7 @@ row_fed (Err error) is = absurd cc
 same_settings : (kept : Bool) (old mid : RowsFed) (answer : Result Fed DecodeError) → TurnsToFed kept old mid answer
     → mid.ctx.held.settings ≡ old.ctx.held.settings
 same_settings true old mid answer turns = ap (λ (r : RowsFed). r.ctx.held.settings) turns.0
-same_settings false old mid answer turns = turns.settings
+same_settings false old mid answer turns = turns.counts.settings
 
 -- as wide
 pub turned_columns : (old mid : Feeding) (answer : Result Fed DecodeError) → TurnsToFed old.is_kept old.rows mid.rows answer
@@ -293,21 +288,28 @@ none_read : (kept : Bool) (rows next : RowsFed) (answer : Result Fed DecodeError
     → (next ≡ rows) × (answer ≡ Ok Fed.Row)
 none_read kept rows next answer is turns = subst (λ (k : Bool). TurnsToFed k rows next answer) is turns
 
-module _ (old mid : Feeding) (came : TurnsToFed old.is_kept old.rows mid.rows (Ok Fed.Row)) (kept : mid.is_kept ≡ true)
-    (layout : mid.layout ≡ old.layout) where
-  -- what is given of a row that was read and is kept is given by a call that reads it
+-- a row that was read and is kept is returned as by a call that reads it
+pub kept_from : (old : Feeding) (kept : Bool) (rows : RowsFed) → TurnsToFed old.is_kept old.rows rows (Ok Fed.Row) → kept ≡ true
+    → (next : RowsFed) (answer : Result Fed DecodeError) → TurnsToFed kept rows next answer
+    → TurnsToFed old.is_kept old.rows next answer
+kept_from old kept rows came is next answer turns =
+    let none = none_read kept rows next answer is turns in
+    subst (λ (r : RowsFed). TurnsToFed old.is_kept old.rows r answer) (sym none.0)
+    (subst (TurnsToFed old.is_kept old.rows rows) (sym none.1) came)
+
+-- what a call leaves after a step that reads no row, or keeps the one that is read, is what it leaves with that step
+module _ (old mid : Feeding) (layout : mid.layout ≡ old.layout)
+    (turns_from : (next : RowsFed) (answer : Result Fed DecodeError) → TurnsToFed mid.is_kept mid.rows next answer
+    → TurnsToFed old.is_kept old.rows next answer) where
   given_from : {new : Feeding} {status : ℕ} → GivesFed mid new status → GivesFed old new status
-  given_from {new} {status} gives =
-      let none = none_read mid.is_kept mid.rows new.rows gives.answer kept gives.turns in
-      record {
-        answer = Ok Fed.Row;
-        turns = subst (λ (r : RowsFed). TurnsToFed old.is_kept old.rows r (Ok Fed.Row)) (sym none.0) came;
-        status_is = subst (λ (a : Result Fed DecodeError). (status ≡ status_of_fed a) ⊎ ((status ≡ REFUSED) × (a ≡ Ok Fed.Row)))
-            none.1 gives.status_is;
-        kept = gives.kept;
-        refused = gives.refused;
-        layout = gives.layout ∙ layout;
-      }
+  given_from {new} {status} gives = record {
+    answer = gives.answer;
+    turns = turns_from new.rows gives.answer gives.turns;
+    status_is = gives.status_is;
+    kept = gives.kept;
+    refused = gives.refused;
+    layout = gives.layout ∙ layout;
+  }
 
   each_from : (given : List Feeding) → GivesEach mid given → GivesEach old given
   each_from [] each = tt

@@ -5,8 +5,7 @@ use Rattle.hayro_ccitt.specs.BitOrder.{BitOrder}
 use Rattle.hayro_ccitt.specs.DecodeError.{DecodeError}
 use Rattle.hayro_ccitt.specs.DecodeSettings.{DecodeSettings}
 use Rattle.hayro_ccitt.specs.Bits.{AreWholeBytes, Bits, bits_in}
-use Rattle.hayro_ccitt.specs.RowFeeds.{Feeding as RowsFed, ComeNext, FeedsNext, HoldsMore, IsFeedOf, KeepsBits, fed_end}
-use Rattle.hayro_ccitt.specs.RowsRead.{ended}
+use Rattle.hayro_ccitt.specs.RowFeeds.{Feeding as RowsFed, ComeNext, FeedsRow, HoldsMore, IsFeedOf}
 use Rattle.hayro_ccitt.specs.declared.row_feed.Fed.{Fed}
 use Rattle.hayro_ccitt.specs.declared.row_feed.Fed.TheVariants.{Row, NeedsMore, End}
 use Rattle.hayro_ccitt_c.specs.RowsGiven.{status_of_row}
@@ -28,16 +27,7 @@ status_of_fed (Ok NeedsMore) = NEEDS_MORE
 status_of_fed (Ok End) = NO_ROW
 status_of_fed (Err error) = status_of_row (Err error)
 
--- What a call that reads the next row leaves: of whatever data those fed are a beginning, the row of the plain reading, its
--- end or its fault, or nothing is read; and after the end nothing changes. What is kept of the data stays.
-pub record FeedsRow (old new : RowsFed) (answer : Result Fed DecodeError) : Type 0 where
-  pub reads : (whole : Bits) (tried : ℕ) → ended old.rows.stand ≡ None → IsFeedOf whole tried old
-      → FeedsNext whole tried old new answer
-  pub keeps : KeepsBits old new
-  pub settings : new.ctx.held.settings ≡ old.ctx.held.settings
-  pub over : (end : Result (Unit {0}) DecodeError) → ended old.rows.stand ≡ Some end → (new ≡ old) × (answer ≡ fed_end end)
-
--- the same, but if the last row is still to be returned nothing is read
+-- What a call that reads the next row leaves; but if the last row is still to be returned nothing is read.
 abbrev pub TurnsToFed : Bool → RowsFed → RowsFed → Result Fed DecodeError → Type 0
 TurnsToFed true old new answer = (new ≡ old) × (answer ≡ Ok Row)
 TurnsToFed false old new answer = FeedsRow old new answer

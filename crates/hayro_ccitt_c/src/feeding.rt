@@ -27,14 +27,14 @@ pub struct Feeding {
 }
 
 impl Feeding {
-    ghost use Rattle.std.specs.Prelude.{◌≡◌, ◌≢◌, ◌≤◌, ◌<◌, ◌⊎◌, length, not, false, true, IfOk};
-    ghost use Rattle.hayro_ccitt.specs.RowFeeds.{unused};
+    ghost use Rattle.std.specs.Prelude.{◌≡◌, ◌≢◌, ◌≤◌, ◌<◌, ◌⊎◌, length, not, false, true, IfOk, Ok, Result};
+    ghost use Rattle.hayro_ccitt.specs.RowFeeds.{Feeding as RowsFed, unused};
     ghost use Rattle.hayro_ccitt.specs.Rows.{changes};
     ghost use Rattle.hayro_ccitt_c.specs.Encoding.{AreEncoded, HaveNoRoom};
     ghost use Rattle.hayro_ccitt_c.specs.Packing.{bytes_of_row};
     ghost use Rattle.hayro_ccitt_c.specs.RowsFed.{FinishesFeed, GivesFed, IsFeedOpened, TakesBytes, TurnsToFed};
     ghost use Rattle.hayro_ccitt_c.specs.RowsTold.{as_paused};
-    ghost use Rattle.hayro_ccitt_c.specs.GivenRows.{ListsRows, PacksRows, PassesAll};
+    ghost use Rattle.hayro_ccitt_c.specs.GivenRows.{ListsRows, PacksRows, PassesAll, columns_of};
     ghost use Rattle.hayro_ccitt_c.specs.RowsGiven.{IsListed, IsPacked, TellsOf};
     ghost use Rattle.hayro_ccitt_c.specs.declared.status.TheConstants.{OK, REFUSED};
 
@@ -95,6 +95,23 @@ impl Feeding {
             self.told = None;
         }
         answer
+    }
+
+    /// Reads on in the line that is next, where it was found to be short, and returns whether it still is: then more data is
+    /// needed.
+    #[inline(always)]
+    fn stays_within_line(&mut self) -> bool
+        ensures more { result ≡ true → TurnsToFed self.old.is_kept self.old.rows self.new.rows (Ok Fed.NeedsMore) }
+        ensures none_kept { result ≡ true → self.new.is_kept ≡ false }
+        ensures goes_on { result ≡ false → (next : RowsFed) (answer : Result Fed DecodeError)
+            → TurnsToFed self.new.is_kept self.new.rows next answer → TurnsToFed self.old.is_kept self.old.rows next answer }
+        ensures layout { self.new.layout ≡ self.old.layout }
+        ensures columns { columns_of self.new ≡ columns_of self.old }
+    {
+        if self.is_kept {
+            return false;
+        }
+        self.rows.stays_within_line()
     }
 
     /// Writes the last row as a list of its changes, or keeps it if there is no room for it. Returns whether there was.
@@ -198,8 +215,10 @@ impl Feeding {
         status_behind(answer, *count, self.is_kept)
     }
 
-    /// Packs the next rows, as many as there is room for, each a stride behind the one before. `count` is how many.
-    pub(crate) fn pack_rows(&mut self, bytes: &mut [u8], count: &mut usize) -> u32
+    /// Packs the row that is next and those behind it, as `pack_rows` does.
+    #[cold]
+    #[inline(never)]
+    fn pack_next_rows(&mut self, bytes: &mut [u8], count: &mut usize) -> u32
         ensures { PacksRows self.old self.new bytes.old bytes.new count.new result }
     {
         let answer = self.come_to_row();
@@ -209,6 +228,17 @@ impl Feeding {
         }
         self.is_kept = true;
         self.pack_kept(bytes, count)
+    }
+
+    /// Packs the next rows, as many as there is room for, each a stride behind the one before. `count` is how many.
+    pub(crate) fn pack_rows(&mut self, bytes: &mut [u8], count: &mut usize) -> u32
+        ensures { PacksRows self.old self.new bytes.old bytes.new count.new result }
+    {
+        if self.stays_within_line() {
+            *count = 0;
+            return status::NEEDS_MORE;
+        }
+        self.pack_next_rows(bytes, count)
     }
 
     /// Lists the row that is kept and the next ones, as `list_rows` does.
@@ -223,8 +253,10 @@ impl Feeding {
         status_behind(answer, *count, self.is_kept)
     }
 
-    /// Lists the next rows, as many as there is room for. `count` is how many.
-    pub(crate) fn list_rows(&mut self, lists: &mut [u32], count: &mut usize) -> u32
+    /// Lists the row that is next and those behind it, as `list_rows` does.
+    #[cold]
+    #[inline(never)]
+    fn list_next_rows(&mut self, lists: &mut [u32], count: &mut usize) -> u32
         ensures { ListsRows self.old self.new lists.old lists.new count.new result }
     {
         let answer = self.come_to_row();
@@ -234,6 +266,17 @@ impl Feeding {
         }
         self.is_kept = true;
         self.list_kept(lists, count)
+    }
+
+    /// Lists the next rows, as many as there is room for. `count` is how many.
+    pub(crate) fn list_rows(&mut self, lists: &mut [u32], count: &mut usize) -> u32
+        ensures { ListsRows self.old self.new lists.old lists.new count.new result }
+    {
+        if self.stays_within_line() {
+            *count = 0;
+            return status::NEEDS_MORE;
+        }
+        self.list_next_rows(lists, count)
     }
 
     /// Writes the bytes that were fed and aren't consumed if there is room for them, and returns the status. `count` is how many

@@ -362,10 +362,16 @@ fn a_line_goes_on_where_it_stopped(rt: HostRuntime) {
         "1D0E8743A1D0E8743A1D0E8743A1D0E8743A1D0E8743A1D0E8743A1D0E8743A1D0E8743A",
     );
     let mut within: usize = 0;
+    let mut stays: usize = 0;
     for byte in &line {
         assert!(rt; !feed.is_finished());
         same(&rt, feed.feed(&[*byte]), Ok(()));
+        let is_told = feed.stays_within_line();
         let fed = feed.next_row();
+        if is_told {
+            same(&rt, fed, Ok(Fed::NeedsMore));
+            stays = stays.saturating_add(1);
+        }
         if feed.is_within_line() {
             same(&rt, fed, Ok(Fed::NeedsMore));
             within = within.saturating_add(1);
@@ -374,6 +380,8 @@ fn a_line_goes_on_where_it_stopped(rt: HostRuntime) {
     same(&rt, feed.rows_read(), 1);
     // Of 36 bytes not behind the first, where nothing is kept yet, and the last, where the row was read.
     same(&rt, within, 34);
+    // Nor behind the second, where it was kept.
+    same(&rt, stays, 33);
 }
 
 /// Fill, and a damaged stretch before the next EOL, that come byte by byte (T.4, 4.1.2 and 4.1.3): what was looked at once isn't

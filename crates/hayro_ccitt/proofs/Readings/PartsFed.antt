@@ -118,7 +118,7 @@ module _ {whole : Bits} {tried : ℕ} {old new : Feeding} (scans : Scans old new
       })
 
 -- a reading is the same where less was counted before
-later_next : (old new : RowsRead) (ticks : ℕ) (r : Result Bool DecodeError) → old.ticks ≤ ticks
+pub later_next : (old new : RowsRead) (ticks : ℕ) (r : Result Bool DecodeError) → old.ticks ≤ ticks
     → ReadsNext (record old { ticks = ticks }) new r → ReadsNext old new r
 later_next old new ticks r le reads = grind (arith, common_steps)
 

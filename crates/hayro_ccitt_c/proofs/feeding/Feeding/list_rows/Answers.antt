@@ -1,19 +1,17 @@
-use Rattle.std.proofs.Common.{refl, sym, subst, ◌∙◌}
+use Rattle.std.proofs.Common.{Ok, refl}
+use Rattle.hayro_ccitt.specs.declared.row_feed.Fed.{Fed}
 use Rattle.hayro_ccitt_c.specs.GivenRows.{AreListedRows, room_of_lists}
-use Rattle.hayro_ccitt_c.specs.RowsFed.{TurnsToFed}
-use Rattle.hayro_ccitt_c.proofs.FedRows.{gives_from, gives_no_row, row_fed}
+use Rattle.hayro_ccitt_c.proofs.FedRows.{gives_from, gives_no_row}
 use Rattle.hayro_ccitt_c.proofs.feeding.Feeding.list_rows.Goals as goal
 
-pub returns-then-not-is_fed_row : goal.returns-then-not-is_fed_row
-returns-then-not-is_fed_row c =
-    gives_no_row AreListedRows room_of_lists _ _ c.come_to_row-answer.result (record { rows_are = refl; rest = refl })
-    c.come_to_row-answer.ensures.turns (sym c.is_fed_row.ensures ∙ c.if-not-is_fed_row.true)
-    c.come_to_row-answer.ensures.none_kept c.come_to_row-answer.ensures.layout c.status_of_fed.ensures.status
+pub returns-then-stays_within_line : goal.returns-then-stays_within_line
+returns-then-stays_within_line c =
+    let stays = c.stays_within_line.ensures in
+    gives_no_row AreListedRows room_of_lists _ _ (Ok Fed.NeedsMore) (record { rows_are = refl; rest = refl })
+    (stays.more c.if-stays_within_line.true) refl (stays.none_kept c.if-stays_within_line.true) stays.layout refl
 
 pub returns : goal.returns
 returns c =
-    let turns = subst (TurnsToFed c.args.self.now.is_kept c.args.self.now.rows c.come_to_row-answer.new.self.rows)
-    (row_fed c.come_to_row-answer.result (sym c.is_fed_row.ensures ∙ c.if-not-is_fed_row.false))
-    c.come_to_row-answer.ensures.turns in
-    gives_from c.args.self.now _ turns refl c.come_to_row-answer.ensures.layout AreListedRows room_of_lists (λ rows are. are)
-    c.list_kept.ensures
+    let stays = c.stays_within_line.ensures in
+    gives_from c.args.self.now c.stays_within_line.new.self stays.layout (stays.goes_on c.if-stays_within_line.false)
+    AreListedRows room_of_lists (λ rows are. are) c.list_next_rows.ensures
