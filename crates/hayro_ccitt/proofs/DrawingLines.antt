@@ -2,6 +2,7 @@ pub mod GroupMasks
 pub mod PartsOfLines
 pub mod RegularLanes
 pub mod RegularModes
+pub mod LastPixels
 pub mod SameLines
 pub mod TwoOnes
 pub mod UsualModes

@@ -26,7 +26,7 @@ use crate::modes::{
     CodingLine, draw_modes, has_mode, has_no_room, is_white_row, lay_down_row, next_color,
     put_ends, repeat_changes, take_ends,
 };
-use crate::usual::{draw_runs, draw_two_runs, lay_down, pass_white_row, take_up};
+use crate::usual::{draw_runs, draw_two_runs, lay_down, pass_white_row, take_up, turn_at};
 use crate::white_lines::{WhiteLines, may_follow, none_known, white_lines};
 use crate::{DecodeError, Decoder, Result};
 use fax_bits::bit_reader::{
@@ -67,6 +67,38 @@ fn find_white_lines(lines: &mut WhiteLines, settings: DecodeSettings, has_eols: 
     ensures same { lines.new.has_eols ≡ has_eols }
 {
     *lines = white_lines(settings, has_eols);
+}
+
+/// Returns the number of bits of a vertical mode that is one, two or three pixels from b1.
+#[inline(always)]
+fn vertical_width(distance: u32) -> usize
+    requires { (0 < distance) × (distance ≤ 3) }
+    ensures one { distance ≡ 1 → result ≡ 3 }
+    ensures two { distance ≡ 2 → result ≡ 6 }
+    ensures three { distance ≡ 3 → result ≡ 7 }
+{
+    match distance {
+        1 => 3,
+        2 => 6,
+        _ => 7,
+    }
+}
+
+/// Returns how far left of b1 a mode VL is that may be next with V0 behind it, or 0.
+#[inline(always)]
+fn vertical_distance(reader: &BitReader<'_>) -> u32
+    ensures { result ≤ 3 }
+{
+    let bits = reader.peek_u32();
+    if bits >> 28 == 5 {
+        1
+    } else if bits >> 25 == 5 {
+        2
+    } else if bits >> 24 == 5 {
+        3
+    } else {
+        0
+    }
 }
 
 /// The state of decoding: the settings, the reference row and the coding row (T.4, 4.2.1.1), the number of rows
@@ -1231,6 +1263,95 @@ impl DecoderContext {
         true
     }
 
+    /// Draws a line of VL and V0 below a white row from the reader's own window: the last one, two or three pixels are black. Returns
+    /// whether there is one here; otherwise nothing changes.
+    #[inline(always)]
+    fn draw_last_pixels(&mut self, reader: &mut BitReader<'_>) -> bool
+        requires begins { self.old.held.front ≡ [] }
+        requires white { self.old.held.color ≡ Color.White }
+        requires none { self.old.passed ≡ 0 }
+        ensures drawn { result ≡ true → GoesOn2d self.old.held.settings.strict self.old.held.settings.columns self.old.held.reference
+            (pen_of self.old.held (here reader.old)) (pen_of self.new.held (here reader.new)) self.old.ticks self.new.ticks
+            self.old.passed self.new.passed }
+        ensures held { self.new.held ≡ redrawn self.old.held self.new.held.front self.new.held.color }
+        ensures cut { self.new.cut ≡ self.old.cut }
+        ensures none { self.new.passed ≡ 0 }
+        ensures same_bits { reader.new.bits ≡ reader.old.bits }
+        ensures unchanged { result ≡ false → (self.new ≡ self.old) × (reader.new ≡ reader.old) }
+        ensures space { self.new.space ≡ self.old.space }
+    {
+        if !is_white_row(&self.ref_changes) || self.coding_changes.capacity() == 0 {
+            return false;
+        }
+        let columns = self.settings.columns;
+        let black = vertical_distance(reader);
+        if black == 0 || black > columns {
+            return false;
+        }
+        if !pass_bits(reader, 5, vertical_width(black) + 1) {
+            return false;
+        }
+        // Of each mode one tick is its own, and one that of b1.
+        tick_times(&mut self.ticks, 4);
+        turn_at(&mut self.coding_changes, columns - black);
+        self.pixels_decoded = columns;
+        true
+    }
+
+    /// Draws a line of VR alone below a row of which only the last one, two or three pixels are black, from the reader's own window: a
+    /// white row. Returns whether there is one here; otherwise nothing changes.
+    #[inline(always)]
+    fn draw_white_below_last(&mut self, reader: &mut BitReader<'_>) -> bool
+        requires begins { self.old.held.front ≡ [] }
+        requires white { self.old.held.color ≡ Color.White }
+        requires none { self.old.passed ≡ 0 }
+        ensures drawn { result ≡ true → GoesOn2d self.old.held.settings.strict self.old.held.settings.columns self.old.held.reference
+            (pen_of self.old.held (here reader.old)) (pen_of self.new.held (here reader.new)) self.old.ticks self.new.ticks
+            self.old.passed self.new.passed }
+        ensures held { self.new.held ≡ redrawn self.old.held self.new.held.front self.new.held.color }
+        ensures cut { self.new.cut ≡ self.old.cut }
+        ensures none { self.new.passed ≡ 0 }
+        ensures same_bits { reader.new.bits ≡ reader.old.bits }
+        ensures unchanged { result ≡ false → (self.new ≡ self.old) × (reader.new ≡ reader.old) }
+        ensures space { self.new.space ≡ self.old.space }
+    {
+        if self.ref_changes.len() != 1 {
+            return false;
+        }
+        let columns = self.settings.columns;
+        let black = columns - self.ref_changes[0];
+        if black > 3 || !pass_bits(reader, 3, vertical_width(black)) {
+            return false;
+        }
+        tick_times(&mut self.ticks, 2);
+        self.pixels_decoded = columns;
+        self.color = Color::Black;
+        true
+    }
+
+    /// Draws a line by which only the last one, two or three pixels of a row turn: black below a white row, or white again. Returns
+    /// whether there is one here; otherwise nothing changes.
+    #[inline(always)]
+    fn draw_turned_end(&mut self, reader: &mut BitReader<'_>) -> bool
+        requires begins { self.old.held.front ≡ [] }
+        requires white { self.old.held.color ≡ Color.White }
+        requires none { self.old.passed ≡ 0 }
+        ensures drawn { result ≡ true → GoesOn2d self.old.held.settings.strict self.old.held.settings.columns self.old.held.reference
+            (pen_of self.old.held (here reader.old)) (pen_of self.new.held (here reader.new)) self.old.ticks self.new.ticks
+            self.old.passed self.new.passed }
+        ensures held { self.new.held ≡ redrawn self.old.held self.new.held.front self.new.held.color }
+        ensures cut { self.new.cut ≡ self.old.cut }
+        ensures none { self.new.passed ≡ 0 }
+        ensures same_bits { reader.new.bits ≡ reader.old.bits }
+        ensures unchanged { result ≡ false → (self.new ≡ self.old) × (reader.new ≡ reader.old) }
+        ensures space { self.new.space ≡ self.old.space }
+    {
+        if self.draw_last_pixels(reader) {
+            return true;
+        }
+        self.draw_white_below_last(reader)
+    }
+
     /// Draws modes from the start of a line that begins in horizontal mode, below a row of one change or none, while they are
     /// usual; or none, if it is likely to be the only mode: plain calls draw it at less cost.
     #[inline(always)]
@@ -1281,6 +1402,9 @@ impl DecoderContext {
             }
             if reader.peek_u32() >> 29 == 1 {
                 self.draw_from_horizontal(reader);
+                return;
+            }
+            if self.draw_turned_end(reader) {
                 return;
             }
         }
