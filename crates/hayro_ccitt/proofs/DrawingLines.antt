@@ -1,8 +1,8 @@
 pub mod GroupMasks
+pub mod LastPixels
 pub mod PartsOfLines
 pub mod RegularLanes
 pub mod RegularModes
-pub mod LastPixels
 pub mod SameLines
 pub mod TwoOnes
 pub mod UsualModes

@@ -55,7 +55,13 @@ fn exchange(reference: &mut Vec<u32>, coding: &mut Vec<u32>)
             return;
         }
     }
-    mem::swap(reference, coding);
+    // By lists that are values of this call: a swap in memory goes through the stack.
+    let mut first = Vec::new(*reference.allocator());
+    let mut second = Vec::new(*coding.allocator());
+    mem::swap(reference, &mut first);
+    mem::swap(coding, &mut second);
+    mem::swap(reference, &mut second);
+    mem::swap(coding, &mut first);
 }
 
 /// Finds the white lines of these settings. This is a call, so that rows that aren't white cost nothing for it.
@@ -1106,18 +1112,37 @@ impl DecoderContext {
         self.draw_usual_runs(reader);
     }
 
-    /// Returns whether a row as wide as to have runs of three words or more is likely to have them in its first two modes: plain
-    /// calls draw them.
-    #[inline(always)]
-    fn begins_with_long_runs(&self, reader: &BitReader<'_>) -> bool {
-        if self.settings.columns <= 2623 {
-            return false;
-        }
+    /// Returns whether a row is likely to have runs of three words or more in its first two modes: plain calls draw them.
+    #[inline(never)]
+    fn has_long_runs(&self, reader: &BitReader<'_>) -> bool {
         let skip = horizontal_ends(reader);
         if skip == 0 {
             return false;
         }
         is_long_behind_modes(reader, skip, &self.tables)
+    }
+
+    /// The same, without a call where the row isn't as wide as to have such runs.
+    #[inline(always)]
+    fn begins_with_long_runs(&self, reader: &BitReader<'_>) -> bool {
+        if self.settings.columns <= 2623 {
+            return false;
+        }
+        self.has_long_runs(reader)
+    }
+
+    /// Returns whether plain calls are likely to draw a line at less cost: that of a row as wide as to have runs of three words or
+    /// more, which is below one of few changes, or likely to have such runs in its first two modes.
+    #[inline(always)]
+    fn suits_plain_modes(&self, reader: &BitReader<'_>) -> bool {
+        if self.settings.columns <= 2623 {
+            return false;
+        }
+        // A line that begins with V0 twice may have more modes.
+        if self.ref_changes.len() < 4 && reader.peek_u32() >> 30 != 3 {
+            return true;
+        }
+        self.has_long_runs(reader)
     }
 
     /// Draws modes from the start of a line as long as they are usual.
@@ -1329,9 +1354,35 @@ impl DecoderContext {
         true
     }
 
-    /// Draws a line by which only the last one, two or three pixels of a row turn: black below a white row, or white again. Returns
-    /// whether there is one here; otherwise nothing changes.
+    /// Draws a line of pass mode alone below a row of one change from the reader's own window: a white row. Returns whether there is one
+    /// here; otherwise nothing changes.
     #[inline(always)]
+    fn draw_passed_row(&mut self, reader: &mut BitReader<'_>) -> bool
+        requires begins { self.old.held.front ≡ [] }
+        requires white { self.old.held.color ≡ Color.White }
+        requires none { self.old.passed ≡ 0 }
+        ensures drawn { result ≡ true → GoesOn2d self.old.held.settings.strict self.old.held.settings.columns self.old.held.reference
+            (pen_of self.old.held (here reader.old)) (pen_of self.new.held (here reader.new)) self.old.ticks self.new.ticks
+            self.old.passed self.new.passed }
+        ensures held { self.new.held ≡ redrawn self.old.held self.new.held.front self.new.held.color }
+        ensures cut { self.new.cut ≡ self.old.cut }
+        ensures none { self.new.passed ≡ 0 }
+        ensures same_bits { reader.new.bits ≡ reader.old.bits }
+        ensures unchanged { result ≡ false → (self.new ≡ self.old) × (reader.new ≡ reader.old) }
+        ensures space { self.new.space ≡ self.old.space }
+    {
+        if self.ref_changes.len() != 1 || !pass_bits(reader, 1, 4) {
+            return false;
+        }
+        tick_times(&mut self.ticks, 2);
+        self.pixels_decoded = self.settings.columns;
+        true
+    }
+
+    /// Draws a line by which the last one, two or three pixels of a row turn black below a white row, or a row turns white below one
+    /// of one change. Returns whether there is one here; otherwise nothing changes. It is a call, so that other lines are drawn
+    /// without one.
+    #[inline(never)]
     fn draw_turned_end(&mut self, reader: &mut BitReader<'_>) -> bool
         requires begins { self.old.held.front ≡ [] }
         requires white { self.old.held.color ≡ Color.White }
@@ -1349,7 +1400,10 @@ impl DecoderContext {
         if self.draw_last_pixels(reader) {
             return true;
         }
-        self.draw_white_below_last(reader)
+        if self.draw_white_below_last(reader) {
+            return true;
+        }
+        self.draw_passed_row(reader)
     }
 
     /// Draws modes from the start of a line that begins in horizontal mode, below a row of one change or none, while they are
@@ -1411,7 +1465,7 @@ impl DecoderContext {
         if self.draw_same_line(reader) {
             return;
         }
-        if self.begins_with_long_runs(reader) {
+        if self.suits_plain_modes(reader) {
             return;
         }
         self.draw_modes_of(reader);

@@ -3,7 +3,7 @@ use Rattle.hayro_ccitt.proofs.Names.{◌≡◌, ℕ, zero, suc, ◌+◌, ◌-◌
 use Rattle.hayro_ccitt.proofs.Names.{Ok, pos, negsuc, refl, sym, ap, subst, ◌∙◌, arith, drop-drop, Bits, BitsAt, here, moved}
 use Rattle.hayro_ccitt.proofs.Names.{White, Black, mode_codes, read_code, Vertical, AreChanges, pixels, GoesOn2d, IsStroke}
 use Rattle.hayro_ccitt.proofs.Names.{pen_at}
-use Rattle.hayro_ccitt.proofs.DrawingLines.UsualModes.{twice_2d, vertical_on, start_stroke, named_left, named_right}
+use Rattle.hayro_ccitt.proofs.DrawingLines.UsualModes.{twice_2d, vertical_on, pass_on, start_stroke, named_left, named_right}
 use Rattle.hayro_ccitt.proofs.DrawingLines.UsualStrokes.{pixels-pending}
 use Rattle.fax_bits.specs.Bits.{low_bits}
 
@@ -117,3 +117,17 @@ pub one_change : (row : List ℕ) (place : ℕ) → length row ≡ 1 → place �
 one_change [] place one is = absurd (omega (arith, one))
 one_change (p ∷ []) place one is = ap (λ (q : ℕ). q ∷ []) (sym is)
 one_change (p ∷ q ∷ row) place one is = absurd (omega (arith, one))
+
+pub change_alone : (row : List ℕ) → length row ≡ 1 → row ≡ get_or row 0 0 ∷ []
+change_alone [] one = absurd (omega (arith, one))
+change_alone (p ∷ []) one = refl
+change_alone (p ∷ q ∷ row) one = absurd (omega (arith, one))
+
+-- a line of pass mode alone below a row of one change
+pub passed_row : (strict : Bool) (columns place : ℕ) (at : BitsAt) (ticks : ℕ) → AreChanges columns (place ∷ [])
+    → here at ≡ low_bits 4 1 ++ here (moved 4 at)
+    → GoesOn2d strict columns (pixels columns (place ∷ [])) (pen_at 0 [] White at) (pen_at columns [] White (moved 4 at))
+    ticks (ticks + 2) 0 0
+passed_row strict columns place at ticks ascend there =
+    pass_on ascend (omega (arith, ascend.1)) (start_stroke columns (place ∷ []) ascend) {strict = strict} at 0 4 {ticks = ticks}
+    {now = ticks + 2} (ap (read_code mode_codes) there) (omega arith) (omega arith)
