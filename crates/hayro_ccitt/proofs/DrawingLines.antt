@@ -1,9 +1,9 @@
 pub mod GroupMasks
-pub mod LastPixels
 pub mod PartsOfLines
 pub mod RegularLanes
 pub mod RegularModes
 pub mod SameLines
+pub mod ShortLines
 pub mod TwoOnes
 pub mod UsualModes
 pub mod UsualStrokes

@@ -34,7 +34,8 @@ use fax_bits::bit_reader::{
     window_at_hand,
 };
 use fax_bits::codes::{
-    Color, Mode, Ticks, horizontal_ends, is_long_behind_modes, is_long_pair, pass_v0, tick_times,
+    Color, Mode, Ticks, has_makeup_behind_modes, horizontal_ends, is_long_behind_modes,
+    is_long_pair, pass_v0, tick_times,
 };
 use fax_bits::tables::Tables;
 use fax_bits::{DecodeSettings, EncodingMode};
@@ -55,13 +56,7 @@ fn exchange(reference: &mut Vec<u32>, coding: &mut Vec<u32>)
             return;
         }
     }
-    // By lists that are values of this call: a swap in memory goes through the stack.
-    let mut first = Vec::new(*reference.allocator());
-    let mut second = Vec::new(*coding.allocator());
-    mem::swap(reference, &mut first);
-    mem::swap(coding, &mut second);
-    mem::swap(reference, &mut second);
-    mem::swap(coding, &mut first);
+    mem::swap(reference, coding);
 }
 
 /// Finds the white lines of these settings. This is a call, so that rows that aren't white cost nothing for it.
@@ -90,17 +85,18 @@ fn vertical_width(distance: u32) -> usize
     }
 }
 
-/// Returns how far left of b1 a mode VL is that may be next with V0 behind it, or 0.
+/// Returns how far from b1 a vertical mode is that may be next with V0 behind it, or 0. The last three of all bits are the number of
+/// this code: 5 for VL, and 7 for VR.
 #[inline(always)]
-fn vertical_distance(reader: &BitReader<'_>) -> u32
+fn vertical_distance(reader: &BitReader<'_>, code: u32) -> u32
     ensures { result ≤ 3 }
 {
     let bits = reader.peek_u32();
-    if bits >> 28 == 5 {
+    if bits >> 28 == code {
         1
-    } else if bits >> 25 == 5 {
+    } else if bits >> 25 == code {
         2
-    } else if bits >> 24 == 5 {
+    } else if bits >> 24 == code {
         3
     } else {
         0
@@ -1112,9 +1108,13 @@ impl DecoderContext {
         self.draw_usual_runs(reader);
     }
 
-    /// Returns whether a row is likely to have runs of three words or more in its first two modes: plain calls draw them.
-    #[inline(never)]
-    fn has_long_runs(&self, reader: &BitReader<'_>) -> bool {
+    /// Returns whether a row as wide as to have runs of three words or more is likely to have them in its first two modes: plain
+    /// calls draw them.
+    #[inline(always)]
+    fn begins_with_long_runs(&self, reader: &BitReader<'_>) -> bool {
+        if self.settings.columns <= 2623 {
+            return false;
+        }
         let skip = horizontal_ends(reader);
         if skip == 0 {
             return false;
@@ -1122,25 +1122,25 @@ impl DecoderContext {
         is_long_behind_modes(reader, skip, &self.tables)
     }
 
-    /// The same, without a call where the row isn't as wide as to have such runs.
-    #[inline(always)]
-    fn begins_with_long_runs(&self, reader: &BitReader<'_>) -> bool {
-        if self.settings.columns <= 2623 {
+    /// Returns whether plain calls are likely to draw a wide row at less cost: one that seems to have runs of three words or more in
+    /// its first two modes, or below a row of few changes, where it may have such runs later, of two words.
+    #[inline(never)]
+    fn has_long_runs(&self, reader: &BitReader<'_>) -> bool {
+        let skip = horizontal_ends(reader);
+        if skip == 0 {
             return false;
         }
-        self.has_long_runs(reader)
+        if self.ref_changes.len() < 4 {
+            return has_makeup_behind_modes(reader, skip, &self.tables);
+        }
+        is_long_behind_modes(reader, skip, &self.tables)
     }
 
-    /// Returns whether plain calls are likely to draw a line at less cost: that of a row as wide as to have runs of three words or
-    /// more, which is below one of few changes, or likely to have such runs in its first two modes.
+    /// The same, without a call where the row isn't as wide as to have such runs.
     #[inline(always)]
     fn suits_plain_modes(&self, reader: &BitReader<'_>) -> bool {
         if self.settings.columns <= 2623 {
             return false;
-        }
-        // A line that begins with V0 twice may have more modes.
-        if self.ref_changes.len() < 4 && reader.peek_u32() >> 30 != 3 {
-            return true;
         }
         self.has_long_runs(reader)
     }
@@ -1288,10 +1288,10 @@ impl DecoderContext {
         true
     }
 
-    /// Draws a line of VL and V0 below a white row from the reader's own window: the last one, two or three pixels are black. Returns
-    /// whether there is one here; otherwise nothing changes.
+    /// Draws a line of VL and V0 below a row of one change or none from the reader's own window: a row of one change. Returns whether
+    /// there is one here; otherwise nothing changes.
     #[inline(always)]
-    fn draw_last_pixels(&mut self, reader: &mut BitReader<'_>) -> bool
+    fn draw_left_change(&mut self, reader: &mut BitReader<'_>) -> bool
         requires begins { self.old.held.front ≡ [] }
         requires white { self.old.held.color ≡ Color.White }
         requires none { self.old.passed ≡ 0 }
@@ -1305,20 +1305,54 @@ impl DecoderContext {
         ensures unchanged { result ≡ false → (self.new ≡ self.old) × (reader.new ≡ reader.old) }
         ensures space { self.new.space ≡ self.old.space }
     {
-        if !is_white_row(&self.ref_changes) || self.coding_changes.capacity() == 0 {
+        if self.ref_changes.len() > 1 || self.coding_changes.capacity() == 0 {
             return false;
         }
-        let columns = self.settings.columns;
-        let black = vertical_distance(reader);
-        if black == 0 || black > columns {
+        let b1 = change_or_end(self.ref_changes.as_slice(), 0, self.settings.columns);
+        let left = vertical_distance(reader, 5);
+        if left == 0 || left > b1 {
             return false;
         }
-        if !pass_bits(reader, 5, vertical_width(black) + 1) {
+        if !pass_bits(reader, 5, vertical_width(left) + 1) {
             return false;
         }
         // Of each mode one tick is its own, and one that of b1.
         tick_times(&mut self.ticks, 4);
-        turn_at(&mut self.coding_changes, columns - black);
+        turn_at(&mut self.coding_changes, b1 - left);
+        self.pixels_decoded = self.settings.columns;
+        true
+    }
+
+    /// The same for VR and V0, below a row of one change.
+    #[inline(always)]
+    fn draw_right_change(&mut self, reader: &mut BitReader<'_>) -> bool
+        requires begins { self.old.held.front ≡ [] }
+        requires white { self.old.held.color ≡ Color.White }
+        requires none { self.old.passed ≡ 0 }
+        ensures drawn { result ≡ true → GoesOn2d self.old.held.settings.strict self.old.held.settings.columns self.old.held.reference
+            (pen_of self.old.held (here reader.old)) (pen_of self.new.held (here reader.new)) self.old.ticks self.new.ticks
+            self.old.passed self.new.passed }
+        ensures held { self.new.held ≡ redrawn self.old.held self.new.held.front self.new.held.color }
+        ensures cut { self.new.cut ≡ self.old.cut }
+        ensures none { self.new.passed ≡ 0 }
+        ensures same_bits { reader.new.bits ≡ reader.old.bits }
+        ensures unchanged { result ≡ false → (self.new ≡ self.old) × (reader.new ≡ reader.old) }
+        ensures space { self.new.space ≡ self.old.space }
+    {
+        if self.ref_changes.len() != 1 || self.coding_changes.capacity() == 0 {
+            return false;
+        }
+        let columns = self.settings.columns;
+        let b1 = self.ref_changes[0];
+        let right = vertical_distance(reader, 7);
+        if right == 0 || right >= columns - b1 {
+            return false;
+        }
+        if !pass_bits(reader, 7, vertical_width(right) + 1) {
+            return false;
+        }
+        tick_times(&mut self.ticks, 4);
+        turn_at(&mut self.coding_changes, b1 + right);
         self.pixels_decoded = columns;
         true
     }
@@ -1379,11 +1413,10 @@ impl DecoderContext {
         true
     }
 
-    /// Draws a line by which the last one, two or three pixels of a row turn black below a white row, or a row turns white below one
-    /// of one change. Returns whether there is one here; otherwise nothing changes. It is a call, so that other lines are drawn
-    /// without one.
+    /// Draws a line of a vertical mode, or of one and V0, or of pass mode, below a row of one change or none, to a row of one change or
+    /// none. Returns whether there is one here; otherwise nothing changes. It is a call, so that other lines are drawn without one.
     #[inline(never)]
-    fn draw_turned_end(&mut self, reader: &mut BitReader<'_>) -> bool
+    fn draw_short_line(&mut self, reader: &mut BitReader<'_>) -> bool
         requires begins { self.old.held.front ≡ [] }
         requires white { self.old.held.color ≡ Color.White }
         requires none { self.old.passed ≡ 0 }
@@ -1397,13 +1430,38 @@ impl DecoderContext {
         ensures unchanged { result ≡ false → (self.new ≡ self.old) × (reader.new ≡ reader.old) }
         ensures space { self.new.space ≡ self.old.space }
     {
-        if self.draw_last_pixels(reader) {
+        if self.draw_left_change(reader) {
             return true;
         }
         if self.draw_white_below_last(reader) {
             return true;
         }
+        if self.draw_right_change(reader) {
+            return true;
+        }
         self.draw_passed_row(reader)
+    }
+
+    /// The same, without a call if the line begins with V0: no such line does.
+    #[inline(always)]
+    fn draw_whole_line(&mut self, reader: &mut BitReader<'_>) -> bool
+        requires begins { self.old.held.front ≡ [] }
+        requires white { self.old.held.color ≡ Color.White }
+        requires none { self.old.passed ≡ 0 }
+        ensures drawn { result ≡ true → GoesOn2d self.old.held.settings.strict self.old.held.settings.columns self.old.held.reference
+            (pen_of self.old.held (here reader.old)) (pen_of self.new.held (here reader.new)) self.old.ticks self.new.ticks
+            self.old.passed self.new.passed }
+        ensures held { self.new.held ≡ redrawn self.old.held self.new.held.front self.new.held.color }
+        ensures cut { self.new.cut ≡ self.old.cut }
+        ensures none { self.new.passed ≡ 0 }
+        ensures same_bits { reader.new.bits ≡ reader.old.bits }
+        ensures unchanged { result ≡ false → (self.new ≡ self.old) × (reader.new ≡ reader.old) }
+        ensures space { self.new.space ≡ self.old.space }
+    {
+        if reader.peek_u32() >> 31 != 0 {
+            return false;
+        }
+        self.draw_short_line(reader)
     }
 
     /// Draws modes from the start of a line that begins in horizontal mode, below a row of one change or none, while they are
@@ -1458,7 +1516,7 @@ impl DecoderContext {
                 self.draw_from_horizontal(reader);
                 return;
             }
-            if self.draw_turned_end(reader) {
+            if self.draw_whole_line(reader) {
                 return;
             }
         }

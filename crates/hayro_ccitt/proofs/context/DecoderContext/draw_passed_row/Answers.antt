@@ -1,6 +1,6 @@
 use Rattle.hayro_ccitt.proofs.Names.{common_steps}
 use Rattle.hayro_ccitt.proofs.Names.{◌≡◌, ◌∷◌, [], refl, arith, White, AreChanges, get_or, length, pixels}
-use Rattle.hayro_ccitt.proofs.DrawingLines.LastPixels.{change_alone, passed_row}
+use Rattle.hayro_ccitt.proofs.DrawingLines.ShortLines.{change_alone, passed_row}
 use Rattle.hayro_ccitt.proofs.DrawingLines.WhiteRows.{nothing_painted, white_to_end}
 use Rattle.hayro_ccitt.proofs.context.DecoderContext.draw_passed_row.Goals as goal
 

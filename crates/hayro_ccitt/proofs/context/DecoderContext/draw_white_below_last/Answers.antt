@@ -1,6 +1,6 @@
 use Rattle.hayro_ccitt.proofs.Names.{common_steps}
 use Rattle.hayro_ccitt.proofs.Names.{◌≡◌, ◌-◌, ◌<◌, ◌∷◌, [], refl, arith, White, AreChanges, length, pixels}
-use Rattle.hayro_ccitt.proofs.DrawingLines.LastPixels.{one_change, white_below_last}
+use Rattle.hayro_ccitt.proofs.DrawingLines.ShortLines.{IsWidth, one_change, white_below_last}
 use Rattle.hayro_ccitt.proofs.DrawingLines.WhiteRows.{nothing_painted, white_to_end}
 use Rattle.hayro_ccitt.proofs.context.DecoderContext.draw_white_below_last.Goals as goal
 
@@ -21,6 +21,8 @@ returns-clause-drawn c =
     let row : s.ref_changes.items ≡ place ∷ [] = one_change s.ref_changes.items place count c.index.ensures in
     let ascend : AreChanges s.settings.columns (place ∷ []) = rw row at c.self.invariant.reference in
     let inside : place < s.settings.columns = ascend.1 in
+    let width : IsWidth (s.settings.columns - place) c.vertical_width.result =
+    record { one = c.vertical_width.ensures.one; two = c.vertical_width.ensures.two; three = c.vertical_width.ensures.three } in
     λ e. grind (
       arith,
       common_steps,
@@ -30,7 +32,6 @@ returns-clause-drawn c =
       c.if-not-pass_bits.ensures.moved refl,
       white_below_last s.settings.strict s.settings.columns place
           (s.settings.columns - place) c.vertical_width.result c.args.reader.now s.ticks ascend (omega arith)
-          (omega (arith, inside)) (omega (arith, c.if-black-gt3.false))
-          (record { one = c.vertical_width.ensures.one; two = c.vertical_width.ensures.two; three = c.vertical_width.ensures.three })
+          (omega (arith, inside)) (omega (arith, c.if-black-gt3.false)) width
           (c.if-not-pass_bits.ensures.there refl),
     )
