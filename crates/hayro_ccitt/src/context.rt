@@ -85,8 +85,8 @@ fn vertical_width(distance: u32) -> usize
     }
 }
 
-/// Returns how far from b1 a vertical mode is that may be next with V0 behind it, or 0. The last three of all bits are the number of
-/// this code: 5 for VL, and 7 for VR.
+/// Returns how far from b1 a vertical mode is that may be next with V0 behind it, or 0. The bits of both are this number: 5 for VL,
+/// and 7 for VR.
 #[inline(always)]
 fn vertical_distance(reader: &BitReader<'_>, code: u32) -> u32
     ensures { result ≤ 3 }
@@ -1123,7 +1123,7 @@ impl DecoderContext {
     }
 
     /// Returns whether plain calls are likely to draw a wide row at less cost: one that seems to have runs of three words or more in
-    /// its first two modes, or below a row of few changes, where it may have such runs later, of two words.
+    /// its first two modes, or runs of two below a row of few changes, as longer ones are likely to follow.
     #[inline(never)]
     fn has_long_runs(&self, reader: &BitReader<'_>) -> bool {
         let skip = horizontal_ends(reader);

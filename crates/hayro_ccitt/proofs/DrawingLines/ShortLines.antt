@@ -118,8 +118,9 @@ module _ (strict : Bool) (columns : ℕ) (places : List ℕ) (ascend : AreChange
       two_modes (b1 - suc less) width (negsuc less) at ticks (omega (arith, within, end_within columns places ascend 0))
       (rw down at (named_left b1 (b1 - suc less) (suc less) (omega (arith, within)) (omega arith))) reads.0 reads.1
 
-  pub right_change : (right width : ℕ) (at : BitsAt) (ticks : ℕ) → 0 < right → right ≤ 3 → get_or places 0 columns + right < columns
-      → IsWidth right width → here at ≡ low_bits (width + 1) 7 ++ here (moved (width + 1) at)
+  pub right_change : (right width : ℕ) (at : BitsAt) (ticks : ℕ) → 0 < right → right ≤ 3
+      → get_or places 0 columns + right < columns → IsWidth right width
+      → here at ≡ low_bits (width + 1) 7 ++ here (moved (width + 1) at)
       → GoesOn2d strict columns (pixels columns places) (pen_at 0 [] White at)
       (pen_at columns ((get_or places 0 columns + right) ∷ []) White (moved (width + 1) at)) ticks (ticks + 4) 0 0
   right_change right width at ticks some few inside is there =
@@ -128,10 +129,10 @@ module _ (strict : Bool) (columns : ℕ) (places : List ℕ) (ascend : AreChange
       two_modes (b1 + right) width (pos right) at ticks inside (named_right b1 (b1 + right) right refl) reads.0 reads.1
 
 -- a row of one change, or of none, has no second one
-pub none_behind : (columns : ℕ) (row : List ℕ) → length row < 2 → get_or row 1 columns ≡ columns
-none_behind columns [] few = refl
-none_behind columns (p ∷ []) few = refl
-none_behind columns (p ∷ q ∷ row) few = absurd (omega (arith, few))
+pub no_second_change : (columns : ℕ) (row : List ℕ) → length row < 2 → get_or row 1 columns ≡ columns
+no_second_change columns [] few = refl
+no_second_change columns (p ∷ []) few = refl
+no_second_change columns (p ∷ q ∷ row) few = absurd (omega (arith, few))
 
 pub white_below_last : (strict : Bool) (columns place distance width : ℕ) (at : BitsAt) (ticks : ℕ)
     → AreChanges columns (place ∷ []) → columns ≤ 4294967295 → columns ≡ place + distance → distance ≤ 3

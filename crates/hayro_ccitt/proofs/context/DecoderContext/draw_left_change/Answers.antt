@@ -1,6 +1,6 @@
 use Rattle.hayro_ccitt.proofs.Names.{common_steps}
 use Rattle.hayro_ccitt.proofs.Names.{◌≡◌, ◌-◌, ◌<◌, ◌≤◌, ℕ, [], refl, arith, White, pixels, length, get_or}
-use Rattle.hayro_ccitt.proofs.DrawingLines.ShortLines.{IsWidth, left_change, none_behind}
+use Rattle.hayro_ccitt.proofs.DrawingLines.ShortLines.{IsWidth, left_change, no_second_change}
 use Rattle.hayro_ccitt.proofs.DrawingLines.WhiteRows.{nothing_painted}
 use Rattle.hayro_ccitt.proofs.PixelRows.ReferencePlaces.{end_within}
 use Rattle.hayro_ccitt.proofs.context.DecoderContext.draw_left_change.Goals as goal
@@ -50,6 +50,7 @@ returns-clause-drawn c =
       b1,
       c.if-not-pass_bits.ensures.moved refl,
       left_change s.settings.strict columns s.ref_changes.items c.self.invariant.reference (omega arith)
-          (none_behind columns s.ref_changes.items few) left c.vertical_width.result c.args.reader.now s.ticks some
-          c.vertical_distance-left.ensures reach (omega (arith, some, reach, within)) width (c.if-not-pass_bits.ensures.there refl),
+          (no_second_change columns s.ref_changes.items few) left c.vertical_width.result c.args.reader.now s.ticks some
+          c.vertical_distance-left.ensures reach (omega (arith, some, reach, within)) width
+          (c.if-not-pass_bits.ensures.there refl),
     )
