@@ -303,6 +303,35 @@ impl<'a> BitReader<'a> {
         Ok(())
     }
 
+    /// Moves to an offset that may be far from here, and fills the window there.
+    #[inline(never)]
+    fn move_far(&mut self, place: usize)
+        requires { place ≤ length self.old.bits }
+        ensures { self.new ≡ record self.old { place = place } }
+    {
+        let edge = place / 8;
+        if edge + 8 > self.data.len() {
+            self.move_near_end(place);
+            return;
+        }
+        let ahead = whole_word(&self.data[edge..], self.order);
+        self.place = place;
+        self.limit = edge * 8 + 31;
+        self.window = ahead << (place % 8);
+        self.ahead = ahead;
+        self.edge = edge;
+    }
+
+    /// The same where the window lacks bits.
+    #[cold]
+    #[inline(never)]
+    fn move_near_end(&mut self, place: usize)
+        requires { place ≤ length self.old.bits }
+        ensures { self.new ≡ record self.old { place = place } }
+    {
+        *self = at_bit(self, place);
+    }
+
     /// Moves to the start of the next whole byte, unless the offset is at one: by at most seven bits.
     pub fn align(&mut self)
         ensures moved { self.new ≡ record self.old { place = (self.old.place + 7) / 8 * 8 } }
@@ -716,7 +745,7 @@ pub fn go_to(reader: &mut BitReader<'_>, hand: &BitsAtHand<'_>)
         let _ = reader.consume(place - reader.place);
         return;
     }
-    *reader = at_place(reader.data, reader.order, place);
+    reader.move_far(place);
 }
 
 impl<'a> BitsAtHand<'a> {

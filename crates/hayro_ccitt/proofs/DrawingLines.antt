@@ -3,6 +3,7 @@ pub mod PartsOfLines
 pub mod RegularLanes
 pub mod RegularModes
 pub mod SameLines
+pub mod ShortLines
 pub mod TwoOnes
 pub mod UsualModes
 pub mod UsualStrokes

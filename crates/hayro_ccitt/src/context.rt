@@ -26,7 +26,7 @@ use crate::modes::{
     CodingLine, draw_modes, has_mode, has_no_room, is_white_row, lay_down_row, next_color,
     put_ends, repeat_changes, take_ends,
 };
-use crate::usual::{draw_runs, draw_two_runs, lay_down, pass_white_row, take_up};
+use crate::usual::{draw_runs, draw_two_runs, lay_down, pass_white_row, take_up, turn_at};
 use crate::white_lines::{WhiteLines, may_follow, none_known, white_lines};
 use crate::{DecodeError, Decoder, Result};
 use fax_bits::bit_reader::{
@@ -34,7 +34,8 @@ use fax_bits::bit_reader::{
     window_at_hand,
 };
 use fax_bits::codes::{
-    Color, Mode, Ticks, horizontal_ends, is_long_behind_modes, is_long_pair, pass_v0, tick_times,
+    Color, Mode, Ticks, has_makeup_behind_modes, horizontal_ends, is_long_behind_modes,
+    is_long_pair, pass_v0, tick_times,
 };
 use fax_bits::tables::Tables;
 use fax_bits::{DecodeSettings, EncodingMode};
@@ -67,6 +68,39 @@ fn find_white_lines(lines: &mut WhiteLines, settings: DecodeSettings, has_eols: 
     ensures same { lines.new.has_eols ≡ has_eols }
 {
     *lines = white_lines(settings, has_eols);
+}
+
+/// Returns the number of bits of a vertical mode that is one, two or three pixels from b1.
+#[inline(always)]
+fn vertical_width(distance: u32) -> usize
+    requires { (0 < distance) × (distance ≤ 3) }
+    ensures one { distance ≡ 1 → result ≡ 3 }
+    ensures two { distance ≡ 2 → result ≡ 6 }
+    ensures three { distance ≡ 3 → result ≡ 7 }
+{
+    match distance {
+        1 => 3,
+        2 => 6,
+        _ => 7,
+    }
+}
+
+/// Returns how far from b1 a vertical mode is that may be next with V0 behind it, or 0. The bits of both are this number: 5 for VL,
+/// and 7 for VR.
+#[inline(always)]
+fn vertical_distance(reader: &BitReader<'_>, code: u32) -> u32
+    ensures { result ≤ 3 }
+{
+    let bits = reader.peek_u32();
+    if bits >> 28 == code {
+        1
+    } else if bits >> 25 == code {
+        2
+    } else if bits >> 24 == code {
+        3
+    } else {
+        0
+    }
 }
 
 /// The state of decoding: the settings, the reference row and the coding row (T.4, 4.2.1.1), the number of rows
@@ -1012,6 +1046,29 @@ impl DecoderContext {
         is_long_behind_modes(reader, skip, &self.tables)
     }
 
+    /// Returns whether plain calls are likely to draw a wide row at less cost: one that seems to have runs of three words or more in
+    /// its first two modes, or runs of two below a row of few changes, as longer ones are likely to follow.
+    #[inline(never)]
+    fn has_long_runs(&self, reader: &BitReader<'_>) -> bool {
+        let skip = horizontal_ends(reader);
+        if skip == 0 {
+            return false;
+        }
+        if self.ref_changes.len() < 4 {
+            return has_makeup_behind_modes(reader, skip, &self.tables);
+        }
+        is_long_behind_modes(reader, skip, &self.tables)
+    }
+
+    /// The same, without a call where the row isn't as wide as to have such runs.
+    #[inline(always)]
+    fn suits_plain_modes(&self, reader: &BitReader<'_>) -> bool {
+        if self.settings.columns <= 2623 {
+            return false;
+        }
+        self.has_long_runs(reader)
+    }
+
     /// Draws modes from the start of a line as long as they are usual.
     #[inline(always)]
     fn draw_modes_at_hand(&mut self, hand: &mut BitsAtHand<'_>)
@@ -1128,6 +1185,182 @@ impl DecoderContext {
         true
     }
 
+    /// Draws a line of VL and V0 below a row of one change or none from the reader's own window: a row of one change. Returns whether
+    /// there is one here; otherwise nothing changes.
+    #[inline(always)]
+    fn draw_left_change(&mut self, reader: &mut BitReader<'_>) -> bool
+        requires begins { self.old.held.front ≡ [] }
+        requires white { self.old.held.color ≡ Color.White }
+        requires none { self.old.passed ≡ 0 }
+        ensures drawn { result ≡ true → GoesOn2d self.old.held.settings.strict self.old.held.settings.columns self.old.held.reference
+            (pen_of self.old.held (here reader.old)) (pen_of self.new.held (here reader.new)) self.old.ticks self.new.ticks
+            self.old.passed self.new.passed }
+        ensures held { self.new.held ≡ redrawn self.old.held self.new.held.front self.new.held.color }
+        ensures cut { self.new.cut ≡ self.old.cut }
+        ensures none { self.new.passed ≡ 0 }
+        ensures same_bits { reader.new.bits ≡ reader.old.bits }
+        ensures unchanged { result ≡ false → (self.new ≡ self.old) × (reader.new ≡ reader.old) }
+        ensures space { self.new.space ≡ self.old.space }
+    {
+        if self.ref_changes.len() > 1 || self.coding_changes.capacity() == 0 {
+            return false;
+        }
+        let b1 = change_or_end(self.ref_changes.as_slice(), 0, self.settings.columns);
+        let left = vertical_distance(reader, 5);
+        if left == 0 || left > b1 {
+            return false;
+        }
+        if !pass_bits(reader, 5, vertical_width(left) + 1) {
+            return false;
+        }
+        // Of each mode one tick is its own, and one that of b1.
+        tick_times(&mut self.ticks, 4);
+        turn_at(&mut self.coding_changes, b1 - left);
+        self.pixels_decoded = self.settings.columns;
+        true
+    }
+
+    /// The same for VR and V0, below a row of one change.
+    #[inline(always)]
+    fn draw_right_change(&mut self, reader: &mut BitReader<'_>) -> bool
+        requires begins { self.old.held.front ≡ [] }
+        requires white { self.old.held.color ≡ Color.White }
+        requires none { self.old.passed ≡ 0 }
+        ensures drawn { result ≡ true → GoesOn2d self.old.held.settings.strict self.old.held.settings.columns self.old.held.reference
+            (pen_of self.old.held (here reader.old)) (pen_of self.new.held (here reader.new)) self.old.ticks self.new.ticks
+            self.old.passed self.new.passed }
+        ensures held { self.new.held ≡ redrawn self.old.held self.new.held.front self.new.held.color }
+        ensures cut { self.new.cut ≡ self.old.cut }
+        ensures none { self.new.passed ≡ 0 }
+        ensures same_bits { reader.new.bits ≡ reader.old.bits }
+        ensures unchanged { result ≡ false → (self.new ≡ self.old) × (reader.new ≡ reader.old) }
+        ensures space { self.new.space ≡ self.old.space }
+    {
+        if self.ref_changes.len() != 1 || self.coding_changes.capacity() == 0 {
+            return false;
+        }
+        let columns = self.settings.columns;
+        let b1 = self.ref_changes[0];
+        let right = vertical_distance(reader, 7);
+        if right == 0 || right >= columns - b1 {
+            return false;
+        }
+        if !pass_bits(reader, 7, vertical_width(right) + 1) {
+            return false;
+        }
+        tick_times(&mut self.ticks, 4);
+        turn_at(&mut self.coding_changes, b1 + right);
+        self.pixels_decoded = columns;
+        true
+    }
+
+    /// Draws a line of VR alone below a row of which only the last one, two or three pixels are black, from the reader's own window: a
+    /// white row. Returns whether there is one here; otherwise nothing changes.
+    #[inline(always)]
+    fn draw_white_below_last(&mut self, reader: &mut BitReader<'_>) -> bool
+        requires begins { self.old.held.front ≡ [] }
+        requires white { self.old.held.color ≡ Color.White }
+        requires none { self.old.passed ≡ 0 }
+        ensures drawn { result ≡ true → GoesOn2d self.old.held.settings.strict self.old.held.settings.columns self.old.held.reference
+            (pen_of self.old.held (here reader.old)) (pen_of self.new.held (here reader.new)) self.old.ticks self.new.ticks
+            self.old.passed self.new.passed }
+        ensures held { self.new.held ≡ redrawn self.old.held self.new.held.front self.new.held.color }
+        ensures cut { self.new.cut ≡ self.old.cut }
+        ensures none { self.new.passed ≡ 0 }
+        ensures same_bits { reader.new.bits ≡ reader.old.bits }
+        ensures unchanged { result ≡ false → (self.new ≡ self.old) × (reader.new ≡ reader.old) }
+        ensures space { self.new.space ≡ self.old.space }
+    {
+        if self.ref_changes.len() != 1 {
+            return false;
+        }
+        let columns = self.settings.columns;
+        let black = columns - self.ref_changes[0];
+        if black > 3 || !pass_bits(reader, 3, vertical_width(black)) {
+            return false;
+        }
+        tick_times(&mut self.ticks, 2);
+        self.pixels_decoded = columns;
+        self.color = Color::Black;
+        true
+    }
+
+    /// Draws a line of pass mode alone below a row of one change from the reader's own window: a white row. Returns whether there is one
+    /// here; otherwise nothing changes.
+    #[inline(always)]
+    fn draw_passed_row(&mut self, reader: &mut BitReader<'_>) -> bool
+        requires begins { self.old.held.front ≡ [] }
+        requires white { self.old.held.color ≡ Color.White }
+        requires none { self.old.passed ≡ 0 }
+        ensures drawn { result ≡ true → GoesOn2d self.old.held.settings.strict self.old.held.settings.columns self.old.held.reference
+            (pen_of self.old.held (here reader.old)) (pen_of self.new.held (here reader.new)) self.old.ticks self.new.ticks
+            self.old.passed self.new.passed }
+        ensures held { self.new.held ≡ redrawn self.old.held self.new.held.front self.new.held.color }
+        ensures cut { self.new.cut ≡ self.old.cut }
+        ensures none { self.new.passed ≡ 0 }
+        ensures same_bits { reader.new.bits ≡ reader.old.bits }
+        ensures unchanged { result ≡ false → (self.new ≡ self.old) × (reader.new ≡ reader.old) }
+        ensures space { self.new.space ≡ self.old.space }
+    {
+        if self.ref_changes.len() != 1 || !pass_bits(reader, 1, 4) {
+            return false;
+        }
+        tick_times(&mut self.ticks, 2);
+        self.pixels_decoded = self.settings.columns;
+        true
+    }
+
+    /// Draws a line of a vertical mode, or of one and V0, or of pass mode, below a row of one change or none, to a row of one change or
+    /// none. Returns whether there is one here; otherwise nothing changes. It is a call, so that other lines are drawn without one.
+    #[inline(never)]
+    fn draw_short_line(&mut self, reader: &mut BitReader<'_>) -> bool
+        requires begins { self.old.held.front ≡ [] }
+        requires white { self.old.held.color ≡ Color.White }
+        requires none { self.old.passed ≡ 0 }
+        ensures drawn { result ≡ true → GoesOn2d self.old.held.settings.strict self.old.held.settings.columns self.old.held.reference
+            (pen_of self.old.held (here reader.old)) (pen_of self.new.held (here reader.new)) self.old.ticks self.new.ticks
+            self.old.passed self.new.passed }
+        ensures held { self.new.held ≡ redrawn self.old.held self.new.held.front self.new.held.color }
+        ensures cut { self.new.cut ≡ self.old.cut }
+        ensures none { self.new.passed ≡ 0 }
+        ensures same_bits { reader.new.bits ≡ reader.old.bits }
+        ensures unchanged { result ≡ false → (self.new ≡ self.old) × (reader.new ≡ reader.old) }
+        ensures space { self.new.space ≡ self.old.space }
+    {
+        if self.draw_left_change(reader) {
+            return true;
+        }
+        if self.draw_white_below_last(reader) {
+            return true;
+        }
+        if self.draw_right_change(reader) {
+            return true;
+        }
+        self.draw_passed_row(reader)
+    }
+
+    /// The same, without a call if the line begins with V0: no such line does.
+    #[inline(always)]
+    fn draw_whole_line(&mut self, reader: &mut BitReader<'_>) -> bool
+        requires begins { self.old.held.front ≡ [] }
+        requires white { self.old.held.color ≡ Color.White }
+        requires none { self.old.passed ≡ 0 }
+        ensures drawn { result ≡ true → GoesOn2d self.old.held.settings.strict self.old.held.settings.columns self.old.held.reference
+            (pen_of self.old.held (here reader.old)) (pen_of self.new.held (here reader.new)) self.old.ticks self.new.ticks
+            self.old.passed self.new.passed }
+        ensures held { self.new.held ≡ redrawn self.old.held self.new.held.front self.new.held.color }
+        ensures cut { self.new.cut ≡ self.old.cut }
+        ensures none { self.new.passed ≡ 0 }
+        ensures same_bits { reader.new.bits ≡ reader.old.bits }
+        ensures unchanged { result ≡ false → (self.new ≡ self.old) × (reader.new ≡ reader.old) }
+        ensures space { self.new.space ≡ self.old.space }
+    {
+        if reader.peek_u32() >> 31 != 0 {
+            return false;
+        }
+        self.draw_short_line(reader)
+    }
+
     /// Draws modes from the start of a line that begins in horizontal mode, below a row of one change or none, while they are
     /// usual; or none, if it is likely to be the only mode: plain calls draw it at less cost.
     #[inline(always)]
@@ -1164,11 +1397,14 @@ impl DecoderContext {
                 self.draw_from_horizontal(reader);
                 return;
             }
+            if self.draw_whole_line(reader) {
+                return;
+            }
         }
         if self.draw_same_line(reader) {
             return;
         }
-        if self.begins_with_long_runs(reader) {
+        if self.suits_plain_modes(reader) {
             return;
         }
         self.draw_modes_of(reader);
