@@ -986,6 +986,21 @@ impl RowFeed {
         true
     }
 
+    /// Feeds the bytes that come next in the data if it is a single one, nothing is to be dropped before, and there is room for
+    /// it, and returns whether it did; otherwise nothing changes, and [`feed`](RowFeed::feed) does the rest.
+    #[inline(always)]
+    pub fn feed_at_once(&mut self, bytes: &[u8]) -> bool
+        requires unfinished { self.old.finished ≡ false }
+        ensures fed { result ≡ true → (whole : Bits) (tried : ℕ) → IsFeedOf whole tried self.old
+            → ComeNext whole self.old (bits_in self.old.order bytes.now) → IsFeedOf whole tried self.new }
+        ensures held { result ≡ true → HoldsMore (bits_in self.old.order bytes.now) self.old self.new }
+        ensures fit { result ≡ true → fed_bits self.old + 8 * length bytes.now + 72 ≤ 2 ^ 64 }
+        ensures counts { result ≡ true → fed_bits self.new ≡ fed_bits self.old + 8 * length bytes.now }
+        ensures unchanged { result ≡ false → self.new ≡ self.old }
+    {
+        self.take_byte(bytes)
+    }
+
     /// Feeds bytes, as [`feed`](RowFeed::feed) does, by a call.
     #[cold]
     #[inline(never)]
@@ -1034,7 +1049,7 @@ impl RowFeed {
         ensures counts { OnOk result (fed_bits self.new ≡ fed_bits self.old + 8 * length bytes.now) }
         ensures fit { result ≢ Err DecodeError.Overflow → fed_bits self.old + 8 * length bytes.now + 64 < 2 ^ 64 }
     {
-        if self.take_byte(bytes) {
+        if self.feed_at_once(bytes) {
             return Ok(());
         }
         self.feed_all(bytes)

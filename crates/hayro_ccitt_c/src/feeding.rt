@@ -57,6 +57,19 @@ impl Feeding {
         })
     }
 
+    /// Feeds the bytes that come next in the data, if it is a single one that can be stored at once, and returns whether it was;
+    /// otherwise nothing changes.
+    #[inline(always)]
+    pub(crate) fn take_at_once(&mut self, bytes: &[u8]) -> bool
+        ensures taken { result ≡ true → TakesBytes bytes.now self.old self.new OK }
+        ensures unchanged { result ≡ false → self.new ≡ self.old }
+    {
+        if self.rows.is_finished() {
+            return false;
+        }
+        self.rows.feed_at_once(bytes)
+    }
+
     /// Feeds the bytes that come next in the data, and returns the status.
     pub(crate) fn take_bytes(&mut self, bytes: &[u8]) -> u32
         ensures { TakesBytes bytes.now self.old self.new result }

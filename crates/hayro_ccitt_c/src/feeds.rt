@@ -48,6 +48,20 @@ pub extern "C" fn hayro_ccitt_feed_open(alloc: Global, settings: &Settings, feed
     status::OK
 }
 
+/// Feeds bytes as [`hayro_ccitt_feed`] does, by a call.
+#[cold]
+#[inline(never)]
+fn feed_by_call(alloc: Global, feed: &mut Feed, bytes: &[u8]) -> u32
+    requires { feed.old.is_open ≡ true }
+    ensures takes { OnFeedings feed.old.handle.value feed.new.handle.value (λ old new. TakesBytes bytes.now old new result) }
+    ensures is_open { feed.new.is_open ≡ true }
+{
+    let mut feeding = feed.take(alloc);
+    let status = feeding.take_bytes(bytes);
+    feed.hold(feeding);
+    status
+}
+
 /// Feeds the bytes that come next in the data. They are copied, as far as they aren't read at once by the calls that follow.
 ///
 /// `OUT_OF_MEMORY` says that an allocation failed; `OVERFLOW`, that all bytes fed would be more than 2^61 - 9; `NOT_TAKEN`,
@@ -63,9 +77,12 @@ pub extern "C" fn hayro_ccitt_feed(alloc: Global, feed: &mut Feed, bytes: &[u8])
         return status::NOT_TAKEN;
     }
     let mut feeding = feed.take(alloc);
-    let status = feeding.take_bytes(bytes);
+    let is_fed = feeding.take_at_once(bytes);
     feed.hold(feeding);
-    status
+    if is_fed {
+        return status::OK;
+    }
+    feed_by_call(alloc, feed, bytes)
 }
 
 /// Finishes the data: no bytes follow those that were fed. `NOT_TAKEN` says that the reader isn't open.

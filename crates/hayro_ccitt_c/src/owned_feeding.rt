@@ -1,6 +1,6 @@
 //! What a handle owns whose rows come from data in pieces.
 
-ghost use Rattle.std.specs.Prelude.{◌≡◌, ◌≢◌, ◌≤◌, ◌<◌, ◌⊎◌, IfOk, length, true};
+ghost use Rattle.std.specs.Prelude.{◌≡◌, ◌≢◌, ◌≤◌, ◌<◌, ◌⊎◌, IfOk, length, false, true};
 ghost use Rattle.hayro_ccitt.specs.RowFeeds.{unused};
 ghost use Rattle.hayro_ccitt.specs.Rows.{changes};
 ghost use Rattle.hayro_ccitt_c.specs.Encoding.{AreEncoded, HaveNoRoom};
@@ -36,6 +36,21 @@ impl Owned {
         let feeding = Feeding::new(alloc, order, settings, layout)?;
         let held = Box::new(alloc, Owned::Feeding(feeding))?;
         Ok(held)
+    }
+
+    /// Feeds the bytes that come next in the data, if it is a single one that can be stored at once, and returns whether it was;
+    /// otherwise nothing changes.
+    #[inline(always)]
+    pub(crate) fn take_at_once(&mut self, bytes: &[u8]) -> bool
+        requires feeds { is_feeding self.old ≡ true }
+        ensures takes { result ≡ true → IfFeedings self.old self.new (λ old new. TakesBytes bytes.now old new OK) }
+        ensures unchanged { result ≡ false → self.new ≡ self.old }
+        ensures feeds { is_feeding self.new ≡ true }
+    {
+        match self {
+            Owned::Feeding(feeding) => feeding.take_at_once(bytes),
+            Owned::Reading(_) | Owned::Strip(_) => false,
+        }
     }
 
     /// Feeds the bytes that come next in the data, and returns the status.
