@@ -20,6 +20,7 @@ ghost use Rattle.hayro_ccitt.specs.Answers.{line_from_1d, line_from_2d, front_of
 ghost use Rattle.hayro_ccitt.specs.Answers.{TellsCut};
 ghost use Rattle.hayro_ccitt.specs.Lines.{line_1d, line_2d};
 ghost use Rattle.hayro_ccitt.specs.Space.{room_for, most_stored};
+ghost use Rattle.hayro_ccitt.specs.UsualModes.{GoesOn2d};
 
 use crate::changes::{append_pixels, b1_index, change_or_end, vertical_place};
 use crate::modes::{

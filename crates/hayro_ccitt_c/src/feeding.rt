@@ -64,10 +64,7 @@ impl Feeding {
         ensures taken { result ≡ true → TakesBytes bytes.now self.old self.new OK }
         ensures unchanged { result ≡ false → self.new ≡ self.old }
     {
-        if self.rows.is_finished() {
-            return false;
-        }
-        self.rows.feed_at_once(bytes)
+        !self.rows.is_finished() && self.rows.feed_at_once(bytes)
     }
 
     /// Feeds the bytes that come next in the data, and returns the status.

@@ -281,7 +281,7 @@ bool_not_false : (b : Bool) → (b ≡ false → ⊥) → b ≡ true
 bool_not_false true other = refl
 bool_not_false false other = absurd (other refl)
 
-open_at_line : (begun : Bool) (stand : Stand) (ctx : Context) (next : Bits) → begun ≡ true → is_at_line stand ≡ true
+pub open_at_line : (begun : Bool) (stand : Stand) (ctx : Context) (next : Bits) → begun ≡ true → is_at_line stand ≡ true
     → IsOpenAt begun stand ctx next → is_short (line_here ctx.held.settings ctx.held.reference next) ≡ true
 open_at_line false stand ctx next begun line known = absurd (false≢true begun)
 open_at_line true AtLine ctx next begun line known = known

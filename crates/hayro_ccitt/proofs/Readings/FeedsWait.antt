@@ -1,15 +1,16 @@
 -- Rows from data that comes in pieces: a line that is read on before the call that reads the next row.
 use Rattle.hayro_ccitt.proofs.Names.{common_steps}
-use Rattle.hayro_ccitt.proofs.Names.{◌≡◌, ◌≢◌, ◌∙◌, ◌+◌, ◌-◌, ◌≤◌, ℕ, Bool, true, false, Result, Ok, Err, None, Some, Option, refl, sym, ap}
-use Rattle.hayro_ccitt.proofs.Names.{subst, arith, drop, Bits, Context, Held, line_here, DecodeError, RowsRead, IfErr-weaker, is_at_line}
-use Rattle.hayro_ccitt.proofs.Names.{BehindRow, AtLine, AtEnd, AtFault, Stand, ended, ◌⊎◌, inl, inr, false≢true, ◌&&◌}
+use Rattle.hayro_ccitt.proofs.Names.{◌≡◌, ◌≢◌, ◌∙◌, ◌+◌, ◌-◌, ◌≤◌, ◌⊎◌, ◌&&◌, ℕ, Bool, true, false, Result, Ok, Err, None, Some}
+use Rattle.hayro_ccitt.proofs.Names.{Option, refl, sym, ap, subst, arith, inl, inr, false≢true, drop, Bits, Held, line_here}
+use Rattle.hayro_ccitt.proofs.Names.{DecodeError, RowsRead, IfErr-weaker, is_at_line, ended, Stand, BehindRow, AtLine, AtEnd}
+use Rattle.hayro_ccitt.proofs.Names.{AtFault}
 use Rattle.hayro_ccitt.specs.Continuations.{is_short}
 use Rattle.hayro_ccitt.specs.declared.line_parts.KeptPart.{KeptPart}
 use Rattle.hayro_ccitt.specs.declared.row_feed.Fed.{Fed}
-use Rattle.hayro_ccitt.specs.RowFeeds.{Feeding, FeedsNext, FeedsRow, IsFeedOf, IsOpenAt, KeepsBits}
-use Rattle.hayro_ccitt.specs.RowFeeds.{PartIsKept, StaysShort, StaysThere, fed_over, line_of_feed, most_for_line}
-use Rattle.hayro_ccitt.specs.RowFeeds.{paid_for_line}
+use Rattle.hayro_ccitt.specs.RowFeeds.{Feeding, FeedsNext, FeedsRow, IsFeedOf, KeepsBits, PartIsKept, StaysShort, StaysThere}
+use Rattle.hayro_ccitt.specs.RowFeeds.{fed_over, line_of_feed, most_for_line, paid_for_line}
 use Rattle.hayro_ccitt.proofs.Readings.FeedsOn.{line_feeds}
+use Rattle.hayro_ccitt.proofs.Readings.FeedsPaid.{open_at_line}
 use Rattle.hayro_ccitt.proofs.Readings.PartsFed.{later_next, scanned_fed, stays_short}
 
 -- a feed in which so much more was counted, and no part is kept
@@ -24,15 +25,6 @@ later old more read = record old {
 stays_there : (old new : RowsRead) (ticks : ℕ) → old.ticks ≤ ticks → StaysThere (record old { ticks = ticks }) new
     → StaysThere old new
 stays_there old new ticks le stays = grind (arith, common_steps)
-
--- a line that is open is short
-open_at_line : (begun : Bool) (stand : Stand) (ctx : Context) (next : Bits) → begun ≡ true → is_at_line stand ≡ true
-    → IsOpenAt begun stand ctx next → is_short (line_here ctx.held.settings ctx.held.reference next) ≡ true
-open_at_line true AtLine ctx next begun line waits = waits
-open_at_line true BehindRow ctx next begun line waits = cc
-open_at_line true AtEnd ctx next begun line waits = cc
-open_at_line true (AtFault error) ctx next begun line waits = cc
-open_at_line false stand ctx next begun line waits = cc
 
 -- a line that is settled isn't waited for
 line_is_read : {whole : Bits} {tried : ℕ} {old next : Feeding} → old.begun ≡ true → is_at_line old.rows.stand ≡ true
@@ -65,7 +57,8 @@ next_later {whole} {tried} {old} {next} more read answer some paid settled n =
     record {
       row = λ e. later_next before behind ticks (Ok true) (omega arith) (n.row e);
       end = λ e. later_next before behind ticks (Ok false) (omega arith) (n.end e);
-      fault = IfErr-weaker answer _ _ (λ e reads other. later_next before behind ticks (Err e) (omega arith) (reads other)) n.fault;
+      fault = IfErr-weaker answer _ _ (λ e reads other. later_next before behind ticks (Err e) (omega arith) (reads other))
+          n.fault;
       none = λ none. stays_there before behind ticks (omega arith) (n.none none);
       unsettled = n.unsettled;
       memory = n.memory;
@@ -146,17 +139,25 @@ module _ {old mid : Feeding} (begun : old.begun ≡ true) (line : is_at_line old
     mid_is : mid ≡ later old more mid.line_read
     mid_is =
         stays.scans.frame
-        ∙ ap (λ (p : Option KeptPart). record old { ctx = record old.ctx { ticks = mid.ctx.ticks }; part = p;
-        line_read = mid.line_read; tried_at = mid.tried_at }) (stays.none refl)
-        ∙ ap (λ (n : ℕ). record old { ctx = record old.ctx { ticks = n }; part = None; line_read = mid.line_read;
-        tried_at = mid.tried_at }) (omega (arith, stays.scans.counts))
+        ∙ ap (λ (p : Option KeptPart). record old {
+          ctx = record old.ctx { ticks = mid.ctx.ticks };
+          part = p;
+          line_read = mid.line_read;
+          tried_at = mid.tried_at;
+        }) (stays.none refl)
+        ∙ ap (λ (n : ℕ). record old {
+          ctx = record old.ctx { ticks = n };
+          part = None;
+          line_read = mid.line_read;
+          tried_at = mid.tried_at;
+        }) (omega (arith, stays.scans.counts))
         ∙ ap (λ (n : ℕ). record (later old more mid.line_read) { tried_at = n }) stays.tried
 
     later_row : FeedsRow (later old more mid.line_read) next answer
     later_row = subst (λ (f : Feeding). FeedsRow f next answer) mid_is row
 
-    pub row_goes_on : FeedsRow old next answer
-    row_goes_on = record {
+    pub row_behind_line : FeedsRow old next answer
+    row_behind_line = record {
       reads = λ whole tried unended feed.
           let fed : IsFeedOf whole (tried + more) (later old more mid.line_read) =
           subst (IsFeedOf whole (tried + more)) mid_is (scanned_fed stays.scans begun feed) in

@@ -16,3 +16,8 @@ returns c =
     let same = untouched (goal.at.returns c).After-draw_same_line in
     let left = c.if-draw_same_line.ensures.unchanged refl in
     rw (left.0, left.1, same.0, same.1) at c.draw_modes_of.ensures
+
+pub returns-then-suits_plain_modes : goal.returns-then-suits_plain_modes
+returns-then-suits_plain_modes c =
+    let same = untouched (goal.at.returns-then-suits_plain_modes c).After-draw_same_line in
+    rw (same.0, same.1) at c.draw_same_line.ensures.draws

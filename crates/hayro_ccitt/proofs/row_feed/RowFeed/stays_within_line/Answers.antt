@@ -3,7 +3,7 @@ use Rattle.hayro_ccitt.proofs.Names.{◌≡◌, ◌≢◌, arith, sym, subst, tr
 use Rattle.hayro_ccitt.specs.RowFeeds.{Feeding, StaysShort}
 use Rattle.hayro_ccitt.proofs.row_feed.RowFeed.stays_within_line.Goals.{After-is_still_short}
 use Rattle.hayro_ccitt.proofs.row_feed.RowFeed.stays_within_line.Goals as goal
-use Rattle.hayro_ccitt.proofs.Readings.FeedsWait.{part_known, row_goes_on, row_waits}
+use Rattle.hayro_ccitt.proofs.Readings.FeedsWait.{part_known, row_behind_line, row_waits}
 
 module _ (c : After-is_still_short) where
   some : c.args.self.now.part ≢ None
@@ -17,10 +17,11 @@ module _ (c : After-is_still_short) where
 pub returns-clause-more : goal.returns-clause-more
 returns-clause-more c e =
     let here = (goal.at.returns-clause-more c).After-is_still_short in
-    row_waits (known here).0 (known here).1 (subst (StaysShort c.args.self.now c.is_still_short.new.self) e c.is_still_short.ensures)
+    row_waits (known here).0 (known here).1
+    (subst (StaysShort c.args.self.now c.is_still_short.new.self) e c.is_still_short.ensures)
 
 pub returns-clause-goes_on : goal.returns-clause-goes_on
 returns-clause-goes_on c e next answer row =
     let here = (goal.at.returns-clause-goes_on c).After-is_still_short in
-    row_goes_on (known here).0 (known here).1
+    row_behind_line (known here).0 (known here).1
     (subst (StaysShort c.args.self.now c.is_still_short.new.self) e c.is_still_short.ensures) (some here) row
