@@ -1058,7 +1058,7 @@ impl<'a> BitScanner<'a> {
     pub fn bits_left(&self) -> usize
         ensures left { result + self.now.place ≡ length self.now.bits }
     {
-        self.data.len() * 8 - self.offset()
+        self.data.len() * 8 - self.limit + self.left
     }
 
     /// Returns the number of bits before the offset.

@@ -80,6 +80,11 @@ pub record LineGoesOn (begun : Bool) (stand : Stand) (held : Held) (here : Bits)
   pub lawful : IsLawfulPart held.settings held.reference part
   pub line : IsPartOf held.settings held.reference here part (drop read here)
 
+-- the part is one of a one-dimensional line
+abbrev pub IsPartOf1d : Option KeptPart → Type 0
+IsPartOf1d None = ⊥
+IsPartOf1d (Some part) = part.is_2d ≡ false
+
 abbrev pub PartIsKept : Option KeptPart → Bool → Stand → Held → Bits → ℕ → Type 0
 PartIsKept None begun stand held here read = read ≡ 0
 PartIsKept (Some part) begun stand held here read = LineGoesOn begun stand held here read part

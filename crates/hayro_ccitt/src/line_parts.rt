@@ -342,18 +342,13 @@ fn is_black(part: &KeptPart) -> bool
     }
 }
 
-/// Returns whether a part is within a run of a one-dimensional line.
+/// Returns whether a part of a one-dimensional line is within a run.
 #[inline(always)]
 pub(crate) fn is_in_1d_run(part: &KeptPart) -> bool
+    requires { part.now.is_2d ≡ false }
     ensures { result ≡ true → IsInRun part.now }
 {
-    if part.is_2d {
-        return false;
-    }
-    if !part.in_run {
-        return false;
-    }
-    !part.another
+    part.in_run && !part.another
 }
 
 /// What a word of a run of a one-dimensional line leads to.

@@ -12,7 +12,7 @@ ghost use Rattle.hayro_ccitt.specs.RowsTried.{IsLeft};
 ghost use Rattle.hayro_ccitt.specs.RowFeeds.{Begins, ComeNext, ComesInFeed, DropsRead, ReadsInFeed, ComesOn, FeedsNext};
 ghost use Rattle.hayro_ccitt.specs.RowFeeds.{IsFeedOf, KeepsBits, TriesLine, fed_bits, fed_end, fed_none, fed_row, is_left};
 ghost use Rattle.hayro_ccitt.specs.RowFeeds.{HoldsMore, KeepsPart, LineGoesOn, Scans, ScansLine, StaysShort, line_answer};
-ghost use Rattle.hayro_ccitt.specs.RowFeeds.{says_short, some_line};
+ghost use Rattle.hayro_ccitt.specs.RowFeeds.{IsPartOf1d, says_short, some_line};
 ghost use Rattle.hayro_ccitt.specs.RowFeeds.{CountsRow, Feeding, FeedsRow, PushesRows, unused};
 ghost use Rattle.hayro_ccitt.specs.Rows.{AreChanges, changes};
 
@@ -528,7 +528,7 @@ impl RowFeed {
     /// which code reads on.
     #[inline(always)]
     fn is_within_1d_line(&self) -> bool
-        ensures { result ≡ true → self.now.part ≢ None }
+        ensures { result ≡ true → IsPartOf1d self.now.part }
     {
         match &self.part {
             Some(part) => is_1d(part),
@@ -541,6 +541,7 @@ impl RowFeed {
     #[inline(always)]
     fn read_on_1d(&mut self, order: BitOrder) -> LineState
         requires more { self.old.finished ≡ false }
+        requires line { IsPartOf1d self.old.part }
         requires order { self.old.order ≡ order }
         ensures { StaysShort self.old self.new (says_short result) }
     {
@@ -567,6 +568,7 @@ impl RowFeed {
     #[inline(never)]
     fn read_on_high(&mut self) -> LineState
         requires more { self.old.finished ≡ false }
+        requires line { IsPartOf1d self.old.part }
         requires order { self.old.order ≡ BitOrder.HighestFirst }
         ensures { StaysShort self.old self.new (says_short result) }
     {
@@ -577,6 +579,7 @@ impl RowFeed {
     #[inline(never)]
     fn read_on_low(&mut self) -> LineState
         requires more { self.old.finished ≡ false }
+        requires line { IsPartOf1d self.old.part }
         requires order { self.old.order ≡ BitOrder.LowestFirst }
         ensures { StaysShort self.old self.new (says_short result) }
     {
@@ -587,6 +590,7 @@ impl RowFeed {
     #[inline(never)]
     fn read_on_in_order(&mut self) -> LineState
         requires more { self.old.finished ≡ false }
+        requires line { IsPartOf1d self.old.part }
         ensures { StaysShort self.old self.new (says_short result) }
     {
         match self.order {

@@ -1,6 +1,6 @@
 -- Rows that are given as many as there is room for, from what is left where they were passed to a sink.
 use Rattle.std.proofs.Common.{◌≡◌, ◌≢◌, ◌≤◌, ◌<◌, inl, inr, ℕ, zero, suc, Bool, true, false, List, [], ◌∷◌, length, refl, sym, ap}
-use Rattle.std.proofs.Common.{◌⊎◌, subst, ◌∙◌, arith, Result, Ok, Err, None}
+use Rattle.std.proofs.Common.{subst, ◌∙◌, arith, Result, Ok, Err, None}
 use Rattle.hayro_ccitt.specs.DecodeError.{DecodeError}
 use Rattle.hayro_ccitt.specs.DecodeSettings.{DecodeSettings}
 use Rattle.hayro_ccitt.specs.Answers.{meaning_after}
