@@ -3,7 +3,7 @@
 project in FOLDER: as rows, and packed. Each of these is printed first, with its ratio. The answers are compared.
 
 The cost is that in instructions, as callgrind counts them, or with --time in processor time; then a strip is dearer if it costs
-more than 1.05 times as much. It needs what bench/run.py needs."""
+more than 1.05 times as much, each of five times. It needs what bench/run.py needs."""
 import argparse
 import os
 import random
@@ -23,8 +23,8 @@ DECODERS = ["rows", "crate-rows", "packed", "crate-packed"]
 # encoding, and whether there are EOLs
 ENCODINGS = [("g4", False)] * 3 + [("1d", False), ("1d", True)] + [("2d", False), ("2d", True)] * 2
 WITH_EOLS, CLOSED = 2, 1
-# how long the decoders take turns at a strip, and what is noise
-MILLISECONDS, NOISE = "20", 1.05
+# how long the decoders take turns at a strip, what is noise, and how often a strip beyond it is timed again
+MILLISECONDS, NOISE, AGAIN = "20", 1.05, 4
 
 
 def cycle(chance):
@@ -76,11 +76,21 @@ def counted(folder, program):
 
 
 def timed(program, made):
-    """The time of each decoder on each strip."""
-    costs = []
-    for words, name in made:
+    """The time of each decoder on each strip. A strip that is dearer is timed again: of several times the least ratio counts, since
+    other programs may have disturbed one."""
+
+    def once(words, name):
         command = [program, ",".join(DECODERS), *words.split(), name, MILLISECONDS]
-        costs.append([float(time) for time in subprocess.run(command, capture_output=True, text=True, check=True).stdout.split()])
+        return [float(time) for time in subprocess.run(command, capture_output=True, text=True, check=True).stdout.split()]
+
+    costs = [once(*it) for it in made]
+    for _ in range(AGAIN):
+        for number, cost in enumerate(costs):
+            pairs = [cost[:2], cost[2:]]
+            if any(ours > NOISE * crate for ours, crate in pairs):
+                new = once(*made[number])
+                least = [min(both, key=lambda pair: pair[0] / pair[1]) for both in zip(pairs, (new[:2], new[2:]))]
+                costs[number] = [*least[0], *least[1]]
     return costs
 
 
