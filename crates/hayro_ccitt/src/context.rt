@@ -1286,8 +1286,8 @@ impl DecoderContext {
         true
     }
 
-    /// Draws a line of pass mode alone below a row of one change from the reader's own window: a white row. Returns whether there is one
-    /// here; otherwise nothing changes.
+    /// Draws a line of pass mode alone below a row of one change or none from the reader's own window: a white row. Returns whether
+    /// there is one here; otherwise nothing changes.
     #[inline(always)]
     fn draw_passed_row(&mut self, reader: &mut BitReader<'_>) -> bool
         requires begins { self.old.held.front ≡ [] }
@@ -1303,11 +1303,15 @@ impl DecoderContext {
         ensures unchanged { result ≡ false → (self.new ≡ self.old) × (reader.new ≡ reader.old) }
         ensures space { self.new.space ≡ self.old.space }
     {
-        if self.ref_changes.len() != 1 || !pass_bits(reader, 1, 4) {
+        if self.ref_changes.len() > 1 {
+            return false;
+        }
+        let columns = self.settings.columns;
+        if columns == 0 || !pass_bits(reader, 1, 4) {
             return false;
         }
         tick_times(&mut self.ticks, 2);
-        self.pixels_decoded = self.settings.columns;
+        self.pixels_decoded = columns;
         true
     }
 
@@ -1328,16 +1332,17 @@ impl DecoderContext {
         ensures unchanged { result ≡ false → (self.new ≡ self.old) × (reader.new ≡ reader.old) }
         ensures space { self.new.space ≡ self.old.space }
     {
+        // No other such line begins with pass mode.
+        if reader.peek_u32() >> 28 == 1 {
+            return self.draw_passed_row(reader);
+        }
         if self.draw_left_change(reader) {
             return true;
         }
         if self.draw_white_below_last(reader) {
             return true;
         }
-        if self.draw_right_change(reader) {
-            return true;
-        }
-        self.draw_passed_row(reader)
+        self.draw_right_change(reader)
     }
 
     /// The same, without a call if the line begins with V0: no such line does.

@@ -128,6 +128,16 @@ module _ (strict : Bool) (columns : ℕ) (places : List ℕ) (ascend : AreChange
       let reads = vr_and_v0 at right width some few is there in
       two_modes (b1 + right) width (pos right) at ticks inside (named_right b1 (b1 + right) right refl) reads.0 reads.1
 
+  -- a line of pass mode alone
+  pub passed_row : (at : BitsAt) (ticks : ℕ) → 0 < columns → here at ≡ low_bits 4 1 ++ here (moved 4 at)
+      → GoesOn2d strict columns (pixels columns places) (pen_at 0 [] White at) (pen_at columns [] White (moved 4 at))
+      ticks (ticks + 2) 0 0
+  passed_row at ticks some there =
+      subst (λ (n : ℕ). GoesOn2d strict columns (pixels columns places) (pen_at 0 [] White at) (pen_at n [] White (moved 4 at))
+      ticks (ticks + 2) 0 0) alone
+      (pass_on ascend some (start_stroke columns places ascend) {strict = strict} at 0 4 {ticks = ticks} {now = ticks + 2}
+      (ap (read_code mode_codes) there) (omega (arith, alone, some)) (omega (arith, alone, some)))
+
 -- a row of one change, or of none, has no second one
 pub no_second_change : (columns : ℕ) (row : List ℕ) → length row < 2 → get_or row 1 columns ≡ columns
 no_second_change columns [] few = refl
@@ -150,17 +160,3 @@ pub one_change : (row : List ℕ) (place : ℕ) → length row ≡ 1 → place �
 one_change [] place one is = absurd (omega (arith, one))
 one_change (p ∷ []) place one is = ap (λ (q : ℕ). q ∷ []) (sym is)
 one_change (p ∷ q ∷ row) place one is = absurd (omega (arith, one))
-
-pub change_alone : (row : List ℕ) → length row ≡ 1 → row ≡ get_or row 0 0 ∷ []
-change_alone [] one = absurd (omega (arith, one))
-change_alone (p ∷ []) one = refl
-change_alone (p ∷ q ∷ row) one = absurd (omega (arith, one))
-
--- a line of pass mode alone below a row of one change
-pub passed_row : (strict : Bool) (columns place : ℕ) (at : BitsAt) (ticks : ℕ) → AreChanges columns (place ∷ [])
-    → here at ≡ low_bits 4 1 ++ here (moved 4 at)
-    → GoesOn2d strict columns (pixels columns (place ∷ [])) (pen_at 0 [] White at) (pen_at columns [] White (moved 4 at))
-    ticks (ticks + 2) 0 0
-passed_row strict columns place at ticks ascend there =
-    pass_on ascend (omega (arith, ascend.1)) (start_stroke columns (place ∷ []) ascend) {strict = strict} at 0 4 {ticks = ticks}
-    {now = ticks + 2} (ap (read_code mode_codes) there) (omega arith) (omega arith)
