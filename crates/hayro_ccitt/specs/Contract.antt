@@ -1,12 +1,12 @@
 -- The contract of `decode` and of `decode_low_first`, over the bits of their data.
-use Rattle.std.specs.Prelude.{◌≡◌, ◌⊎◌, ◌↔◌, ℕ, true, false, List, length, take, sum_by, None, Some, Result, Ok, IsOk, OnOk}
+use Rattle.std.specs.Prelude.{◌≡◌, ◌<◌, ◌⊎◌, ◌↔◌, ℕ, true, false, List, length, take, sum_by, None, Some, Result, Ok, IsOk, OnOk}
 use Rattle.std.specs.Prelude.{OnErr}
 use Rattle.fax_bits.specs.declared.error.DecodeError.{DecodeError}
 use Rattle.fax_bits.specs.declared.settings.DecodeSettings.{DecodeSettings}
 use Rattle.fax_bits.specs.declared.settings.EncodingMode.TheVariants.{Group4}
 use Rattle.hayro_ccitt.specs.Answers.{OnAnswer, meaning_after}
-use Rattle.hayro_ccitt.specs.Bits.{Bits}
-use Rattle.hayro_ccitt.specs.Context.{Held}
+use Rattle.hayro_ccitt.specs.Bits.{Bits, BitsAt}
+use Rattle.hayro_ccitt.specs.Context.{Context, Held, fresh}
 use Rattle.hayro_ccitt.specs.Damage.{repairs_by_line, repairs_of, cuts_by_line, cuts_of, misses_by_line, misses_of}
 use Rattle.hayro_ccitt.specs.Decoding.{SinkState, TakesRows, StopsShort}
 use Rattle.hayro_ccitt.specs.Locality.{DamageStaysInRow}
@@ -16,6 +16,13 @@ use Rattle.hayro_ccitt.specs.PlainReading.{plain, lines_of, failed_at}
 use Rattle.hayro_ccitt.specs.Rows.{Row, HaveWidth}
 use Rattle.hayro_ccitt.specs.RowsKept.{RowsBeforeStay, RowsBehindStay}
 use Rattle.hayro_ccitt.specs.Work.{CountsWork}
+
+-- Where the calls begin that decode all rows of a reader: at its first bit, with a context that holds no more than its settings, of
+-- at least one column.
+pub record BeginsRows (ctx : Context) (at : BitsAt) : Type 0 where
+  pub columns : 0 < ctx.held.settings.columns
+  pub fresh : ctx.held ≡ fresh ctx.held.settings
+  pub start : at.place ≡ 0
 
 -- What decoding leaves in a sink of this step, in the context, in the count of work and as its result, for data with
 -- these bits.

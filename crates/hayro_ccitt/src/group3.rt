@@ -4,7 +4,8 @@ ghost use Rattle.std.specs.Prelude.{◌≡◌, ◌≢◌, ◌↔◌, ◌<◌, �
 ghost use Rattle.std.specs.Prelude.{nat_lt, ◌||◌, length, max};
 ghost use Rattle.hayro_ccitt.specs.Answers.{IsFault, IsRepairable, RepairStoresChange};
 ghost use Rattle.hayro_ccitt.specs.Bits.{here};
-ghost use Rattle.hayro_ccitt.specs.Context.{after_repair, fresh};
+ghost use Rattle.hayro_ccitt.specs.Context.{after_repair};
+ghost use Rattle.hayro_ccitt.specs.Contract.{BeginsRows};
 ghost use Rattle.hayro_ccitt.specs.EndOfLine.{all_eols};
 ghost use Rattle.hayro_ccitt.specs.Decoding.{DecodesRows, FailsHere, leaving, gap_said, repairs_behind};
 ghost use Rattle.hayro_ccitt.specs.PlainReading.{gap_behind_row};
@@ -122,9 +123,7 @@ pub fn decode_1d<D: Decoder>(
     decoder: &mut D,
 ) -> Result<()>
     requires encoding { ctx.old.held.settings.encoding ≡ EncodingMode.Group3_1D }
-    requires columns { 0 < ctx.old.held.settings.columns }
-    requires fresh { ctx.old.held ≡ fresh ctx.old.held.settings }
-    requires start { reader.old.place ≡ 0 }
+    requires begins { BeginsRows ctx.old reader.old }
     requires width { ctx.old.held.settings.columns ≤ D.width decoder.old }
     ensures width { D.width decoder.new ≡ D.width decoder.old }
     ensures rows { DecodesRows reader.old.bits (D.step (D.width decoder.old))
@@ -151,9 +150,7 @@ pub fn decode_2d<D: Decoder>(
     decoder: &mut D,
 ) -> Result<()>
     requires encoding { ctx.old.held.settings.encoding ≡ EncodingMode.Group3_2D }
-    requires columns { 0 < ctx.old.held.settings.columns }
-    requires fresh { ctx.old.held ≡ fresh ctx.old.held.settings }
-    requires start { reader.old.place ≡ 0 }
+    requires begins { BeginsRows ctx.old reader.old }
     requires width { ctx.old.held.settings.columns ≤ D.width decoder.old }
     ensures width { D.width decoder.new ≡ D.width decoder.old }
     ensures rows { DecodesRows reader.old.bits (D.step (D.width decoder.old))

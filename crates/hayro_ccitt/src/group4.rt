@@ -2,7 +2,7 @@
 
 ghost use Rattle.std.specs.Prelude.{◌≡◌, ◌<◌, ◌≤◌, OnErr, false, max};
 ghost use Rattle.hayro_ccitt.specs.Bits.{here};
-ghost use Rattle.hayro_ccitt.specs.Context.{fresh};
+ghost use Rattle.hayro_ccitt.specs.Contract.{BeginsRows};
 ghost use Rattle.hayro_ccitt.specs.Decoding.{DecodesRows, FailsHere, leaving};
 ghost use Rattle.hayro_ccitt.specs.Space.{most_room};
 
@@ -22,9 +22,7 @@ pub fn decode<D: Decoder>(
     decoder: &mut D,
 ) -> Result<()>
     requires encoding { ctx.old.held.settings.encoding ≡ EncodingMode.Group4 }
-    requires columns { 0 < ctx.old.held.settings.columns }
-    requires fresh { ctx.old.held ≡ fresh ctx.old.held.settings }
-    requires start { reader.old.place ≡ 0 }
+    requires begins { BeginsRows ctx.old reader.old }
     requires width { ctx.old.held.settings.columns ≤ D.width decoder.old }
     ensures width { D.width decoder.new ≡ D.width decoder.old }
     ensures rows { DecodesRows reader.old.bits (D.step (D.width decoder.old))

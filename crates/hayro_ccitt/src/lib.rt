@@ -14,8 +14,7 @@ ghost use Rattle.std.specs.Prelude.{OnErr, IfOk};
 ghost use Rattle.std.specs.Prelude.{IsOkUnless, IsTrue, length, max};
 ghost use Rattle.hayro_ccitt.specs.Answers.{OnAnswer};
 ghost use Rattle.hayro_ccitt.specs.Bits.{AreWholeBytes, BitsFit, bits_in, bits_of, low_first_bits_of, here};
-ghost use Rattle.hayro_ccitt.specs.Context.{fresh};
-ghost use Rattle.hayro_ccitt.specs.Contract.{Decodes};
+ghost use Rattle.hayro_ccitt.specs.Contract.{BeginsRows, Decodes};
 ghost use Rattle.hayro_ccitt.specs.Decoding.{DecodesRows, FailsHere, leaving};
 ghost use Rattle.hayro_ccitt.specs.PlainReading.{end_of, plain};
 ghost use Rattle.hayro_ccitt.specs.Rows.{AreChanges};
@@ -111,9 +110,7 @@ fn decode_rows<D: Decoder>(
     reader: &mut BitReader<'_>,
     decoder: &mut D,
 ) -> Result<()>
-    requires columns { 0 < ctx.old.held.settings.columns }
-    requires fresh { ctx.old.held ≡ fresh ctx.old.held.settings }
-    requires start { reader.old.place ≡ 0 }
+    requires begins { BeginsRows ctx.old reader.old }
     requires width { ctx.old.held.settings.columns ≤ D.width decoder.old }
     ensures width { D.width decoder.new ≡ D.width decoder.old }
     ensures work { CountsRun

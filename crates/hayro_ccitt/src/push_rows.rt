@@ -2,7 +2,7 @@
 
 ghost use Rattle.std.specs.Prelude.{◌≡◌, ◌<◌, ◌≤◌, ◌+◌, ◌-◌, ◌^◌, OnErr, false, true, length, max};
 ghost use Rattle.hayro_ccitt.specs.Bits.{here};
-ghost use Rattle.hayro_ccitt.specs.Context.{fresh};
+ghost use Rattle.hayro_ccitt.specs.Contract.{BeginsRows};
 ghost use Rattle.hayro_ccitt.specs.Decoding.{DecodesRows, FailsHere, leaving};
 ghost use Rattle.hayro_ccitt.specs.Space.{most_room};
 ghost use Rattle.hayro_ccitt.specs.WhiteLines.{MayFollow};
@@ -118,9 +118,7 @@ pub(crate) fn push_rows<D: Decoder>(
     reader: &mut BitReader<'_>,
     decoder: &mut D,
 ) -> Result<()>
-    requires columns { 0 < ctx.old.held.settings.columns }
-    requires fresh { ctx.old.held ≡ fresh ctx.old.held.settings }
-    requires start { reader.old.place ≡ 0 }
+    requires begins { BeginsRows ctx.old reader.old }
     requires width { ctx.old.held.settings.columns ≤ D.width decoder.old }
     ensures width { D.width decoder.new ≡ D.width decoder.old }
     ensures rows { DecodesRows reader.old.bits (D.step (D.width decoder.old))

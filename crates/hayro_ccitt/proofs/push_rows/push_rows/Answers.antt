@@ -99,9 +99,9 @@ returns-in_err-read_line-clause-rows g c =
     let same = c.read_line.ensures.settings ∙ inv.settings in
     let step = g.D.Decoder.step (g.D.Decoder.width c.args.decoder.now) in
     let rows = (plain c.args.ctx.now.held.settings c.args.reader.now.bits).rows in
-    rw (answer.1, answer.2) (decodes_rows c.args.reader.now.bits step _ _ c.args.ctx.now ctx (Err e) c.requires.columns same
+    rw (answer.1, answer.2) (decodes_rows c.args.reader.now.bits step _ _ c.args.ctx.now ctx (Err e) c.requires.begins.columns same
     (run_is_over c.read_line.new.self ctx reader (stands g there) same (c.read_line.ensures.same_bits ∙ inv.bits)
-    c.requires.columns (omega (arith, is.error.1, inv.within)) (inv.meaning
+    c.requires.begins.columns (omega (arith, is.error.1, inv.within)) (inv.meaning
     ∙ ap (λ (n : ℕ). meaning_after step (g.D.Decoder.meaning c.args.decoder.now) (take n rows)) (sym is.error.1)) inv.unrefused
     (Err e) is.error.0))
 
@@ -155,7 +155,7 @@ returns-in-Err-clause-rows g c =
     (subst (g.D.Decoder.refuses c.push_row.new.self) c.reference_row.ensures.changes c.in-Err.ensures.refused_row) in
     subst (λ (e : DecodeError). DecodesRows c.args.reader.now.bits step before after c.args.ctx.now last (Err e))
     (sym c.in-Err.ensures.only_refused) (decodes_rows c.args.reader.now.bits step before after c.args.ctx.now last (Err Refused)
-    c.requires.columns (ap (λ (x : Context). x.held.settings) frame ∙ c.read_line.ensures.settings ∙ inv.settings)
+    c.requires.begins.columns (ap (λ (x : Context). x.held.settings) frame ∙ c.read_line.ensures.settings ∙ inv.settings)
     (subst (λ (n : ℕ). HasRun c.args.ctx.now.held.settings c.args.reader.now.bits from step before after last.held n
     (Err Refused)) (sym (ap (λ (x : Context). x.ticks) frame))
     (of_same (λ s b. HasRun s b from step before after last.held read.ctx.ticks (Err Refused)) inv.settings inv.bits run)))
@@ -334,7 +334,7 @@ returns-in-Err-push_white_rows-clause-rows g c =
     (sym behind.settings_are) (sym behind.bits_are) behind.means) refused.flag
     (subst (g.D.Decoder.refuses c.push_white_rows.new.decoder) (white_empty behind refused.reads) refused.row) in
     subst (λ (e : DecodeError). DecodesRows bits step before after c.args.ctx.now last (Err e)) (sym refused.is)
-    (decodes_rows bits step before after c.args.ctx.now last (Err Refused) c.requires.columns
+    (decodes_rows bits step before after c.args.ctx.now last (Err Refused) c.requires.begins.columns
     (ap (λ (x : Context). x.held.settings) frame ∙ ap (λ (x : Context). x.held.settings) takes.new_is ∙ behind.settings_are)
     (subst (λ (n : ℕ). HasRun c.args.ctx.now.held.settings bits from step before after last.held n (Err Refused))
     (sym (ap (λ (x : Context). x.ticks) frame))
@@ -512,7 +512,7 @@ returns-in-Err-push_row-clause-rows g c =
     c.in-Err-push_row.ensures.refused_row) in
     subst (λ (e : DecodeError). DecodesRows c.args.reader.now.bits step before after c.args.ctx.now last (Err e))
     (sym c.in-Err-push_row.ensures.only_refused) (decodes_rows c.args.reader.now.bits step before after c.args.ctx.now last
-    (Err Refused) c.requires.columns (ap (λ (x : Context). x.held.settings) frame
+    (Err Refused) c.requires.begins.columns (ap (λ (x : Context). x.held.settings) frame
     ∙ ap (λ (x : Context). x.held.settings) takes.new_is ∙ inv.settings) (subst (λ (n : ℕ). HasRun c.args.ctx.now.held.settings
     c.args.reader.now.bits from step before after
     last.held n (Err Refused)) (sym (ap (λ (x : Context). x.ticks) frame))
@@ -566,10 +566,10 @@ returns-in_err-come_to_line-clause-rows g c =
     let rows = (plain c.args.ctx.now.held.settings c.args.reader.now.bits).rows in
     let taken : ctx.held.taken ≡ c.white.ctx.held.taken = is.taken ∙ ap (λ (x : Context). x.held.taken) none.1 in
     let same = c.come_to_line.ensures.settings ∙ ap (λ (x : Context). x.held.settings) none.1 ∙ inv.settings in
-    rw (answer.1, answer.2) (decodes_rows c.args.reader.now.bits step _ _ c.args.ctx.now ctx (Err e) c.requires.columns same
+    rw (answer.1, answer.2) (decodes_rows c.args.reader.now.bits step _ _ c.args.ctx.now ctx (Err e) c.requires.begins.columns same
     (run_is_over c.come_to_line.new.self ctx reader (c.come_to_line.ensures.stands from stands) same
     (c.come_to_line.ensures.same_bits ∙ ap (λ (b : BitsAt). b.bits) none.2 ∙ inv.bits)
-    c.requires.columns (omega (arith, taken, inv.within))
+    c.requires.begins.columns (omega (arith, taken, inv.within))
     (inv.meaning ∙ ap (λ (n : ℕ). meaning_after step (g.D.Decoder.meaning c.args.decoder.now) (take n rows)) (sym taken))
     inv.unrefused (Err e) is.error.0))
 
@@ -613,10 +613,10 @@ returns-then-not-branch-clause-rows g c =
     let rows = (plain c.args.ctx.now.held.settings c.args.reader.now.bits).rows in
     let taken : ctx.held.taken ≡ c.white.ctx.held.taken = comes.taken ∙ ap (λ (x : Context). x.held.taken) unread.1 in
     let same = c.come_to_line.ensures.settings ∙ ap (λ (x : Context). x.held.settings) unread.1 ∙ inv.settings in
-    decodes_rows c.args.reader.now.bits step _ _ c.args.ctx.now ctx (Ok (here reader)) c.requires.columns same
+    decodes_rows c.args.reader.now.bits step _ _ c.args.ctx.now ctx (Ok (here reader)) c.requires.begins.columns same
     (run_is_over c.come_to_line.new.self ctx reader (c.come_to_line.ensures.stands from stands) same
     (c.come_to_line.ensures.same_bits ∙ ap (λ (b : BitsAt). b.bits) unread.2 ∙ inv.bits)
-    c.requires.columns (omega (arith, taken, inv.within))
+    c.requires.begins.columns (omega (arith, taken, inv.within))
     (inv.meaning ∙ ap (λ (n : ℕ). meaning_after step (g.D.Decoder.meaning c.args.decoder.now) (take n rows)) (sym taken))
     inv.unrefused (Ok tt) (comes.end none).0)
 
