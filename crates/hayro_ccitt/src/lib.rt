@@ -113,13 +113,6 @@ fn decode_rows<D: Decoder>(
     requires begins { BeginsRows ctx.old reader.old }
     requires width { ctx.old.held.settings.columns ≤ D.width decoder.old }
     ensures width { D.width decoder.new ≡ D.width decoder.old }
-    ensures work { CountsRun
-        (words_of ctx.old.held.settings reader.old.bits)
-        ctx.new.held.taken ctx.old.ticks ctx.new.ticks
-        (most_counted ctx.old.held.settings.encoding (length reader.old.bits)) }
-    ensures rest { OnOk result ((end_of ctx.old.held.settings reader.old.bits).outcome ≡ Ok (here reader.new)) }
-    ensures row_number { OnAnswer result (ctx.new.held.taken
-        ≡ length (end_of ctx.old.held.settings reader.old.bits).rows) }
     ensures rows { DecodesRows reader.old.bits (D.step (D.width decoder.old))
         (record { meaning = D.meaning decoder.old; refused = D.has_refused decoder.old; refuses = D.refuses decoder.old })
         (record { meaning = D.meaning decoder.new; refused = D.has_refused decoder.new; refuses = D.refuses decoder.new })
@@ -160,10 +153,6 @@ fn decode_bits<D: Decoder>(
     ensures width { D.width decoder.new ≡ D.width decoder.old }
     ensures settings { ctx.new.held.settings ≡ ctx.old.held.settings }
     ensures within { IfOk result (λ n. 8 * n ≤ length reader.old.bits) }
-    ensures work { CountsWork ctx.old.held.settings reader.old.bits ctx.new.held.taken ctx.new.ticks }
-    ensures count { IfOk result (λ n. (plain ctx.old.held.settings reader.old.bits).outcome ≡ Ok n) }
-    ensures row_number { OnAnswer result (ctx.new.held.taken
-        ≡ length (plain ctx.old.held.settings reader.old.bits).rows) }
     ensures decodes { Decodes ctx.old.held.settings reader.old.bits (D.step (D.width decoder.old))
         (record { meaning = D.meaning decoder.old; refused = D.has_refused decoder.old; refuses = D.refuses decoder.old })
         (record { meaning = D.meaning decoder.new; refused = D.has_refused decoder.new; refuses = D.refuses decoder.new })

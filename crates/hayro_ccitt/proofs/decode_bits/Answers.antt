@@ -53,6 +53,3 @@ returns-clause-decodes g c =
     (search rules) (search rules) (record { of_taken = rows.repaired.of_taken; all = rows.repaired.all })
     (record { of_taken = rows.cut.of_taken; all = rows.cut.all })
     (record { of_taken = rows.missed.of_taken; all = rows.missed.all }) tt none)
-
-pub returns-clause-work : goal.returns-clause-work
-returns-clause-work g c = search rules
