@@ -1,15 +1,21 @@
--- What the calls of a context leave that draw a part of a line. This is not part of the trusted specification: of public calls
--- only those of b1 and b2 cite it.
-use Rattle.std.specs.Prelude.{◌≡◌, ◌+◌, ◌≤◌, suc, max, length, Result, OnOk}
+-- What the calls of a context leave that draw a line or a part of one.
+use Rattle.std.specs.Prelude.{◌≡◌, ◌+◌, ◌≤◌, ℕ, suc, max, List, length, Result, OnOk}
 use Rattle.fax_bits.specs.declared.codes.Mode.{Mode}
 use Rattle.fax_bits.specs.declared.error.DecodeError.{DecodeError}
 use Rattle.hayro_ccitt.specs.Answers.{OnAnswer, TellsCut, pen_of, strict_step_of_mode, words_of_mode}
 use Rattle.hayro_ccitt.specs.Bits.{BitsAt, here}
-use Rattle.hayro_ccitt.specs.Context.{Context, passed_changes, redrawn}
+use Rattle.hayro_ccitt.specs.Context.{ArePassed, Context, passed_changes, redrawn}
 use Rattle.hayro_ccitt.specs.Rows.{changes}
 use Rattle.hayro_ccitt.specs.Space.{room_for}
 use Rattle.hayro_ccitt.specs.UsualModes.{GoesOn2d}
 use Rattle.hayro_ccitt.specs.UsualRuns.{GoesOn}
+
+-- What is passed of the reference row's changes while b1 is sought: none right of a0, no fewer than before, each with a tick, and
+-- there is one tick more (T.4, 4.2.1.1).
+pub record PassesChanges (places : List ℕ) (painted before after old new : ℕ) : Type 0 where
+  pub passed : ArePassed places painted after
+  pub forward : before ≤ after
+  pub work : new + before ≡ old + after + 1
 
 -- What a call leaves that looks for b1: the changes that aren't right of a0 are passed, each with a tick, and there is one tick
 -- more (T.4, 4.2.1.1).
@@ -23,6 +29,23 @@ pub record SeeksB1 (old new : Context) : Type 0 where
   pub forward : old.passed ≤ new.passed
   pub work : new.ticks + old.passed ≡ old.ticks + new.passed + 1
   pub space : new.space ≡ old.space
+
+-- What a call changes that draws: of what the context holds, the front and the colour; and of the data, the place.
+pub record OnlyDraws (old new : Context) (before after : BitsAt) : Type 0 where
+  pub held : new.held ≡ redrawn old.held new.held.front new.held.color
+  pub same_bits : after.bits ≡ before.bits
+
+-- It counts a tick for each of these words; if one of them is missing or wrong, at most one more.
+pub record CountsWords (words old new : ℕ) (answer : Result (Unit {0}) DecodeError) : Type 0 where
+  pub exact : OnOk answer (new ≡ old + words)
+  pub at_least : old + words ≤ new
+  pub at_most : new ≤ old + words + 1
+
+-- What a call leaves of a list of changes that is full and can't grow (auxiliary).
+pub record StaysFull (old new : List ℕ) (room room_after : ℕ) : Type 0 where
+  pub full : room ≤ length old
+  pub unchanged : new ≡ old
+  pub left : room_after ≡ room
 
 -- What a call leaves that draws a mode, besides the pen: a tick for each word of its runs, one for each change that is passed,
 -- and at most three more (T.4, 4.2.1.3; T.6, 2.2).

@@ -1,6 +1,6 @@
 -- The contract of `decode` and of `decode_low_first`, over the bits of their data.
 use Rattle.std.specs.Prelude.{◌≡◌, ◌<◌, ◌⊎◌, ◌↔◌, ℕ, true, false, List, length, take, sum_by, None, Some, Result, Ok, IsOk, OnOk}
-use Rattle.std.specs.Prelude.{OnErr}
+use Rattle.std.specs.Prelude.{OnErr, IsOkUnless}
 use Rattle.fax_bits.specs.declared.error.DecodeError.{DecodeError}
 use Rattle.fax_bits.specs.declared.settings.DecodeSettings.{DecodeSettings}
 use Rattle.fax_bits.specs.declared.settings.EncodingMode.TheVariants.{Group4}
@@ -23,6 +23,16 @@ pub record BeginsRows (ctx : Context) (at : BitsAt) : Type 0 where
   pub columns : 0 < ctx.held.settings.columns
   pub fresh : ctx.held ≡ fresh ctx.held.settings
   pub start : at.place ≡ 0
+
+-- What passing a row leaves of a sink of this step: it takes the row, or it refuses it and means what it meant.
+pub record PassesRow {M : Type 0} (step : M → List ℕ → M) (before after : SinkState M) (row : List ℕ)
+    (answer : Result (Unit {0}) DecodeError) : Type 0 where
+  pub taken : OnOk answer (after.meaning ≡ step before.meaning row)
+  pub flag : OnOk answer (after.refused ≡ before.refused)
+  pub kept : OnErr answer (after.meaning ≡ before.meaning)
+  pub refused : OnErr answer (after.refused ≡ true)
+  pub refused_row : OnErr answer (after.refuses row)
+  pub only_refused : IsOkUnless answer DecodeError.Refused
 
 -- What decoding leaves in a sink of this step, in the context, in the count of work and as its result, for data with
 -- these bits.

@@ -4,6 +4,7 @@ ghost use Rattle.std.specs.Prelude.{vec_len, vec_capacity, ◌≡◌, ◌≢◌,
 ghost use Rattle.std.specs.Prelude.{get_or, ◌++◌, ◌∷◌, [], replicate, true, max, IfSome, IfNone, Ok, pos, ◌+ℤ◌};
 ghost use Rattle.hayro_ccitt.specs.Rows.{AreChanges, pixels, b1, b2, is_black, last_pixel};
 ghost use Rattle.hayro_ccitt.specs.Lines.{place_from};
+ghost use Rattle.hayro_ccitt.specs.ContextSteps.{PassesChanges, StaysFull};
 ghost use Rattle.hayro_ccitt.specs.Context.{right_of_painted, ArePassed, passed_changes};
 ghost use Rattle.hayro_ccitt.specs.Space.{room_for};
 
@@ -24,15 +25,13 @@ pub fn b1_index(
 ) -> usize
     requires lawful { AreChanges columns changes.now }
     requires passed { ArePassed changes.now painted passed.old }
-    ensures passed { ArePassed changes.now painted passed.new }
+    ensures passes { PassesChanges changes.now painted passed.old passed.new ticks.old ticks.new }
     ensures all { passed.new ≡ passed_changes changes.now painted }
     ensures b1 { b1 (pixels columns changes.now) (right_of_painted painted) color
         ≡ get_or changes.now result columns }
     ensures b2 { b2 (pixels columns changes.now) (right_of_painted painted) color
         ≡ get_or changes.now (result + 1) columns }
     ensures within { result ≤ length changes.now + 1 }
-    ensures forward { passed.old ≤ passed.new }
-    ensures work { ticks.new + passed.old ≡ ticks.old + passed.new + 1 }
 {
     let mut index = *passed;
     if painted > 0 {
@@ -95,11 +94,10 @@ pub(crate) fn make_room(changes: &mut Vec<u32>) -> bool
 #[inline(always)]
 fn push_change(changes: &mut Vec<u32>, place: u32) -> Result<()>
     ensures items { OnOk result (changes.new.items ≡ changes.old.items ++ place ∷ []) }
-    ensures full { OnErr result (vec_capacity changes.old ≤ vec_len changes.old) }
+    ensures full { OnErr result (StaysFull changes.old.items changes.new.items (vec_capacity changes.old)
+        (vec_capacity changes.new)) }
     ensures only_memory { IsOkUnless result DecodeError.OutOfMemory }
-    ensures unchanged { OnErr result (changes.new.items ≡ changes.old.items) }
     ensures space { vec_capacity changes.new ≤ max (vec_capacity changes.old) (room_for (vec_len changes.old)) }
-    ensures left { OnErr result (vec_capacity changes.new ≡ vec_capacity changes.old) }
 {
     if changes.len() == changes.capacity() {
         if !make_room(changes) {
@@ -124,12 +122,11 @@ pub fn append_pixels(changes: &mut Vec<u32>, painted: u32, color: Color, count: 
         ≡ pixels painted changes.old.items ++ replicate count (is_black color)) }
     ensures memory { result ≡ Err DecodeError.OutOfMemory
         → (0 < count) × (last_pixel false (pixels painted changes.old.items) ≢ is_black color) }
-    ensures full { OnErr result (vec_capacity changes.old ≤ vec_len changes.old) }
+    ensures full { OnErr result (StaysFull changes.old.items changes.new.items (vec_capacity changes.old)
+        (vec_capacity changes.new)) }
     ensures only_memory { IsOkUnless result DecodeError.OutOfMemory }
-    ensures unchanged { OnErr result (changes.new.items ≡ changes.old.items) }
     ensures few { length changes.new.items ≤ length changes.old.items + 1 }
     ensures space { vec_capacity changes.new ≤ max (vec_capacity changes.old) (room_for (vec_len changes.old)) }
-    ensures left { OnErr result (vec_capacity changes.new ≡ vec_capacity changes.old) }
 {
     // The colours of a row alternate, so after an odd number of changes its last pixel is black.
     let last_is_white = changes.len().is_multiple_of(2);

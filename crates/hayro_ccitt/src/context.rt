@@ -10,7 +10,9 @@ ghost use Rattle.hayro_ccitt.specs.Rows.{AreChanges, right_of, b1, b2, changes, 
 ghost use Rattle.hayro_ccitt.specs.Bits.{here};
 ghost use Rattle.hayro_ccitt.specs.Context.{redrawn, painted_front, taken_row, after_repair, with_missed};
 ghost use Rattle.hayro_ccitt.specs.CodeReading.{read_code};
-ghost use Rattle.hayro_ccitt.specs.ContextSteps.{DrawsOneMode, DrawsUsualModes, DrawsUsualRuns, SeeksB1};
+ghost use Rattle.hayro_ccitt.specs.ContextSteps.{CountsWords, DrawsOneMode, DrawsUsualModes, DrawsUsualRuns, OnlyDraws, PassesChanges};
+ghost use Rattle.hayro_ccitt.specs.ContextSteps.{SeeksB1};
+ghost use Rattle.hayro_ccitt.specs.Contract.{PassesRow};
 ghost use Rattle.hayro_ccitt.specs.Counting.{OnlyCounts};
 ghost use Rattle.hayro_ccitt.specs.Context.{ArePassed, exceeds, right_of_painted, with_cut};
 ghost use Rattle.hayro_ccitt.specs.WhiteLines.{AreKnown, MayFollow};
@@ -530,13 +532,10 @@ impl DecoderContext {
     fn hand_over<D: Decoder>(&self, decoder: &mut D) -> Result<()>
         requires { self.now.held.settings.columns ≤ D.width decoder.old }
         ensures width { D.width decoder.new ≡ D.width decoder.old }
-        ensures taken { OnOk result (D.meaning decoder.new
-            ≡ D.step (D.width decoder.old) (D.meaning decoder.old) (changes (taken_row self.now.held))) }
-        ensures flag { OnOk result (D.has_refused decoder.new ≡ D.has_refused decoder.old) }
-        ensures kept { OnErr result (D.meaning decoder.new ≡ D.meaning decoder.old) }
-        ensures refused { OnErr result (D.has_refused decoder.new ≡ true) }
-        ensures refused_row { OnErr result (D.refuses decoder.new (changes (taken_row self.now.held))) }
-        ensures only_refused { IsOkUnless result DecodeError.Refused }
+        ensures passes { PassesRow (D.step (D.width decoder.old))
+            (record { meaning = D.meaning decoder.old; refused = D.has_refused decoder.old; refuses = D.refuses decoder.old })
+            (record { meaning = D.meaning decoder.new; refused = D.has_refused decoder.new; refuses = D.refuses decoder.new })
+            (changes (taken_row self.now.held)) result }
     {
         decoder.push_row(self.coding_changes.as_slice())
     }
@@ -553,15 +552,12 @@ impl DecoderContext {
         requires width { self.old.held.settings.columns ≤ D.width decoder.old }
         requires rows { self.old.held.taken + 1 < 2 ^ 64 }
         ensures width { D.width decoder.new ≡ D.width decoder.old }
-        ensures taken { OnOk result (D.meaning decoder.new
-            ≡ D.step (D.width decoder.old) (D.meaning decoder.old) (changes (taken_row self.old.held))) }
+        ensures passes { PassesRow (D.step (D.width decoder.old))
+            (record { meaning = D.meaning decoder.old; refused = D.has_refused decoder.old; refuses = D.refuses decoder.old })
+            (record { meaning = D.meaning decoder.new; refused = D.has_refused decoder.new; refuses = D.refuses decoder.new })
+            (changes (taken_row self.old.held)) result }
         ensures frame { OnOk result (self.new ≡ record self.old { held = after_taking self.old.held; passed = 0; cut = false }) }
-        ensures flag { OnOk result (D.has_refused decoder.new ≡ D.has_refused decoder.old) }
-        ensures kept { OnErr result (D.meaning decoder.new ≡ D.meaning decoder.old) }
         ensures unchanged { OnErr result (self.new ≡ self.old) }
-        ensures refused { OnErr result (D.has_refused decoder.new ≡ true) }
-        ensures refused_row { OnErr result (D.refuses decoder.new (changes (taken_row self.old.held))) }
-        ensures only_refused { IsOkUnless result DecodeError.Refused }
     {
         self.hand_over(decoder)?;
         self.end_line();
@@ -706,10 +702,9 @@ impl DecoderContext {
         ensures b2 { result.1 ≡ b2 self.old.held.reference (right_of_painted painted) color }
         ensures within { result.0 ≤ self.old.held.settings.columns }
         ensures onward { painted ≤ self.old.held.settings.columns → painted ≤ result.0 }
-        ensures passed { ArePassed (changes self.old.held.reference) painted passed.new }
+        ensures passes { PassesChanges (changes self.old.held.reference) painted passed.old passed.new self.old.ticks
+            self.new.ticks }
         ensures frame { self.new ≡ record self.old { ticks = self.new.ticks } }
-        ensures forward { passed.old ≤ passed.new }
-        ensures work { self.new.ticks + passed.old ≡ self.old.ticks + passed.new + 1 }
     {
         let ticks = &mut self.ticks;
         let index = b1_index(
@@ -788,13 +783,8 @@ impl DecoderContext {
     fn draw_run(&mut self, reader: &mut BitReader<'_>) -> Result<()>
         ensures step { DrawsStep (step_of_run self.old.held (here reader.old))
             result (pen_of self.new.held (here reader.new)) }
-        ensures held { self.new.held ≡ redrawn self.old.held self.new.held.front self.new.held.color }
-        ensures same_bits { reader.new.bits ≡ reader.old.bits }
-        ensures exact { OnOk result (self.new.ticks
-            ≡ self.old.ticks + length (words_of_run self.old.held (here reader.old))) }
-        ensures at_least { self.old.ticks + length (words_of_run self.old.held (here reader.old)) ≤ self.new.ticks }
-        ensures at_most { self.new.ticks
-            ≤ self.old.ticks + length (words_of_run self.old.held (here reader.old)) + 1 }
+        ensures only { OnlyDraws self.old self.new reader.old reader.new }
+        ensures words { CountsWords (length (words_of_run self.old.held (here reader.old))) self.old.ticks self.new.ticks result }
         ensures cut { OnOk result (TellsCut (strict_step_of_run self.old.held (here reader.old))
             (pen_of self.new.held (here reader.new)) self.old.cut self.new.cut) }
         ensures passed { self.new.passed ≡ self.old.passed }
@@ -1489,8 +1479,7 @@ pub fn decode_1d_line(ctx: &mut DecoderContext, reader: &mut BitReader<'_>) -> R
     ensures line { DrawsLine (line_from_1d ctx.old.held (here reader.old))
         result ctx.new.held.front (here reader.new) }
     ensures cut { OnOk result (ctx.new.cut ≡ is_broken (line_1d true ctx.old.held.settings.columns (here reader.old))) }
-    ensures held { ctx.new.held ≡ redrawn ctx.old.held ctx.new.held.front ctx.new.held.color }
-    ensures same_bits { reader.new.bits ≡ reader.old.bits }
+    ensures only { OnlyDraws ctx.old ctx.new reader.old reader.new }
     ensures counts { ctx.old.ticks ≤ ctx.new.ticks }
     ensures exact { OnOk result (ctx.new.ticks
         ≡ ctx.old.ticks + length (words_from_1d ctx.old.held (here reader.old))) }
@@ -1523,8 +1512,7 @@ pub fn decode_2d_line(ctx: &mut DecoderContext, reader: &mut BitReader<'_>) -> R
         result ctx.new.held.front (here reader.new) }
     ensures cut { OnOk result (ctx.new.cut
         ≡ is_broken (line_2d true ctx.old.held.settings.columns ctx.old.held.reference (here reader.old))) }
-    ensures held { ctx.new.held ≡ redrawn ctx.old.held ctx.new.held.front ctx.new.held.color }
-    ensures same_bits { reader.new.bits ≡ reader.old.bits }
+    ensures only { OnlyDraws ctx.old ctx.new reader.old reader.new }
     ensures counts { ctx.old.ticks ≤ ctx.new.ticks }
     ensures at_least { OnAnswer result (ctx.old.ticks
         + length (words_from_2d ctx.old.held (here reader.old)) ≤ ctx.new.ticks) }

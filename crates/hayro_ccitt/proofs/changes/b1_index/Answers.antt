@@ -1,5 +1,5 @@
 use Rattle.hayro_ccitt.proofs.Names.{common_steps}
-use Rattle.hayro_ccitt.proofs.Names.{rules, arith, right_of_painted}
+use Rattle.hayro_ccitt.proofs.Names.{arith, right_of_painted}
 use Rattle.hayro_ccitt.proofs.PixelRows.ReferencePlaces.{IsSplit, b1_first, b1_second, b2_after_b1}
 use Rattle.hayro_ccitt.proofs.PixelRows.ReferencePlaces.{split_passed}
 use Rattle.hayro_ccitt.proofs.changes.b1_index.Goals.{After-is_white, then-painted-gt0+then-loop-index-test+else-changes-index}
@@ -39,21 +39,3 @@ pub returns-else-is_multiple_of-is_white-clause-all : goal.returns-else-is_multi
 returns-else-is_multiple_of-is_white-clause-all c =
     split_passed c.args.columns c.args.changes.now c.args.painted c.if-painted-gt0.index c.requires.lawful
     (split (goal.at.returns-else-is_multiple_of-is_white-clause-all c).After-is_white)
-
-pub returns-else-is_multiple_of-is_white-clause-passed : goal.returns-else-is_multiple_of-is_white-clause-passed
-returns-else-is_multiple_of-is_white-clause-passed c = search rules
-
-pub returns-else-is_multiple_of-is_white-clause-work : goal.returns-else-is_multiple_of-is_white-clause-work
-returns-else-is_multiple_of-is_white-clause-work c = search rules
-
-pub returns-then-is_multiple_of-is_white-clause-passed : goal.returns-then-is_multiple_of-is_white-clause-passed
-returns-then-is_multiple_of-is_white-clause-passed c = search rules
-
-pub returns-then-is_multiple_of-is_white-clause-work : goal.returns-then-is_multiple_of-is_white-clause-work
-returns-then-is_multiple_of-is_white-clause-work c = search rules
-
-pub returns-else-is_multiple_of-is_white-clause-forward : goal.returns-else-is_multiple_of-is_white-clause-forward
-returns-else-is_multiple_of-is_white-clause-forward c = search rules
-
-pub returns-then-is_multiple_of-is_white-clause-forward : goal.returns-then-is_multiple_of-is_white-clause-forward
-returns-then-is_multiple_of-is_white-clause-forward c = search rules

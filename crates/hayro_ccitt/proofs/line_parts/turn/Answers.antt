@@ -36,7 +36,7 @@ returns-in_default-clause-goes c = λ rest.
           c.args.offset (place_is at front is
           ∙ ap (λ (k : ℤ). place_from c.args.part.now.painted (pos c.places_behind-b1.result.0 +ℤ k)) (sym (offset_is at))
           ∙ c.in_default.ensures.none);
-      lawful = record { within = c.requires.lawful.within; passed = c.places_behind-b1.ensures.passed };
+      lawful = record { within = c.requires.lawful.within; passed = c.places_behind-b1.ensures.passes.passed };
     }
 
 pub returns-then-not-paint-clause-goes : goal.returns-then-not-paint-clause-goes

@@ -38,6 +38,6 @@ returns-clause-goes c = λ rest.
       lawful = record {
         within = within;
         passed = passed_on (changes held.reference) part.painted place c.places_behind-b1.new.passed onward
-            c.places_behind-b1.ensures.passed;
+            c.places_behind-b1.ensures.passes.passed;
       };
     }

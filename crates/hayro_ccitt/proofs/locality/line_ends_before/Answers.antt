@@ -10,7 +10,7 @@ use Rattle.hayro_ccitt.proofs.locality.line_ends_before.Goals as goal
 pub returns-in-Ok-clause-before : goal.returns-in-Ok-clause-before
 returns-in-Ok-clause-before c =
     let bits = bits_of c.args.data.now in
-    let same = c.decode_1d_line.ensures.same_bits ∙ ap (λ (at : BitsAt). at.bits) c.starting_at-reader.ensures in
+    let same = c.decode_1d_line.ensures.only.same_bits ∙ ap (λ (at : BitsAt). at.bits) c.starting_at-reader.ensures in
     let line = lenient_line c.reset.new.self.held c.args.ctx.now.held.settings c.starting_at-reader.result
     (drop c.args.from bits) (ap (λ (ctx : Context). ctx.held) c.reset.ensures.frame) c.requires.lenient
     (ap (λ (at : BitsAt). here at) c.starting_at-reader.ensures) in

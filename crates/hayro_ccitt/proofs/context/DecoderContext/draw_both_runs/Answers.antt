@@ -12,6 +12,6 @@ returns-in_err-draw_run-clause-step c =
 pub returns-clause-leaves : goal.returns-clause-leaves
 returns-clause-leaves c =
     let cut = horizontal_cuts c.args.self.now c.draw_run.new.self c.draw_run-2.new.self (here c.args.reader.now)
-    (here c.draw_run.new.reader) (here c.draw_run-2.new.reader) c.draw_run-2.result c.draw_run.ensures.held
+    (here c.draw_run.new.reader) (here c.draw_run-2.new.reader) c.draw_run-2.result c.draw_run.ensures.only.held
     c.in_ok-draw_run.ensures.cut c.draw_run-2.ensures.cut in
     grind (arith, common_steps)

@@ -15,8 +15,8 @@ pub b1_index-index-requires-clause-passed : goal.b1_index-index-requires-clause-
 b1_index-index-requires-clause-passed c =
     grind (arith, common_steps, listed ((goal.at.b1_index-index-requires-clause-passed c).After-as_slice))
 
-pub returns-clause-passed : goal.returns-clause-passed
-returns-clause-passed c = grind (arith, common_steps, listed ((goal.at.returns-clause-passed c).After-as_slice))
+pub returns-clause-passes : goal.returns-clause-passes
+returns-clause-passes c = grind (arith, common_steps, listed ((goal.at.returns-clause-passes c).After-as_slice))
 
 pub returns-clause-b1 : goal.returns-clause-b1
 returns-clause-b1 c = grind (arith, common_steps, changes-pixels)
