@@ -1,4 +1,4 @@
--- A gap that is passed and a row that is read in data of which more may come: not part of the trusted specification.
+-- A gap that is passed and a row that is read in data of which more may come.
 use Rattle.std.specs.Prelude.{◌≡◌, ◌≢◌, ◌≤◌, ◌+◌, ◌*◌, ℕ, Bool, true, false, [], ◌++◌, length, max, not, ◌⊎◌, ◌&&◌, Result, Ok}
 use Rattle.std.specs.Prelude.{Err}
 use Rattle.std.specs.Prelude.{OnErr, OnOk, IfErr, IfOk}
@@ -53,6 +53,13 @@ pub record PassesGap (old new : Context) (answer : Result Bool DecodeError) (sta
       + tag_tests old.held.settings.encoding + looked_ahead old.held.settings.encoding rest)
   pub work_given_up : OnOk answer (new.held.has_eols ≢ old.held.has_eols → new.ticks ≤ old.ticks + 2 * length start)
   pub work_refused : OnErr answer (new.ticks ≤ old.ticks + looked start)
+
+-- What a call leaves that finds no EOL where strict data must have one: nothing is passed, and each bit that was looked at is a
+-- tick (T.4, 4.1.2).
+pub record LacksEol (old new : Context) (start rest : Bits) : Type 0 where
+  pub strict : old.held.settings.strict ≡ true
+  pub put_back : rest ≡ start
+  pub ticks : new.ticks ≡ old.ticks + looked start
 
 -- these bits may follow: whole bytes, and none if the data is finished
 pub record CanCome (is_last : Bool) (more : Bits) : Type 0 where
@@ -142,6 +149,20 @@ pub record PassesGapHere (gap_start : ℕ) (rows kept : RowState) (old new : Con
   pub within : after.place ≤ length after.bits
   pub same_bits : after.bits ≡ before.bits
   pub put_back : OnErr over (here after ≡ here before)
+  pub space : new.space ≡ old.space
+
+-- What a call leaves that passes what is before the first line of the data, where these are all bits of it (T.4, 4.1.2; T.6,
+-- 2.4.1.1).
+pub record StandsAlone (stand : Stand) (old new : Context) (bits : Bits) (place : ℕ) : Type 0 where
+  pub damage : DamageIsCounted stand old.held.settings bits new.held
+  pub stands : ReaderStands stand old.held.settings bits new.held place
+  pub paid : (from : ℕ) → old.ticks ≡ from → IsPaid from stand old.held.settings bits new.held place new.ticks
+
+-- what it changes: no row was taken, and the settings, the bits and the room are as they were
+pub record TakesNone (old new : Context) (before after : BitsAt) : Type 0 where
+  pub none_taken : new.held.taken ≡ 0
+  pub settings : new.held.settings ≡ old.held.settings
+  pub same_bits : after.bits ≡ before.bits
   pub space : new.space ≡ old.space
 
 -- What a call leaves that passes what is before the first line of the data, where these are its bits: where the reading stands,

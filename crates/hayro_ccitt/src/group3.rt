@@ -10,6 +10,7 @@ ghost use Rattle.hayro_ccitt.specs.EndOfLine.{all_eols};
 ghost use Rattle.hayro_ccitt.specs.Decoding.{DecodesRows, FailsHere, leaving, gap_said, repairs_behind};
 ghost use Rattle.hayro_ccitt.specs.PlainReading.{gap_behind_row};
 ghost use Rattle.hayro_ccitt.specs.Rows.{changes};
+ghost use Rattle.hayro_ccitt.specs.RowsTried.{LacksEol, PassesGap};
 ghost use Rattle.hayro_ccitt.specs.Space.{most_room, room_for};
 ghost use Rattle.hayro_ccitt.specs.Ticks.{looked, looked_ahead};
 
@@ -69,24 +70,10 @@ pub fn recover<'a>(
 pub fn check_eob(ctx: &mut DecoderContext, reader: &mut BitReader<'_>) -> Result<bool>
     requires encoding { ctx.old.held.settings.encoding ≢ EncodingMode.Group4 }
     requires some { 0 < ctx.old.held.taken }
-    ensures gap { gap_behind_row ctx.old.held.settings ctx.old.held.taken ctx.old.held.has_eols (here reader.old)
-        ≡ gap_said result ctx.new.held.has_eols (here reader.new) }
-    ensures held { ctx.new.held ≡ record ctx.old.held {
-      has_eols = ctx.new.held.has_eols;
-      repairs = repairs_behind ctx.old.held (here reader.old);
-    } }
-    ensures given_up { IfOk result (λ over. over ≡ true → ctx.new.held.has_eols ≡ ctx.old.held.has_eols) }
-    ensures only_code { IfErr result (λ e. (e ≡ DecodeError.InvalidCode) × (ctx.old.held.settings.strict ≡ true)) }
-    ensures unchanged { OnErr result ((ctx.new.held ≡ ctx.old.held) × (here reader.new ≡ here reader.old)
-        × (ctx.new.ticks ≡ ctx.old.ticks + looked (here reader.old))) }
-    ensures same_bits { reader.new.bits ≡ reader.old.bits }
-    ensures counts { ctx.old.ticks ≤ ctx.new.ticks }
+    ensures passes { PassesGap ctx.old ctx.new result (here reader.old) (here reader.new) }
+    ensures lacks { OnErr result (LacksEol ctx.old ctx.new (here reader.old) (here reader.new)) }
     ensures at_least { OnOk result (ctx.old.ticks + length (here reader.old) ≤ ctx.new.ticks + length (here reader.new)) }
-    ensures work { OnOk result (ctx.new.held.has_eols ≡ ctx.old.held.has_eols
-        → ctx.new.ticks + 4 * length (here reader.new) ≤ ctx.old.ticks + 4 * length (here reader.old) + 3
-        + looked_ahead ctx.old.held.settings.encoding (here reader.new)) }
-    ensures work_given_up { OnOk result (ctx.new.held.has_eols ≢ ctx.old.held.has_eols
-        → ctx.new.ticks ≤ ctx.old.ticks + 2 * length (here reader.old)) }
+    ensures same_bits { reader.new.bits ≡ reader.old.bits }
     ensures space { ctx.new.space ≡ ctx.old.space }
 {
     pass_gap(ctx, reader)

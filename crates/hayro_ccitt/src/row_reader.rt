@@ -15,7 +15,7 @@ ghost use Rattle.hayro_ccitt.specs.Decoding.{damage_since, cut_since, missed_sin
 ghost use Rattle.hayro_ccitt.specs.RowsRead.{ReachesNextLine};
 ghost use Rattle.hayro_ccitt.specs.RowsRead.{stand_after, line_after, is_at_line, at_end_of_rows, ended, seen, IsStanding};
 ghost use Rattle.hayro_ccitt.specs.PlainReading.{failed_at};
-ghost use Rattle.hayro_ccitt.specs.RowsTried.{PassesGapHere, StandsFirst, rows_behind_line};
+ghost use Rattle.hayro_ccitt.specs.RowsTried.{PassesGapHere, StandsAlone, StandsFirst, TakesNone, rows_behind_line};
 ghost use Rattle.hayro_ccitt.specs.RowFeeds.{TakesWhite};
 ghost use Rattle.hayro_ccitt.specs.WhiteLines.{MayFollow};
 ghost use Rattle.hayro_ccitt.specs.RowsRead.{IsStandingAtLine, DamageIsCounted, ReadsNext, gaps_passed, row_came};
@@ -120,18 +120,12 @@ pub(crate) fn has_ended(stand: Stand) -> bool
 pub(crate) fn first_stand(ctx: &mut DecoderContext, reader: &mut BitReader<'_>) -> Stand
     requires fresh { ctx.old.held ≡ fresh ctx.old.held.settings }
     requires start { reader.old.place ≡ 0 }
-    ensures none_taken { ctx.new.held.taken ≡ 0 }
-    ensures damage { DamageIsCounted result ctx.old.held.settings reader.old.bits ctx.new.held }
-    ensures settings { ctx.new.held.settings ≡ ctx.old.held.settings }
-    ensures same_bits { reader.new.bits ≡ reader.old.bits }
-    ensures stands { ReaderStands result ctx.old.held.settings reader.old.bits ctx.new.held reader.new.place }
+    ensures alone { StandsAlone result ctx.old ctx.new reader.old.bits reader.new.place }
+    ensures first { StandsFirst result ctx.old ctx.new reader.old reader.new }
+    ensures takes_none { TakesNone ctx.old ctx.new reader.old reader.new }
     ensures unfailed { (error : DecodeError) → ended result ≢ Some (Err error) }
     ensures at_line { is_some (ended result) ≡ false → is_at_line result ≡ true }
-    ensures paid { (from : ℕ) → ctx.old.ticks ≡ from
-        → IsPaid from result ctx.old.held.settings reader.old.bits ctx.new.held reader.new.place ctx.new.ticks }
     ensures no_eols { ctx.old.held.settings.encoding ≡ EncodingMode.Group4 → ctx.new.held.has_eols ≡ false }
-    ensures first { StandsFirst result ctx.old ctx.new reader.old reader.new }
-    ensures space { ctx.new.space ≡ ctx.old.space }
 {
     // An offset is known to be within the data once it is read.
     let _start = reader.bit_pos();

@@ -12,7 +12,7 @@ ghost use Rattle.hayro_ccitt.specs.PlainReading.{eols_by, eols_here, is_end_of_b
 ghost use Rattle.hayro_ccitt.specs.PlainReading.{behind_row, limit_met, line_here};
 ghost use Rattle.hayro_ccitt.specs.Rows.{changes};
 ghost use Rattle.hayro_ccitt.specs.RowsRead.{row_came};
-ghost use Rattle.hayro_ccitt.specs.RowsTried.{PassesGap, ReadsRow, TriesRow, lacks_memory, needs_more};
+ghost use Rattle.hayro_ccitt.specs.RowsTried.{LacksEol, PassesGap, ReadsRow, TriesRow, lacks_memory, needs_more};
 ghost use Rattle.hayro_ccitt.specs.Space.{room_for, most_stored};
 ghost use Rattle.hayro_ccitt.specs.TakenRows.{MovesBehindRow, FailsToRepair, CanTakeRow};
 ghost use Rattle.hayro_ccitt.specs.Ticks.{looked, looked_ahead, tag_tests};
@@ -162,10 +162,8 @@ fn is_over(ctx: &DecoderContext, reader: &BitReader<'_>, count: usize) -> bool
 #[inline(always)]
 pub(crate) fn pass_gap(ctx: &mut DecoderContext, reader: &mut BitReader<'_>) -> Result<bool>
     ensures passes { PassesGap ctx.old ctx.new result (here reader.old) (here reader.new) }
-    ensures strict { OnErr result (ctx.old.held.settings.strict ≡ true) }
-    ensures put_back { OnErr result (here reader.new ≡ here reader.old) }
+    ensures lacks { OnErr result (LacksEol ctx.old ctx.new (here reader.old) (here reader.new)) }
     ensures at_least { OnOk result (ctx.old.ticks + length (here reader.old) ≤ ctx.new.ticks + length (here reader.new)) }
-    ensures refused { OnErr result (ctx.new.ticks ≡ ctx.old.ticks + looked (here reader.old)) }
     ensures same_bits { reader.new.bits ≡ reader.old.bits }
     ensures space { ctx.new.space ≡ ctx.old.space }
 {

@@ -18,7 +18,7 @@ use Rattle.hayro_ccitt.proofs.Readings.GapsPassed.{gap_goes_on, looked-more}
 use Rattle.hayro_ccitt.proofs.Work.CallsPaid.{first_gap_paid, first_line_paid}
 use Rattle.hayro_ccitt.proofs.Work.EolsPassed.{unsought_after}
 use Rattle.hayro_ccitt.specs.GapsContinued.{first_gap_is_settled, gap_is_settled}
-use Rattle.hayro_ccitt.specs.RowsTried.{PassesGap, StandsFirst}
+use Rattle.hayro_ccitt.specs.RowsTried.{PassesGap, StandsAlone, StandsFirst}
 
 -- in Group 4 a gap (T.6, 2.4.1.1)
 module _ (old new : Context) (bits : Bits) (next : ℕ) (over : Result Bool DecodeError) (within : next ≤ length bits)
@@ -141,15 +141,15 @@ eols_go_on old new bits next within other wide begins frame rest work counts aft
     first_rest more settled = ap (λ (found : ℕ × Bits). found.1) (same_eols more settled)
 
 -- and if nothing follows
-module _ {stand : Stand} {old new : Context} {before after : BitsAt} (first : StandsFirst stand old new before after) where
-  pub first_stands : ReaderStands stand old.held.settings before.bits new.held after.place
-  first_stands = subst (λ (b : Bits). ReaderStands stand old.held.settings b new.held after.place) (append-nil before.bits)
-      (first.stands [] (inl refl))
-
-  pub first_damage : DamageIsCounted stand old.held.settings before.bits new.held
-  first_damage = subst (λ (b : Bits). DamageIsCounted stand old.held.settings b new.held) (append-nil before.bits)
-      (first.damage [])
-
-  pub first_paid : IsPaid old.ticks stand old.held.settings before.bits new.held after.place new.ticks
-  first_paid = subst (λ (b : Bits). IsPaid old.ticks stand old.held.settings b new.held after.place new.ticks)
-      (append-nil before.bits) (first.paid [] (inl refl))
+pub first_alone : {stand : Stand} {old new : Context} {before after : BitsAt} → StandsFirst stand old new before after
+    → StandsAlone stand old new before.bits after.place
+first_alone {stand} {old} {new} {before} {after} first =
+    record {
+      damage = subst (λ (b : Bits). DamageIsCounted stand old.held.settings b new.held) (append-nil before.bits)
+          (first.damage []);
+      stands = subst (λ (b : Bits). ReaderStands stand old.held.settings b new.held after.place) (append-nil before.bits)
+          (first.stands [] (inl refl));
+      paid = λ from begun. subst (λ (n : ℕ). IsPaid n stand old.held.settings before.bits new.held after.place new.ticks) begun
+          (subst (λ (b : Bits). IsPaid old.ticks stand old.held.settings b new.held after.place new.ticks)
+          (append-nil before.bits) (first.paid [] (inl refl)));
+    }

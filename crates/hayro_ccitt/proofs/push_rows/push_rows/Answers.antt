@@ -83,7 +83,7 @@ returns-then-has_ended-clause-rows g c =
       ends_unfailed,
       decodes_rows,
       run_is_over,
-      c.first_stand.ensures.paid c.args.ctx.now.ticks refl,
+      c.first_stand.ensures.alone.paid c.args.ctx.now.ticks refl,
     )
 
 pub returns-in_err-read_line-clause-rows : goal.returns-in_err-read_line-clause-rows

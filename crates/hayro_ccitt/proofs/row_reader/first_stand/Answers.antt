@@ -3,10 +3,10 @@ use Rattle.hayro_ccitt.proofs.Names.{◌≡◌, ◌≢◌, ◌∙◌, ◌<◌, �
 use Rattle.hayro_ccitt.proofs.Names.{on_err_weaker, Stand, DecodeSettings}
 use Rattle.hayro_ccitt.proofs.Names.{refl}
 use Rattle.hayro_ccitt.proofs.Names.{Group4, Bits, here, Held, gap_said, gap_behind_row, first_line}
-use Rattle.hayro_ccitt.proofs.Names.{IsPaid, ended, stand_after, AtLine, looked}
+use Rattle.hayro_ccitt.proofs.Names.{ended, stand_after, AtLine, looked}
 use Rattle.hayro_ccitt.proofs.Readings.RowByRow.{no_fault}
 use Rattle.hayro_ccitt.proofs.Work.EolsPassed.{unsought_after}
-use Rattle.hayro_ccitt.proofs.Readings.FirstGaps.{eols_go_on, first_damage, first_paid, first_stands, front_goes_on}
+use Rattle.hayro_ccitt.proofs.Readings.FirstGaps.{eols_go_on, first_alone, front_goes_on}
 use Rattle.hayro_ccitt.specs.RowsTried.{PassesGap, StandsFirst}
 use Rattle.hayro_ccitt.proofs.row_reader.first_stand.Goals as goal
 
@@ -70,18 +70,17 @@ returns-in-Group3_1D c =
     )) c.read_leading_eols.ensures.counts at (ap (λ
     (b : Bits). record { bits = b; place = at.place }) c.read_leading_eols.ensures.same_bits)) in
     record {
-      none_taken = ap (λ (h : Held). h.taken) frame;
-      damage = first_damage first;
-      settings = ap (λ (h : Held). h.settings) frame;
-      same_bits = c.read_leading_eols.ensures.same_bits;
-      stands = first_stands first;
+      alone = first_alone first;
+      first = first;
+      takes_none = record {
+        none_taken = ap (λ (h : Held). h.taken) frame;
+        settings = ap (λ (h : Held). h.settings) frame;
+        same_bits = c.read_leading_eols.ensures.same_bits;
+        space = c.read_leading_eols.ensures.space;
+      };
       unfailed = λ error is. cc;
       at_line = λ unended. refl;
-      paid = λ from begun. subst (λ (n : ℕ). IsPaid n AtLine settings bits last at.place c.read_leading_eols.new.ctx.ticks) begun
-          (first_paid first);
       no_eols = λ is. absurd (other is);
-      space = c.read_leading_eols.ensures.space;
-      first = first;
     }
 
 -- what comes before the first line, whatever follows
@@ -109,11 +108,5 @@ returns-in-Group4-clause-first c =
     (sym c.requires.start) known)
 
 -- and so if nothing does
-pub returns-in-Group4-clause-stands : goal.returns-in-Group4-clause-stands
-returns-in-Group4-clause-stands c = first_stands (returns-in-Group4-clause-first c)
-
-pub returns-in-Group4-clause-damage : goal.returns-in-Group4-clause-damage
-returns-in-Group4-clause-damage c = first_damage (returns-in-Group4-clause-first c)
-
-pub returns-in-Group4-clause-paid : goal.returns-in-Group4-clause-paid
-returns-in-Group4-clause-paid c from begun = grind (arith, common_steps, first_paid, returns-in-Group4-clause-first c)
+pub returns-in-Group4-clause-alone : goal.returns-in-Group4-clause-alone
+returns-in-Group4-clause-alone c = first_alone (returns-in-Group4-clause-first c)

@@ -136,12 +136,16 @@ returns-clause-passes c = record {
   work_refused = search rules;
 }
 
-pub returns-then-settings-clause-put_back : goal.returns-then-settings-clause-put_back
-returns-then-settings-clause-put_back c =
+pub returns-then-settings-clause-lacks : goal.returns-then-settings-clause-lacks
+returns-then-settings-clause-lacks c =
     let none : c.read_eols-count.result ≡ 0 = omega (arith, c.if-count-gt0.false) in
     let now = here c.read_eols-count.new.reader in
-    eols_here_stay c.args.ctx.now.held.settings (here c.args.reader.now) now
-    (c.read_eols-count.ensures.eols ∙ ap (λ (n : ℕ). (n, now)) none)
+    record {
+      strict = search rules;
+      put_back = eols_here_stay c.args.ctx.now.held.settings (here c.args.reader.now) now
+          (c.read_eols-count.ensures.eols ∙ ap (λ (n : ℕ). (n, now)) none);
+      ticks = search rules;
+    }
 
 pub returns-clause-at_least : goal.returns-clause-at_least
 returns-clause-at_least c = grind (arith, common_steps)

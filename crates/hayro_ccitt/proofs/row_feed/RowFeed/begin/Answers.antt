@@ -93,7 +93,7 @@ returns-clause-begins c =
     let settled = subst (λ (h : Held). (inside.is_last ≡ true) ⊎ (first_gap_is_settled h.settings.encoding h.settings
     c.placed_at-reader.result.bits ≡ true)) (sym same) (subst (λ (b : Bits). (inside.is_last ≡ true)
     ⊎ (first_gap_is_settled held.settings.encoding held.settings b ≡ true)) (starts at) closed) in
-    let settings_are = stood.ensures.settings in
+    let settings_are = stood.ensures.takes_none.settings in
     let now : Feeding = record {
       ctx = stood.new.ctx;
       rows = record inside.rows { stand = stood.result };
@@ -123,12 +123,12 @@ returns-clause-begins c =
         arith,
         c.bit_pos-self-inside.ensures.within,
         c.bit_pos-self-inside.ensures.place,
-        ap length stood.ensures.same_bits,
+        ap length stood.ensures.takes_none.same_bits,
         ap (λ (b : BitsAt). length b.bits) (front_is at),
       );
-      space = stood.ensures.space ∙ c.front_waits.ensures.space;
+      space = stood.ensures.takes_none.space ∙ c.front_waits.ensures.space;
       settings = settings_are ∙ ap (λ (h : Held). h.settings) same;
-      taken = stood.ensures.none_taken ∙ sym (ap (λ (h : Held). h.taken) (c.self.invariant.fresh (begun_not at)));
+      taken = stood.ensures.takes_none.none_taken ∙ sym (ap (λ (h : Held). h.taken) (c.self.invariant.fresh (begun_not at)));
       waits = λ e. cc;
       unfailed = λ e. stood.ensures.unfailed;
       reaches = λ whole tried e feed. record {
@@ -139,21 +139,21 @@ returns-clause-begins c =
         at_line = λ line. absurd (false≢true (sym (begun_not at) ∙ (and_parts inside.begun (is_at_line inside.rows.stand)
             line).0));
         tried = refl;
-        space = stood.ensures.space ∙ c.front_waits.ensures.space;
+        space = stood.ensures.takes_none.space ∙ c.front_waits.ensures.space;
         settings = settings_are ∙ ap (λ (h : Held). h.settings) same;
       };
       passes = λ whole tried e feed. front_reaches (feeding_of inside) now mid c.placed_at-reader.result
           stood.new.reader stood.result more
           (front_is at) (record { order = refl; finished = refl; kept = refl; dropped = refl; room = refl })
           c.bit_pos-self-inside.ensures.place
-          refl refl same ticks stood.ensures.first stood.ensures.none_taken settings_are stood.ensures.first.counts
+          refl refl same ticks stood.ensures.first stood.ensures.takes_none.none_taken settings_are stood.ensures.first.counts
           stood.ensures.unfailed
           stood.ensures.at_line settled feed (at_front inside.begun tried inside.rows inside.ctx
           (record { bits = whole; place = inside.dropped + inside.place }) (begun_not at) feed.stands);
       stands = λ whole tried feed. front_fed _ _ mid c.placed_at-reader.result stood.new.reader stood.result more
           (front_is at) (record { order = refl; finished = refl; kept = refl; dropped = refl; room = refl })
           c.bit_pos-self-inside.ensures.place
-          refl refl same ticks stood.ensures.first stood.ensures.none_taken settings_are stood.ensures.first.counts
+          refl refl same ticks stood.ensures.first stood.ensures.takes_none.none_taken settings_are stood.ensures.first.counts
           stood.ensures.unfailed
           stood.ensures.at_line settled feed (at_front inside.begun tried inside.rows inside.ctx
           (record { bits = whole; place = inside.dropped + inside.place }) (begun_not at) feed.stands);

@@ -10,10 +10,10 @@ returns-clause-work c =
     let bits = c.match-order.reader.bits in
     let held = first.new.ctx.held in
     let ticks = first.new.ctx.ticks in
-    subst (λ (s : DecodeSettings). CountsWork s first.new.reader.bits held.taken ticks) (sym first.ensures.settings)
-    (subst (λ (b : Bits). CountsWork settings b held.taken ticks) (sym first.ensures.same_bits)
-    (begun_is_counted first.result settings bits held first.new.reader.place ticks first.ensures.none_taken
-    first.ensures.stands (first.ensures.paid 0 (ap (λ (x : Context). x.ticks) c.in_ok-ctx.ensures.made))))
+    subst (λ (s : DecodeSettings). CountsWork s first.new.reader.bits held.taken ticks) (sym first.ensures.takes_none.settings)
+    (subst (λ (b : Bits). CountsWork settings b held.taken ticks) (sym first.ensures.takes_none.same_bits)
+    (begun_is_counted first.result settings bits held first.new.reader.place ticks first.ensures.takes_none.none_taken
+    first.ensures.alone.stands (first.ensures.alone.paid 0 (ap (λ (x : Context). x.ticks) c.in_ok-ctx.ensures.made))))
 
 pub returns-clause-bits : goal.returns-clause-bits
 returns-clause-bits c = search rules

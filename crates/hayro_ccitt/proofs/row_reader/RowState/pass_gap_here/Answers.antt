@@ -1,4 +1,5 @@
-use Rattle.hayro_ccitt.proofs.Names.{rules, arith, here}
+use Rattle.hayro_ccitt.proofs.Names.{rules, arith, here, on_err_weaker}
+use Rattle.hayro_ccitt.specs.RowsTried.{LacksEol}
 use Rattle.hayro_ccitt.proofs.Readings.GapsPassed.{gap_goes_on}
 use Rattle.hayro_ccitt.proofs.row_reader.RowState.pass_gap_here.Goals as goal
 
@@ -15,6 +16,7 @@ returns c =
       begun = omega (arith, c.bit_pos-start.ensures.within, c.bit_pos-start.ensures.place);
       within = omega (arith, c.bit_pos-end.ensures.within, c.bit_pos-end.ensures.place);
       same_bits = gap.same_bits;
-      put_back = gap.put_back;
+      put_back = on_err_weaker over (λ (lacks : LacksEol c.args.ctx.now c.pass_gap-over.new.ctx (here c.args.reader.now)
+          (here c.pass_gap-over.new.reader)). lacks.put_back) gap.lacks;
       space = gap.space;
     }
