@@ -181,10 +181,12 @@ module _ {M : Type 0} {step : M → List ℕ → M} {before after : SinkState M}
       → ctx.held.settings ≡ old.held.settings → reader.bits ≡ bits → IsStanding old.ticks rows ctx reader
       → IsStanding old.ticks read new behind → read.stand ≡ BehindRow
       → ReadsNext (seen rows ctx reader) (seen read new behind) (Ok true)
-      → last ≡ record new { held = record new.held {
-        taken = new.held.taken - 1;
-        repairs = record new.held.repairs { rows = damaged; cut = cut };
-      } }
+      → last ≡ record new {
+        held = record new.held {
+          taken = new.held.taken - 1;
+          repairs = record new.held.repairs { rows = damaged; cut = cut };
+        };
+      }
       → damaged ≡ ctx.held.repairs.rows → cut ≡ ctx.held.repairs.cut
       → after.meaning ≡ meaning_after step before.meaning (take ctx.held.taken (plain old.held.settings bits).rows)
       → after.refused ≡ true → after.refuses (changes new.held.reference) → error ≡ Refused

@@ -2,13 +2,13 @@ use Rattle.hayro_ccitt.proofs.Names.{common_steps}
 use Rattle.hayro_ccitt.proofs.Names.{◌≡◌, ◌∙◌, ◌-◌, Bool, Result, Ok, Err, refl, sym, ap, subst, arith, true}
 use Rattle.hayro_ccitt.proofs.Names.{err_from_is_err_and, length, DecodeError, DecodeSettings, Bits, BitsAt, Context, rules}
 use Rattle.hayro_ccitt.proofs.Names.{SinkState, here, failed_at, IsStanding, IsStandingAtLine, ReachesNextLine, ReadsNext, seen}
-use Rattle.hayro_ccitt.proofs.Names.{row_came, take, plain, ℕ}
-use Rattle.hayro_ccitt.proofs.Names.{drop, DecodesRows, meaning_after}
-use Rattle.hayro_ccitt.proofs.Names.{Refused, StandsAtLine, get_or, [], ◌≤◌, false}
+use Rattle.hayro_ccitt.proofs.Names.{row_came, plain, ℕ}
+use Rattle.hayro_ccitt.proofs.Names.{drop}
+use Rattle.hayro_ccitt.proofs.Names.{StandsAtLine, get_or, [], ◌≤◌, false}
 use Rattle.hayro_ccitt.specs.declared.row_reader.RowState.{RowState}
 use Rattle.hayro_ccitt.proofs.PixelRows.ChangesAndPixels.{AreChanges-wider}
 use Rattle.hayro_ccitt.proofs.Readings.RowByRow.{at_line_stands, few, reader_fails_at_line}
-use Rattle.hayro_ccitt.proofs.Readings.RowsPushed.{HasRun, decodes_rows, ends_unfailed, means_pushed, none_missed, of_same}
+use Rattle.hayro_ccitt.proofs.Readings.RowsPushed.{decodes_rows, ends_unfailed, means_pushed, none_missed, of_same}
 use Rattle.hayro_ccitt.proofs.Readings.RowsPushed.{rows_over, rows_refused, run_is_over}
 use Rattle.hayro_ccitt.proofs.Readings.RowsAgain.{taken_reads, taken_stands, taken_starts, taken_within, white_unchanging}
 use Rattle.hayro_ccitt.proofs.Names.{changes}
