@@ -8,8 +8,8 @@ use Rattle.hayro_ccitt.specs.Context.{Context}
 use Rattle.hayro_ccitt.specs.Space.{most_room}
 use Rattle.hayro_ccitt.specs.RowsRead.{RowsRead, IsStanding, seen}
 
--- what is kept of a reading whose data is elsewhere: the context, what is kept besides it between two rows, the order of the bits,
--- and the offset of the next bit
+-- what is kept of a reading whose data is elsewhere: the context, what is kept besides it between two rows, the order of the
+-- bits, and the offset of the next bit
 pub record Paused : Type 0 where
   pub ctx : Context
   pub rows : RowState

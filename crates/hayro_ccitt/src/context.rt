@@ -10,7 +10,8 @@ ghost use Rattle.hayro_ccitt.specs.Rows.{AreChanges, right_of, b1, b2, changes, 
 ghost use Rattle.hayro_ccitt.specs.Bits.{here};
 ghost use Rattle.hayro_ccitt.specs.Context.{redrawn, painted_front, taken_row, after_repair, with_missed};
 ghost use Rattle.hayro_ccitt.specs.CodeReading.{read_code};
-ghost use Rattle.hayro_ccitt.specs.ContextSteps.{DrawsAtOnce, DrawsOneMode, DrawsUsualModes, DrawsUsualRuns, IsAtStart, IsWidth, SeeksB1};
+ghost use Rattle.hayro_ccitt.specs.ContextSteps.{DrawsAtOnce, DrawsOneMode, DrawsUsualModes, DrawsUsualRuns, SeeksB1};
+ghost use Rattle.hayro_ccitt.specs.ContextSteps.{IsAtStart, IsWidth};
 ghost use Rattle.hayro_ccitt.specs.Counting.{OnlyCounts};
 ghost use Rattle.hayro_ccitt.specs.Context.{ArePassed, exceeds, right_of_painted, with_cut};
 ghost use Rattle.hayro_ccitt.specs.WhiteLines.{AreKnown, MayFollow};

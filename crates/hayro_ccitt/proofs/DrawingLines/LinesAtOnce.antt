@@ -1,6 +1,6 @@
 -- Lines that are drawn at once: nothing is painted before them.
 use Rattle.hayro_ccitt.proofs.Names.{common_steps}
-use Rattle.hayro_ccitt.proofs.Names.{◌≡◌, ◌≤◌, ◌<◌, ◌++◌, ◌∷◌, ℕ, List, true, false, [], arith, length, Color, White, pixels, BitsAt}
+use Rattle.hayro_ccitt.proofs.Names.{◌≡◌, ◌≤◌, ◌<◌, ◌++◌, ◌∷◌, ℕ, List, true, [], arith, length, Color, White, pixels, BitsAt}
 use Rattle.hayro_ccitt.proofs.Names.{Context, context_of, GoesOn2d, pen_at}
 use Rattle.hayro_ccitt.proofs.DrawingLines.UsualModes.{empty_row, none_painted_yet}
 use Rattle.hayro_ccitt.proofs.PixelRows.ChangesAndPixels.{changes-pixels}
@@ -20,12 +20,8 @@ pub record HasPaintedNothing (c : Inside) : Type 0 where
 pub nothing_painted : (c : Inside) {ctx : Context} → context_of c ≡ ctx → IsLawful c → IsAtStart ctx → HasPaintedNothing c
 nothing_painted c view lawful start = grind (arith, common_steps, none_painted_yet, empty_row)
 
--- nothing is drawn
-pub draws_none : (ctx : Context) (at : BitsAt) → IsAtStart ctx → DrawsAtOnce ctx ctx at at false
-draws_none ctx at start = grind (arith, common_steps)
-
--- the context with its line drawn: a row, the colour that would be next, how many changes of the reference row are passed, and the
--- ticks
+-- the context with its line drawn: a row, the colour that would be next, how many changes of the reference row are passed, and
+-- the ticks
 abbrev pub with_line : Inside → Vec ℕ Global → Color → ℕ → ℕ → Inside
 with_line c row color passed ticks = record c {
   coding_changes = row;

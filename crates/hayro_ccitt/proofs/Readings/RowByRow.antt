@@ -643,9 +643,9 @@ pub comes_to_line : (old : RowsRead) (rows : RowState) (ctx : Context) (at : Bit
     → ReaderStands (stand_after answer) old.settings old.bits ctx.held at.place
     → OnErr answer (rows.started_at ≡ failed_at old.settings old.bits old.taken)
     → rows.missed ≡ missed_before old.settings old.bits old.taken → ReachesNextLine old (seen rows ctx at) (line_after answer)
-comes_to_line old rows ctx at (Ok true) stand settings bits taken counts row begun stands start told = grind (arith, common_steps)
-comes_to_line old rows ctx at (Ok false) stand settings bits taken counts row begun stands start told = grind (arith, common_steps)
-comes_to_line old rows ctx at (Err error) stand settings bits taken counts row begun stands start told = grind (arith, common_steps)
+comes_to_line old rows ctx at (Ok true) stand same are taken counts row begun stands start told = grind (arith, common_steps)
+comes_to_line old rows ctx at (Ok false) stand same are taken counts row begun stands start told = grind (arith, common_steps)
+comes_to_line old rows ctx at (Err error) stand same are taken counts row begun stands start told = grind (arith, common_steps)
 
 -- the result of a call that passes a gap, and then reads the line there
 pub reads_on : (old mid new : RowsRead) (result : Result Bool DecodeError) → ReachesNextLine old mid (Ok true)

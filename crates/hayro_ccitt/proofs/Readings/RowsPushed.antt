@@ -165,20 +165,20 @@ module _ {M : Type 0} {step : M → List ℕ → M} {before after : SinkState M}
 module _ {M : Type 0} {step : M → List ℕ → M} {before after : SinkState M} {old new : Context} {bits : Bits}
     (wide : 0 < old.held.settings.columns) where
   -- so the drivers keep their promise, where the reading has ended,
-  pub rows_over : (rows : RowState) {reader : BitsAt} {taken : ℕ} → new.held.settings ≡ old.held.settings → reader.bits ≡ bits
+  pub rows_ended : (rows : RowState) {reader : BitsAt} {taken : ℕ} → new.held.settings ≡ old.held.settings → reader.bits ≡ bits
       → IsStanding old.ticks rows new reader → new.held.taken ≡ taken → taken ≤ length (plain old.held.settings bits).rows
       → after.meaning ≡ meaning_after step before.meaning (take taken (plain old.held.settings bits).rows)
       → after.refused ≡ before.refused → (answer : Result (Unit {0}) DecodeError) → ended rows.stand ≡ Some answer
       → DecodesRows bits step before after old new (leaving answer (here reader))
-  rows_over rows {reader} same are stands taken few means unrefused answer is =
-      decodes_rows bits step before after old new (leaving answer (here reader)) wide same (run_is_over rows new reader stands same
-      are wide (omega (arith, taken, few)) (means
+  rows_ended rows {reader} same are stands taken few means unrefused answer is =
+      decodes_rows bits step before after old new (leaving answer (here reader)) wide same (run_is_over rows new reader stands
+      same are wide (omega (arith, taken, few)) (means
       ∙ ap (λ (n : ℕ). meaning_after step before.meaning (take n (plain old.held.settings bits).rows)) (sym taken)) unrefused
       answer is)
 
   -- and where the sink refused the row that was read, and it was taken back
-  pub rows_refused : (rows read : RowState) (ctx : Context) {last : Context} {reader behind : BitsAt} {damaged cut : ℕ} {error : DecodeError}
-      → ctx.held.settings ≡ old.held.settings → reader.bits ≡ bits → IsStanding old.ticks rows ctx reader
+  pub rows_refused : (rows read : RowState) (ctx : Context) {last : Context} {reader behind : BitsAt} {damaged cut : ℕ}
+      {error : DecodeError} → ctx.held.settings ≡ old.held.settings → reader.bits ≡ bits → IsStanding old.ticks rows ctx reader
       → IsStanding old.ticks read new behind → read.stand ≡ BehindRow
       → ReadsNext (seen rows ctx reader) (seen read new behind) (Ok true)
       → last ≡ record new {

@@ -9,7 +9,7 @@ use Rattle.hayro_ccitt.specs.declared.row_reader.RowState.{RowState}
 use Rattle.hayro_ccitt.proofs.PixelRows.ChangesAndPixels.{AreChanges-wider}
 use Rattle.hayro_ccitt.proofs.Readings.RowByRow.{at_line_stands, few, reader_fails_at_line}
 use Rattle.hayro_ccitt.proofs.Readings.RowsPushed.{decodes_rows, ends_unfailed, means_pushed, none_missed, of_same}
-use Rattle.hayro_ccitt.proofs.Readings.RowsPushed.{rows_over, rows_refused, run_is_over}
+use Rattle.hayro_ccitt.proofs.Readings.RowsPushed.{rows_ended, rows_refused, run_is_over}
 use Rattle.hayro_ccitt.proofs.Readings.RowsAgain.{taken_reads, taken_stands, taken_starts, taken_within, white_unchanging}
 use Rattle.hayro_ccitt.proofs.Names.{changes}
 use Rattle.hayro_ccitt.specs.RowFeeds.{TakesWhite}
@@ -98,7 +98,7 @@ returns-in_err-read_line-clause-rows g c =
     let answer = err_from_is_err_and c.from_residual.result c.from_residual.ensures.1 in
     let inv = c.rows.invariant in
     let error = (line_fails g there c.in_err-read_line.was).error in
-    rw (answer.1, answer.2) (rows_over c.requires.columns c.read_line.new.self (c.read_line.ensures.settings ∙ inv.settings)
+    rw (answer.1, answer.2) (rows_ended c.requires.columns c.read_line.new.self (c.read_line.ensures.settings ∙ inv.settings)
     (c.read_line.ensures.same_bits ∙ inv.bits) (stands g there) error.1 inv.within inv.meaning inv.unrefused
     (Err c.in_err-read_line.field-0.0) error.0)
 
@@ -468,7 +468,7 @@ returns-in_err-come_to_line-clause-rows g c =
     let is = subst (λ (r : Result Bool DecodeError). ReachesNextLine (seen c.take_white_row.new.self c.take_white_row.new.ctx
     c.take_white_row.new.reader) (seen c.come_to_line.new.self c.come_to_line.new.ctx c.come_to_line.new.reader) r)
     c.in_err-come_to_line.was (c.come_to_line.ensures.comes from stands) in
-    rw (answer.1, answer.2) (rows_over c.requires.columns c.come_to_line.new.self
+    rw (answer.1, answer.2) (rows_ended c.requires.columns c.come_to_line.new.self
     (c.come_to_line.ensures.settings ∙ ap (λ (x : Context). x.held.settings) none.1 ∙ inv.settings)
     (c.come_to_line.ensures.same_bits ∙ ap (λ (b : BitsAt). b.bits) none.2 ∙ inv.bits) (c.come_to_line.ensures.stands from stands)
     (is.taken ∙ ap (λ (x : Context). x.held.taken) none.1) inv.within inv.meaning inv.unrefused
@@ -508,7 +508,7 @@ returns-then-not-branch-clause-rows g c =
     let stands = still_stands g (goal.at.returns-then-not-branch-clause-rows g c).After-take_white_row c.white-test.false in
     let comes = c.come_to_line.ensures.comes from stands in
     let none : c.come_to_line.result ≡ Ok false = c.in_ok-come_to_line.was ∙ ap (λ (b : Bool). Ok b) c.if-not-branch.true in
-    rows_over c.requires.columns c.come_to_line.new.self
+    rows_ended c.requires.columns c.come_to_line.new.self
     (c.come_to_line.ensures.settings ∙ ap (λ (x : Context). x.held.settings) unread.1 ∙ inv.settings)
     (c.come_to_line.ensures.same_bits ∙ ap (λ (b : BitsAt). b.bits) unread.2 ∙ inv.bits)
     (c.come_to_line.ensures.stands from stands) (comes.taken ∙ ap (λ (x : Context). x.held.taken) unread.1) inv.within inv.meaning

@@ -44,7 +44,8 @@ returns-then-is_before_1d-clause-rows c =
     last_line_counted settings (here c.args.reader.now) now c.lines.rows c.lines.invariant.4
     (before_1d settings now (here c.pass_eol.new.reader) rest count (eol_there at) (eols_counted at)
     (subst (λ (s : DecodeSettings). ((s.end_of_block ≡ true) × (6 ≤ count))
-    ⊎ (((line : Bits) × (rest ≡ true ∷ line)) ⊎ (rest ≡ []))) (same_settings (goal.at.returns-then-is_before_1d-clause-rows c).After-is_before_1d)
+    ⊎ (((line : Bits) × (rest ≡ true ∷ line)) ⊎ (rest ≡ [])))
+    (same_settings (goal.at.returns-then-is_before_1d-clause-rows c).After-is_before_1d)
     (c.is_before_1d.ensures.ends c.if-is_before_1d.true)))
 
 pub returns-then-not-pass_line-clause-rows : goal.returns-then-not-pass_line-clause-rows

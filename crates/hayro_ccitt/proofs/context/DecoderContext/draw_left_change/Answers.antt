@@ -30,9 +30,9 @@ returns c =
     let left = c.vertical_distance-left.result in
     let reach : left ≤ get_or s.ref_changes.items 0 s.settings.columns = omega (arith, b1, c.if-left-b1.false) in
     let within = end_within s.settings.columns s.ref_changes.items c.self.invariant.reference 0 in
-    rw (← c.self.view_is, c.if-not-pass_bits.ensures.moved refl, c.tick_times.ensures) (draws_unpassed s none c.turn_at.new.changes
-    s.color _ c.turn_at.ensures.room refl (rw (turned none c.turn_at.ensures.items, none.white, b1) (left_change s.settings.strict
-    s.settings.columns s.ref_changes.items c.self.invariant.reference (omega arith)
+    rw (← c.self.view_is, c.if-not-pass_bits.ensures.moved refl, c.tick_times.ensures) (draws_unpassed s none
+    c.turn_at.new.changes s.color _ c.turn_at.ensures.room refl (rw (turned none c.turn_at.ensures.items, none.white, b1)
+    (left_change s.settings.strict s.settings.columns s.ref_changes.items c.self.invariant.reference (omega arith)
     (no_second_change s.settings.columns s.ref_changes.items few) left _ c.args.reader.now s.ticks
-    (omega (arith, c.if-left-eq0.false)) c.vertical_distance-left.ensures reach (omega (arith, c.if-left-eq0.false, reach, within))
-    c.vertical_width.ensures (c.if-not-pass_bits.ensures.there refl))))
+    (omega (arith, c.if-left-eq0.false)) c.vertical_distance-left.ensures reach
+    (omega (arith, c.if-left-eq0.false, reach, within)) c.vertical_width.ensures (c.if-not-pass_bits.ensures.there refl))))

@@ -13,5 +13,5 @@ returns c =
     let few : length s.ref_changes.items < 2 = omega (arith, c.len.ensures, c.if-len-gt1.false, s.ref_changes.ok.0) in
     rw (← c.self.view_is, c.if-not-pass_bits.ensures.moved refl, c.tick_times.ensures) (draws_unpassed s none s.coding_changes
     s.color _ refl refl (rw (none.row, none.white) (passed_row s.settings.strict s.settings.columns s.ref_changes.items
-    c.self.invariant.reference (omega arith) (no_second_change s.settings.columns s.ref_changes.items few) c.args.reader.now s.ticks
-    (omega (arith, c.if-columns-eq0.false)) (c.if-not-pass_bits.ensures.there refl))))
+    c.self.invariant.reference (omega arith) (no_second_change s.settings.columns s.ref_changes.items few) c.args.reader.now
+    s.ticks (omega (arith, c.if-columns-eq0.false)) (c.if-not-pass_bits.ensures.there refl))))

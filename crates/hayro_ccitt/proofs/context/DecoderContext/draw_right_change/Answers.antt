@@ -19,8 +19,8 @@ returns c =
     let place = c.index-b1.result.now in
     let row : s.ref_changes.items ≡ place ∷ [] = one_change s.ref_changes.items place count c.index-b1.ensures in
     let ascend : AreChanges s.settings.columns (place ∷ []) = rw row at c.self.invariant.reference in
-    rw (← c.self.view_is, c.if-not-pass_bits.ensures.moved refl, c.tick_times.ensures) (draws_unpassed s none c.turn_at.new.changes
-    s.color _ c.turn_at.ensures.room refl (rw (turned none c.turn_at.ensures.items, none.white, row) (right_change s.settings.strict
-    s.settings.columns (place ∷ []) ascend (omega arith) refl c.vertical_distance-right.result _ c.args.reader.now s.ticks
-    (omega arith) c.vertical_distance-right.ensures (omega arith) c.vertical_width.ensures
+    rw (← c.self.view_is, c.if-not-pass_bits.ensures.moved refl, c.tick_times.ensures) (draws_unpassed s none
+    c.turn_at.new.changes s.color _ c.turn_at.ensures.room refl (rw (turned none c.turn_at.ensures.items, none.white, row)
+    (right_change s.settings.strict s.settings.columns (place ∷ []) ascend (omega arith) refl c.vertical_distance-right.result _
+    c.args.reader.now s.ticks (omega arith) c.vertical_distance-right.ensures (omega arith) c.vertical_width.ensures
     (c.if-not-pass_bits.ensures.there refl))))

@@ -15,6 +15,6 @@ returns c =
     let row : s.ref_changes.items ≡ place ∷ [] = one_change s.ref_changes.items place count c.index.ensures in
     let ascend : AreChanges s.settings.columns (place ∷ []) = rw row at c.self.invariant.reference in
     rw (← c.self.view_is, c.if-not-pass_bits.ensures.moved refl, c.tick_times.ensures) (draws_unpassed s none s.coding_changes _ _
-    refl refl (rw (none.row, row) (white_below_last s.settings.strict s.settings.columns place _ _ c.args.reader.now s.ticks ascend
-    (omega arith) (omega (arith, ascend.1)) (omega (arith, c.if-black-gt3.false)) c.vertical_width.ensures
+    refl refl (rw (none.row, row) (white_below_last s.settings.strict s.settings.columns place _ _ c.args.reader.now s.ticks
+    ascend (omega arith) (omega (arith, ascend.1)) (omega (arith, c.if-black-gt3.false)) c.vertical_width.ensures
     (c.if-not-pass_bits.ensures.there refl))))
