@@ -1,4 +1,5 @@
 pub mod GroupMasks
+pub mod LinesAtOnce
 pub mod PartsOfLines
 pub mod RegularLanes
 pub mod RegularModes
@@ -8,7 +9,6 @@ pub mod TwoOnes
 pub mod UsualModes
 pub mod UsualStrokes
 pub mod WhiteLines
-pub mod WhiteRows
 pub use Rattle.fax_reading.proofs.DrawingLines.CountedLines
 pub use Rattle.fax_reading.proofs.DrawingLines.CutRuns
 pub use Rattle.fax_reading.proofs.DrawingLines.Drawings

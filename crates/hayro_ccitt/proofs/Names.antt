@@ -42,7 +42,7 @@ pub use Rattle.hayro_ccitt.specs.RowsKept.{EndsByWords, IsInStepFrom, RowsBefore
 pub use Rattle.hayro_ccitt.specs.RowsRead.{DamageIsCounted, HasEnded, HasFailed, IsPaid, IsStanding, IsStandingAtLine, Misses}
 pub use Rattle.hayro_ccitt.specs.RowsRead.{MissesAreCounted, MissesBehindRow, PaidAtLine, PaidBehindRow, ReachesNextLine}
 pub use Rattle.hayro_ccitt.specs.RowsRead.{ReaderStands, ReadsNext, RowsRead, StandsAtLine, StandsBehindRow, WorkIsPaid, ended}
-pub use Rattle.hayro_ccitt.specs.RowsRead.{is_at_line, line_after, read_so_far, IsWhole, MissIsTold, row_came, seen, stand_after}
+pub use Rattle.hayro_ccitt.specs.RowsRead.{is_at_line, line_after, IsWhole, MissIsTold, row_came, seen, stand_after}
 pub use Rattle.hayro_ccitt.specs.RowsRead.{start_after}
 pub use Rattle.hayro_ccitt.specs.Runs.{codes_of, read_run, run_from}
 pub use Rattle.hayro_ccitt.specs.Settings.{AreSettings}

@@ -1,5 +1,6 @@
 -- What the calls of a context leave that draw a line or a part of one.
-use Rattle.std.specs.Prelude.{◌≡◌, ◌+◌, ◌≤◌, ℕ, suc, max, List, length, Result, OnOk}
+use Rattle.std.specs.Prelude.{◌≡◌, ◌+◌, ◌≤◌, ℕ, suc, max, List, length, Bool, false, [], Result, OnOk}
+use Rattle.fax_bits.specs.declared.codes.Color.TheVariants.{White}
 use Rattle.fax_bits.specs.declared.codes.Mode.{Mode}
 use Rattle.fax_bits.specs.declared.error.DecodeError.{DecodeError}
 use Rattle.hayro_ccitt.specs.Answers.{OnAnswer, TellsCut, pen_of, strict_step_of_mode, words_of_mode}
@@ -16,6 +17,19 @@ pub record PassesChanges (places : List ℕ) (painted before after old new : ℕ
   pub passed : ArePassed places painted after
   pub forward : before ≤ after
   pub work : new + before ≡ old + after + 1
+
+-- A line is at its start: nothing of it is painted, white is next, and no change of the reference row is passed (T.4, 4.1.1 and
+-- 4.2.1.1).
+pub record IsAtStart (ctx : Context) : Type 0 where
+  pub front : ctx.held.front ≡ []
+  pub color : ctx.held.color ≡ White
+  pub passed : ctx.passed ≡ 0
+
+-- the number of bits of a vertical mode that is so far from b1 (T.4, table 4)
+pub record IsWidth (distance width : ℕ) : Type 0 where
+  pub one : distance ≡ 1 → width ≡ 3
+  pub two : distance ≡ 2 → width ≡ 6
+  pub three : distance ≡ 3 → width ≡ 7
 
 -- What a call leaves that looks for b1: the changes that aren't right of a0 are passed, each with a tick, and there is one tick
 -- more (T.4, 4.2.1.1).
@@ -82,3 +96,9 @@ pub record DrawsUsualModes (old new : Context) (before after : BitsAt) : Type 0 
   pub same_bits : after.bits ≡ before.bits
   pub space : new.space ≤ max old.space
       (room_for (max (length (changes old.held.reference)) (suc (length (changes new.held.front)))))
+
+-- What a call leaves that draws a line at once, or nothing, and tells which (T.4, 4.2.1.3; T.6, 2.2).
+pub record DrawsAtOnce (old new : Context) (before after : BitsAt) (drawn : Bool) : Type 0 where
+  pub draws : DrawsUsualModes old new before after
+  pub unchanged : drawn ≡ false → (new ≡ old) × (after ≡ before)
+  pub space : new.space ≡ old.space

@@ -57,26 +57,23 @@ pub record RowsRead : Type 0 where
   pub ticks : ℕ
   pub space : ℕ
 
-abbrev pub read_so_far : Held → ℕ → ℕ → BitsAt → ℕ → Option DecodeError → Bool → Option ℕ → Stand → RowsRead
-read_so_far held ticks space reader line_start damage cut missed stand = record {
-  settings = held.settings;
-  bits = reader.bits;
-  taken = held.taken;
-  row = held.reference;
-  line_start = line_start;
-  damage = damage;
-  cut = cut;
-  missed = missed;
-  end = ended stand;
-  at_line = is_at_line stand;
-  place = reader.place;
-  ticks = ticks;
-  space = space;
-}
-
 -- what a reading keeps between two rows, and the bits from here on
 abbrev pub seen : RowState → Context → BitsAt → RowsRead
-seen rows ctx reader = read_so_far ctx.held ctx.ticks ctx.space reader rows.started_at rows.damage rows.cut rows.missed rows.stand
+seen rows ctx reader = record {
+  settings = ctx.held.settings;
+  bits = reader.bits;
+  taken = ctx.held.taken;
+  row = ctx.held.reference;
+  line_start = rows.started_at;
+  damage = rows.damage;
+  cut = rows.cut;
+  missed = rows.missed;
+  end = ended rows.stand;
+  at_line = is_at_line rows.stand;
+  place = reader.place;
+  ticks = ctx.ticks;
+  space = ctx.space;
+}
 
 abbrev pub rows_read_of : Inside → RowsRead
 rows_read_of r = seen r.rows r.ctx r.reader

@@ -10,8 +10,8 @@ ghost use Rattle.hayro_ccitt.specs.Rows.{AreChanges, right_of, b1, b2, changes, 
 ghost use Rattle.hayro_ccitt.specs.Bits.{here};
 ghost use Rattle.hayro_ccitt.specs.Context.{redrawn, painted_front, taken_row, after_repair, with_missed};
 ghost use Rattle.hayro_ccitt.specs.CodeReading.{read_code};
-ghost use Rattle.hayro_ccitt.specs.ContextSteps.{CountsWords, DrawsOneMode, DrawsUsualModes, DrawsUsualRuns, OnlyDraws, PassesChanges};
-ghost use Rattle.hayro_ccitt.specs.ContextSteps.{SeeksB1};
+ghost use Rattle.hayro_ccitt.specs.ContextSteps.{CountsWords, DrawsAtOnce, DrawsOneMode, DrawsUsualModes, DrawsUsualRuns};
+ghost use Rattle.hayro_ccitt.specs.ContextSteps.{IsAtStart, IsWidth, OnlyDraws, PassesChanges, SeeksB1};
 ghost use Rattle.hayro_ccitt.specs.Contract.{PassesRow};
 ghost use Rattle.hayro_ccitt.specs.Counting.{OnlyCounts};
 ghost use Rattle.hayro_ccitt.specs.Context.{ArePassed, exceeds, right_of_painted, with_cut};
@@ -22,7 +22,6 @@ ghost use Rattle.hayro_ccitt.specs.Answers.{line_from_1d, line_from_2d, front_of
 ghost use Rattle.hayro_ccitt.specs.Answers.{TellsCut};
 ghost use Rattle.hayro_ccitt.specs.Lines.{line_1d, line_2d};
 ghost use Rattle.hayro_ccitt.specs.Space.{room_for, most_stored};
-ghost use Rattle.hayro_ccitt.specs.UsualModes.{GoesOn2d};
 
 use crate::changes::{append_pixels, b1_index, change_or_end, vertical_place};
 use crate::modes::{
@@ -77,9 +76,7 @@ fn find_white_lines(lines: &mut WhiteLines, settings: DecodeSettings, has_eols: 
 #[inline(always)]
 fn vertical_width(distance: u32) -> usize
     requires { (0 < distance) × (distance ≤ 3) }
-    ensures one { distance ≡ 1 → result ≡ 3 }
-    ensures two { distance ≡ 2 → result ≡ 6 }
-    ensures three { distance ≡ 3 → result ≡ 7 }
+    ensures { IsWidth distance result }
 {
     match distance {
         1 => 3,
@@ -971,8 +968,7 @@ impl DecoderContext {
     /// changes.
     #[inline(always)]
     fn draw_white_row(&mut self, reader: &mut BitReader<'_>) -> bool
-        requires begins { self.old.held.front ≡ [] }
-        requires white { self.old.held.color ≡ Color.White }
+        requires { IsAtStart self.old }
         ensures draws { DrawsUsualRuns self.old self.new reader.old reader.new }
         ensures unchanged { result ≡ false → (self.new ≡ self.old) × (reader.new ≡ reader.old) }
     {
@@ -1002,8 +998,7 @@ impl DecoderContext {
     /// narrow row isn't usual, and the row before has fewer than two changes, it is left to the plain calls.
     #[inline(always)]
     fn draw_first_runs(&mut self, reader: &mut BitReader<'_>)
-        requires begins { self.old.held.front ≡ [] }
-        requires white { self.old.held.color ≡ Color.White }
+        requires { IsAtStart self.old }
         ensures { DrawsUsualRuns self.old self.new reader.old reader.new }
     {
         if self.settings.columns > 64 {
@@ -1064,9 +1059,7 @@ impl DecoderContext {
     #[inline(always)]
     fn draw_modes_at_hand(&mut self, hand: &mut BitsAtHand<'_>)
         requires empty { hand.old.left ≡ 0 }
-        requires begins { self.old.held.front ≡ [] }
-        requires white { self.old.held.color ≡ Color.White }
-        requires none { self.old.passed ≡ 0 }
+        requires start { IsAtStart self.old }
         ensures { DrawsUsualModes self.old self.new hand.old.at hand.new.at }
     {
         let columns = self.settings.columns;
@@ -1099,9 +1092,7 @@ impl DecoderContext {
     /// The same for a reader, in whichever order its bits are.
     #[inline(never)]
     fn draw_modes_of(&mut self, reader: &mut BitReader<'_>)
-        requires begins { self.old.held.front ≡ [] }
-        requires white { self.old.held.color ≡ Color.White }
-        requires none { self.old.passed ≡ 0 }
+        requires { IsAtStart self.old }
         ensures { DrawsUsualModes self.old self.new reader.old reader.new }
     {
         let mut hand = none_at_hand(reader);
@@ -1118,13 +1109,8 @@ impl DecoderContext {
     /// changes.
     #[inline(always)]
     fn draw_white_line(&mut self, reader: &mut BitReader<'_>) -> bool
-        requires begins { self.old.held.front ≡ [] }
-        requires white { self.old.held.color ≡ Color.White }
-        requires none { self.old.passed ≡ 0 }
-        ensures draws { DrawsUsualModes self.old self.new reader.old reader.new }
-        ensures none { self.new.passed ≡ 0 }
-        ensures unchanged { result ≡ false → (self.new ≡ self.old) × (reader.new ≡ reader.old) }
-        ensures space { self.new.space ≡ self.old.space }
+        requires { IsAtStart self.old }
+        ensures { DrawsAtOnce self.old self.new reader.old reader.new result }
     {
         if !is_white_row(&self.ref_changes) {
             return false;
@@ -1148,12 +1134,8 @@ impl DecoderContext {
     /// otherwise nothing changes.
     #[inline(always)]
     fn draw_same_line(&mut self, reader: &mut BitReader<'_>) -> bool
-        requires begins { self.old.held.front ≡ [] }
-        requires white { self.old.held.color ≡ Color.White }
-        requires none { self.old.passed ≡ 0 }
-        ensures draws { DrawsUsualModes self.old self.new reader.old reader.new }
-        ensures unchanged { result ≡ false → (self.new ≡ self.old) × (reader.new ≡ reader.old) }
-        ensures space { self.new.space ≡ self.old.space }
+        requires { IsAtStart self.old }
+        ensures { DrawsAtOnce self.old self.new reader.old reader.new result }
     {
         // Most lines that begin otherwise aren't looked at further.
         if reader.peek_u32() >> 31 == 0 {
@@ -1180,18 +1162,8 @@ impl DecoderContext {
     /// there is one here; otherwise nothing changes.
     #[inline(always)]
     fn draw_left_change(&mut self, reader: &mut BitReader<'_>) -> bool
-        requires begins { self.old.held.front ≡ [] }
-        requires white { self.old.held.color ≡ Color.White }
-        requires none { self.old.passed ≡ 0 }
-        ensures drawn { result ≡ true → GoesOn2d self.old.held.settings.strict self.old.held.settings.columns self.old.held.reference
-            (pen_of self.old.held (here reader.old)) (pen_of self.new.held (here reader.new)) self.old.ticks self.new.ticks
-            self.old.passed self.new.passed }
-        ensures held { self.new.held ≡ redrawn self.old.held self.new.held.front self.new.held.color }
-        ensures cut { self.new.cut ≡ self.old.cut }
-        ensures none { self.new.passed ≡ 0 }
-        ensures same_bits { reader.new.bits ≡ reader.old.bits }
-        ensures unchanged { result ≡ false → (self.new ≡ self.old) × (reader.new ≡ reader.old) }
-        ensures space { self.new.space ≡ self.old.space }
+        requires { IsAtStart self.old }
+        ensures { DrawsAtOnce self.old self.new reader.old reader.new result }
     {
         if self.ref_changes.len() > 1 || self.coding_changes.capacity() == 0 {
             return false;
@@ -1214,18 +1186,8 @@ impl DecoderContext {
     /// The same for VR and V0, below a row of one change.
     #[inline(always)]
     fn draw_right_change(&mut self, reader: &mut BitReader<'_>) -> bool
-        requires begins { self.old.held.front ≡ [] }
-        requires white { self.old.held.color ≡ Color.White }
-        requires none { self.old.passed ≡ 0 }
-        ensures drawn { result ≡ true → GoesOn2d self.old.held.settings.strict self.old.held.settings.columns self.old.held.reference
-            (pen_of self.old.held (here reader.old)) (pen_of self.new.held (here reader.new)) self.old.ticks self.new.ticks
-            self.old.passed self.new.passed }
-        ensures held { self.new.held ≡ redrawn self.old.held self.new.held.front self.new.held.color }
-        ensures cut { self.new.cut ≡ self.old.cut }
-        ensures none { self.new.passed ≡ 0 }
-        ensures same_bits { reader.new.bits ≡ reader.old.bits }
-        ensures unchanged { result ≡ false → (self.new ≡ self.old) × (reader.new ≡ reader.old) }
-        ensures space { self.new.space ≡ self.old.space }
+        requires { IsAtStart self.old }
+        ensures { DrawsAtOnce self.old self.new reader.old reader.new result }
     {
         if self.ref_changes.len() != 1 || self.coding_changes.capacity() == 0 {
             return false;
@@ -1249,18 +1211,8 @@ impl DecoderContext {
     /// white row. Returns whether there is one here; otherwise nothing changes.
     #[inline(always)]
     fn draw_white_below_last(&mut self, reader: &mut BitReader<'_>) -> bool
-        requires begins { self.old.held.front ≡ [] }
-        requires white { self.old.held.color ≡ Color.White }
-        requires none { self.old.passed ≡ 0 }
-        ensures drawn { result ≡ true → GoesOn2d self.old.held.settings.strict self.old.held.settings.columns self.old.held.reference
-            (pen_of self.old.held (here reader.old)) (pen_of self.new.held (here reader.new)) self.old.ticks self.new.ticks
-            self.old.passed self.new.passed }
-        ensures held { self.new.held ≡ redrawn self.old.held self.new.held.front self.new.held.color }
-        ensures cut { self.new.cut ≡ self.old.cut }
-        ensures none { self.new.passed ≡ 0 }
-        ensures same_bits { reader.new.bits ≡ reader.old.bits }
-        ensures unchanged { result ≡ false → (self.new ≡ self.old) × (reader.new ≡ reader.old) }
-        ensures space { self.new.space ≡ self.old.space }
+        requires { IsAtStart self.old }
+        ensures { DrawsAtOnce self.old self.new reader.old reader.new result }
     {
         if self.ref_changes.len() != 1 {
             return false;
@@ -1280,18 +1232,8 @@ impl DecoderContext {
     /// there is one here; otherwise nothing changes.
     #[inline(always)]
     fn draw_passed_row(&mut self, reader: &mut BitReader<'_>) -> bool
-        requires begins { self.old.held.front ≡ [] }
-        requires white { self.old.held.color ≡ Color.White }
-        requires none { self.old.passed ≡ 0 }
-        ensures drawn { result ≡ true → GoesOn2d self.old.held.settings.strict self.old.held.settings.columns self.old.held.reference
-            (pen_of self.old.held (here reader.old)) (pen_of self.new.held (here reader.new)) self.old.ticks self.new.ticks
-            self.old.passed self.new.passed }
-        ensures held { self.new.held ≡ redrawn self.old.held self.new.held.front self.new.held.color }
-        ensures cut { self.new.cut ≡ self.old.cut }
-        ensures none { self.new.passed ≡ 0 }
-        ensures same_bits { reader.new.bits ≡ reader.old.bits }
-        ensures unchanged { result ≡ false → (self.new ≡ self.old) × (reader.new ≡ reader.old) }
-        ensures space { self.new.space ≡ self.old.space }
+        requires { IsAtStart self.old }
+        ensures { DrawsAtOnce self.old self.new reader.old reader.new result }
     {
         if self.ref_changes.len() > 1 {
             return false;
@@ -1309,18 +1251,8 @@ impl DecoderContext {
     /// none. Returns whether there is one here; otherwise nothing changes. It is a call, so that other lines are drawn without one.
     #[inline(never)]
     fn draw_short_line(&mut self, reader: &mut BitReader<'_>) -> bool
-        requires begins { self.old.held.front ≡ [] }
-        requires white { self.old.held.color ≡ Color.White }
-        requires none { self.old.passed ≡ 0 }
-        ensures drawn { result ≡ true → GoesOn2d self.old.held.settings.strict self.old.held.settings.columns self.old.held.reference
-            (pen_of self.old.held (here reader.old)) (pen_of self.new.held (here reader.new)) self.old.ticks self.new.ticks
-            self.old.passed self.new.passed }
-        ensures held { self.new.held ≡ redrawn self.old.held self.new.held.front self.new.held.color }
-        ensures cut { self.new.cut ≡ self.old.cut }
-        ensures none { self.new.passed ≡ 0 }
-        ensures same_bits { reader.new.bits ≡ reader.old.bits }
-        ensures unchanged { result ≡ false → (self.new ≡ self.old) × (reader.new ≡ reader.old) }
-        ensures space { self.new.space ≡ self.old.space }
+        requires { IsAtStart self.old }
+        ensures { DrawsAtOnce self.old self.new reader.old reader.new result }
     {
         // No other such line begins with pass mode.
         if reader.peek_u32() >> 28 == 1 {
@@ -1338,18 +1270,8 @@ impl DecoderContext {
     /// The same, without a call if the line begins with V0: no such line does.
     #[inline(always)]
     fn draw_whole_line(&mut self, reader: &mut BitReader<'_>) -> bool
-        requires begins { self.old.held.front ≡ [] }
-        requires white { self.old.held.color ≡ Color.White }
-        requires none { self.old.passed ≡ 0 }
-        ensures drawn { result ≡ true → GoesOn2d self.old.held.settings.strict self.old.held.settings.columns self.old.held.reference
-            (pen_of self.old.held (here reader.old)) (pen_of self.new.held (here reader.new)) self.old.ticks self.new.ticks
-            self.old.passed self.new.passed }
-        ensures held { self.new.held ≡ redrawn self.old.held self.new.held.front self.new.held.color }
-        ensures cut { self.new.cut ≡ self.old.cut }
-        ensures none { self.new.passed ≡ 0 }
-        ensures same_bits { reader.new.bits ≡ reader.old.bits }
-        ensures unchanged { result ≡ false → (self.new ≡ self.old) × (reader.new ≡ reader.old) }
-        ensures space { self.new.space ≡ self.old.space }
+        requires { IsAtStart self.old }
+        ensures { DrawsAtOnce self.old self.new reader.old reader.new result }
     {
         if reader.peek_u32() >> 31 != 0 {
             return false;
@@ -1361,9 +1283,7 @@ impl DecoderContext {
     /// usual; or none, if it is likely to be the only mode: plain calls draw it at less cost.
     #[inline(always)]
     fn draw_from_horizontal(&mut self, reader: &mut BitReader<'_>)
-        requires begins { self.old.held.front ≡ [] }
-        requires white { self.old.held.color ≡ Color.White }
-        requires none { self.old.passed ≡ 0 }
+        requires { IsAtStart self.old }
         ensures { DrawsUsualModes self.old self.new reader.old reader.new }
     {
         if self.is_filled_by_runs || self.begins_with_long_runs(reader) {
@@ -1376,9 +1296,7 @@ impl DecoderContext {
     /// Draws modes from the start of a line as long as they are usual: a white line at once.
     #[inline(always)]
     fn draw_usual_modes(&mut self, reader: &mut BitReader<'_>)
-        requires begins { self.old.held.front ≡ [] }
-        requires white { self.old.held.color ≡ Color.White }
-        requires none { self.old.passed ≡ 0 }
+        requires { IsAtStart self.old }
         ensures { DrawsUsualModes self.old self.new reader.old reader.new }
     {
         if self.ref_changes.len() < 2 {

@@ -51,12 +51,13 @@ impl RowCursor {
     ) -> Result<RowCursor>
         requires fit { BitsFit «data».now }
         ensures reading { IfOk result (λ rows. IsReadingOf (bits_in order «data».now) rows) }
-        ensures settings { IfOk result (λ rows. rows.held.settings ≡ settings) }
+        ensures settings { IfOk result (λ rows. rows.ctx.held.settings ≡ settings) }
         ensures order { IfOk result (λ rows. rows.order ≡ order) }
-        ensures none_read { IfOk result (λ rows. rows.held.taken ≡ 0) }
-        ensures work { IfOk result (λ rows. CountsWork settings (bits_in order «data».now) rows.held.taken rows.ticks) }
+        ensures none_read { IfOk result (λ rows. rows.ctx.held.taken ≡ 0) }
+        ensures work { IfOk result
+            (λ rows. CountsWork settings (bits_in order «data».now) rows.ctx.held.taken rows.ctx.ticks) }
         ensures only_memory { IsOkUnless result DecodeError.OutOfMemory }
-        ensures space { IfOk result (λ rows. rows.space ≡ 0) }
+        ensures space { IfOk result (λ rows. rows.ctx.space ≡ 0) }
     {
         let mut ctx = DecoderContext::new(alloc, settings)?;
         let mut reader = at_place(data, order, 0);
@@ -72,14 +73,14 @@ impl RowCursor {
     /// Reads the next row from where the last call ended.
     fn read_on(&mut self, data: &[u8]) -> Result<bool>
         requires fit { BitsFit «data».now }
-        requires unended { ended self.old.stand ≡ None }
+        requires unended { ended self.old.rows.stand ≡ None }
         ensures reads { IsReadingOf (bits_in self.old.order «data».now) self.old → ReadsNext
             (rows_over (bits_in self.old.order «data».now) self.old) (rows_over (bits_in self.old.order «data».now) self.new) result }
         ensures reading { IsReadingOf (bits_in self.old.order «data».now) self.old
             → IsReadingOf (bits_in self.old.order «data».now) self.new }
-        ensures settings { self.new.held.settings ≡ self.old.held.settings }
+        ensures settings { self.new.ctx.held.settings ≡ self.old.ctx.held.settings }
         ensures order { self.new.order ≡ self.old.order }
-        ensures most { self.new.space ≤ max self.old.space (2 * self.old.held.settings.columns + 66) }
+        ensures most { self.new.ctx.space ≤ max self.old.ctx.space (2 * self.old.ctx.held.settings.columns + 66) }
     {
         if self.place > data.len() * 8 {
             return Err(DecodeError::UnexpectedEof);
@@ -100,19 +101,19 @@ impl RowCursor {
     /// that ends before the offset where the last call ended is `UnexpectedEof`.
     pub fn next_row(&mut self, data: &[u8]) -> Result<bool>
         requires fit { BitsFit «data».now }
-        ensures reads { IsReadingOf (bits_in self.old.order «data».now) self.old → ended self.old.stand ≡ None → ReadsNext
+        ensures reads { IsReadingOf (bits_in self.old.order «data».now) self.old → ended self.old.rows.stand ≡ None → ReadsNext
             (rows_over (bits_in self.old.order «data».now) self.old) (rows_over (bits_in self.old.order «data».now) self.new) result }
         ensures reading { IsReadingOf (bits_in self.old.order «data».now) self.old
             → IsReadingOf (bits_in self.old.order «data».now) self.new }
         ensures work { IsReadingOf (bits_in self.old.order «data».now) self.old
-            → CountsWork self.new.held.settings (bits_in self.old.order «data».now) self.new.held.taken self.new.ticks }
-        ensures ended { (end : Result (Unit {0}) DecodeError) → ended self.old.stand ≡ Some end
+            → CountsWork self.new.ctx.held.settings (bits_in self.old.order «data».now) self.new.ctx.held.taken self.new.ctx.ticks }
+        ensures ended { (end : Result (Unit {0}) DecodeError) → ended self.old.rows.stand ≡ Some end
             → (self.new ≡ self.old) × (result ≡ at_end_of_rows end) }
-        ensures settings { self.new.held.settings ≡ self.old.held.settings }
+        ensures settings { self.new.ctx.held.settings ≡ self.old.ctx.held.settings }
         ensures order { self.new.order ≡ self.old.order }
         ensures space { IsReadingOf (bits_in self.old.order «data».now) self.old
-            → self.new.space ≤ most_room self.new.held.settings (bits_in self.old.order «data».now) }
-        ensures most { self.new.space ≤ max self.old.space (2 * self.old.held.settings.columns + 66) }
+            → self.new.ctx.space ≤ most_room self.new.ctx.held.settings (bits_in self.old.order «data».now) }
+        ensures most { self.new.ctx.space ≤ max self.old.ctx.space (2 * self.old.ctx.held.settings.columns + 66) }
     {
         match self.rows.stand {
             Stand::AtEnd => Ok(false),
@@ -124,23 +125,23 @@ impl RowCursor {
     /// Returns the changes of the last row that was read, in ascending order: the pixels at which its colour changes. There
     /// are none before the first row.
     pub fn row(&self) -> &[u32]
-        ensures changes { result.now ≡ changes self.now.held.reference }
-        ensures lawful { AreChanges self.now.held.settings.columns result.now }
-        ensures width { length self.now.held.reference ≡ self.now.held.settings.columns }
+        ensures changes { result.now ≡ changes self.now.ctx.held.reference }
+        ensures lawful { AreChanges self.now.ctx.held.settings.columns result.now }
+        ensures width { length self.now.ctx.held.reference ≡ self.now.ctx.held.settings.columns }
     {
         self.ctx.reference_row()
     }
 
     /// Returns the number of rows that were read.
     pub fn rows_read(&self) -> u64
-        ensures { result ≡ self.now.held.taken }
+        ensures { result ≡ self.now.ctx.held.taken }
     {
         self.ctx.decoded_rows()
     }
 
     /// Returns the settings.
     pub fn settings(&self) -> DecodeSettings
-        ensures { result ≡ self.now.held.settings }
+        ensures { result ≡ self.now.ctx.held.settings }
     {
         self.ctx.settings()
     }
@@ -148,7 +149,7 @@ impl RowCursor {
     /// Returns the offset in bits at which the line of the last row begins, after its EOL; in two-dimensional data of Group
     /// 3 that of its tag bit (T.4, 4.2.2).
     pub fn line_start(&self) -> usize
-        ensures { result ≡ self.now.line_start }
+        ensures { result ≡ self.now.rows.started_at }
     {
         self.rows.started_at
     }
@@ -156,14 +157,14 @@ impl RowCursor {
     /// Returns the fault of the last row if its line was damaged and repaired, as in a lenient reading of Group 3 with EOLs
     /// (T.4, 4.1.2); `None` if the line was whole, and before the first row.
     pub fn damage(&self) -> Option<DecodeError>
-        ensures { result ≡ self.now.damage }
+        ensures { result ≡ self.now.rows.damage }
     {
         self.rows.damage
     }
 
     /// Returns the number of rows read whose line was damaged and repaired.
     pub fn damaged_rows(&self) -> u64
-        ensures { result ≡ self.now.held.repairs.rows }
+        ensures { result ≡ self.now.ctx.held.repairs.rows }
     {
         self.ctx.damaged_rows()
     }
@@ -171,14 +172,14 @@ impl RowCursor {
     /// Returns whether a run of the last row, or a vertical mode, goes beyond the row's end and was cut there, where a strict
     /// reading fails (T.4, 4.1.1); false before the first row, and for a row that was repaired.
     pub fn is_cut(&self) -> bool
-        ensures { result ≡ self.now.cut }
+        ensures { result ≡ self.now.rows.cut }
     {
         self.rows.cut
     }
 
     /// Returns the number of rows read in which a run was cut.
     pub fn cut_rows(&self) -> u64
-        ensures { result ≡ self.now.held.repairs.cut }
+        ensures { result ≡ self.now.ctx.held.repairs.cut }
     {
         self.ctx.cut_rows()
     }
@@ -186,7 +187,7 @@ impl RowCursor {
     /// Returns the number of rows read after which the EOL was missed (T.4, 4.1.2): of the last row it is known when
     /// the next call of [`next_row`](RowCursor::next_row) returns.
     pub fn missed_eols(&self) -> u64
-        ensures { result ≡ self.now.held.repairs.missed }
+        ensures { result ≡ self.now.ctx.held.repairs.missed }
     {
         self.ctx.missed_eols()
     }
@@ -194,7 +195,7 @@ impl RowCursor {
     /// Returns the offset in bits at which the last call of [`next_row`](RowCursor::next_row) missed an EOL (T.4, 4.1.2):
     /// the first bit after the row that had been the last one before. `None` if none was missed there.
     pub fn missed_eol(&self) -> Option<usize>
-        ensures { result ≡ self.now.missed }
+        ensures { result ≡ self.now.rows.missed }
     {
         self.rows.missed
     }

@@ -35,10 +35,10 @@ status_of_row (Err Refused) = NOT_TAKEN
 -- the end nothing changes. Of other bits nothing is said but that the lists of changes grow no further than a row needs.
 pub record ReadsRow (bits : Bits) (old new : Paused) (answer : Result Bool DecodeError) : Type 0 where
   pub reading : IsReadingOf bits old → IsReadingOf bits new
-  pub reads : IsReadingOf bits old → ended old.stand ≡ None → ReadsNext (rows_over bits old) (rows_over bits new) answer
-  pub over : (end : Result (Unit {0}) DecodeError) → ended old.stand ≡ Some end → (new ≡ old) × (answer ≡ at_end_of_rows end)
+  pub reads : IsReadingOf bits old → ended old.rows.stand ≡ None → ReadsNext (rows_over bits old) (rows_over bits new) answer
+  pub over : (end : Result (Unit {0}) DecodeError) → ended old.rows.stand ≡ Some end → (new ≡ old) × (answer ≡ at_end_of_rows end)
   pub order : new.order ≡ old.order
-  pub most : new.space ≤ max old.space (2 * old.held.settings.columns + 66)
+  pub most : new.ctx.space ≤ max old.ctx.space (2 * old.ctx.held.settings.columns + 66)
 
 -- the same, but if the last row is still to be returned nothing is read
 abbrev pub TurnsTo : Bool → Bits → Paused → Paused → Result Bool DecodeError → Type 0
@@ -100,23 +100,23 @@ miss_told (Some place) = place
 -- consumed so far, the number of repaired rows, the fault of the last one, the number of missed EOLs, the number of rows in
 -- which a run was cut, whether one was in the last row, and the offset at which the last gap lacked an EOL.
 pub record TellsOf (paused : Paused) (told : RowOutcome) : Type 0 where
-  pub rows : told.rows ≡ paused.held.taken
-  pub changes : told.changes ≡ length (changes paused.held.reference)
-  pub line_start : told.line_start ≡ paused.line_start
+  pub rows : told.rows ≡ paused.ctx.held.taken
+  pub changes : told.changes ≡ length (changes paused.ctx.held.reference)
+  pub line_start : told.line_start ≡ paused.rows.started_at
   pub bytes_read : told.bytes_read ≡ (paused.place + 7) / 8
-  pub damaged_rows : told.damaged_rows ≡ paused.held.repairs.rows
-  pub damage : told.damage ≡ damage_told paused.damage
-  pub missed_eols : told.missed_eols ≡ paused.held.repairs.missed
-  pub cut_rows : told.cut_rows ≡ paused.held.repairs.cut
-  pub is_cut : told.is_cut ≡ cut_told paused.cut
-  pub missed_eol : told.missed_eol ≡ miss_told paused.missed
+  pub damaged_rows : told.damaged_rows ≡ paused.ctx.held.repairs.rows
+  pub damage : told.damage ≡ damage_told paused.rows.damage
+  pub missed_eols : told.missed_eols ≡ paused.ctx.held.repairs.missed
+  pub cut_rows : told.cut_rows ≡ paused.ctx.held.repairs.cut
+  pub is_cut : told.is_cut ≡ cut_told paused.rows.cut
+  pub missed_eol : told.missed_eol ≡ miss_told paused.rows.missed
 
 -- A reading of these bits by these settings before the first row, whose packed rows have 0 for black if it says so.
 pub record IsOpened (settings : DecodeSettings) (bits : Bits) (order : BitOrder) (black_is_0 : Bool) (opened : Reading)
     : Type 0 where
   pub reading : IsReadingOf bits opened.rows
-  pub settings_are : opened.rows.held.settings ≡ settings
+  pub settings_are : opened.rows.ctx.held.settings ≡ settings
   pub order_is : opened.rows.order ≡ order
-  pub none_read : opened.rows.held.taken ≡ 0
+  pub none_read : opened.rows.ctx.held.taken ≡ 0
   pub none_kept : opened.is_kept ≡ false
   pub black : opened.black_is_0 ≡ black_is_0

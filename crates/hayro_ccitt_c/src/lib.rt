@@ -236,9 +236,9 @@ pub extern "C" fn hayro_ccitt_next_changes(
     ensures gives { reader.old.is_open ≡ true → BitsFit «data».now → OnReadings reader.old.handle.value reader.new.handle.value
         (λ old new. GivesRow «data».now old new result) }
     ensures listed { result ≡ OK → OnReading reader.new.handle.value (λ reading.
-        IsListed reading.rows.held.reference list.old list.new) }
+        IsListed reading.rows.ctx.held.reference list.old list.new) }
     ensures refused { result ≡ REFUSED → OnReading reader.new.handle.value (λ reading.
-        length list.new < length (changes reading.rows.held.reference)) }
+        length list.new < length (changes reading.rows.ctx.held.reference)) }
     ensures unwritten { result ≢ OK → list.new ≡ list.old }
     ensures told { reader.old.is_open ≡ true → BitsFit «data».now → OnReading reader.new.handle.value (λ reading.
         TellsOf reading.rows outcome.new) }
@@ -274,9 +274,9 @@ pub extern "C" fn hayro_ccitt_next_packed(
     ensures gives { reader.old.is_open ≡ true → BitsFit «data».now → OnReadings reader.old.handle.value reader.new.handle.value
         (λ old new. GivesRow «data».now old new result) }
     ensures packed { result ≡ OK → OnReading reader.new.handle.value (λ reading.
-        IsPacked reading.black_is_0 reading.rows.held.settings.columns reading.rows.held.reference bytes.old bytes.new) }
+        IsPacked reading.black_is_0 reading.rows.ctx.held.settings.columns reading.rows.ctx.held.reference bytes.old bytes.new) }
     ensures refused { result ≡ REFUSED → OnReading reader.new.handle.value (λ reading.
-        length bytes.new < bytes_of_row reading.rows.held.settings.columns) }
+        length bytes.new < bytes_of_row reading.rows.ctx.held.settings.columns) }
     ensures unwritten { result ≢ OK → bytes.new ≡ bytes.old }
     ensures told { reader.old.is_open ≡ true → BitsFit «data».now → OnReading reader.new.handle.value (λ reading.
         TellsOf reading.rows outcome.new) }

@@ -74,9 +74,9 @@ impl Owned {
         requires reads { is_reading self.old ≡ true }
         ensures gives { IfReadings self.old self.new (λ old new. GivesRow «data».now old new result) }
         ensures listed { result ≡ OK → IfReading self.new (λ reading.
-            IsListed reading.rows.held.reference list.old list.new) }
+            IsListed reading.rows.ctx.held.reference list.old list.new) }
         ensures refused { result ≡ REFUSED → IfReading self.new (λ reading.
-            length list.new < length (changes reading.rows.held.reference)) }
+            length list.new < length (changes reading.rows.ctx.held.reference)) }
         ensures unwritten { result ≢ OK → list.new ≡ list.old }
         ensures told { IfReading self.new (λ reading. TellsOf reading.rows outcome.new) }
         ensures reads { is_reading self.new ≡ true }
@@ -102,9 +102,9 @@ impl Owned {
         requires reads { is_reading self.old ≡ true }
         ensures gives { IfReadings self.old self.new (λ old new. GivesRow «data».now old new result) }
         ensures packed { result ≡ OK → IfReading self.new (λ reading.
-            IsPacked reading.black_is_0 reading.rows.held.settings.columns reading.rows.held.reference bytes.old bytes.new) }
+            IsPacked reading.black_is_0 reading.rows.ctx.held.settings.columns reading.rows.ctx.held.reference bytes.old bytes.new) }
         ensures refused { result ≡ REFUSED → IfReading self.new (λ reading.
-            length bytes.new < bytes_of_row reading.rows.held.settings.columns) }
+            length bytes.new < bytes_of_row reading.rows.ctx.held.settings.columns) }
         ensures unwritten { result ≢ OK → bytes.new ≡ bytes.old }
         ensures told { IfReading self.new (λ reading. TellsOf reading.rows outcome.new) }
         ensures reads { is_reading self.new ≡ true }

@@ -85,8 +85,8 @@ impl Reading {
 
     /// Writes the last row as a list of its changes, or keeps it if there is no room for it. Returns whether there was.
     fn list_row(&mut self, list: &mut [u32]) -> bool
-        ensures listed { result ≡ true → IsListed self.old.rows.held.reference list.old list.new }
-        ensures refused { result ≡ false → length list.new < length (changes self.old.rows.held.reference) }
+        ensures listed { result ≡ true → IsListed self.old.rows.ctx.held.reference list.old list.new }
+        ensures refused { result ≡ false → length list.new < length (changes self.old.rows.ctx.held.reference) }
         ensures unwritten { result ≡ false → list.new ≡ list.old }
         ensures rows { self.new.rows ≡ self.old.rows }
         ensures black { self.new.black_is_0 ≡ self.old.black_is_0 }
@@ -99,9 +99,9 @@ impl Reading {
 
     /// Writes the last row packed, or keeps it if there is no room for it. Returns whether there was.
     fn pack_row(&mut self, bytes: &mut [u8]) -> bool
-        ensures packed { result ≡ true → IsPacked self.old.black_is_0 self.old.rows.held.settings.columns
-            self.old.rows.held.reference bytes.old bytes.new }
-        ensures refused { result ≡ false → length bytes.new < bytes_of_row self.old.rows.held.settings.columns }
+        ensures packed { result ≡ true → IsPacked self.old.black_is_0 self.old.rows.ctx.held.settings.columns
+            self.old.rows.ctx.held.reference bytes.old bytes.new }
+        ensures refused { result ≡ false → length bytes.new < bytes_of_row self.old.rows.ctx.held.settings.columns }
         ensures unwritten { result ≡ false → bytes.new ≡ bytes.old }
         ensures rows { self.new.rows ≡ self.old.rows }
         ensures black { self.new.black_is_0 ≡ self.old.black_is_0 }
@@ -117,8 +117,8 @@ impl Reading {
     pub(crate) fn list_next(&mut self, data: &[u8], list: &mut [u32]) -> u32
         requires fit { BitsFit «data».now }
         ensures gives { GivesRow «data».now self.old self.new result }
-        ensures listed { result ≡ OK → IsListed self.new.rows.held.reference list.old list.new }
-        ensures refused { result ≡ REFUSED → length list.new < length (changes self.new.rows.held.reference) }
+        ensures listed { result ≡ OK → IsListed self.new.rows.ctx.held.reference list.old list.new }
+        ensures refused { result ≡ REFUSED → length list.new < length (changes self.new.rows.ctx.held.reference) }
         ensures unwritten { result ≢ OK → list.new ≡ list.old }
     {
         let answer = self.come_to_row(data);
@@ -136,9 +136,9 @@ impl Reading {
     pub(crate) fn pack_next(&mut self, data: &[u8], bytes: &mut [u8]) -> u32
         requires fit { BitsFit «data».now }
         ensures gives { GivesRow «data».now self.old self.new result }
-        ensures packed { result ≡ OK → IsPacked self.new.black_is_0 self.new.rows.held.settings.columns
-            self.new.rows.held.reference bytes.old bytes.new }
-        ensures refused { result ≡ REFUSED → length bytes.new < bytes_of_row self.new.rows.held.settings.columns }
+        ensures packed { result ≡ OK → IsPacked self.new.black_is_0 self.new.rows.ctx.held.settings.columns
+            self.new.rows.ctx.held.reference bytes.old bytes.new }
+        ensures refused { result ≡ REFUSED → length bytes.new < bytes_of_row self.new.rows.ctx.held.settings.columns }
         ensures unwritten { result ≢ OK → bytes.new ≡ bytes.old }
     {
         let answer = self.come_to_row(data);

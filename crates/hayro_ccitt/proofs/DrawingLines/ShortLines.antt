@@ -7,12 +7,7 @@ use Rattle.hayro_ccitt.proofs.PixelRows.ReferencePlaces.{end_within}
 use Rattle.hayro_ccitt.proofs.DrawingLines.UsualModes.{twice_2d, vertical_on, pass_on, start_stroke, named_left, named_right}
 use Rattle.hayro_ccitt.proofs.DrawingLines.UsualStrokes.{pixels-pending}
 use Rattle.fax_bits.specs.Bits.{low_bits}
-
--- the number of bits of a vertical mode that is so far from b1
-pub record IsWidth (distance width : ℕ) : Type 0 where
-  pub one : distance ≡ 1 → width ≡ 3
-  pub two : distance ≡ 2 → width ≡ 6
-  pub three : distance ≡ 3 → width ≡ 7
+use Rattle.hayro_ccitt.specs.ContextSteps.{IsWidth}
 
 -- VR is read where its bits are
 abbrev ReadsRight : BitsAt → ℕ → ℕ → Type 0

@@ -83,41 +83,39 @@ pixels-pending place row =
     rw none at (pixels_from-push 0 false place 0 row) ∙ append-nil (pixels place row)
 
 -- ---- The runs of a one-dimensional line, by twos.
+-- a run whose pixels are those of a row of changes
+run_drawn : (strict : Bool) (columns painted place : ℕ) (row longer : List ℕ) (color : Color) (at : BitsAt) (run width words
+    ticks : ℕ) → AreChanges (suc painted) row → painted < columns → IsRunHere color at run width words → run ≤ columns - painted
+    → place ≡ painted + min run (columns - painted)
+    → ((more : ℕ) → pixels (painted + more) longer ≡ pixels painted row ++ replicate more (is_black color))
+    → GoesOn strict columns (pen_at painted row color at) (pen_at place longer (opposite color) (moved width at)) ticks
+    (ticks + words)
+run_drawn strict columns painted place row longer color at run width words ticks lawful open_row here_run fits reach row_on =
+    let front : Row = pixels painted row in
+    let len : length front ≡ painted = length-pixels-on painted row lawful in
+    let paints : (s : Bool) → paint s columns front color run
+    ≡ Ok (front ++ replicate (min run (columns - painted)) (is_black color)) =
+    λ s. paint_fits s columns front color run (inl (rw len fits))
+    ∙ ap (λ (m : ℕ). Ok (front ++ replicate (min run (columns - m)) (is_black color))) len in
+    run_on strict columns (pen_at painted row color at) run words (here (moved width at)) (pixels place longer) ticks
+    (omega (arith, len)) here_run.read here_run.found
+    (λ s. paints s ∙ ap Ok (sym (rw reach (row_on (min run (columns - painted))))))
+
 pub white_on : (strict : Bool) (columns painted place : ℕ) (row : List ℕ) (at : BitsAt) (run width words ticks : ℕ)
     → AreChanges (suc painted) row → length row % 2 ≡ 0 → painted < columns → IsRunHere White at run width words
     → run ≤ columns - painted → place ≡ painted + min run (columns - painted)
     → GoesOn strict columns (pen_at painted row White at) (pen_at place row Black (moved width at)) ticks (ticks + words)
 white_on strict columns painted place row at run width words ticks lawful even open_row here_run fits reach =
-    let front : Row = pixels painted row in
-    let len : length front ≡ painted = length-pixels-on painted row lawful in
-    let some : run ≤ columns - length front = rw len fits in
-    let more : ℕ = min run (columns - painted) in
-    let paints : (s : Bool) → paint s columns front White run ≡ Ok (front ++ replicate more false) =
-    λ s. paint_fits s columns front White run (inl some) ∙ ap (λ (m : ℕ). Ok (front ++ replicate (min run
-    (columns - m)) false)) len in
-    let row_on : pixels place row ≡ front ++ replicate more false =
-    rw reach
-    (pixels-on painted more row lawful ∙ ap (λ (color : Bool). front ++ replicate more color) (even_is_white row even)) in
-    run_on strict columns (pen_at painted row White at) run words (here (moved width at)) (pixels place row) ticks
-    (omega (arith, len)) here_run.read here_run.found (λ s. paints s ∙ ap Ok (sym row_on))
+    run_drawn strict columns painted place row row White at run width words ticks lawful open_row here_run fits reach
+    (λ more. rw (even_is_white row even) at (pixels-on painted more row lawful))
 
 pub black_on : (strict : Bool) (columns painted place : ℕ) (row : List ℕ) (at : BitsAt) (run width words ticks : ℕ)
     → AreChanges (suc painted) row → length row % 2 ≡ 0 → painted < columns → IsRunHere Black at run width words
     → run ≤ columns - painted → place ≡ painted + min run (columns - painted) → GoesOn strict columns
     (pen_at painted row Black at) (pen_at place (row ++ painted ∷ []) White (moved width at)) ticks (ticks + words)
 black_on strict columns painted place row at run width words ticks lawful even open_row here_run fits reach =
-    let front : Row = pixels painted row in
-    let len : length front ≡ painted = length-pixels-on painted row lawful in
-    let some : run ≤ columns - length front = rw len fits in
-    let more : ℕ = min run (columns - painted) in
-    let paints : (s : Bool) → paint s columns front Black run ≡ Ok (front ++ replicate more true)
-    = λ s. paint_fits s columns front Black run (inl some) ∙ ap (λ (m : ℕ). Ok (front ++ replicate (min run
-    (columns - m)) true)) len in
-    let row_on : pixels place (row ++ painted ∷ []) ≡ front ++ replicate more true =
-    rw reach (pixels-turned painted more row even) in
-    run_on strict columns (pen_at painted row Black at) run words (here (moved width at))
-    (pixels place (row ++ painted ∷ [])) ticks (omega (arith, len)) here_run.read here_run.found (λ s. paints s ∙ ap Ok
-    (sym row_on))
+    run_drawn strict columns painted place row (row ++ painted ∷ []) Black at run width words ticks lawful open_row here_run fits
+    reach (λ more. pixels-turned painted more row even)
 
 -- ---- What a call that draws them returns.
 

@@ -4,7 +4,7 @@ use Rattle.hayro_ccitt.proofs.Names.{◌≡◌, ◌+◌, ◌-◌, ◌<◌, ◌�
 use Rattle.hayro_ccitt.proofs.Names.{get_or, Some, Result, Ok, Err, refl, sym, ap, ◌∙◌, subst, arith, cond-true, cond-false}
 use Rattle.hayro_ccitt.proofs.Names.{eq-eqb, ne_eqb, false≢true, length-append, length-drop, cond, take, None}
 use Rattle.hayro_ccitt.proofs.Names.{Option, OnErr, IfOk, sum_by, slice_get, IsOkUnless, ◌≢◌, DecodeError, InvalidCode}
-use Rattle.hayro_ccitt.proofs.Names.{DecodeSettings, Bits, BitsAt, IsPrefix, here, Held}
+use Rattle.hayro_ccitt.proofs.Names.{DecodeSettings, Bits, BitsAt, IsPrefix, here, Held, Context}
 use Rattle.hayro_ccitt.proofs.Names.{Repairs, fresh, no_repairs, Damaged, fault_in, repaired_in, repaired_by_turn}
 use Rattle.hayro_ccitt.proofs.Names.{repairs_by_line, missed_by_turn, TakesOneRow, repairs_with}
 use Rattle.hayro_ccitt.proofs.Names.{repairs_behind, gap_said, Line, Progress, Ending, Reading, row_before, with_row}
@@ -14,7 +14,7 @@ use Rattle.hayro_ccitt.proofs.Names.{whole_reading, plain, lines_of, line_starts
 use Rattle.hayro_ccitt.proofs.Names.{row_ends, end_of_row, end_of_turn, failed_at, Turn}
 use Rattle.hayro_ccitt.proofs.Names.{Reaches, Row, found_here, words_of, words_of_turn, Stand, AtLine, BehindRow, AtEnd, AtFault}
 use Rattle.hayro_ccitt.proofs.Names.{EncodingMode, Group4, RowsRead, ReadsNext, damage_since, start_after}
-use Rattle.hayro_ccitt.proofs.Names.{ReachesNextLine, read_so_far, line_after, DamageIsCounted, MissesAreCounted, MissesBehindRow}
+use Rattle.hayro_ccitt.proofs.Names.{ReachesNextLine, seen, line_after, DamageIsCounted, MissesAreCounted, MissesBehindRow}
 use Rattle.hayro_ccitt.proofs.Names.{Misses, ReaderStands, ended, stand_after, is_at_line, StandsAtLine, StandsBehindRow}
 use Rattle.hayro_ccitt.proofs.Names.{redrawn, White, end_of, ends_with, add_row}
 use Rattle.hayro_ccitt.proofs.Names.{IsWhole, IsFault, cut_by_turn, cuts_by_line, cut_in, cut_since}
@@ -22,6 +22,7 @@ use Rattle.hayro_ccitt.proofs.Names.{cuts_run}
 use Rattle.hayro_ccitt.proofs.Names.{strict_line_of_turn}
 use Rattle.hayro_ccitt.proofs.Names.{HasEnded, HasFailed, MissIsTold, context_at, missed_before, missed_since, start_in}
 use Rattle.hayro_ccitt.specs.Answers.{HasBlack, PaintsBlack}
+use Rattle.hayro_ccitt.specs.declared.row_reader.RowState.{RowState}
 use Rattle.hayro_ccitt.proofs.Names.{front_of}
 use Rattle.hayro_ccitt.proofs.Readings.GapsAndRows.{first_gap_t4}
 use Rattle.hayro_ccitt.proofs.Readings.Repeated.{reaches_on}
@@ -635,19 +636,16 @@ damage_stays before stand settings given bits read held last same are taken repa
     grind (arith, common_steps, elsewhere)
 
 -- the result of a call that passes a gap
-pub comes_to_line : (old : RowsRead) (last : Held) (ticks space : ℕ) (at : BitsAt) (n : ℕ) (damage : Option DecodeError)
-    (cut : Bool) (missed : Option ℕ) (answer : Result Bool DecodeError)
-    → last.settings ≡ old.settings → at.bits ≡ old.bits → last.taken ≡ old.taken → old.ticks ≤ ticks
-    → (last.reference ≡ old.row) × (damage ≡ old.damage) × (cut ≡ old.cut) → IfOk answer (λ over. n ≡ old.line_start)
-    → ReaderStands (stand_after answer) old.settings old.bits last at.place
-    → OnErr answer (n ≡ failed_at old.settings old.bits old.taken) → missed ≡ missed_before old.settings old.bits old.taken
-    → ReachesNextLine old (read_so_far last ticks space at n damage cut missed (stand_after answer)) (line_after answer)
-comes_to_line old last ticks space at n damage cut missed (Ok true) settings bits taken counts row begun stands start told =
-    grind (arith, common_steps)
-comes_to_line old last ticks space at n damage cut missed (Ok false) settings bits taken counts row begun stands start told =
-    grind (arith, common_steps)
-comes_to_line old last ticks space at n damage cut missed (Err error) settings bits taken counts row begun stands start told =
-    grind (arith, common_steps)
+pub comes_to_line : (old : RowsRead) (rows : RowState) (ctx : Context) (at : BitsAt) (answer : Result Bool DecodeError)
+    → rows.stand ≡ stand_after answer → ctx.held.settings ≡ old.settings → at.bits ≡ old.bits → ctx.held.taken ≡ old.taken
+    → old.ticks ≤ ctx.ticks → (ctx.held.reference ≡ old.row) × (rows.damage ≡ old.damage) × (rows.cut ≡ old.cut)
+    → IfOk answer (λ over. rows.started_at ≡ old.line_start)
+    → ReaderStands (stand_after answer) old.settings old.bits ctx.held at.place
+    → OnErr answer (rows.started_at ≡ failed_at old.settings old.bits old.taken)
+    → rows.missed ≡ missed_before old.settings old.bits old.taken → ReachesNextLine old (seen rows ctx at) (line_after answer)
+comes_to_line old rows ctx at (Ok true) stand same are taken counts row begun stands start told = grind (arith, common_steps)
+comes_to_line old rows ctx at (Ok false) stand same are taken counts row begun stands start told = grind (arith, common_steps)
+comes_to_line old rows ctx at (Err error) stand same are taken counts row begun stands start told = grind (arith, common_steps)
 
 -- the result of a call that passes a gap, and then reads the line there
 pub reads_on : (old mid new : RowsRead) (result : Result Bool DecodeError) → ReachesNextLine old mid (Ok true)

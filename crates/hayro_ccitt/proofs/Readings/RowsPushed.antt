@@ -161,3 +161,44 @@ module _ {M : Type 0} {step : M → List ℕ → M} {before after : SinkState M}
         words = grind (arith, common_steps);
         most = grind (arith, common_steps, within_most);
       }
+
+module _ {M : Type 0} {step : M → List ℕ → M} {before after : SinkState M} {old new : Context} {bits : Bits}
+    (wide : 0 < old.held.settings.columns) where
+  -- so the drivers keep their promise, where the reading has ended,
+  pub rows_ended : (rows : RowState) {reader : BitsAt} {taken : ℕ} → new.held.settings ≡ old.held.settings → reader.bits ≡ bits
+      → IsStanding old.ticks rows new reader → new.held.taken ≡ taken → taken ≤ length (plain old.held.settings bits).rows
+      → after.meaning ≡ meaning_after step before.meaning (take taken (plain old.held.settings bits).rows)
+      → after.refused ≡ before.refused → (answer : Result (Unit {0}) DecodeError) → ended rows.stand ≡ Some answer
+      → DecodesRows bits step before after old new (leaving answer (here reader))
+  rows_ended rows {reader} same are stands taken few means unrefused answer is =
+      decodes_rows bits step before after old new (leaving answer (here reader)) wide same (run_is_over rows new reader stands
+      same are wide (omega (arith, taken, few)) (means
+      ∙ ap (λ (n : ℕ). meaning_after step before.meaning (take n (plain old.held.settings bits).rows)) (sym taken)) unrefused
+      answer is)
+
+  -- and where the sink refused the row that was read, and it was taken back
+  pub rows_refused : (rows read : RowState) (ctx : Context) {last : Context} {reader behind : BitsAt} {damaged cut : ℕ}
+      {error : DecodeError} → ctx.held.settings ≡ old.held.settings → reader.bits ≡ bits → IsStanding old.ticks rows ctx reader
+      → IsStanding old.ticks read new behind → read.stand ≡ BehindRow
+      → ReadsNext (seen rows ctx reader) (seen read new behind) (Ok true)
+      → last ≡ record new {
+        held = record new.held {
+          taken = new.held.taken - 1;
+          repairs = record new.held.repairs { rows = damaged; cut = cut };
+        };
+      }
+      → damaged ≡ ctx.held.repairs.rows → cut ≡ ctx.held.repairs.cut
+      → after.meaning ≡ meaning_after step before.meaning (take ctx.held.taken (plain old.held.settings bits).rows)
+      → after.refused ≡ true → after.refuses (changes new.held.reference) → error ≡ Refused
+      → DecodesRows bits step before after old last (Err error)
+  rows_refused rows read ctx {last} {reader} {behind} same are stands still is reads frame damaged cut means refused row error =
+      let held = rw (damaged, cut) at (ap (λ (x : Context). x.held) frame) in
+      let meant = of_same (λ s b. after.meaning ≡ meaning_after step before.meaning (take ctx.held.taken (plain s b).rows))
+      (sym same) (sym are) means in
+      let run = run_refused {step = step} {before = before} {after = after} rows read ctx new reader behind stands still is reads
+      last.held held meant refused row in
+      subst (λ (e : DecodeError). DecodesRows bits step before after old last (Err e)) (sym error) (decodes_rows bits step before
+      after old last (Err Refused) wide (ap (λ (x : Context). x.held.settings) frame ∙ reads.settings ∙ same)
+      (subst (λ (n : ℕ). HasRun old.held.settings bits old.ticks step before after last.held n (Err Refused))
+      (sym (ap (λ (x : Context). x.ticks) frame))
+      (of_same (λ s b. HasRun s b old.ticks step before after last.held new.ticks (Err Refused)) same are run)))

@@ -1,26 +1,19 @@
 use Rattle.hayro_ccitt.proofs.Names.{common_steps}
 use Rattle.std.specs.Prelude.{length, vec_len, vec_capacity, get_or, take, ◌<◌, ◌≤◌, ◌∷◌, ◌++◌}
 use Rattle.std.proofs.Math.Seq.{take-append-add, drop-append_seam}
-use Rattle.hayro_ccitt.proofs.Names.{◌≡◌, ◌∙◌, ◌+◌, ℕ, List, Color, White, Black, TurnsFrom, opposite, suc, ap, sym, refl, arith}
+use Rattle.hayro_ccitt.proofs.Names.{◌≡◌, ◌∙◌, ◌+◌, ℕ, List, Color, TurnsFrom, opposite, suc, ap, sym, refl, arith}
 use Rattle.hayro_ccitt.proofs.Names.{BitsAt, length-append, moved}
 use Rattle.std.proofs.lemmas.List.{length-take-le}
 use Rattle.hayro_ccitt.proofs.DrawingLines.GroupMasks.{set_before_first}
 use Rattle.hayro_ccitt.proofs.DrawingLines.RegularModes.{draws_first, draws_next, draws_full, first_inside, first_reached}
 use Rattle.hayro_ccitt.proofs.DrawingLines.RegularModes.{one_color, stored_at}
+use Rattle.hayro_ccitt.proofs.PixelRows.B1ByParity.{turns_before}
+use Rattle.hayro_ccitt.proofs.PixelRows.ReferencePlaces.{opposite_twice}
 use Rattle.hayro_ccitt.specs.DrawnModes.{first_clear}
 use Rattle.hayro_ccitt.specs.ModeGroups.{VerticalWord, width_of, words_of}
 use Rattle.hayro_ccitt.specs.RegularModes.{AreSet}
 use Rattle.hayro_ccitt.proofs.modes.draw_first_modes.Goals.{After-painted_by-painted}
 use Rattle.hayro_ccitt.proofs.modes.draw_first_modes.Goals as goal
-
--- the colour before a turn
-turned_back : (count : ℕ) (color : Color) → TurnsFrom (count + 1) color → TurnsFrom count (opposite color)
-turned_back count White even = omega (arith, even)
-turned_back count Black odd = omega (arith, odd)
-
-twice : (color : Color) → opposite (opposite color) ≡ color
-twice White = refl
-twice Black = refl
 
 -- the places are stored, and it is known which of them is the first that isn't marked
 module _ (c : After-painted_by-painted) where
@@ -74,7 +67,7 @@ module _ (c : After-painted_by-painted) where
   colored_before : {count : ℕ} (color : Color) → count ≡ c.len-start.result + n + 1 → TurnsFrom count color
       → TurnsFrom (length (row ++ take n places)) (opposite color)
   colored_before {count} color e turns =
-      grind (arith, common_steps, length-take-le, length-append, n, places, few, row, begin, turned_back)
+      grind (arith, common_steps, length-take-le, length-append, n, places, few, row, begin, turns_before)
 
 pub b1_after-index-requires-clause-within : goal.b1_after-index-requires-clause-within
 b1_after-index-requires-clause-within c =
@@ -98,7 +91,7 @@ returns-then-place-line-clause-drawn c =
     let turned = one_color _ _ _ c.next_color-color.ensures.turns c.next_color.ensures.turns in
     draws_next c.requires.can c.requires.here (n at) (within at) (set at)
     (omega (arith, room at, c.truncate.ensures.len, c.truncate.ensures.capacity, c.pass.ensures.left, c.first_width.ensures.some))
-    (opposite c.next_color.result) c.requires.some colored (turned ∙ sym (twice c.next_color.result))
+    (opposite c.next_color.result) c.requires.some colored (turned ∙ sym (opposite_twice c.next_color.result))
     (passed at c.first_width.ensures.value c.pass.ensures.moved)
     (omega (arith, c.tick_times.ensures, c.b1_after-index.ensures.work.0))
     (omega (arith, c.tick_times.ensures, c.b1_after-index.ensures.work.1, c.requires.here.after)) (place_is at)

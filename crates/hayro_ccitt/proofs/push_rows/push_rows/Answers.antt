@@ -2,14 +2,14 @@ use Rattle.hayro_ccitt.proofs.Names.{common_steps}
 use Rattle.hayro_ccitt.proofs.Names.{◌≡◌, ◌∙◌, ◌-◌, Bool, Result, Ok, Err, refl, sym, ap, subst, arith, true}
 use Rattle.hayro_ccitt.proofs.Names.{err_from_is_err_and, length, DecodeError, DecodeSettings, Bits, BitsAt, Context, rules}
 use Rattle.hayro_ccitt.proofs.Names.{SinkState, here, failed_at, IsStanding, IsStandingAtLine, ReachesNextLine, ReadsNext, seen}
-use Rattle.hayro_ccitt.proofs.Names.{row_came, take, plain, ℕ}
-use Rattle.hayro_ccitt.proofs.Names.{drop, DecodesRows, meaning_after}
-use Rattle.hayro_ccitt.proofs.Names.{Refused, StandsAtLine, get_or, [], ◌≤◌, false}
+use Rattle.hayro_ccitt.proofs.Names.{row_came, plain, ℕ}
+use Rattle.hayro_ccitt.proofs.Names.{drop}
+use Rattle.hayro_ccitt.proofs.Names.{StandsAtLine, get_or, [], ◌≤◌, false}
 use Rattle.hayro_ccitt.specs.declared.row_reader.RowState.{RowState}
 use Rattle.hayro_ccitt.proofs.PixelRows.ChangesAndPixels.{AreChanges-wider}
 use Rattle.hayro_ccitt.proofs.Readings.RowByRow.{at_line_stands, few, reader_fails_at_line}
-use Rattle.hayro_ccitt.proofs.Readings.RowsPushed.{HasRun, decodes_rows, ends_unfailed, means_pushed, none_missed, of_same}
-use Rattle.hayro_ccitt.proofs.Readings.RowsPushed.{run_is_over, run_refused}
+use Rattle.hayro_ccitt.proofs.Readings.RowsPushed.{decodes_rows, ends_unfailed, means_pushed, none_missed, of_same}
+use Rattle.hayro_ccitt.proofs.Readings.RowsPushed.{rows_ended, rows_refused, run_is_over}
 use Rattle.hayro_ccitt.proofs.Readings.RowsAgain.{taken_reads, taken_stands, taken_starts, taken_within, white_unchanging}
 use Rattle.hayro_ccitt.proofs.Names.{changes}
 use Rattle.hayro_ccitt.specs.RowFeeds.{TakesWhite}
@@ -38,6 +38,12 @@ line_stands g c = grind (arith, common_steps, at_line_stands)
 reads : (g : Over) (c : After-read_line g) → ReadsNext (seen c.rows.rows c.rows.ctx c.rows.reader)
     (seen c.read_line.new.self c.read_line.new.ctx c.read_line.new.reader) (row_came c.read_line.result)
 reads g c = c.read_line.ensures.reads c.args.ctx.now.ticks (at_line g c)
+
+line_fails : (g : Over) (c : After-read_line g) {error : DecodeError} → c.read_line.result ≡ Err error
+    → ReadsNext (seen c.rows.rows c.rows.ctx c.rows.reader)
+    (seen c.read_line.new.self c.read_line.new.ctx c.read_line.new.reader) (Err error)
+line_fails g c is = subst (λ (r : Result (Unit {0}) DecodeError). ReadsNext (seen c.rows.rows c.rows.ctx c.rows.reader)
+    (seen c.read_line.new.self c.read_line.new.ctx c.read_line.new.reader) (row_came r)) is (reads g c)
 
 stands : (g : Over) (c : After-read_line g)
     → IsStanding c.args.ctx.now.ticks c.read_line.new.self c.read_line.new.ctx c.read_line.new.reader
@@ -89,21 +95,12 @@ returns-then-has_ended-clause-rows g c =
 pub returns-in_err-read_line-clause-rows : goal.returns-in_err-read_line-clause-rows
 returns-in_err-read_line-clause-rows g c =
     let there = (goal.at.returns-in_err-read_line-clause-rows g c).After-read_line in
-    let e = c.in_err-read_line.field-0.0 in
-    let ctx = c.read_line.new.ctx in
-    let reader = c.read_line.new.reader in
     let answer = err_from_is_err_and c.from_residual.result c.from_residual.ensures.1 in
-    let is = subst (λ (r : Result (Unit {0}) DecodeError). ReadsNext (seen c.rows.rows c.rows.ctx c.rows.reader)
-    (seen c.read_line.new.self ctx reader) (row_came r)) c.in_err-read_line.was (reads g there) in
     let inv = c.rows.invariant in
-    let same = c.read_line.ensures.settings ∙ inv.settings in
-    let step = g.D.Decoder.step (g.D.Decoder.width c.args.decoder.now) in
-    let rows = (plain c.args.ctx.now.held.settings c.args.reader.now.bits).rows in
-    rw (answer.1, answer.2) (decodes_rows c.args.reader.now.bits step _ _ c.args.ctx.now ctx (Err e) c.requires.begins.columns same
-    (run_is_over c.read_line.new.self ctx reader (stands g there) same (c.read_line.ensures.same_bits ∙ inv.bits)
-    c.requires.begins.columns (omega (arith, is.error.1, inv.within)) (inv.meaning
-    ∙ ap (λ (n : ℕ). meaning_after step (g.D.Decoder.meaning c.args.decoder.now) (take n rows)) (sym is.error.1)) inv.unrefused
-    (Err e) is.error.0))
+    let error = (line_fails g there c.in_err-read_line.was).error in
+    rw (answer.1, answer.2) (rows_ended c.requires.begins.columns c.read_line.new.self (c.read_line.ensures.settings ∙ inv.settings)
+    (c.read_line.ensures.same_bits ∙ inv.bits) (stands g there) error.1 inv.within inv.meaning inv.unrefused
+    (Err c.in_err-read_line.field-0.0) error.0)
 
 pub returns-in_err-read_line-clause-fails : goal.returns-in_err-read_line-clause-fails
 returns-in_err-read_line-clause-fails g c =
@@ -111,10 +108,8 @@ returns-in_err-read_line-clause-fails g c =
     let reader = c.read_line.new.reader in
     let inv = c.rows.invariant in
     let held = c.rows.ctx.held in
-    let is = subst (λ (r : Result (Unit {0}) DecodeError). ReadsNext (seen c.rows.rows c.rows.ctx c.rows.reader)
-    (seen c.read_line.new.self c.read_line.new.ctx reader) (row_came r)) c.in_err-read_line.was (reads g there) in
     let back : reader ≡ c.rows.reader = c.in_err-read_line.ensures.put_back in
-    let taken : c.read_line.new.ctx.held.taken ≡ held.taken = is.error.1 in
+    let taken : c.read_line.new.ctx.held.taken ≡ held.taken = (line_fails g there c.in_err-read_line.was).error.1 in
     rw ((err_from_is_err_and c.from_residual.result c.from_residual.ensures.1).1)
     (of_same (λ s b. length b - length (here reader) ≡ failed_at s b c.read_line.new.ctx.held.taken) inv.settings inv.bits
     (ap (λ (x : BitsAt). length c.rows.reader.bits - length (here x)) back ∙ reader_fails_at_line (line_stands g there)
@@ -122,43 +117,13 @@ returns-in_err-read_line-clause-fails g c =
 
 pub returns-in-Err-clause-rows : goal.returns-in-Err-clause-rows
 returns-in-Err-clause-rows g c =
-    let there = (goal.at.returns-in-Err-clause-rows g c).After-push_row in
-    let from = c.args.ctx.now.ticks in
     let inv = c.rows.invariant in
-    let read = c.read_line.new in
-    let last = c.take_back_row.new.self in
-    let frame = c.take_back_row.ensures.frame in
-    let step = g.D.Decoder.step (g.D.Decoder.width c.args.decoder.now) in
-    let before : SinkState g.D.Decoder.Meaning = record {
-      meaning = g.D.Decoder.meaning c.args.decoder.now;
-      refused = g.D.Decoder.has_refused c.args.decoder.now;
-      refuses = g.D.Decoder.refuses c.args.decoder.now;
-    } in
-    let after : SinkState g.D.Decoder.Meaning = record {
-      meaning = g.D.Decoder.meaning c.push_row.new.self;
-      refused = g.D.Decoder.has_refused c.push_row.new.self;
-      refuses = g.D.Decoder.refuses c.push_row.new.self;
-    } in
-    let run = run_refused {step = step} {before = before} {after = after} c.rows.rows read.self c.rows.ctx read.ctx
-    c.rows.reader
-    read.reader inv.stands (c.read_line.ensures.stands from (inv.at_line, inv.stands))
-    c.in_ok-read_line.ensures.behind_row (row_came_here g there) last.held
-    (ap (λ (x : Context). x.held) frame ∙ ap (λ (n : ℕ). record read.ctx.held {
-      taken = read.ctx.held.taken - 1;
-      repairs = record read.ctx.held.repairs { rows = n; cut = c.cut_rows-cut_rows.result };
-    }) c.damaged_rows-damaged_rows.ensures ∙ ap (λ (n : ℕ). record read.ctx.held {
-      taken = read.ctx.held.taken - 1;
-      repairs = record read.ctx.held.repairs { rows = c.rows.ctx.held.repairs.rows; cut = n };
-    }) c.cut_rows-cut_rows.ensures) (c.in-Err.ensures.kept ∙ of_same (λ s b. g.D.Decoder.meaning c.rows.decoder
-    ≡ meaning_after step before.meaning (take c.rows.ctx.held.taken (plain s b).rows)) (sym inv.settings) (sym inv.bits)
-    inv.meaning) c.in-Err.ensures.refused
-    (subst (g.D.Decoder.refuses c.push_row.new.self) c.reference_row.ensures.changes c.in-Err.ensures.refused_row) in
-    subst (λ (e : DecodeError). DecodesRows c.args.reader.now.bits step before after c.args.ctx.now last (Err e))
-    (sym c.in-Err.ensures.only_refused) (decodes_rows c.args.reader.now.bits step before after c.args.ctx.now last (Err Refused)
-    c.requires.begins.columns (ap (λ (x : Context). x.held.settings) frame ∙ c.read_line.ensures.settings ∙ inv.settings)
-    (subst (λ (n : ℕ). HasRun c.args.ctx.now.held.settings c.args.reader.now.bits from step before after last.held n
-    (Err Refused)) (sym (ap (λ (x : Context). x.ticks) frame))
-    (of_same (λ s b. HasRun s b from step before after last.held read.ctx.ticks (Err Refused)) inv.settings inv.bits run)))
+    rows_refused c.requires.begins.columns c.rows.rows c.read_line.new.self c.rows.ctx inv.settings inv.bits inv.stands
+    (c.read_line.ensures.stands c.args.ctx.now.ticks (inv.at_line, inv.stands)) c.in_ok-read_line.ensures.behind_row
+    (row_came_here g (goal.at.returns-in-Err-clause-rows g c).After-push_row) c.take_back_row.ensures.frame
+    c.damaged_rows-damaged_rows.ensures c.cut_rows-cut_rows.ensures (c.in-Err.ensures.kept ∙ inv.meaning) c.in-Err.ensures.refused
+    (subst (g.D.Decoder.refuses c.push_row.new.self) c.reference_row.ensures.changes c.in-Err.ensures.refused_row)
+    c.in-Err.ensures.only_refused
 
 -- and the reader is at its line
 pub returns-in-Err-clause-fails : goal.returns-in-Err-clause-fails
@@ -303,43 +268,17 @@ at_bit-requires-in-Err-push_white_rows g c =
 pub returns-in-Err-push_white_rows-clause-rows : goal.returns-in-Err-push_white_rows-clause-rows
 returns-in-Err-push_white_rows-clause-rows g c =
     let at = (goal.at.returns-in-Err-push_white_rows-clause-rows g c).After-push_white_rows in
-    let from = c.args.ctx.now.ticks in
-    let bits = c.args.reader.now.bits in
-    let step = step_here g at in
-    let mid = (pushes_white g at).mid in
     let behind = behind_mid g at in
     let refused = refused_behind g at c.in-Err-push_white_rows.is in
     let takes = refused.reads.takes in
-    let new = c.push_white_rows.new.ctx in
-    let last = c.take_back_row-in-Err-push_white_rows.new.self in
-    let frame = c.take_back_row-in-Err-push_white_rows.ensures.frame in
-    let after = sink_behind g at in
-    let before : SinkState g.D.Decoder.Meaning = record {
-      meaning = g.D.Decoder.meaning c.args.decoder.now;
-      refused = g.D.Decoder.has_refused c.args.decoder.now;
-      refuses = g.D.Decoder.refuses c.args.decoder.now;
-    } in
-    let run = run_refused {step = step} {before = before} {after = after} mid.rows c.push_white_rows.new.rows mid.ctx new mid.at
-    c.push_white_rows.new.reader behind.stands (white_behind behind refused.reads) (ap (λ (r : RowState). r.stand) takes.kept_is)
-    (white_comes behind refused.reads) last.held
-    (ap (λ (x : Context). x.held) frame ∙ ap (λ (n : ℕ). record new.held {
-      taken = new.held.taken - 1;
-      repairs = record new.held.repairs { rows = n; cut = c.cut_rows-cut.result };
-    }) (c.damaged_rows-repaired.ensures ∙ ap (λ (x : Context). x.held.repairs.rows) takes.new_is)
-    ∙ ap (λ (n : ℕ). record new.held {
-      taken = new.held.taken - 1;
-      repairs = record new.held.repairs { rows = mid.ctx.held.repairs.rows; cut = n };
-    }) (c.cut_rows-cut.ensures ∙ ap (λ (x : Context). x.held.repairs.cut) takes.new_is))
-    (refused.meaning ∙ of_same (λ s b. mid.meaning ≡ meaning_after step before.meaning (take mid.ctx.held.taken (plain s b).rows))
-    (sym behind.settings_are) (sym behind.bits_are) behind.means) refused.flag
-    (subst (g.D.Decoder.refuses c.push_white_rows.new.decoder) (white_empty behind refused.reads) refused.row) in
-    subst (λ (e : DecodeError). DecodesRows bits step before after c.args.ctx.now last (Err e)) (sym refused.is)
-    (decodes_rows bits step before after c.args.ctx.now last (Err Refused) c.requires.begins.columns
-    (ap (λ (x : Context). x.held.settings) frame ∙ ap (λ (x : Context). x.held.settings) takes.new_is ∙ behind.settings_are)
-    (subst (λ (n : ℕ). HasRun c.args.ctx.now.held.settings bits from step before after last.held n (Err Refused))
-    (sym (ap (λ (x : Context). x.ticks) frame))
-    (of_same (λ s b. HasRun s b from step before after last.held new.ticks (Err Refused)) behind.settings_are behind.bits_are
-    run)))
+    let mid = (pushes_white g at).mid in
+    rows_refused c.requires.begins.columns mid.rows c.push_white_rows.new.rows mid.ctx behind.settings_are behind.bits_are behind.stands
+    (white_behind behind refused.reads)
+    (ap (λ (r : RowState). r.stand) takes.kept_is) (white_comes behind refused.reads)
+    c.take_back_row-in-Err-push_white_rows.ensures.frame
+    (c.damaged_rows-repaired.ensures ∙ ap (λ (x : Context). x.held.repairs.rows) takes.new_is)
+    (c.cut_rows-cut.ensures ∙ ap (λ (x : Context). x.held.repairs.cut) takes.new_is) (refused.meaning ∙ behind.means) refused.flag
+    (subst (g.D.Decoder.refuses c.push_white_rows.new.decoder) (white_empty behind refused.reads) refused.row) refused.is
 
 pub returns-in-Err-push_white_rows-clause-fails : goal.returns-in-Err-push_white_rows-clause-fails
 returns-in-Err-push_white_rows-clause-fails g c =
@@ -474,49 +413,19 @@ at_bit-requires-in-Err-push_row g c =
 
 pub returns-in-Err-push_row-clause-rows : goal.returns-in-Err-push_row-clause-rows
 returns-in-Err-push_row-clause-rows g c =
-    let from = c.args.ctx.now.ticks in
     let inv = c.white.invariant in
     let here = (goal.at.returns-in-Err-push_row-clause-rows g c).After-take_white_row in
-    let read = c.take_white_row.new in
     let takes = row_taken g here c.white-test.true in
-    let came = row_comes g here c.white-test.true in
-    let follows = row_follows g here c.white-test.true in
-    let last = c.take_back_row-in-Err-push_row.new.self in
-    let frame = c.take_back_row-in-Err-push_row.ensures.frame in
-    let step = g.D.Decoder.step (g.D.Decoder.width c.args.decoder.now) in
-    let before : SinkState g.D.Decoder.Meaning = record {
-      meaning = g.D.Decoder.meaning c.args.decoder.now;
-      refused = g.D.Decoder.has_refused c.args.decoder.now;
-      refuses = g.D.Decoder.refuses c.args.decoder.now;
-    } in
-    let after : SinkState g.D.Decoder.Meaning = record {
-      meaning = g.D.Decoder.meaning c.push_row-in-white.new.self;
-      refused = g.D.Decoder.has_refused c.push_row-in-white.new.self;
-      refuses = g.D.Decoder.refuses c.push_row-in-white.new.self;
-    } in
-    let run = run_refused {step = step} {before = before} {after = after} c.white.rows read.self c.white.ctx read.ctx
-    c.white.reader read.reader inv.stands (row_stands g here c.white-test.true)
-    (ap (λ (r : RowState). r.stand) takes.kept_is) came last.held
-    (ap (λ (x : Context). x.held) frame ∙ ap (λ (n : ℕ). record read.ctx.held {
-      taken = read.ctx.held.taken - 1;
-      repairs = record read.ctx.held.repairs { rows = n; cut = c.cut_rows-cuts.result };
-    }) (c.damaged_rows-damage.ensures ∙ ap (λ (x : Context). x.held.repairs.rows) takes.new_is)
-    ∙ ap (λ (n : ℕ). record read.ctx.held {
-      taken = read.ctx.held.taken - 1;
-      repairs = record read.ctx.held.repairs { rows = c.white.ctx.held.repairs.rows; cut = n };
-    }) (c.cut_rows-cuts.ensures ∙ ap (λ (x : Context). x.held.repairs.cut) takes.new_is))
-    (c.in-Err-push_row.ensures.kept ∙ of_same (λ s b. g.D.Decoder.meaning c.white.decoder
-    ≡ meaning_after step before.meaning (take c.white.ctx.held.taken (plain s b).rows)) (sym inv.settings) (sym inv.bits)
-    inv.meaning) c.in-Err-push_row.ensures.refused (subst (g.D.Decoder.refuses c.push_row-in-white.new.self)
-    (white_unchanging follows ∙ ap (λ (x : Context). changes x.held.reference) (sym takes.new_is))
-    c.in-Err-push_row.ensures.refused_row) in
-    subst (λ (e : DecodeError). DecodesRows c.args.reader.now.bits step before after c.args.ctx.now last (Err e))
-    (sym c.in-Err-push_row.ensures.only_refused) (decodes_rows c.args.reader.now.bits step before after c.args.ctx.now last
-    (Err Refused) c.requires.begins.columns (ap (λ (x : Context). x.held.settings) frame
-    ∙ ap (λ (x : Context). x.held.settings) takes.new_is ∙ inv.settings) (subst (λ (n : ℕ). HasRun c.args.ctx.now.held.settings
-    c.args.reader.now.bits from step before after
-    last.held n (Err Refused)) (sym (ap (λ (x : Context). x.ticks) frame))
-    (of_same (λ s b. HasRun s b from step before after last.held read.ctx.ticks (Err Refused)) inv.settings inv.bits run)))
+    rows_refused c.requires.begins.columns c.white.rows c.take_white_row.new.self c.white.ctx inv.settings inv.bits inv.stands
+    (row_stands g here c.white-test.true)
+    (ap (λ (r : RowState). r.stand) takes.kept_is) (row_comes g here c.white-test.true)
+    c.take_back_row-in-Err-push_row.ensures.frame
+    (c.damaged_rows-damage.ensures ∙ ap (λ (x : Context). x.held.repairs.rows) takes.new_is)
+    (c.cut_rows-cuts.ensures ∙ ap (λ (x : Context). x.held.repairs.cut) takes.new_is)
+    (c.in-Err-push_row.ensures.kept ∙ inv.meaning) c.in-Err-push_row.ensures.refused
+    (subst (g.D.Decoder.refuses c.push_row-in-white.new.self) (white_unchanging (row_follows g here c.white-test.true)
+    ∙ ap (λ (x : Context). changes x.held.reference) (sym takes.new_is)) c.in-Err-push_row.ensures.refused_row)
+    c.in-Err-push_row.ensures.only_refused
 
 pub returns-in-Err-push_row-clause-fails : goal.returns-in-Err-push_row-clause-fails
 returns-in-Err-push_row-clause-fails g c =
@@ -551,27 +460,19 @@ rows-smaller g c =
 
 pub returns-in_err-come_to_line-clause-rows : goal.returns-in_err-come_to_line-clause-rows
 returns-in_err-come_to_line-clause-rows g c =
-    let e = c.in_err-come_to_line.field-0.0 in
     let from = c.args.ctx.now.ticks in
     let inv = c.white.invariant in
     let none = c.take_white_row.ensures.none c.white-test.false in
     let stands = still_stands g (goal.at.returns-in_err-come_to_line-clause-rows g c).After-take_white_row c.white-test.false in
-    let ctx = c.come_to_line.new.ctx in
-    let reader = c.come_to_line.new.reader in
     let answer = err_from_is_err_and c.from_residual-in_err-come_to_line.result c.from_residual-in_err-come_to_line.ensures.1 in
     let is = subst (λ (r : Result Bool DecodeError). ReachesNextLine (seen c.take_white_row.new.self c.take_white_row.new.ctx
-    c.take_white_row.new.reader) (seen c.come_to_line.new.self ctx reader) r) c.in_err-come_to_line.was
-    (c.come_to_line.ensures.comes from stands) in
-    let step = g.D.Decoder.step (g.D.Decoder.width c.args.decoder.now) in
-    let rows = (plain c.args.ctx.now.held.settings c.args.reader.now.bits).rows in
-    let taken : ctx.held.taken ≡ c.white.ctx.held.taken = is.taken ∙ ap (λ (x : Context). x.held.taken) none.1 in
-    let same = c.come_to_line.ensures.settings ∙ ap (λ (x : Context). x.held.settings) none.1 ∙ inv.settings in
-    rw (answer.1, answer.2) (decodes_rows c.args.reader.now.bits step _ _ c.args.ctx.now ctx (Err e) c.requires.begins.columns same
-    (run_is_over c.come_to_line.new.self ctx reader (c.come_to_line.ensures.stands from stands) same
-    (c.come_to_line.ensures.same_bits ∙ ap (λ (b : BitsAt). b.bits) none.2 ∙ inv.bits)
-    c.requires.begins.columns (omega (arith, taken, inv.within))
-    (inv.meaning ∙ ap (λ (n : ℕ). meaning_after step (g.D.Decoder.meaning c.args.decoder.now) (take n rows)) (sym taken))
-    inv.unrefused (Err e) is.error.0))
+    c.take_white_row.new.reader) (seen c.come_to_line.new.self c.come_to_line.new.ctx c.come_to_line.new.reader) r)
+    c.in_err-come_to_line.was (c.come_to_line.ensures.comes from stands) in
+    rw (answer.1, answer.2) (rows_ended c.requires.begins.columns c.come_to_line.new.self
+    (c.come_to_line.ensures.settings ∙ ap (λ (x : Context). x.held.settings) none.1 ∙ inv.settings)
+    (c.come_to_line.ensures.same_bits ∙ ap (λ (b : BitsAt). b.bits) none.2 ∙ inv.bits) (c.come_to_line.ensures.stands from stands)
+    (is.taken ∙ ap (λ (x : Context). x.held.taken) none.1) inv.within inv.meaning inv.unrefused
+    (Err c.in_err-come_to_line.field-0.0) is.error.0)
 
 pub rows-preserved : goal.rows-preserved
 rows-preserved g c =
@@ -605,20 +506,13 @@ returns-then-not-branch-clause-rows g c =
     let inv = c.white.invariant in
     let unread = c.take_white_row.ensures.none c.white-test.false in
     let stands = still_stands g (goal.at.returns-then-not-branch-clause-rows g c).After-take_white_row c.white-test.false in
-    let ctx = c.come_to_line.new.ctx in
-    let reader = c.come_to_line.new.reader in
     let comes = c.come_to_line.ensures.comes from stands in
     let none : c.come_to_line.result ≡ Ok false = c.in_ok-come_to_line.was ∙ ap (λ (b : Bool). Ok b) c.if-not-branch.true in
-    let step = g.D.Decoder.step (g.D.Decoder.width c.args.decoder.now) in
-    let rows = (plain c.args.ctx.now.held.settings c.args.reader.now.bits).rows in
-    let taken : ctx.held.taken ≡ c.white.ctx.held.taken = comes.taken ∙ ap (λ (x : Context). x.held.taken) unread.1 in
-    let same = c.come_to_line.ensures.settings ∙ ap (λ (x : Context). x.held.settings) unread.1 ∙ inv.settings in
-    decodes_rows c.args.reader.now.bits step _ _ c.args.ctx.now ctx (Ok (here reader)) c.requires.begins.columns same
-    (run_is_over c.come_to_line.new.self ctx reader (c.come_to_line.ensures.stands from stands) same
+    rows_ended c.requires.begins.columns c.come_to_line.new.self
+    (c.come_to_line.ensures.settings ∙ ap (λ (x : Context). x.held.settings) unread.1 ∙ inv.settings)
     (c.come_to_line.ensures.same_bits ∙ ap (λ (b : BitsAt). b.bits) unread.2 ∙ inv.bits)
-    c.requires.begins.columns (omega (arith, taken, inv.within))
-    (inv.meaning ∙ ap (λ (n : ℕ). meaning_after step (g.D.Decoder.meaning c.args.decoder.now) (take n rows)) (sym taken))
-    inv.unrefused (Ok tt) (comes.end none).0)
+    (c.come_to_line.ensures.stands from stands) (comes.taken ∙ ap (λ (x : Context). x.held.taken) unread.1) inv.within inv.meaning
+    inv.unrefused (Ok tt) (comes.end none).0
 
 -- ---- The room of the lists
 

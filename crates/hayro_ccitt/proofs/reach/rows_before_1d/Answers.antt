@@ -4,6 +4,7 @@ use Rattle.hayro_ccitt.proofs.Names.{◌∙◌}
 use Rattle.hayro_ccitt.proofs.Names.{arith, DecodeSettings, Bits, BitsAt, here, Held, after_eol, tagged_eols, looked}
 use Rattle.hayro_ccitt.proofs.Names.{most_for_lines}
 use Rattle.hayro_ccitt.proofs.{EncodedPictures.PicturesT4.eols_here_two, reach.rows_before_1d.Goals.After-read_tagged_eols-count}
+use Rattle.hayro_ccitt.proofs.reach.rows_before_1d.Goals.{After-is_before_1d}
 use Rattle.hayro_ccitt.proofs.DamagedLines.LinesPassed.{before_1d, not_before_1d, counted_on, last_line_counted, counted_none}
 use Rattle.hayro_ccitt.proofs.DamagedLines.LinesPassed.{no_eol_no_end, no_eol_no_line, no_line_there}
 use Rattle.hayro_ccitt.proofs.DamagedLines.PassedWork.{line_paid, lines_end, lines_end_behind}
@@ -20,46 +21,51 @@ returns-then-not-pass_eol-clause-rows c =
     counted_none settings (here c.args.reader.now) now c.lines.rows c.lines.invariant.4 (no_eol_no_end settings now none)
     (no_eol_no_line now none)
 
+-- what comes before the tag of the next line
+module _ (c : After-read_tagged_eols-count) where
+  eol_there : after_eol 0 (here c.lines.reader) ≡ Some (here c.pass_eol.new.reader)
+  eol_there =
+      ap (λ (at : BitsAt). after_eol 0 (here at)) (sym c.copy-line.ensures.value) ∙ c.if-not-pass_eol.ensures.eol
+
+  eols_counted : tagged_eols (here c.lines.reader) ≡ (c.read_tagged_eols-count.result, here c.read_tagged_eols-count.new.self)
+  eols_counted =
+      ap (λ (at : BitsAt). tagged_eols (here at)) (sym c.copy-behind.ensures.value) ∙ c.read_tagged_eols-count.ensures.eols
+
+same_settings : (c : After-is_before_1d) → c.settings.result ≡ c.args.ctx.now.held.settings
+same_settings c = c.settings.ensures.value ∙ ap (λ (h : Held). h.settings) c.lines.invariant.1
+
 pub returns-then-is_before_1d-clause-rows : goal.returns-then-is_before_1d-clause-rows
 returns-then-is_before_1d-clause-rows c =
+    let at = (goal.at.returns-then-is_before_1d-clause-rows c).After-read_tagged_eols-count in
     let settings = c.args.ctx.now.held.settings in
     let now = here c.lines.reader in
     let rest = here c.read_tagged_eols-count.new.self in
     let count = c.read_tagged_eols-count.result in
-    let eol : after_eol 0 now ≡ Some (here c.pass_eol.new.reader)
-    = ap (λ (at : BitsAt). after_eol 0 (here at)) (sym c.copy-line.ensures.value) ∙ c.if-not-pass_eol.ensures.eol in
-    let counted : tagged_eols now ≡ (count, rest)
-    = ap (λ (at : BitsAt). tagged_eols (here at)) (sym c.copy-behind.ensures.value) ∙ c.read_tagged_eols-count.ensures.eols in
-    let same : c.settings.result ≡ settings = c.settings.ensures.value ∙ ap (λ (h : Held). h.settings) c.lines.invariant.1 in
     last_line_counted settings (here c.args.reader.now) now c.lines.rows c.lines.invariant.4
-    (before_1d settings now (here c.pass_eol.new.reader) rest count eol counted
+    (before_1d settings now (here c.pass_eol.new.reader) rest count (eol_there at) (eols_counted at)
     (subst (λ (s : DecodeSettings). ((s.end_of_block ≡ true) × (6 ≤ count))
-    ⊎ (((line : Bits) × (rest ≡ true ∷ line)) ⊎ (rest ≡ []))) same (c.is_before_1d.ensures.ends c.if-is_before_1d.true)))
+    ⊎ (((line : Bits) × (rest ≡ true ∷ line)) ⊎ (rest ≡ [])))
+    (same_settings (goal.at.returns-then-is_before_1d-clause-rows c).After-is_before_1d)
+    (c.is_before_1d.ensures.ends c.if-is_before_1d.true)))
 
 pub returns-then-not-pass_line-clause-rows : goal.returns-then-not-pass_line-clause-rows
 returns-then-not-pass_line-clause-rows c =
+    let at = (goal.at.returns-then-not-pass_line-clause-rows c).After-read_tagged_eols-count in
     let settings = c.args.ctx.now.held.settings in
     let now = here c.lines.reader in
-    let rest = here c.read_tagged_eols-count.new.self in
-    let count = c.read_tagged_eols-count.result in
-    let eol : after_eol 0 now ≡ Some (here c.pass_eol.new.reader)
-    = ap (λ (at : BitsAt). after_eol 0 (here at)) (sym c.copy-line.ensures.value) ∙ c.if-not-pass_eol.ensures.eol in
-    let counted : tagged_eols now ≡ (count, rest)
-    = ap (λ (at : BitsAt). tagged_eols (here at)) (sym c.copy-behind.ensures.value) ∙ c.read_tagged_eols-count.ensures.eols in
-    let same : c.settings.result ≡ settings = c.settings.ensures.value ∙ ap (λ (h : Held). h.settings) c.lines.invariant.1 in
     let tag = c.is_before_1d.ensures.zero c.if-is_before_1d.false in
     counted_none settings (here c.args.reader.now) now c.lines.rows c.lines.invariant.4
-    (not_before_1d settings now rest tag.0 count counted (λ block six.
-    c.is_before_1d.ensures.no_rtc c.if-is_before_1d.false (ap (λ (s : DecodeSettings). s.end_of_block) same ∙ block) six) tag.1)
-    (no_line_there now (here c.pass_eol.new.reader) eol (c.pass_line.ensures.no_line c.if-not-pass_line.true))
+    (not_before_1d settings now (here c.read_tagged_eols-count.new.self) tag.0 c.read_tagged_eols-count.result (eols_counted at)
+    (λ block six. c.is_before_1d.ensures.no_rtc c.if-is_before_1d.false
+    (ap (λ (s : DecodeSettings). s.end_of_block)
+    (same_settings (goal.at.returns-then-not-pass_line-clause-rows c).After-is_before_1d) ∙ block) six) tag.1)
+    (no_line_there now (here c.pass_eol.new.reader) (eol_there at) (c.pass_line.ensures.no_line c.if-not-pass_line.true))
 
 -- what is counted until the tag of the next line
 counted_to_tag : (c : After-read_tagged_eols-count) → c.args.ctx.now.ticks ≤ c.read_tagged_eols-count.new.ticks
 counted_to_tag c =
     let settings = c.args.ctx.now.held.settings in
     let now = here c.lines.reader in
-    let same =
-    ap (λ (at : BitsAt). tagged_eols (here at)) (sym c.copy-behind.ensures.value) ∙ c.read_tagged_eols-count.ensures.eols in
     omega (
       arith,
       c.lines.invariant.2,
@@ -69,7 +75,7 @@ counted_to_tag c =
       c.read_tagged_eols-count.ensures.at_least,
       ap (λ (at : BitsAt). length (here at)) c.copy-behind.ensures.value,
       (eols_here_counted settings now).0,
-      ap (λ (e : ℕ × Bits). length e.1) (eols_here_two settings now c.requires.encoding ∙ same),
+      ap (λ (e : ℕ × Bits). length e.1) (eols_here_two settings now c.requires.encoding ∙ eols_counted c),
     )
 
 pub returns-then-is_before_1d-clause-only_ticks : goal.returns-then-is_before_1d-clause-only_ticks
@@ -113,24 +119,21 @@ returns-then-not-pass_eol-clause-at_most c =
 
 -- where no line follows, what was counted is within the bound, and so are three times the bits behind the EOL
 within_bound : (c : After-read_tagged_eols-count) (now : ℕ)
-    → after_eol 0 (here c.lines.reader) ≡ Some (here c.pass_eol.new.reader)
     → now ≤ c.read_tagged_eols-count.new.ticks + 3 * length (here c.pass_eol.new.reader)
     → now ≤ c.args.ctx.now.ticks + most_for_lines (length (here c.args.reader.now))
-within_bound c now eol passed =
+within_bound c now passed =
     lines_end_behind (here c.args.reader.now) (here c.lines.reader) (here c.pass_eol.new.reader)
     (here c.read_tagged_eols-count.new.self) c.args.ctx.now.ticks c.lines.ctx.ticks c.pass_eol.new.ticks
-    c.read_tagged_eols-count.new.ticks now c.lines.invariant.5 eol (read c) (ahead c) passed
+    c.read_tagged_eols-count.new.ticks now c.lines.invariant.5 (eol_there c) (read c) (ahead c) passed
 
 pub returns-then-is_before_1d-clause-at_most : goal.returns-then-is_before_1d-clause-at_most
 returns-then-is_before_1d-clause-at_most c =
     within_bound (goal.at.returns-then-is_before_1d-clause-at_most c).After-read_tagged_eols-count
-    c.read_tagged_eols-count.new.ticks (ap (λ (at : BitsAt). after_eol 0 (here at)) (sym c.copy-line.ensures.value)
-    ∙ c.if-not-pass_eol.ensures.eol) (omega arith)
+    c.read_tagged_eols-count.new.ticks (omega arith)
 
 pub returns-then-not-pass_line-clause-at_most : goal.returns-then-not-pass_line-clause-at_most
 returns-then-not-pass_line-clause-at_most c =
     within_bound (goal.at.returns-then-not-pass_line-clause-at_most c).After-read_tagged_eols-count c.pass_line.new.ctx.ticks
-    (ap (λ (at : BitsAt). after_eol 0 (here at)) (sym c.copy-line.ensures.value) ∙ c.if-not-pass_eol.ensures.eol)
     (omega (arith, c.pass_line.ensures.at_most))
 
 pub lines-smaller : goal.lines-smaller
@@ -138,16 +141,16 @@ lines-smaller c = grind (arith, common_steps, after_eol_shorter)
 
 pub lines-preserved : goal.lines-preserved
 lines-preserved c =
+    let at = (goal.at.lines-preserved c).After-read_tagged_eols-count in
     let now = here c.lines.reader in
-    let eol : after_eol 0 now ≡ Some (here c.pass_eol.new.reader)
-    = ap (λ (at : BitsAt). after_eol 0 (here at)) (sym c.copy-line.ensures.value) ∙ c.if-not-pass_eol.ensures.eol in
+    let eol = eol_there at in
     let line = c.pass_line.ensures.line c.if-not-pass_line.false in (
       c.pass_line.ensures.same_bits ∙ c.pass_eol.ensures.same_bits ∙ ap (λ (at : BitsAt). at.bits) c.copy-line.ensures.value
           ∙ c.lines.invariant.0,
       c.pass_line.ensures.only_ticks.held ∙ c.lines.invariant.1,
       omega (
         arith,
-        counted_to_tag (goal.at.lines-preserved c).After-read_tagged_eols-count,
+        counted_to_tag at,
         c.pass_line.ensures.only_ticks.counts,
       ),
       omega (
@@ -162,9 +165,7 @@ lines-preserved c =
           c.read_tagged_eols-count.result c.args.ctx.now.ticks c.lines.ctx.ticks c.pass_eol.new.ticks
           c.read_tagged_eols-count.new.ticks c.pass_line.new.ctx.ticks c.lines.invariant.5
           (eol ∙ ap (λ (b : Bits). Some b) line.1) line.2
-          (ap (λ (at : BitsAt). tagged_eols (here at)) (sym c.copy-behind.ensures.value) ∙ c.read_tagged_eols-count.ensures.eols)
-          (read (goal.at.lines-preserved c).After-read_tagged_eols-count)
-          (ahead (goal.at.lines-preserved c).After-read_tagged_eols-count)
+          (eols_counted at) (read at) (ahead at)
           (omega (arith, c.pass_line.ensures.to_eol c.if-not-pass_line.false, ap length line.1)),
       c.pass_line.ensures.only_ticks.space ∙ c.lines.invariant.6,
     )

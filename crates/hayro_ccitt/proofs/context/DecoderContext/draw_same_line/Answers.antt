@@ -3,18 +3,17 @@ use Rattle.hayro_ccitt.proofs.Names.{◌≡◌, ◌<◌, ◌+◌, ◌-◌, ◌*�
 use Rattle.hayro_ccitt.proofs.Names.{GoesOn2d, IsStroke, TurnsFrom, pen_at, opposite}
 use Rattle.hayro_ccitt.proofs.DrawingLines.SameLines.{same_line, some_columns}
 use Rattle.hayro_ccitt.proofs.DrawingLines.UsualModes.{are_passed}
-use Rattle.hayro_ccitt.proofs.DrawingLines.WhiteRows.{HasPaintedNothing, nothing_painted}
-use Rattle.hayro_ccitt.proofs.PixelRows.ChangesAndPixels.{changes-pixels}
+use Rattle.hayro_ccitt.proofs.DrawingLines.LinesAtOnce.{HasPaintedNothing, draws_line, nothing_painted, room_for_one}
 use Rattle.hayro_ccitt.proofs.context.DecoderContext.draw_same_line.Goals.{After-opposite-self-inside}
 use Rattle.hayro_ccitt.proofs.context.DecoderContext.draw_same_line.Goals as goal
 
 pub repeat_changes-requires : goal.repeat_changes-requires
-repeat_changes-requires c = grind (arith, common_steps, nothing_painted)
+repeat_changes-requires c = grind (arith, common_steps, room_for_one c.self.inside c.self.view_is c.self.invariant c.requires)
 
 -- the changes are those of the row above, and the line draws them
 module _ (c : After-opposite-self-inside) where
   painted_nothing : HasPaintedNothing c.self.inside
-  painted_nothing = grind (arith, common_steps, nothing_painted)
+  painted_nothing = nothing_painted c.self.inside c.self.view_is c.self.invariant c.requires
 
   same_changes : c.repeat_changes.new.row.items ≡ c.self.inside.ref_changes.items
   same_changes = rw (painted_nothing.row, c.as_slice.ensures.value) at c.repeat_changes.ensures.items
@@ -52,14 +51,10 @@ invariant_of-self c =
       passed = are_passed some c.self.invariant.reference stroke;
     }
 
-pub returns-clause-draws : goal.returns-clause-draws
-returns-clause-draws c =
-    grind (
-      arith,
-      common_steps,
-      changes-pixels,
-      painted_nothing ((goal.at.returns-clause-draws c).After-opposite-self-inside),
-      same_changes ((goal.at.returns-clause-draws c).After-opposite-self-inside),
-      drawn ((goal.at.returns-clause-draws c).After-opposite-self-inside),
-      c.if-not-pass_bits.ensures.moved refl,
-    )
+pub returns : goal.returns
+returns c =
+    let at = (goal.at.returns c).After-opposite-self-inside in
+    let s = c.self.inside in
+    rw (← c.self.view_is, c.if-not-pass_bits.ensures.moved refl, c.tick_times.ensures) (draws_line s (painted_nothing at)
+    c.repeat_changes.new.row _ _ c.self.invariant c.repeat_changes.ensures.room (omega (arith, count_is at)) refl
+    (rw (same_changes at, c.opposite-self-inside.ensures) (drawn at).0))
