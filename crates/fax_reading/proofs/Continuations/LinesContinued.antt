@@ -50,11 +50,6 @@ module _ (more : Bits) where
   abbrev pub pen_on : Pen → Pen
   pen_on pen = record pen { rest = pen.rest ++ more }
 
-  pub run_goes_on : (pen : Pen) → Continues more (rest_on more) (run_here pen) (run_here (pen_on pen))
-  run_goes_on pen = finds_continue (rest_on more) pen.front (run_from pen.color (0, pen.rest))
-      (run_from pen.color (0, pen.rest ++ more)) (run_found pen.color (0, pen.rest)) (run_found pen.color (0, pen.rest ++ more))
-      (run_continues pen.color 0 pen.rest more)
-
   pub mode_goes_on : (pen : Pen) → Continues more (rest_on more) (mode_here pen) (mode_here (pen_on pen))
   mode_goes_on pen = finds_continue (rest_on more) pen.front (read_code mode_codes pen.rest)
       (read_code mode_codes (pen.rest ++ more)) (word_found mode_codes pen.rest) (word_found mode_codes (pen.rest ++ more))
@@ -63,7 +58,7 @@ module _ (more : Bits) where
   draw_run_on : (strict : Bool) (columns : ℕ) (pen : Pen)
       → Continues more pen_on (draw_run strict columns pen) (draw_run strict columns (pen_on pen))
   draw_run_on strict columns pen = then_continues (rest_on more) pen_on
-      (behind pen) (behind (pen_on pen)) (λ run. second run) (run_here pen) (run_here (pen_on pen)) (run_goes_on pen)
+      (behind pen) (behind (pen_on pen)) (λ run. second run) (run_here pen) (run_here (pen_on pen)) ((finds_continue (rest_on more) pen.front (run_from pen.color (0, pen.rest)) (run_from pen.color (0, pen.rest ++ more)) (run_found pen.color (0, pen.rest)) (run_found pen.color (0, pen.rest ++ more)) (run_continues pen.color 0 pen.rest more)))
     where
       behind : Pen → ℕ × Bits → Drawing Pen
       behind p run = painted strict columns p run.0

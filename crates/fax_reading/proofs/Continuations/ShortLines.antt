@@ -74,11 +74,6 @@ run_turn_known color (total, here) zeros = by_read_code (read_code (codes_of col
         → IsKnown (λ found. HasZeros found.1) r → TurnIsKnown (run_turn color (total, here))
     by_read_code r e left = grind (arith, either_way)
 
-run_known : (color : Color) (here : Bits) → HasZeros here → IsKnown (λ found. HasZeros found.1) (run_from color (0, here))
-run_known color here zeros = repeated_induct (run_turn color) (Err UnexpectedEof) size (run_shrinks color) (λ s r. HasZeros s.1
-    → IsKnown (λ found. HasZeros found.1) r) (λ s r e left. subst TurnIsKnown e (run_turn_known color s left))
-    (λ s t r e on left. on (subst TurnIsKnown e (run_turn_known color s left))) (suc (length here)) (0, here) (omega arith) zeros
-
 -- ---- Lines
 
 -- a turn goes on with such a value, or its line isn't short
@@ -107,7 +102,7 @@ before_zeros : (strict : Bool) (columns : ℕ)
 before_zeros strict columns = record {
   paints = λ front rest color n zeros. grind (arith, common_steps);
   run = λ front rest color zeros. found_known (λ run. HasZeros run.1) front (run_from color (0, rest))
-      (run_known color rest zeros);
+      ((repeated_induct (run_turn color) (Err UnexpectedEof) size (run_shrinks color) (λ s r. HasZeros s.1 → IsKnown (λ found. HasZeros found.1) r) (λ s r e left. subst TurnIsKnown e (run_turn_known color s left)) (λ s t r e on left. on (subst TurnIsKnown e (run_turn_known color s left))) (suc (length rest)) (0, rest) (omega arith) zeros));
   mode = λ front rest zeros. found_known (λ mode. HasZeros mode.1) front (read_code mode_codes rest)
       (code_known mode_codes modes_free (λ mode word has. inr (mode, has)) rest zeros);
   place = λ front rest zeros. refl;
@@ -155,8 +150,4 @@ line_stays settings reference here known = grind (arith, common_steps, line_sett
 
 -- the law
 pub lines_settle : LinesSettle
-lines_settle = record {
-  exactly = line_settled_exactly;
-  stays = line_stays;
-  ends = λ settings reference here. zeros_end_line settings reference here (replicate 5 false);
-}
+lines_settle = grind (arith, common_steps, line_settled_exactly, line_stays, zeros_end_line)

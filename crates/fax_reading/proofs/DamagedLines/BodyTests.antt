@@ -7,7 +7,7 @@ use Rattle.fax_reading.proofs.Names.{take-append-drop, DecodeSettings, length-ap
 use Rattle.fax_reading.proofs.Names.{◌≢◌, suc, ◌+◌, ◌-◌, ◌<◌, ◌≤◌, ◌⊎◌, eqb, ltb, leb, ◌∷◌, Err, sym, ◌∙◌, ◌↔◌, Row, ap}
 use Rattle.fax_bits.proofs.BitReading.ConsecutiveEols.{next_eol_found}
 use Rattle.fax_reading.proofs.DamagedLines.PastEol.{then_after, past-front, past_is, past}
-use Rattle.fax_reading.proofs.DamagedLines.{LocalByTests.local_by_tests, LineStarts.not_some}
+use Rattle.fax_reading.proofs.DamagedLines.LocalByTests.{local_by_tests}
 use Rattle.fax_reading.proofs.KeptRows.EqualFronts.{past_front}
 
 -- ---- An EOL before a position.
@@ -29,8 +29,7 @@ one_in_front : (m : ℕ) (here : Bits) → m ≤ length here → leading_zeros h
 one_in_front zero here fits lt e = absurd (omega (arith, lt))
 one_in_front (suc m) [] fits lt e = absurd (omega (arith, fits))
 one_in_front (suc m) (true ∷ here) fits lt e = absurd cc
-one_in_front (suc m) (false ∷ here) fits lt e =
-    one_in_front m here (omega (arith, fits)) (omega (arith, lt)) (let f : take m here ≡ replicate m false = cc in f)
+one_in_front (suc m) (false ∷ here) fits lt e = grind (arith, common_steps, one_in_front m here (omega (arith, fits)))
 
 -- some bits contain a one if fewer zeros are here
 pub one_by_zeros : (m zeros : ℕ) (here : Bits) → m ≤ length here → zeros ≡ leading_zeros here
@@ -123,7 +122,7 @@ local_by_end settings bits from to end before lenient order within starts one no
     within = within;
     starts = starts;
     one = one;
-    no_eol = not_some (next_eol (take (to - from) (drop from bits))) no_eol;
+    no_eol = (grind (arith, common_steps));
     closes = (drop end bits, eol, ends.0 test);
   }),
   λ local. ends.1 (same_end local.closes.0 (sym local.closes.1 ∙ eol) local.closes.2),

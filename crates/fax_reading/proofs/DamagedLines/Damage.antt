@@ -1,7 +1,7 @@
 -- Damage to one line changes its row alone.
 use Rattle.fax_reading.proofs.Names.{AreSettings, length-drop, append-nil, row_before, first_line, after_eol, cases_lt, cases_eq}
 use Rattle.fax_reading.proofs.Names.{AreWholeBytes, OneRowDiffers, length-append, bytes_before, common_steps, DecodeError, length}
-use Rattle.fax_reading.proofs.Names.{Ending, end_of, EndsAt, subst, arith, plain, IsEol, refl, Bits, Bool, true, ◌||◌, List, ◌++◌}
+use Rattle.fax_reading.proofs.Names.{Ending, end_of, EndsAt, subst, arith, plain, IsEol, refl, Bits, true, ◌||◌, List, ◌++◌}
 use Rattle.fax_reading.proofs.Names.{Ok, ap, [], ℕ}
 use Rattle.fax_reading.proofs.Names.{append_cancel_right, take-append-drop, DamageStaysInRow, DecodeSettings, UnexpectedEof, None}
 use Rattle.fax_reading.proofs.Names.{repeated, all_eols, Progress, EndAlike, Locality, move_on, IsLocal, Reading, Result, set_at}
@@ -116,9 +116,7 @@ module _ (settings : DecodeSettings) (one two : Bits) (from : ℕ) (after : Bits
   first_is : (bits : Bits) → (ltb 0 (all_eols front).0 || settings.end_of_line) ≡ true
       → all_eols bits ≡ count_then_more (drop from bits) (all_eols front)
       → first_line settings bits ≡ sought [] ((all_eols front).1 ++ drop from bits)
-  first_is bits seeks counts = ap
-      (λ (f : ℕ × Bits). record { rows = []; has_eols = ltb 0 f.0 || settings.end_of_line; rest = f.1 }) counts
-      ∙ ap (λ (b : Bool). record { rows = []; has_eols = b; rest = (all_eols front).1 ++ drop from bits }) seeks
+  first_is bits seeks counts = grind (arith, common_steps, seeks)
 
   begin : RunsAlike settings one two from after lines (first_line settings one) (first_line settings two)
   begin = let these = first_at one (sym (take-append-drop from one)) given.line_one.none in

@@ -2,7 +2,7 @@
 use Rattle.fax_reading.proofs.Names.{ComesBefore1D, length-append, AreWholeBytes, IsTaggedBody, ComeBefore1D, EncodingMode, false}
 use Rattle.fax_reading.proofs.Names.{Group3_2D, after_eol, line_here, eols_here, EndAlike, IsLine2D, cases_lt, cases_eq, one_more}
 use Rattle.fax_reading.proofs.Names.{common_steps, DecodeError, AreSettings, tagged_eols, LocalityByK, RowsDiffer, cond-true, ◌≡◌}
-use Rattle.fax_reading.proofs.Names.{drop, Some, None, Bits, List, suc, ◌-◌, ◌<◌, ◌≤◌, ◌∷◌, sym, ◌∙◌, ◌⊎◌, inl, inr, Row, ◌+◌, ap}
+use Rattle.fax_reading.proofs.Names.{drop, Some, Bits, List, suc, ◌-◌, ◌<◌, ◌≤◌, ◌∷◌, sym, ◌∙◌, ◌⊎◌, inl, inr, Row, ap}
 use Rattle.fax_reading.proofs.Names.{length-replicate, DecodeSettings, DamageEndsAt1D, EncodesLine2D, pass_last_tag, append_assoc}
 use Rattle.fax_reading.proofs.Names.{line_by, eols_by, IsEolAt, length, Result, eq-eqb, subst, arith, White, plain, zero, ◌++◌, ℕ}
 use Rattle.std.proofs.Math.Seq.{take-append_seam, drop-append-add}
@@ -26,12 +26,6 @@ module _ (settings : DecodeSettings) (encoding : settings.encoding ≡ Group3_2D
   pub unreferred : (here : Bits) → ComesBefore1D settings here → Unreferred settings (eols_here settings here)
   unreferred here (eol, ends) = grind (arith, common_steps, eols_end)
 
-  -- one EOL is counted before a two-dimensional line
-  one_before : (line found : Bits) → after_eol 0 (false ∷ line) ≡ None → after_eol 0 found ≡ Some (false ∷ line)
-      → eols_here settings found ≡ (1, false ∷ line)
-  one_before line found none e = ap (λ (e : EncodingMode). eols_by e settings.end_of_block found) encoding
-      ∙ ap pass_last_tag (all_tagged-some found (false ∷ line) e ∙ ap one_more (all_tagged-none (false ∷ line) none))
-
   -- the next EOL is the one behind it, whatever it is read against
   next_behind : (other : Row) (line next : Bits) (is : IsLine2D line next)
       → past 0 (rest_of (line_here settings other (false ∷ line)) (false ∷ line)) ≡ Some is.ends.0
@@ -47,7 +41,7 @@ module _ (settings : DecodeSettings) (encoding : settings.encoding ≡ Group3_2D
       subst (Settles settings (suc lines)) after_is (
         is.ends.0,
         omega (arith, after_eol_shorter 0 next is.ends.0 is.ends.1, (next_eol_found (false ∷ line) next is.next_is).0),
-        λ found g. one_before line found is.no_eol g,
+        λ found g. (ap (λ (g : EncodingMode). eols_by g settings.end_of_block found) encoding ∙ ap pass_last_tag (all_tagged-some found (false ∷ line) g ∙ ap one_more (all_tagged-none (false ∷ line) is.no_eol))),
         λ other. next_behind other line next is,
         settles lines next is.ends.0 more is.ends.1,
       )
@@ -83,8 +77,7 @@ module _ (settings : DecodeSettings) (encoding : settings.encoding ≡ Group3_2D
 -- ---- Rows of which some may differ
 
 drop_past : {A : Type 0} (n : ℕ) (front rest : List A) → length front ≤ n → drop n (front ++ rest) ≡ drop (n - length front) rest
-drop_past n front rest le = let e : n ≡ length front + (n - length front) = omega arith in
-    ap (λ (m : ℕ). drop m (front ++ rest)) e ∙ drop-append-add front rest (n - length front)
+drop_past n front rest le = grind (arith, common_steps, drop-append-add)
 
 -- rows that are alike differ in that many at most
 rows_differ : (settings : DecodeSettings) (one two : Bits) (from differ : ℕ) (rows others : List Row)

@@ -52,8 +52,7 @@ ends_last (b ∷ before) (c ∷ left) (d ∷ first) e = grind (arith, ends_last 
 
 pub one_among : (before after : Bits) → holds_one (before ++ true ∷ after) ≡ true
 one_among [] after = refl
-one_among (true ∷ before) after = refl
-one_among (false ∷ before) after = one_among before after
+one_among (w0 ∷ before) after = grind (arith, common_steps, one_among before after)
 
 -- a suffix isn't longer
 pub leaves_length : (bits rest : Bits) → LeavesBits bits rest → length rest ≤ length bits
@@ -70,9 +69,7 @@ past_last seen (false ∷ first) z e = past_last (suc seen) first z e
 past_last seen (true ∷ first) z e = grind (arith, common_steps, past_last 0 first z)
 
 pub past_ends : (left z : Bits) → EndsByOne 0 left → past 0 left ≡ None → past 0 (left ++ z) ≡ past 0 z
-past_ends left z (inl none) e = rw none refl
-past_ends left z (inr (first, is)) e = ap (λ (b : Bits). past 0 (b ++ z)) is ∙ ap (past 0) (append_assoc first (true ∷ []) z)
-    ∙ past_last 0 first z (ap (past 0) (sym is) ∙ e)
+past_ends left z v2 e = grind (arith, common_steps, past, append_assoc, past_last)
 
 -- ---- EOLs, where none begins at the line
 
@@ -179,11 +176,7 @@ one_is_none rest (count, left) e = grind (arith, common_steps)
 
 module _ {pass : Bits → Bits} {count : ℕ → Bits → ℕ × Bits} (counts : CountsEols pass count) where
   none_left : (rest line : Bits) → count (length rest) rest ≡ (0, line) → (rest ≡ line) × (after_eol 0 rest ≡ None)
-  none_left rest line e = by_after_eol (after_eol 0 rest) refl
-    where
-      by_after_eol : (o : Option Bits) → after_eol 0 rest ≡ o → (rest ≡ line) × (after_eol 0 rest ≡ None)
-      by_after_eol None f = (ap (λ (f : ℕ × Bits). f.1) (sym (counts.none (length rest) rest f) ∙ e), f)
-      by_after_eol (Some next) f = absurd (omega (arith, count_some counts rest next f, ap (λ (f : ℕ × Bits). f.0) e))
+  none_left rest line e = grind (arith, common_steps, count_some)
 
   one_left : (here line : Bits) → count (length here) here ≡ (1, line) → (rest : Bits) × (after_eol 0 here ≡ Some rest)
       × (pass rest ≡ line) × (after_eol 0 line ≡ None)

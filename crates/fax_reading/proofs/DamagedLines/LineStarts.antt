@@ -18,8 +18,7 @@ later_below seen (true ∷ here) = grind (arith, All-append, All-weaker, later_b
 
 later_descends : (seen : ℕ) (here : Bits) → Descends (later_starts seen here)
 later_descends seen [] = tt
-later_descends seen (false ∷ here) = later_descends (suc seen) here
-later_descends seen (true ∷ here) = grind (arith, common_steps, later_below, later_descends 0 here)
+later_descends seen (w0 ∷ here) = grind (arith, common_steps, later_below, later_descends (suc seen) here, later_descends 0 here)
 
 -- ---- An EOL ends at each, and none begins
 
@@ -128,9 +127,6 @@ contains_first here other rest given = grind (arith, common_steps)
 
 contains_more : (here other : Bits) (rest : List Bits) → Contains rest other → Contains (here ∷ rest) other
 contains_more here other rest (k, lt, e) = (suc k, omega arith, e)
-
-pub not_some : (o : Option Bits) → is_some o ≡ false → o ≡ None
-not_some o e = grind (arith, common_steps)
 
 pub more_left : (here : Bits) → 0 < length here → at_end here ≡ false
 more_left here lt = grind (arith, common_steps)

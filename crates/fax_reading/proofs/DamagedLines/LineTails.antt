@@ -80,18 +80,6 @@ module _ (bits : Bits) (from to : ℕ) (after : Bits) (local : IsBody bits from 
   abbrev pub eol_on : Bits
   eol_on = drop to bits
 
-  -- the body begins within the data
-  pub within_from : from ≤ length bits
-  within_from = omega (arith, local.order, local.within)
-
-  -- as many bits precede it
-  pub front_length : length (take from bits) ≡ from
-  front_length = length-take-le from bits within_from
-
-  -- its length
-  pub body_length : length body ≡ to - from
-  body_length = length-take-le (to - from) line_on (omega (arith, length-drop from bits, local.order, local.within))
-
   -- the body, and what follows
   pub cut : line_on ≡ body ++ eol_on
   cut = grind (arith, common_steps, drop-drop (to - from) from bits, take-append-drop (to - from) line_on)
@@ -108,7 +96,7 @@ module _ (bits : Bits) (from to : ℕ) (after : Bits) (local : IsBody bits from 
     append_assoc,
     drop_at bits (take from bits ++ before) found (from + length before),
     drop_at bits ((take from bits ++ before) ++ (replicate k false ++ true ∷ [])) rest (from + (length before + (k + 1))),
-    front_length,
+    length-take-le from bits (omega (arith, local.order, local.within)),
     length-append,
     length-replicate,
     whole,
@@ -123,7 +111,7 @@ module _ (bits : Bits) (from to : ℕ) (after : Bits) (local : IsBody bits from 
       by_past (Some rest) e = let next = found_next body rest e in
           let before = next_eol_leaves body next.0 next.1 in
           let is = after_eol_is 0 next.0 rest next.2 in
-          grind (arith, append_assoc, after_eol-append, body_length, length-append, length-replicate, not_within, cut)
+          grind (arith, append_assoc, after_eol-append, (length-take-le (to - from) line_on (omega (arith, length-drop from bits, local.order, local.within))), length-append, length-replicate, not_within, cut)
 
   pub no_eol_here : after_eol 0 line_on ≡ None
   no_eol_here = by_after_eol (after_eol 0 line_on) refl
@@ -155,8 +143,7 @@ line_past_of (Line.broken front fault) here after leaves next stays = next
 pub line_past_by : (settings : DecodeSettings) (reference : Row) (here after : Bits) → past 0 here ≡ Some after
     → ((row : Row) (rest : Bits) → line_here settings reference here ≡ Line.whole row rest → length after + 12 ≤ length rest)
     → past 0 (rest_of (line_here settings reference here) here) ≡ Some after
-line_past_by settings reference here after next stays = line_past_of (line_here settings reference here) here after
-    (line_by_leaves settings.encoding settings.strict settings.columns reference here) next stays
+line_past_by settings reference here after next stays = grind (arith, common_steps, line_past_of, line_by_leaves)
 
 -- ---- One-dimensional data
 

@@ -12,7 +12,7 @@ use Rattle.fax_reading.proofs.DamagedLines.{PastEol.past_shorter, PastEol.past-e
 use Rattle.fax_reading.proofs.DrawingLines.LinesLeaveBits.{line_1d_leaves}
 use Rattle.fax_reading.proofs.Readings.TurnsAddRows.{after_row_keeps, repeated_adds, turn_extends, move_adds}
 use Rattle.fax_reading.proofs.Readings.TurnsMoveOn.{left_to_read, move_shrinks, left_below, eols_end}
-use Rattle.fax_reading.proofs.Readings.{RowsAndGaps.unless_over, RowsAndGaps.after_row, GapsAndRows.ending_t4}
+use Rattle.fax_reading.proofs.Readings.{RowsAndGaps.after_row, GapsAndRows.ending_t4}
 
 -- ---- Where lines begin
 
@@ -70,11 +70,6 @@ module _ (settings : DecodeSettings) (encoding : settings.encoding ≡ Group3_1D
   not_met : (n : ℕ) → limit_met settings n ≡ false
   not_met n = rw unlimited refl
 
-  -- only the end ends the run
-  over_is : (rows : List Row) (rest : Bits) (count : ℕ) (here : Bits) → unless_over settings (sought rows rest) (count, here)
-      ≡ cond (at_end here) (ends_with (sought rows rest) (Ok here)) (Turn.next (sought rows here))
-  over_is rows rest count here = rw ((eols_end settings count).1 no_block, unlimited) refl
-
   -- the rows so far, and those of the lines that begin from here on
   by_starts : (n : ℕ) (rows : List Row) (here : Bits) → length here < n → All (StaysBefore settings.columns) (here ∷ later_starts
       0 here) → IsPrefix (rows ++ map (row_at settings.columns) (here ∷ later_starts 0 here)) (rest_end (sought rows here)).rows
@@ -106,7 +101,7 @@ module _ (settings : DecodeSettings) (encoding : settings.encoding ≡ Group3_1D
               ≡ cond (at_end there) (ends_with (sought others rest) (Ok there)) (Turn.next (sought others there))
           turn there is = after_row_past settings encoding lenient others rest after (not_met (length others))
               (line_past settings.columns here after (All-head (StaysBefore settings.columns) here (later_starts 0 here) stay) e)
-              ∙ over_is others rest (suc (all_eols after).0) (all_eols after).1
+              ∙ (rw ((eols_end settings (suc (all_eols after).0)).1 no_block, unlimited) refl)
               ∙ ap (λ (x : Bits). cond (at_end x) (ends_with (sought others rest) (Ok x)) (Turn.next (sought others x))) is
 
           go : (there : Bits) → (all_eols after).1 ≡ there

@@ -59,11 +59,6 @@ memory_has_black line front rest draws = change_has_black (front_of line) front 
 
 -- ---- What a step returns.
 
--- a fault of the data ends the line with the front that is left
-pub fault_ends : (step : Step) (e : DecodeError) (pen : Pen) → IsFault e → step ≡ Turn.done (Line.broken pen.front e)
-    → DrawsStep step (Err e) pen
-fault_ends step e pen fault is = of_fault_kind (kind_of e) _ _ _ fault is
-
 -- why painting this many pixels is refused
 pub record IsUnpainted (held : Held) (count : ℕ) (e : DecodeError) : Type 0 where
   pub too_many : ◌≡◌ {A = Result (Unit {0}) DecodeError} (Err e) (Err too_many_pixels)
@@ -94,10 +89,7 @@ pub paint_draws : (held new : Held) (count : ℕ) (rest : Bits) (r : Result (Uni
     (new ≡ redrawn held new.front held.color) → OnErr r (new ≡ held) → ((e : DecodeError) → r ≡ Err e → IsUnpainted held count e)
     → DrawsStep (try held.front (paint held.settings.strict held.settings.columns held.front held.color count)
     (λ front. Turn.next (record (pen_of held rest) { front = front }))) r (pen_of new rest)
-paint_draws held new count rest (Ok x) painted kept same unpainted = grind (arith, common_steps)
-paint_draws held new count rest (Err e) painted kept same unpainted =
-    paint_fails held count (λ front. Turn.next (record (pen_of held rest) { front = front })) e (pen_of new rest)
-    (ap (λ (h : Held). h.front) same) (unpainted e refl) (λ row stops. stops)
+paint_draws held new count rest v4 painted kept same unpainted = grind (arith, common_steps, paint_fails, unpainted)
 
 -- what pass draws is what its painting draws
 pub pass_draws : (old held new : Held) (count : ℕ) (rest : Bits) (r : Result (Unit {0}) DecodeError) → held ≡ old → count
@@ -119,14 +111,12 @@ place_of z o p iff is = grind (arith, some_where, ints)
 pub vertical_unpainted : (held new : Held) (k : ℤ) (p : ℕ) (rest : Bits) (e : DecodeError)
     → pos (b1 held.reference (right_of held.front) held.color) +ℤ k ≡ pos p → p ≤ 4294967295 → length held.front ≤ p → new ≡ held
     → IsUnpainted held (p - length held.front) e → DrawsStep (step_of_mode held rest (Vertical k)) (Err e) (pen_of new rest)
-vertical_unpainted held new k p rest e is fits above same unpainted =
-    let go_on : Row → Step = λ front. Turn.next (record { front = front; color = opposite held.color; rest = rest }) in
-    grind (arith, common_steps, paint_fails held (p - length held.front) go_on e (pen_of new rest))
+vertical_unpainted held new k p rest e is fits above same unpainted = grind (arith, common_steps, paint_fails)
 
 -- a run that isn't read ends the line
 pub run_unread : (held : Held) (rest after : Bits) (e : DecodeError) → IsFault e → run_from held.color (0, rest) ≡ Err e
     → DrawsStep (step_of_run held rest) (Err e) (pen_of held after)
-run_unread held rest after e fault unread = fault_ends _ e (pen_of held after) fault (rw unread refl)
+run_unread held rest after e fault unread = of_fault_kind (kind_of e) _ _ _ fault (rw unread refl)
 
 -- a run that is read and not painted ends the line
 pub run_unpainted : (held new : Held) (n : ℕ) (rest after : Bits) (e : DecodeError) → run_from held.color (0, rest)
@@ -152,13 +142,11 @@ paint_keeps P on strict columns front color n row e holds = grind (arith, common
 
 stays_kept : (P : Row → Type 0) → Stays P → (strict : Bool) (columns : ℕ)
     → AreKept strict columns (λ front rest. P front) (λ line. P (front_of line))
-stays_kept P on strict columns = fronts_kept strict columns P (λ line. P (front_of line)) (paint_keeps P on strict columns)
-    (λ front holds fault. holds) (λ front rest holds. holds)
+stays_kept P on strict columns = grind (arith, common_steps, fronts_kept, paint_keeps)
 
 after_kept : (P : Row → Type 0) (step : Step) → Yields (λ pen. P pen.front) (λ line. P (front_of line)) step
     → P (front_after step)
-after_kept P (Turn.next pen) holds = holds
-after_kept P (Turn.done line) holds = holds
+after_kept v0 v1 holds = grind (arith, common_steps)
 
 -- so what is true of a front is true of the row of the line that continues it, or of the front of a broken one
 pub drawn_1d_keeps : (P : Row → Type 0) → Stays P → (strict : Bool) (columns : ℕ) (pen : Pen) → P pen.front

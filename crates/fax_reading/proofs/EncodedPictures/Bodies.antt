@@ -4,7 +4,7 @@ use Rattle.fax_reading.proofs.Names.{sym, ap, subst, ◌∙◌, append_assoc, ar
 use Rattle.fax_reading.proofs.Names.{append-nil, All-head, All-tail, White, DecodeSettings, EncodingMode, Group4, Group3_1D}
 use Rattle.fax_reading.proofs.Names.{Group3_2D, Bits, Turn, Reaches, Row, Line, cond-true, eols, eols_here, Progress, row_before}
 use Rattle.fax_reading.proofs.Names.{limit_met, ends_with, line_here, pass_gap, ending_behind, end_of, EncodesLine, IsPicture}
-use Rattle.fax_reading.proofs.Names.{EncodesRows, Allows, gap_and_row, row_behind, ReadsLimitedRowsT4, common_steps}
+use Rattle.fax_reading.proofs.Names.{EncodesRows, Allows, gap_and_row, ReadsLimitedRowsT4, common_steps}
 use Rattle.fax_bits.proofs.BitReading.ConsecutiveEols.{eols-none}
 use Rattle.fax_reading.proofs.EncodedPictures.PictureLines.{IsLineStart, line_2d_starts, allows_sum, not_met, row_before_push}
 use Rattle.fax_reading.proofs.EncodedPictures.PictureLines.{plain_ends, fill, aligned_on, between, ended_with}
@@ -56,8 +56,7 @@ module _ (settings : DecodeSettings) (wide : 0 < settings.columns) (small : sett
       → IsLineStart here → limit_met settings (length rows) ≡ false → (b ≡ true → length ((line ++ fill b line) ++ tail) % 8 ≡ 0)
       → line_here settings (row_before settings.columns rows) here ≡ Line.whole row (fill b line ++ tail)
       → gap_and_row settings (between rows here) ≡ Turn.next (between (rows ++ row ∷ []) tail)
-  row_read rows here row line tail start open_limit whole read = ap (row_behind settings)
-      (gap_at_line settings rows here start open_limit) ∙ grind (arith, common_steps, between, fill)
+  row_read rows here row line tail start open_limit whole read = grind (arith, common_steps, gap_at_line, between, fill)
 
   module _ (encoding : EncodingMode) (same : settings.encoding ≡ encoding) where
     -- from a line's start, at a whole byte if lines are aligned, the lines are read and what follows is left

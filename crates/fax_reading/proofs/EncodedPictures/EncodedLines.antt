@@ -1,6 +1,6 @@
 -- A two-dimensional line is read as the row that was encoded.
 use Rattle.fax_reading.proofs.Names.{◌≡◌, ℕ, suc, ◌+◌, ◌-◌, ◌<◌, ◌≤◌, Bool, false, [], ◌++◌, length, take, replicate, Ok, refl}
-use Rattle.fax_reading.proofs.Names.{sym, ap, subst, ◌∙◌, append_assoc, arith, inl, inr, pos, ◌+ℤ◌, ℤ, cases_lt, length-take-le}
+use Rattle.fax_reading.proofs.Names.{sym, ap, subst, ◌∙◌, append_assoc, arith, inl, inr, pos, ◌+ℤ◌, cases_lt, length-take-le}
 use Rattle.fax_reading.proofs.Names.{append-nil, Color, White, Black, Mode, Pass, Horizontal, Vertical, Bits, mode_codes, Has}
 use Rattle.fax_reading.proofs.Names.{Turn, Row, is_black, opposite, pixel, pixel_before, is_change, right_of, b1, b2, a1, a2}
 use Rattle.fax_reading.proofs.Names.{run_from, Line, Pen, line_2d, Step, Spells, EncodesLine2D, common_steps}
@@ -24,13 +24,6 @@ pub pass_drawn : (strict : Bool) (columns : ℕ) (reference front : Row) (color 
     → mode_step strict columns reference (record { front = front; color = color; rest = rest }) Pass ≡ Turn.next
     (record { front = front ++ replicate (to - length front) (is_black color); color = color; rest = rest })
 pass_drawn strict columns reference front color rest to is le fits = grind (arith, common_steps)
-
--- a vertical mode paints up to a1 and turns the colour
-pub vertical_drawn : (strict : Bool) (columns : ℕ) (reference front : Row) (color : Color) (rest : Bits) (k : ℤ) (to : ℕ)
-    → pos (b1 reference (right_of front) color) +ℤ k ≡ pos to → length front ≤ to → to ≤ columns → columns ≤ 4294967295
-    → mode_step strict columns reference (record { front = front; color = color; rest = rest }) (Vertical k) ≡ Turn.next
-    (record { front = front ++ replicate (to - length front) (is_black color); color = opposite color; rest = rest })
-vertical_drawn strict columns reference front color rest k to is le fits small = grind (arith, common_steps)
 
 white_first : (color : Color) → false ≡ is_black color → opposite color ≡ Black
 white_first color e = grind (arith, common_steps)
@@ -111,7 +104,7 @@ module _ (strict : Bool) (columns : ℕ) (reference row : Row) (wide : 0 < colum
       before_same row from p (is_black color) (at.inside inside) one.before p above (omega arith) in
       reads_on _ _ more (mode_drawn strict columns reference front color (Vertical k) word (next ++ more) _
       (omega (arith, len)) has (append_assoc word next more)
-      ∙ vertical_drawn strict columns reference front color (next ++ more) k p place (omega (arith, len)) (omega arith) small)
+      ∙ (grind (arith, common_steps)))
       (line_2d_from (front ++ replicate (p - length front) (is_black color)) (suc p) (opposite color) next more steps (record {
         painted = painted_at row _ p painted;
         inside = λ le. at_change row p color (one.change (omega arith)) before;

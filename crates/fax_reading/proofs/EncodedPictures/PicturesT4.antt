@@ -7,7 +7,7 @@ use Rattle.fax_reading.proofs.Names.{EncodingMode, Group3_1D, Group3_2D, DecodeS
 use Rattle.fax_reading.proofs.Names.{Line, line_1d, line_2d, after_eol, one_more, eols, all_eols, past_tag, eols_with_tags}
 use Rattle.fax_reading.proofs.Names.{tagged_eols, is_over, cond-true, Progress, Ending, row_before, aligned, at_end}
 use Rattle.fax_reading.proofs.Names.{line_here, eols_here, after_line, move_on, end_of, Spells, EncodesLine1D, EncodesLine2D}
-use Rattle.fax_reading.proofs.Names.{EncodesLine, tag_of, IsPicture, EncodesRowsWithEols, ClosesWithEols, PictureT4, each_word}
+use Rattle.fax_reading.proofs.Names.{EncodesLine, IsPicture, EncodesRowsWithEols, ClosesWithEols, PictureT4, each_word}
 use Rattle.fax_reading.proofs.Names.{ReadsPictureT4, ReadsLimitedPictureT4, OnePictureT4, Allows, common_steps}
 use Rattle.fax_bits.proofs.Repetition.Repeated.{after_turn}
 use Rattle.fax_reading.proofs.EncodedPictures.PictureLines.{closed_settings, begins_no_eol, no_eol_at_word, bits_at_word}
@@ -40,11 +40,6 @@ pub line_2d_after_tag : (reference row : Row) (from : ℕ) (color : Color) (bits
     → EncodesLine2D reference row from color bits → from ≤ length row → after_eol 1 (bits ++ more) ≡ None
 line_2d_after_tag reference row from color bits more given le = grind (arith, common_steps)
 
--- where a line of T.4 begins: there is no EOL there, nor after a tag
-record IsTagStart (here : Bits) : Type 0 where
-  start : IsLineStart here
-  no_tag : past_tag here ≡ here
-
 -- ---- EOLs that are there.
 pub eol_stands : (fill : ℕ) (more : Bits) → after_eol 0 (eol fill ++ more) ≡ Some more
 eol_stands fill more = grind (arith, common_steps, append_assoc, eol_of)
@@ -55,12 +50,9 @@ length-eol fill more = grind (arith, common_steps)
 eols_more : (most fill : ℕ) (more : Bits) → eols (suc most) (eol fill ++ more) ≡ one_more (eols most more)
 eols_more most fill more = rw (eol_stands fill more, eols) refl
 
-all_eols_more : (fill : ℕ) (more : Bits) → all_eols (eol fill ++ more) ≡ one_more (eols (11 + fill + length more) more)
-all_eols_more fill more = grind (arith, common_steps, length-eol, eols_more)
-
 -- one EOL before a line
 pub one_eol : (fill : ℕ) (here : Bits) → after_eol 0 here ≡ None → all_eols (eol fill ++ here) ≡ (1, here)
-one_eol fill here none = all_eols_more fill here ∙ ap one_more (eols-none (11 + fill + length here) here none)
+one_eol fill here none = (grind (arith, common_steps, length-eol, eols_more)) ∙ ap one_more (eols-none (11 + fill + length here) here none)
 
 tagged_eols_more : (most fill : ℕ) (more : Bits)
     → eols_with_tags (suc most) (eol fill ++ more) ≡ one_more (eols_with_tags most (past_tag more))
@@ -95,11 +87,6 @@ length-closing encoding zero closing more is = omega arith
 length-closing encoding (suc n) closing more (fill, next, then, is) =
     grind (arith, common_steps, append_assoc, common_steps, length-append, length-eol, length-closing encoding n next more)
 
--- the first of them, and its tag
-tag_after : (fill : ℕ) (closing next more : Bits) → closing ≡ eol fill ++ tag_of Group3_2D ++ next
-    → closing ++ more ≡ eol fill ++ (true ∷ (next ++ more))
-tag_after fill closing next more is = grind (arith, common_steps)
-
 -- a tag before EOLs is consumed
 tagged_eols_behind : (n most : ℕ) (closing more : Bits) → ClosesWithEols Group3_2D n closing
     → n ≤ (eols_with_tags most (closing ++ more)).0 → n ≤ (eols_with_tags most (past_tag (true ∷ (closing ++ more)))).0
@@ -110,7 +97,7 @@ tagged_eols_closing : (n most : ℕ) (closing more : Bits) → ClosesWithEols Gr
 tagged_eols_closing zero most closing more is le = omega arith
 tagged_eols_closing (suc n) zero closing more is le = absurd (omega arith)
 tagged_eols_closing (suc n) (suc most) closing more (fill, next, then, is) le = let step = tagged_eols_closing n most next more in
-    grind (arith, common_steps, one_more-count, tag_after, tagged_eols_behind, tagged_eols_more, step)
+    grind (arith, common_steps, one_more-count, tagged_eols_behind, tagged_eols_more, step)
 
 -- the six EOLs of RTC are counted
 pub six_tagged : (closing more : Bits) → ClosesWithEols Group3_2D 6 closing → 6 ≤ (tagged_eols (closing ++ more)).0
@@ -226,11 +213,6 @@ module _ (settings : DecodeSettings) (wide : 0 < settings.columns) (small : sett
       → after_row settings (with_eols rows here) ≡ Turn.done (ended_with_eols rows (eols_here settings here).1)
   six_stop rows here block six = grind (arith, common_steps, cond-false, ne_eqb, cond-true, eols_end)
 
-  -- data of Group 3 are read as such
-  pub end_of_three : (encoding : EncodingMode) (bits : Bits) → Matches encoding settings
-      → end_of settings bits ≡ ending_t4 settings bits
-  end_of_three encoding bits matches = grind (arith, common_steps, first_gap_t4)
-
   length-lines : (encoding : EncodingMode) (reference : Row) (rows : List Row) (bits : Bits)
       → EncodesRowsWithEols encoding reference rows bits → length rows ≤ length bits
   length-lines encoding reference [] bits lines = omega arith
@@ -252,7 +234,7 @@ module _ (settings : DecodeSettings) (wide : 0 < settings.columns) (small : sett
       let started : ending_t4 settings (eol fill ++ rest)
       ≡ repeated (move_on settings) late (suc (suc (length rest))) (with_eols [] rest) = grind arith in
       let short : length rows < suc (suc (length rest)) = grind (arith, common_steps, length-append, length-lines) in
-      end_of_three encoding (lines ++ tail) matches ∙ ap (ending_t4 settings) here
+      (grind (arith, common_steps, first_gap_t4)) ∙ ap (ending_t4 settings) here
       ∙ started ∙ lines_t4_again encoding matches late tail last (row ∷ rows) allows stops [] row rows line next
       (suc (suc (length rest))) refl (length-replicate settings.columns false) is_picture.1 is more short
 

@@ -2,10 +2,10 @@
 use Rattle.fax_reading.proofs.Names.{◌≡◌, ℕ, ◌+◌, ◌-◌, ◌/◌, ◌%◌, ◌<◌, ◌≤◌, true, false, List, [], ◌++◌, length, replicate, Ok}
 use Rattle.fax_reading.proofs.Names.{refl, sym, ap, subst, ◌∙◌, append_assoc, arith, inl, length-append, length-replicate, Group4}
 use Rattle.fax_reading.proofs.Names.{DecodeSettings, Bits, AreWholeBytes, Reaches, Row, end_of, Ending, Reading, Allows}
-use Rattle.fax_reading.proofs.Names.{gap_and_row, for_t6, ComesToEofb, PicturesComeToEofb, ReadsPictureT6, ReadsLimitedRowsT6}
+use Rattle.fax_reading.proofs.Names.{gap_and_row, for_t6, PicturesComeToEofb, ReadsPictureT6, ReadsLimitedRowsT6}
 use Rattle.fax_reading.proofs.Names.{OnePictureT6, eol, PictureT6, common_steps}
 use Rattle.fax_reading.proofs.EncodedPictures.Bodies.{gap_at_eofb, body_again, body_end}
-use Rattle.fax_reading.proofs.EncodedPictures.PictureLines.{closed_settings, allows_sum, between, ended_with, eofb_stands}
+use Rattle.fax_reading.proofs.EncodedPictures.PictureLines.{closed_settings, allows_sum, between, ended_with}
 use Rattle.fax_reading.proofs.EncodedPictures.PictureLines.{plain_ends}
 use Rattle.fax_reading.proofs.Readings.GapsAndRows.{t6_end}
 
@@ -29,14 +29,7 @@ pub picture_t6_end : (settings : DecodeSettings) (rows : List Row) (bits more : 
 picture_t6_end settings rows bits more four block small limit whole pic = let wide : 0 < settings.columns = pic.1.0 in
     let tail : Bits = eol 0 ++ (eol 0 ++ more) in
     t6_end settings wide (bits ++ more) (between rows tail) (ended_with rows more) four (picture_t6_reaches settings rows bits
-    more four small limit whole pic) (gap_at_eofb settings (between rows tail) more refl four block (eofb_stands more))
-
--- Such data are among those that `AfterEofb` is about.
-pub picture_t6_comes : (settings : DecodeSettings) (rows : List Row) (bits more : Bits) → settings.columns ≤ 4294967295
-    → Allows settings (length rows) → (settings.rows_are_byte_aligned ≡ true → length (bits ++ more) % 8 ≡ 0)
-    → PictureT6 settings.columns settings.rows_are_byte_aligned rows bits → ComesToEofb settings (bits ++ more)
-picture_t6_comes settings rows bits more small limit whole pic =
-    grind (arith, common_steps, picture_t6_reaches (for_t6 settings) rows bits more refl small limit whole pic)
+    more four small limit whole pic) (gap_at_eofb settings (between rows tail) more refl four block ((refl)))
 
 -- the law
 pub closed_picture_t6 : ReadsPictureT6
@@ -56,7 +49,7 @@ limited_rows_t6 settings rows bits stream are all begins = grind (arith, common_
 -- a picture reaches its EOFB
 pub pictures_come_to_eofb : PicturesComeToEofb
 pictures_come_to_eofb settings rows bits more are whole limit picture =
-    picture_t6_comes settings rows bits more (omega (arith, are.columns)) limit (λ e. whole) picture
+    grind (arith, common_steps, picture_t6_reaches (for_t6 settings) rows bits more refl (omega (arith, are.columns)) limit (λ e. whole) picture)
 
 -- ---- One prefix, one picture.
 pub one_picture_t6 : OnePictureT6

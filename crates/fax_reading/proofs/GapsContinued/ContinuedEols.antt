@@ -43,13 +43,9 @@ abbrev pub bytes_of_eol : Bits
 bytes_of_eol = false
     ∷ false ∷ false ∷ false ∷ false ∷ false ∷ false ∷ false ∷ false ∷ false ∷ false ∷ false ∷ false ∷ false ∷ false ∷ true ∷ []
 
--- fifteen zeros and a one are an EOL, after any number of zeros
-fifteen_zeros : (seen : ℕ) → after_eol seen bytes_of_eol ≡ Some []
-fifteen_zeros seen = eol_of seen 15 [] (omega arith)
-
 -- where no one is left, an EOL may come
 pub eol_may_come : (seen : ℕ) (here : Bits) → holds_one here ≡ false → after_eol seen (here ++ bytes_of_eol) ≡ Some []
-eol_may_come seen [] none = fifteen_zeros seen
+eol_may_come seen [] none = eol_of seen 15 [] (omega arith)
 eol_may_come seen (false ∷ here) none = eol_may_come (suc seen) here none
 eol_may_come seen (true ∷ here) none = absurd cc
 

@@ -85,11 +85,6 @@ tagged_at_most (suc most) here = grind (arith, tagged_at_most most, eols_with_ta
 pub last_tag_tested : (found : ℕ × Bits) → behind_line_tag (pass_last_tag found) ≡ behind_first_tag found
 last_tag_tested found = grind (arith, cases_lt, lt-leb, lt-ltb, le-leb)
 
--- where a bit is left, more bits make no difference to whether the tag is that of RTC
-last_tag-more : (more : Bits) (found : ℕ × Bits) → holds_one (behind_first_tag found) ≡ true
-    → pass_last_tag (count_then_more more found) ≡ count_then_more more (pass_last_tag found)
-last_tag-more more found one = grind arith
-
 -- where a one is left behind the tag, more bits make no difference
 pub tagged_eols-more : (more here : Bits) → holds_one (behind_line_tag (tagged_eols here)) ≡ true
     → tagged_eols (here ++ more) ≡ count_then_more more (tagged_eols here)
@@ -103,7 +98,7 @@ tagged_eols-more more here one = let most = suc (length (here ++ more)) in
     ∙ one in
     let counted : all_tagged (here ++ more) ≡ count_then_more more (all_tagged here) = grind
     (arith, common_steps, eols_with_tags-none, after_eol-more, eols_with_tags-some, eol-more, tagged_past-more, one_then_more) in
-    ap pass_last_tag counted ∙ last_tag-more more (all_tagged here) left
+    ap pass_last_tag counted ∙ (grind arith)
 
 -- where none is, an EOL more may come
 pub tagged_eols_may_come : (here : Bits) → holds_one (behind_line_tag (tagged_eols here)) ≡ false

@@ -28,11 +28,6 @@ one_in_line Group4 bits = holds_one bits
 pub one_in_bits : (encoding : EncodingMode) (bits : Bits) → one_in_line encoding bits ≡ true → holds_one bits ≡ true
 one_in_bits encoding bits one = grind arith
 
--- so EOLs before such bits are settled
-settled_one : (encoding : EncodingMode) (block : Bool) (count : ℕ) (more : Bits) → one_in_line encoding more ≡ true
-    → eols_are_settled encoding block (count, more) ≡ true
-settled_one encoding block count more one = grind (arith, common_steps, or_right)
-
 -- ---- What is found among the first bits is found in them alone
 
 -- a count, and what follows
@@ -139,14 +134,6 @@ module _ (x : Bits) where
           )) in
           rw (f, g, past_tag) refl
 
-  all_tagged_first : (bits more : Bits) (n : ℕ) → 0 < length more → all_tagged (bits ++ x) ≡ (n, more ++ x)
-      → all_tagged bits ≡ (n, more)
-  all_tagged_first bits more n some e =
-      count_same counts_tagged (length bits) (length (bits ++ x)) bits (omega arith) (omega (arith, length-append bits x))
-      ∙ count_first counts_tagged (λ most b. length b + length x ≤ most) (λ most b left fits lt. omega (arith, fits, lt)) more
-      (λ most k left fits f. tag_first most k left more fits some f) (length (bits ++ x)) bits n
-      (omega (arith, length-append bits x)) e
-
   -- what is before the tag of RTC, or of a line
   last_tag_first : (found : ℕ × Bits) (more : Bits) (n : ℕ) → IsPair (pass_last_tag found) n (more ++ x)
       → one_behind_tag more ≡ true
@@ -164,7 +151,7 @@ module _ (x : Bits) where
   tagged_first : (bits more : Bits) (n : ℕ) → tagged_eols (bits ++ x) ≡ (n, more ++ x) → one_behind_tag more ≡ true
       → tagged_eols bits ≡ (n, more)
   tagged_first bits more n e one = let (raw, some, is, last) = last_tag_first (all_tagged (bits ++ x)) more n e one in
-      ap pass_last_tag (all_tagged_first bits raw n some is) ∙ last
+      ap pass_last_tag ((count_same counts_tagged (length bits) (length (bits ++ x)) bits (omega arith) (omega (arith, length-append bits x)) ∙ count_first counts_tagged (λ most b. length b + length x ≤ most) (λ most b left fits lt. omega (arith, fits, lt)) raw (λ most k left fits f. tag_first most k left raw fits some f) (length (bits ++ x)) bits n (omega (arith, length-append bits x)) is)) ∙ last
 
   by_first : (encoding : EncodingMode) (block : Bool) (bits more : Bits) (n : ℕ)
       → eols_by encoding block (bits ++ x) ≡ (n, more ++ x) → one_in_line encoding more ≡ true
@@ -188,4 +175,4 @@ pub eols_front : (x y : Bits) (settings : DecodeSettings) (bits more : Bits) (n 
 ) → one_in_line settings.encoding more ≡ true → eols_here settings (bits ++ y) ≡ (n, more ++ y)
 eols_front x y settings bits more n e one = let is = by_first x settings.encoding settings.end_of_block bits more n e one in
     eols_here-more y settings bits (ap (eols_are_settled settings.encoding settings.end_of_block) is
-    ∙ settled_one settings.encoding settings.end_of_block n more one) ∙ ap (count_then_more y) is
+    ∙ (grind (arith, common_steps, or_right))) ∙ ap (count_then_more y) is

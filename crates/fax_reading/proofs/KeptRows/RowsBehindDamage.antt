@@ -106,8 +106,7 @@ module _ (settings : DecodeSettings) (unlimited : settings.rows ≡ 0) (a b : Li
 
   -- a turn of both
   pub moves_in_step : (s t : Progress) → InStep s t → Follows InStep EndInStep rest (move_on settings s) (move_on settings t)
-  moves_in_step s t (xs, ys, h, here, both, short, same, e, f) =
-      rw (e, f) (move_beyond settings most BothThen InStep EndInStep stay rest xs ys h here both short same)
+  moves_in_step s t (xs, ys, h, here, both, short, same, e, f) = grind (arith, common_steps, move_beyond, stay)
 
 -- ---- The whole
 
@@ -174,10 +173,6 @@ module _ (settings : DecodeSettings) (wide : 0 < settings.columns) where
   goes_reached s t (Reaches.moves from after last e reaches) = repeated_turn (move_on settings) (late settings wide) left_to_read
       (move_shrinks settings wide) from ∙ ap (after_turn (goes settings wide)) e ∙ goes_reached after last reaches
 
-  end_goes : (bits : Bits) → IsGroup3 settings.encoding → end_of settings bits ≡ goes settings wide (first_line settings bits)
-  end_goes bits group3 =
-      end_t4 settings bits (not_group4 settings.encoding group3) ∙ ending_goes settings wide (first_line settings bits)
-
   -- what two readings that end in step yield
   in_step : (one two behind : Bits) (a b : List Row) → AreWholeBytes one
       → AreWholeBytes two → length behind ≤ length one → length behind ≤ length two → ComesTo settings one behind
@@ -192,7 +187,7 @@ module _ (settings : DecodeSettings) (wide : 0 < settings.columns) where
       → Reaches (move_on settings) (first_line settings bits) mid → move_on settings mid ≡ unless_over settings
       (sought rows u) found → end_of settings bits ≡ after_turn (goes settings wide) (unless_over settings (sought rows u) found)
   ends_from bits mid rows u found group3 reaches e =
-      end_goes bits group3 ∙ goes_reached (first_line settings bits) mid reaches ∙ repeated_turn (move_on settings)
+      (end_t4 settings bits (not_group4 settings.encoding group3) ∙ ending_goes settings wide (first_line settings bits)) ∙ goes_reached (first_line settings bits) mid reaches ∙ repeated_turn (move_on settings)
       (late settings wide) left_to_read (move_shrinks settings wide) mid ∙ ap (after_turn (goes settings wide)) e
 
 -- the law

@@ -3,13 +3,10 @@ use Rattle.fax_reading.proofs.Names.{common_steps, ◌≡◌, ℕ, zero, suc, �
 use Rattle.fax_reading.proofs.Names.{get_or, refl, sym, ap, ◌∙◌, arith, inl, inr, cases_lt, cases_eq, get_or_past}
 use Rattle.fax_reading.proofs.Names.{get_or_default_zero, Color, White, Row, AreChanges, pixels, is_black, opposite}
 use Rattle.fax_reading.proofs.Names.{right_of, b1, b2, right_of_painted, TurnsFrom, IsNear, IsB1}
-use Rattle.fax_reading.proofs.PixelRows.ReferencePlaces.{turned, turned-not, turned_by_parity, not_not, IsSplit, IsSplit-painted}
+use Rattle.fax_reading.proofs.PixelRows.ReferencePlaces.{turned, turned-not, turned_by_parity, not_not, IsSplit}
 use Rattle.fax_reading.proofs.PixelRows.ReferencePlaces.{IsSplit-none, order, end_within, in_list_if_below, b1_is, b2_after_b1}
 
 -- ---- The colour that a change turns from.
-pub turns_by : (index : ℕ) (color : Color) → TurnsFrom index color → turned index false ≡ is_black color
-turns_by index color e = grind (arith, turned_by_parity)
-
 -- one change less gives the other colour
 pub turned_before : (k : ℕ) (color : Color) → turned (suc k) false ≡ is_black color → turned k false ≡ not (is_black color)
 turned_before k color colored = sym (not_not (turned k false)) ∙ ap not (sym (turned-not k false) ∙ colored)
@@ -24,10 +21,6 @@ turns_next index color e = grind arith
 
 pub turns_second : (index : ℕ) (color : Color) → TurnsFrom index color → TurnsFrom (index + 2) color
 turns_second index color e = grind arith
-
--- and so does the change before it
-pub turns_before : (index : ℕ) (color : Color) → TurnsFrom (index + 1) color → TurnsFrom index (opposite color)
-turns_before index color e = grind arith
 
 -- where a0 is, by the length of the front
 right_of_length : (front : Row) (painted : ℕ) → length front ≡ painted → right_of front ≡ right_of_painted painted
@@ -83,7 +76,7 @@ module _ (columns : ℕ) (places : List ℕ) (ascend : AreChanges columns places
   -- of the number of changes that are left of a0 or at it
   split_some : (painted j : ℕ) → 0 < painted → painted < columns → ((k : ℕ) → k < j → get_or places k columns ≤ painted)
       → painted < get_or places j columns → IsSplit places (right_of_painted painted) j
-  split_some painted j some inside left right = grind (arith, IsSplit-painted, get_or_default_zero, in_list_if_below)
+  split_some painted j some inside left right = grind (arith, get_or_default_zero, in_list_if_below)
 
   -- the number of changes that are not right of a0 is the index of b1, or the one before it, which turns from the other colour
   split_near : (painted index : ℕ) (color : Color) → painted < columns → turned index false ≡ is_black color
@@ -92,8 +85,7 @@ module _ (columns : ℕ) (places : List ℕ) (ascend : AreChanges columns places
       × ((index ≡ first) ⊎ ((index ≡ suc first) × (turned first false ≡ not (is_black color))))
   split_near painted zero color inside colored near right (inl some) = grind (arith, split_some)
   split_near painted zero color inside colored near right (inr none) = (0, IsSplit-none places painted none, inl refl)
-  split_near painted (suc zero) color inside colored near right (inr none) =
-      (0, IsSplit-none places painted none, inr (refl, turned_before 0 color colored))
+  split_near painted (suc zero) color inside colored near right (inr none) = grind (arith, common_steps, turned_before)
   split_near painted (suc (suc k)) color inside colored near right (inr none) =
       absurd (omega (arith, none, (near.left 0 (omega arith)).0))
   split_near painted (suc k) color inside colored near right (inl some) = elim (cases_lt painted (get_or places k columns)) [
@@ -109,7 +101,7 @@ module _ (columns : ℕ) (places : List ℕ) (ascend : AreChanges columns places
   pub b1_by_parity : (painted index : ℕ) (color : Color) → painted < columns → IsB1 columns places painted index color
       → b1 (pixels columns places) (right_of_painted painted) color ≡ get_or places index columns
   b1_by_parity painted index color inside at =
-      let colored : turned index false ≡ is_black color = turns_by index color at.turns in
+      let colored : turned index false ≡ is_black color = (grind (arith, turned_by_parity)) in
       let split = split_near painted index color inside colored at.near at.right (cases_lt 0 painted) in
       b1_is columns places ascend (right_of_painted painted) split.0 index color split.1 colored split.2
 
@@ -153,4 +145,4 @@ module _ (columns : ℕ) (places : List ℕ) (ascend : AreChanges columns places
       (right : painted < place) (left : place < get_or places (before + 1) columns) where
     -- the one after b1
     pub after_vl_on : get_or places before columns ≤ place → IsB1 columns places place (before + 2) (opposite color)
-    after_vl_on is_left = grind (arith, turns_second, turns_before, near_up, rising)
+    after_vl_on is_left = grind (arith, turns_second, near_up, rising)

@@ -1,5 +1,5 @@
 -- Lawful lists of changes and rows of pixels correspond one to one, and what painting does to both.
-use Rattle.fax_reading.proofs.Names.{◌≡◌, ℕ, zero, suc, ◌+◌, ◌-◌, ◌%◌, ◌<◌, ◌≤◌, eqb, Bool, true, false, cond, not, List, [], ◌∷◌}
+use Rattle.fax_reading.proofs.Names.{◌≡◌, ℕ, zero, suc, ◌+◌, ◌-◌, ◌%◌, ◌<◌, ◌≤◌, eqb, Bool, true, false, not, List, [], ◌∷◌}
 use Rattle.fax_reading.proofs.Names.{◌++◌, length, replicate, refl, sym, arith, append_assoc, length-append, add-one, beq}
 use Rattle.fax_reading.proofs.Names.{range_with_len, filter, length-replicate, replicate-append-replicate, Row, pixel, is_change}
 use Rattle.fax_reading.proofs.Names.{changes, AscendFrom, AreChanges, pixels_from, pixels, last_pixel, continued, common_steps}
@@ -76,8 +76,7 @@ turned_at color (place ∷ places) = turned_at (not color) places
 
 -- after an even number of changes the colour is the same, and else the other one
 pub turned_at-even : (color : Bool) (places : List ℕ) → turned_at color places ≡ beq (eqb (length places % 2) 0) color
-turned_at-even true [] = refl
-turned_at-even false [] = refl
+turned_at-even w0 [] = grind (arith, common_steps)
 turned_at-even color (place ∷ places) = grind (arith, common_steps, turned_at-even (not color) places)
 
 -- each lawful change is followed by a pixel, so the last pixel has the colour after all of them
@@ -146,17 +145,12 @@ AreChanges-push width more places some ascend = AscendFrom-push 0 width more pla
 
 -- ---- The changes of a row by recursion are its changes.
 
--- a position is listed where the pixel differs
-listed : (differs : Bool) (x y : Bool) (place : ℕ) (places others : List ℕ) → differs ≡ not (beq x y) → places ≡ others
-    → cond differs (place ∷ places) places ≡ cond (beq x y) others (place ∷ others)
-listed differs x y place places others e same = grind (arith, common_steps)
-
 -- the changes past a front
 changes-rest : (front row : Row) → filter (is_change (front ++ row)) (range_with_len (length front) (length row))
     ≡ changes_from (length front) (last_pixel false front) row
 changes-rest front [] = refl
 changes-rest front (here ∷ row) = let step = changes-rest (front ++ here ∷ []) row in
-    grind (arith, common_steps, add-one, append_assoc, last_pixel-append, length-append, listed, step)
+    grind (arith, common_steps, add-one, append_assoc, last_pixel-append, length-append, step)
 
 -- the changes of a row, by recursion
 pub changes-recursive : (row : Row) → changes row ≡ changes_from 0 false row
@@ -207,10 +201,7 @@ pub pixels_from-changes_from : (place : ℕ) (before : Bool) (row : Row) (width 
 pixels_from-changes_from place before [] width e = let none : width - place ≡ 0 = omega arith in rw none refl
 pixels_from-changes_from place true (true ∷ row) width e =
     changes_go_on place true row width e (pixels_from-changes_from (suc place) true row width (omega arith))
-pixels_from-changes_from place false (false ∷ row) width e =
-    changes_go_on place false row width e (pixels_from-changes_from (suc place) false row width (omega arith))
-pixels_from-changes_from place true (false ∷ row) width e =
-    grind (arith, common_steps, changes_go_on, pixels_from-changes_from (suc place) false row width (omega arith))
+pixels_from-changes_from place w0 (false ∷ row) width e = grind (arith, common_steps, changes_go_on, pixels_from-changes_from (suc place) false row width (omega arith))
 pixels_from-changes_from place false (true ∷ row) width e =
     grind (arith, common_steps, changes_go_on, pixels_from-changes_from (suc place) true row width (omega arith))
 

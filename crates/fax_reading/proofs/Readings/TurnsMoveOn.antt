@@ -1,7 +1,7 @@
 -- Each line of a run moves the offset on.
-use Rattle.fax_reading.proofs.Names.{common_steps, ◌≡◌, ℕ, suc, ◌-◌, ◌%◌, ◌<◌, ◌≤◌, Bool, true, false, cond, not, ◌&&◌, ◌||◌, eqb}
+use Rattle.fax_reading.proofs.Names.{common_steps, ◌≡◌, ℕ, suc, ◌-◌, ◌%◌, ◌<◌, ◌≤◌, Bool, true, false, cond, not, ◌&&◌, ◌||◌}
 use Rattle.fax_reading.proofs.Names.{[], ◌∷◌, ◌++◌, length, replicate, Option, Some, None, refl, sym, subst, ◌∙◌, arith}
-use Rattle.fax_reading.proofs.Names.{◌⊎◌, inl, inr, length-drop, not-false, or_parts, le-leb, lt-leb, eqb-false}
+use Rattle.fax_reading.proofs.Names.{inl, inr, length-drop, not-false, or_parts, le-leb, lt-leb, eqb-false}
 use Rattle.fax_reading.proofs.Names.{DecodeSettings, Bits, Turn, Row, EncodingMode, Group4, Group3_1D, Group3_2D, Line, after_eol}
 use Rattle.fax_reading.proofs.Names.{next_eol, is_end_of_block, is_over, misses_eol, Progress, aligned}
 use Rattle.fax_reading.proofs.Names.{limit_met, at_end, line_by, eols_by, eols_here, after_line, move_on}
@@ -59,12 +59,6 @@ at_end_length rest e = grind (arith, common_steps)
 took_more : (line : Line) (n : ℕ) → TookBits n line → TookBits (suc n) line
 took_more line n took = grind arith
 
--- if a run continues without seeking an EOL, one came or none are sought
-went_on : (settings : DecodeSettings) (run : Progress) (found : ℕ × Bits) → Counted run.rest found
-    → limit_met settings (length run.rows) ≡ false → at_end found.1 ≡ false → (((eqb found.0 0 && run.has_eols)
-    && not (limit_met settings (length run.rows))) && not (at_end run.rest)) ≡ false → (0 < found.0) ⊎ (run.has_eols ≡ false)
-went_on settings run found counted open_limit open_end e = grind (arith, common_steps, at_end_length, eqb-false)
-
 -- the EOLs after a row leave less than there was before its line: it consumed bits, or EOLs are sought
 pub after_row_next : (settings : DecodeSettings) (run t : Progress) (n : ℕ) → after_row settings run ≡ Turn.next t
     → length run.rest < n → left_to_read t < n
@@ -73,7 +67,7 @@ after_row_next settings run t n e small = elim (chosen (misses_eol settings (len
   | inr a ↦ let open_run = unless_over_open settings run t (eols_here settings run.rest) a.1 in
       let counted = eols_here_counted settings run.rest in
       subst (λ (r : Progress). left_to_read r < n) (unless_over_next settings run t (eols_here settings run.rest) a.1)
-      (grind (arith, common_steps, went_on, either))
+      (grind (arith, common_steps, at_end_length, eqb-false, either))
 ]
   where
     either : (b : Bool) (k : ℕ) → suc k < n → cond b (suc k) k < n

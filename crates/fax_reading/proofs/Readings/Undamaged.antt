@@ -214,11 +214,7 @@ module _ (settings : DecodeSettings) (bits : Bits) where
 -- what is so of the strict settings and of the lenient ones is so of the settings
 either_way : (P : DecodeSettings → Type 0) (settings : DecodeSettings) → P (record settings { strict = true })
     → P (record settings { strict = false }) → P settings
-either_way P settings strict lenient = by_strict settings.strict refl
-  where
-    by_strict : (b : Bool) → settings.strict ≡ b → P settings
-    by_strict true is = subst P (ap (λ (b : Bool). record settings { strict = b }) (sym is)) strict
-    by_strict false is = subst P (ap (λ (b : Bool). record settings { strict = b }) (sym is)) lenient
+either_way P settings strict lenient = grind (arith, common_steps)
 
 -- a reading whose strict one is Ok passes no damage
 undamaged_turns : (settings : DecodeSettings) (bits : Bits) → IsOk (plain (record settings { strict = true }) bits).outcome
@@ -250,28 +246,22 @@ pub no_damage : (settings : DecodeSettings) (bits : Bits) → IsOk (plain (recor
     → damage_of settings bits ≡ []
 no_damage settings bits ok = grind (arith, common_steps, joined_empty, undamaged_turns)
 
--- and no row that is repaired
-pub no_row_repaired : (settings : DecodeSettings) (bits : Bits) (taken : ℕ) → IsOk
-    (plain (record settings { strict = true }) bits).outcome → sum_by length (take taken (repairs_by_line settings bits)) ≡ 0
-no_row_repaired settings bits taken ok = let are = each_empty (damaged_by_turn settings bits) (repaired_by_turn settings bits) (λ
-    s none. front_empty (repaired_by_turn settings bits s) _ none) (turns_of settings bits) (undamaged_turns settings bits ok) in
-    omega (arith, sum_by-take-le length (repairs_by_line settings bits) taken, sum_empty (repairs_by_line settings bits) are)
-
--- nor one in which a run is cut
-pub no_cuts : (settings : DecodeSettings) (bits : Bits) (taken : ℕ) → IsOk
-    (plain (record settings { strict = true }) bits).outcome → sum_by length (take taken (cuts_by_line settings bits)) ≡ 0
-no_cuts settings bits taken ok = let are = each_empty (damaged_by_turn settings bits) (cut_by_turn settings bits)
-    (λ s none. front_empty (cut_by_turn settings bits s) _ (back_empty (repaired_by_turn settings bits s) _ none))
-    (turns_of settings bits) (undamaged_turns settings bits ok) in
-    omega (arith, sum_by-take-le length (cuts_by_line settings bits) taken, sum_empty (cuts_by_line settings bits) are)
-
--- nor EOL that is missed
-pub no_misses : (settings : DecodeSettings) (bits : Bits) (taken : ℕ) → IsOk
-    (plain (record settings { strict = true }) bits).outcome → sum_by length (take taken (misses_by_line settings bits)) ≡ 0
-no_misses settings bits taken ok = let are = each_empty (damaged_by_turn settings bits) (missed_by_turn settings bits)
-    (λ s none. back_empty (cut_by_turn settings bits s) _ (back_empty (repaired_by_turn settings bits s) _ none))
-    (turns_of settings bits) (undamaged_turns settings bits ok) in
-    omega (arith, sum_by-take-le length (misses_by_line settings bits) taken, sum_empty (misses_by_line settings bits) are)
+-- so no row is repaired, in none a run is cut, and no EOL is missed
+pub none_damaged : (settings : DecodeSettings) (bits : Bits) (taken : ℕ)
+    → IsOk (plain (record settings { strict = true }) bits).outcome
+    → (sum_by length (take taken (repairs_by_line settings bits)) ≡ 0)
+    × (sum_by length (take taken (cuts_by_line settings bits)) ≡ 0)
+    × (sum_by length (take taken (misses_by_line settings bits)) ≡ 0)
+none_damaged settings bits taken ok = (
+  none (repaired_by_turn settings bits) (λ s e. front_empty (repaired_by_turn settings bits s) _ e),
+  none (cut_by_turn settings bits) (λ s e. grind (arith, front_empty, back_empty)),
+  none (missed_by_turn settings bits) (λ s e. grind (arith, back_empty)),
+)
+  where
+    none : (given : Progress → List Damaged) → ((s : Progress) → damaged_by_turn settings bits s ≡ [] → given s ≡ [])
+        → sum_by length (take taken (map given (turns_of settings bits))) ≡ 0
+    none given empty = let are = each_empty (damaged_by_turn settings bits) given empty _ (undamaged_turns settings bits ok) in
+        omega (arith, sum_by-take-le length (map given (turns_of settings bits)) taken, sum_empty _ are)
 
 -- the law
 pub strict_is_undamaged : StrictIsUndamaged
