@@ -58,7 +58,9 @@ module _ (more : Bits) where
   draw_run_on : (strict : Bool) (columns : ℕ) (pen : Pen)
       → Continues more pen_on (draw_run strict columns pen) (draw_run strict columns (pen_on pen))
   draw_run_on strict columns pen = then_continues (rest_on more) pen_on
-      (behind pen) (behind (pen_on pen)) (λ run. second run) (run_here pen) (run_here (pen_on pen)) ((finds_continue (rest_on more) pen.front (run_from pen.color (0, pen.rest)) (run_from pen.color (0, pen.rest ++ more)) (run_found pen.color (0, pen.rest)) (run_found pen.color (0, pen.rest ++ more)) (run_continues pen.color 0 pen.rest more)))
+      (behind pen) (behind (pen_on pen)) (λ run. second run) (run_here pen) (run_here (pen_on pen))
+      (finds_continue (rest_on more) pen.front (run_from pen.color (0, pen.rest)) (run_from pen.color (0, pen.rest ++ more))
+      (run_found pen.color (0, pen.rest)) (run_found pen.color (0, pen.rest ++ more)) (run_continues pen.color 0 pen.rest more))
     where
       behind : Pen → ℕ × Bits → Drawing Pen
       behind p run = painted strict columns p run.0

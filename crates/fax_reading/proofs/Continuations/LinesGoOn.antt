@@ -58,7 +58,8 @@ module _ (settings : DecodeSettings) (reference : Row) where
   -- a line within a run
   in_run_is : (run : OpenRun) (pen : Pen) → line_from_part settings reference (LinePart.in_run run pen)
       ≡ line_then (read_on settings reference (LinePart.in_run run pen)).turn
-  in_run_is run pen = ap behind ((repeated_turn (run_turn pen.color) (Err UnexpectedEof) size (run_shrinks pen.color) (run.total, pen.rest))) ∙ by_read_code (read_code (codes_of pen.color) pen.rest)
+  in_run_is run pen = ap behind (repeated_turn (run_turn pen.color) (Err UnexpectedEof) size (run_shrinks pen.color)
+      (run.total, pen.rest)) ∙ by_read_code (read_code (codes_of pen.color) pen.rest)
     where
       with_run : ℕ × Bits → Step
       with_run found = if_read pen.front (paint settings.strict settings.columns pen.front pen.color found.0)
@@ -146,7 +147,8 @@ module _ (settings : DecodeSettings) (reference : Row) (more : Bits) where
       → Continues more (part_before more) (begin_step is_2d settings.strict settings.columns reference pen)
       (begin_step is_2d settings.strict settings.columns reference (longer pen))
   begin_step_on true pen = then_continues more (rest_on more) (part_before more) (added pen) (added (longer pen)) (λ
-      mode. (grind (arith, common_steps, then_continues, same_continues))) (mode_here pen) (mode_here (longer pen)) (mode_goes_on more pen)
+      mode. (grind (arith, common_steps, then_continues, same_continues))) (mode_here pen) (mode_here (longer pen)) (mode_goes_on
+      more pen)
     where
       added : Pen → Mode × Bits → Drawing LinePart
       added p mode = mode_added settings.strict settings.columns reference (record p { rest = mode.1 }) mode.0
@@ -159,7 +161,10 @@ module _ (settings : DecodeSettings) (reference : Row) (more : Bits) where
   read_on_continues (LinePart.at_step is_2d pen) = grind (arith, common_steps, then_continues, begin_step_on, full_on)
   read_on_continues (LinePart.in_run run pen) = then_continues more (rest_on more) (part_before more) (added pen)
       (added (longer pen)) (λ found. word_added_on run (record pen { rest = found.1 }) found.0) (word_here pen)
-      (word_here (longer pen)) ((finds_continue more (rest_on more) pen.front (read_code (codes_of pen.color) pen.rest) (read_code (codes_of pen.color) (pen.rest ++ more)) (word_found (codes_of pen.color) pen.rest) (word_found (codes_of pen.color) (pen.rest ++ more)) (code_continues (codes_of pen.color) (codes_free pen.color) pen.rest more)))
+      (word_here (longer pen)) (finds_continue more (rest_on more) pen.front (read_code (codes_of pen.color) pen.rest)
+      (read_code (codes_of pen.color) (pen.rest ++ more)) (word_found (codes_of pen.color) pen.rest)
+      (word_found (codes_of pen.color) (pen.rest ++ more)) (code_continues (codes_of pen.color) (codes_free pen.color) pen.rest
+      more))
     where
       added : Pen → ℕ × Bits → Drawing LinePart
       added p found = word_added settings.strict settings.columns run (record p { rest = found.1 }) found.0
@@ -222,7 +227,8 @@ module _ (settings : DecodeSettings) (reference : Row) (part : LinePart) (pen : 
 
   mode_leads_on : (rest : Bits) (mode : Mode) → WordIsRead {V = Mode} pen.rest (mode, rest) → 2 * length pen.rest ≤ part_size part
       → LeadsOn part (mode_added settings.strict settings.columns reference (record pen { rest = rest }) mode).turn
-  mode_leads_on rest v1 word size_is = grind (arith, common_steps, behind_leads, paint_leads, paint_known, behind_word_leads, place_known)
+  mode_leads_on rest mode word size_is = grind
+      (arith, common_steps, behind_leads, paint_leads, paint_known, behind_word_leads, place_known)
 
   run_leads_on : (run : OpenRun) (rest : Bits) (n : ℕ) → WordIsRead {V = ℕ} pen.rest (n, rest) → 2 * length pen.rest
       ≤ part_size part → LeadsOn part (word_added settings.strict settings.columns run (record pen { rest = rest }) n).turn

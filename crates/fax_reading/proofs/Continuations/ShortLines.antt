@@ -102,7 +102,9 @@ before_zeros : (strict : Bool) (columns : ℕ)
 before_zeros strict columns = record {
   paints = λ front rest color n zeros. grind (arith, common_steps);
   run = λ front rest color zeros. found_known (λ run. HasZeros run.1) front (run_from color (0, rest))
-      ((repeated_induct (run_turn color) (Err UnexpectedEof) size (run_shrinks color) (λ s r. HasZeros s.1 → IsKnown (λ found. HasZeros found.1) r) (λ s r e left. subst TurnIsKnown e (run_turn_known color s left)) (λ s t r e on left. on (subst TurnIsKnown e (run_turn_known color s left))) (suc (length rest)) (0, rest) (omega arith) zeros));
+      (repeated_induct (run_turn color) (Err UnexpectedEof) size (run_shrinks color) (λ s r. HasZeros s.1 → IsKnown
+      (λ found. HasZeros found.1) r) (λ s r e left. subst TurnIsKnown e (run_turn_known color s left)) (λ s t r e on left. on
+      (subst TurnIsKnown e (run_turn_known color s left))) (suc (length rest)) (0, rest) (omega arith) zeros);
   mode = λ front rest zeros. found_known (λ mode. HasZeros mode.1) front (read_code mode_codes rest)
       (code_known mode_codes modes_free (λ mode word has. inr (mode, has)) rest zeros);
   place = λ front rest zeros. refl;

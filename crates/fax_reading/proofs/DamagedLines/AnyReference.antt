@@ -180,7 +180,9 @@ encoded_from : (reference row : Row) (from : ℕ) (color : Color) (bits tail res
 encoded_from reference row from color bits tail rest EncodesLine2D.over none reads = grind (arith, common_steps, left_behind)
 encoded_from reference row from color bits tail rest (EncodesLine2D.pass from2 word {bits = next} inside has left_of steps) none
     reads = grind (arith, encoded_from reference row _ color next tail rest steps none, mode_is, left_behind, long)
-encoded_from reference row from color bits tail rest (EncodesLine2D.vertical from2 word k {bits = next} inside has exact steps) none reads = grind (arith, common_steps, mode_is, left_behind, long, encoded_from reference row _ (opposite color) next tail rest steps)
+encoded_from reference row from color bits tail rest (EncodesLine2D.vertical from2 word k {bits = next} inside has exact steps)
+    none reads = grind
+    (arith, common_steps, mode_is, left_behind, long, encoded_from reference row _ (opposite color) next tail rest steps)
 encoded_from reference row from color bits tail rest (EncodesLine2D.horizontal from2 word {first = run1} {second = run2}
     {bits = next} inside has spells1 spells2 steps) none reads = grind
     (arith, encoded_from reference row _ color next tail rest steps none, append_assoc, mode_is, left_behind, runs_are, long)

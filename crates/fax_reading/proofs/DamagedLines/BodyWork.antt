@@ -8,7 +8,7 @@ use Rattle.fax_bits.proofs.BitReading.{SoughtEols.next_eol-here, ConsecutiveEols
 looked_further : (k : ℕ) (here : Bits) → looked here ≤ k + looked (drop k here)
 looked_further zero here = omega arith
 looked_further (suc k) [] = omega arith
-looked_further (suc k) (w0 ∷ here) = grind (arith, common_steps, looked_further k here)
+looked_further (suc k) (bit ∷ here) = grind (arith, common_steps, looked_further k here)
 
 -- what a count of zeros looks at before a place, by what one looks at there
 pub looked_between : (bits : Bits) (from to : ℕ) → from ≤ to → looked (drop from bits) ≤ (to - from) + looked (drop to bits)

@@ -41,7 +41,8 @@ module _ (settings : DecodeSettings) (encoding : settings.encoding ≡ Group3_2D
       subst (Settles settings (suc lines)) after_is (
         is.ends.0,
         omega (arith, after_eol_shorter 0 next is.ends.0 is.ends.1, (next_eol_found (false ∷ line) next is.next_is).0),
-        λ found g. (ap (λ (g : EncodingMode). eols_by g settings.end_of_block found) encoding ∙ ap pass_last_tag (all_tagged-some found (false ∷ line) g ∙ ap one_more (all_tagged-none (false ∷ line) is.no_eol))),
+        λ found g. (ap (λ (g : EncodingMode). eols_by g settings.end_of_block found) encoding ∙ ap pass_last_tag (all_tagged-some
+            found (false ∷ line) g ∙ ap one_more (all_tagged-none (false ∷ line) is.no_eol))),
         λ other. next_behind other line next is,
         settles lines next is.ends.0 more is.ends.1,
       )

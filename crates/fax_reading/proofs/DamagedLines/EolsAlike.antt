@@ -52,7 +52,7 @@ ends_last (b ∷ before) (c ∷ left) (d ∷ first) e = grind (arith, ends_last 
 
 pub one_among : (before after : Bits) → holds_one (before ++ true ∷ after) ≡ true
 one_among [] after = refl
-one_among (w0 ∷ before) after = grind (arith, common_steps, one_among before after)
+one_among (bit ∷ before) after = grind (arith, common_steps, one_among before after)
 
 -- a suffix isn't longer
 pub leaves_length : (bits rest : Bits) → LeavesBits bits rest → length rest ≤ length bits
@@ -69,7 +69,7 @@ past_last seen (false ∷ first) z e = past_last (suc seen) first z e
 past_last seen (true ∷ first) z e = grind (arith, common_steps, past_last 0 first z)
 
 pub past_ends : (left z : Bits) → EndsByOne 0 left → past 0 left ≡ None → past 0 (left ++ z) ≡ past 0 z
-past_ends left z v2 e = grind (arith, common_steps, past, append_assoc, past_last)
+past_ends left z given e = grind (arith, common_steps, past, append_assoc, past_last)
 
 -- ---- EOLs, where none begins at the line
 

@@ -18,7 +18,7 @@ later_below seen (true ∷ here) = grind (arith, All-append, All-weaker, later_b
 
 later_descends : (seen : ℕ) (here : Bits) → Descends (later_starts seen here)
 later_descends seen [] = tt
-later_descends seen (w0 ∷ here) = grind (arith, common_steps, later_below, later_descends (suc seen) here, later_descends 0 here)
+later_descends seen (bit ∷ here) = grind (arith, common_steps, later_below, later_descends (suc seen) here, later_descends 0 here)
 
 -- ---- An EOL ends at each, and none begins
 

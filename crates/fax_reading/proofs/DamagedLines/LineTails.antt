@@ -111,7 +111,16 @@ module _ (bits : Bits) (from to : ℕ) (after : Bits) (local : IsBody bits from 
       by_past (Some rest) e = let next = found_next body rest e in
           let before = next_eol_leaves body next.0 next.1 in
           let is = after_eol_is 0 next.0 rest next.2 in
-          grind (arith, append_assoc, after_eol-append, (length-take-le (to - from) line_on (omega (arith, length-drop from bits, local.order, local.within))), length-append, length-replicate, not_within, cut)
+          grind (
+            arith,
+            append_assoc,
+            after_eol-append,
+            (length-take-le (to - from) line_on (omega (arith, length-drop from bits, local.order, local.within))),
+            length-append,
+            length-replicate,
+            not_within,
+            cut,
+          )
 
   pub no_eol_here : after_eol 0 line_on ≡ None
   no_eol_here = by_after_eol (after_eol 0 line_on) refl

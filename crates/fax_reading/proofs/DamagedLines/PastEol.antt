@@ -37,7 +37,7 @@ then_after (Some found) = after_eol 0 found
 -- what follows the next EOL, by looking for it
 pub past_is : (here : Bits) → past 0 here ≡ then_after (next_eol here)
 past_is [] = refl
-past_is (w0 ∷ here) = grind (arith, common_steps, past-eol, past-none, past_is here)
+past_is (bit ∷ here) = grind (arith, common_steps, past-eol, past-none, past_is here)
 
 -- no EOL is counted where there is none
 pub eols_here-none : (settings : DecodeSettings) (here : Bits) → after_eol 0 here ≡ None → eols_here settings here ≡ (0, here)

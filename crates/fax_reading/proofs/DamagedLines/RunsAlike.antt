@@ -321,7 +321,8 @@ module _ (settings : DecodeSettings) (one two : Bits) (from : ℕ) (after : Bits
   pub moves_alike : (s t : Progress) → ((rows : List Row) → s ≡ sought rows x → t ≡ sought rows y
       → Begun settings one two from rows) → RunsAlike settings one two from after lines s t
       → Both (move_on settings s) (move_on settings t)
-  moves_alike s t begins (RunsAlike.ahead rows bits (inl none) leaves leaves2 e f) = grind (arith, common_steps, sought, line_there)
+  moves_alike s t begins (RunsAlike.ahead rows bits (inl none) leaves leaves2 e f) = grind
+      (arith, common_steps, sought, line_there)
   moves_alike s t begins (RunsAlike.ahead rows bits (inr closes) leaves leaves2 e f) =
       rw (e, f) (line_ahead rows bits closes leaves leaves2)
   moves_alike s t begins (RunsAlike.among before these those here left begun same few settled short e f) =

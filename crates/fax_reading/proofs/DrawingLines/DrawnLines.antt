@@ -89,7 +89,7 @@ pub paint_draws : (held new : Held) (count : ℕ) (rest : Bits) (r : Result (Uni
     (new ≡ redrawn held new.front held.color) → OnErr r (new ≡ held) → ((e : DecodeError) → r ≡ Err e → IsUnpainted held count e)
     → DrawsStep (try held.front (paint held.settings.strict held.settings.columns held.front held.color count)
     (λ front. Turn.next (record (pen_of held rest) { front = front }))) r (pen_of new rest)
-paint_draws held new count rest v4 painted kept same unpainted = grind (arith, common_steps, paint_fails, unpainted)
+paint_draws held new count rest r painted kept same unpainted = grind (arith, common_steps, paint_fails, unpainted)
 
 -- what pass draws is what its painting draws
 pub pass_draws : (old held new : Held) (count : ℕ) (rest : Bits) (r : Result (Unit {0}) DecodeError) → held ≡ old → count
@@ -146,7 +146,7 @@ stays_kept P on strict columns = grind (arith, common_steps, fronts_kept, paint_
 
 after_kept : (P : Row → Type 0) (step : Step) → Yields (λ pen. P pen.front) (λ line. P (front_of line)) step
     → P (front_after step)
-after_kept v0 v1 holds = grind (arith, common_steps)
+after_kept P step holds = grind (arith, common_steps)
 
 -- so what is true of a front is true of the row of the line that continues it, or of the front of a broken one
 pub drawn_1d_keeps : (P : Row → Type 0) → Stays P → (strict : Bool) (columns : ℕ) (pen : Pen) → P pen.front

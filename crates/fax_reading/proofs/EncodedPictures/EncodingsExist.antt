@@ -160,7 +160,7 @@ value (bit ∷ bits) = digit bit * 2 ^ length bits + value bits
 value_below : (bits : Bits) → value bits < 2 ^ length bits
 unfolding value
 value_below [] = omega arith
-value_below (w0 ∷ bits) = grind (arith, common_steps, value_below bits)
+value_below (bit ∷ bits) = grind (arith, common_steps, value_below bits)
 
 -- the bits of the number that bits write
 low_bits_value : (bits : Bits) → low_bits (length bits) (value bits) ≡ bits

@@ -29,7 +29,7 @@ pub picture_t6_end : (settings : DecodeSettings) (rows : List Row) (bits more : 
 picture_t6_end settings rows bits more four block small limit whole pic = let wide : 0 < settings.columns = pic.1.0 in
     let tail : Bits = eol 0 ++ (eol 0 ++ more) in
     t6_end settings wide (bits ++ more) (between rows tail) (ended_with rows more) four (picture_t6_reaches settings rows bits
-    more four small limit whole pic) (gap_at_eofb settings (between rows tail) more refl four block ((refl)))
+    more four small limit whole pic) (gap_at_eofb settings (between rows tail) more refl four block (refl))
 
 -- the law
 pub closed_picture_t6 : ReadsPictureT6
@@ -49,7 +49,11 @@ limited_rows_t6 settings rows bits stream are all begins = grind (arith, common_
 -- a picture reaches its EOFB
 pub pictures_come_to_eofb : PicturesComeToEofb
 pictures_come_to_eofb settings rows bits more are whole limit picture =
-    grind (arith, common_steps, picture_t6_reaches (for_t6 settings) rows bits more refl (omega (arith, are.columns)) limit (λ e. whole) picture)
+    grind (
+      arith,
+      common_steps,
+      picture_t6_reaches (for_t6 settings) rows bits more refl (omega (arith, are.columns)) limit (λ e. whole) picture,
+    )
 
 -- ---- One prefix, one picture.
 pub one_picture_t6 : OnePictureT6

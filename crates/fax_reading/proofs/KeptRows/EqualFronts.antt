@@ -151,7 +151,10 @@ module _ (x : Bits) where
   tagged_first : (bits more : Bits) (n : ℕ) → tagged_eols (bits ++ x) ≡ (n, more ++ x) → one_behind_tag more ≡ true
       → tagged_eols bits ≡ (n, more)
   tagged_first bits more n e one = let (raw, some, is, last) = last_tag_first (all_tagged (bits ++ x)) more n e one in
-      ap pass_last_tag ((count_same counts_tagged (length bits) (length (bits ++ x)) bits (omega arith) (omega (arith, length-append bits x)) ∙ count_first counts_tagged (λ most b. length b + length x ≤ most) (λ most b left fits lt. omega (arith, fits, lt)) raw (λ most k left fits f. tag_first most k left raw fits some f) (length (bits ++ x)) bits n (omega (arith, length-append bits x)) is)) ∙ last
+      ap pass_last_tag (count_same counts_tagged (length bits) (length (bits ++ x)) bits (omega arith)
+      (omega (arith, length-append bits x)) ∙ count_first counts_tagged (λ most b. length b + length x ≤ most) (λ most b left fits
+      lt. omega (arith, fits, lt)) raw (λ most k left fits f. tag_first most k left raw fits some f) (length (bits ++ x)) bits n
+      (omega (arith, length-append bits x)) is) ∙ last
 
   by_first : (encoding : EncodingMode) (block : Bool) (bits more : Bits) (n : ℕ)
       → eols_by encoding block (bits ++ x) ≡ (n, more ++ x) → one_in_line encoding more ≡ true

@@ -34,7 +34,7 @@ line_again Group4 strict columns reference here row rest e =
 
 same_ones : (bits : Bits) → holds_a_one bits ≡ holds_one bits
 same_ones [] = refl
-same_ones (w0 ∷ bits) = grind (arith, common_steps, same_ones bits)
+same_ones (bit ∷ bits) = grind (arith, common_steps, same_ones bits)
 
 -- a one at the front
 pub one_stays : (front rest : Bits) → holds_one front ≡ true → holds_one (front ++ rest) ≡ true
@@ -66,7 +66,8 @@ one_in_whole Group4 strict columns reference bits rest row wide e = words_consum
     (words_synchronised.to_the_end Group4 strict columns reference row (bits ++ rest) rest e)
     (grind (arith, common_steps, took_bits, line_2d_took_bits))
 one_in_whole Group3_2D strict columns reference [] [] row wide e = absurd cc
-one_in_whole Group3_2D strict columns reference [] (w0 ∷ rest) row wide e = grind (arith, common_steps, took_bits, line_1d_took_bits, line_2d_took_bits)
+one_in_whole Group3_2D strict columns reference [] (bit ∷ rest) row wide e = grind
+    (arith, common_steps, took_bits, line_1d_took_bits, line_2d_took_bits)
 one_in_whole Group3_2D strict columns reference (true ∷ bits) rest row wide e =
     one_in_whole Group3_1D strict columns reference bits rest row wide e
 one_in_whole Group3_2D strict columns reference (false ∷ bits) rest row wide e =

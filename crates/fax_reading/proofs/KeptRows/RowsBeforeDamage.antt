@@ -17,7 +17,8 @@ use Rattle.fax_reading.proofs.DamagedLines.SoughtTurns.{eols_here_same, sought_d
 use Rattle.fax_reading.proofs.KeptRows.EqualFronts.{one_in_line, one_in_bits, past_front, eols_front, all_front}
 use Rattle.fax_reading.proofs.KeptRows.LinesAgain.{one_in_whole, line_again, one_stays}
 use Rattle.fax_reading.proofs.KeptRows.TurnsLeave.{after_row_leaves, reached_leaves}
-use Rattle.fax_reading.proofs.Readings.RowsAndGaps.{after_damage-is, after_whole-is, unless_over, pass_gap-is, after_row, missed_sought}
+use Rattle.fax_reading.proofs.Readings.RowsAndGaps.{after_damage-is, after_whole-is, unless_over, pass_gap-is, after_row}
+use Rattle.fax_reading.proofs.Readings.RowsAndGaps.{missed_sought}
 use Rattle.fax_reading.proofs.Readings.TurnsAddRows.{after_row_keeps, first_gap_keeps, repeated_adds, turn_extends, move_adds}
 use Rattle.fax_reading.proofs.Readings.TurnsMoveOn.{eols_here_counted, unless_over_next, unless_over_open, left_to_read}
 use Rattle.fax_reading.proofs.Readings.{GapsAndRows.plain_is, TurnsAddRows.Keeps}
@@ -93,7 +94,8 @@ module _ (settings : DecodeSettings) (x y : Bits) where
   sought_front : settings.strict ≡ false → (rows : List Row) (bits : Bits) (t : Progress) → t.has_eols ≡ true
       → one_in_line settings.encoding t.rest ≡ true → after_row settings (sought rows (bits ++ x)) ≡ Turn.next (followed t x)
       → after_row settings (sought rows (bits ++ y)) ≡ Turn.next (followed t y)
-  sought_front lenient rows bits t seeks one e = let there = past_there settings lenient rows (bits ++ x) (followed t x) e seeks in
+  sought_front lenient rows bits t seeks one e = let there = past_there settings lenient rows (bits ++ x) (followed t x) e seeks
+      in
       let left = past_front x 0 bits there.1.0 there.1.1 (omega (arith, there.1.2, length-append t.rest x)) in
       let one_x = row_past settings lenient rows (bits ++ x)
       (left.0 ++ x) there.0 (there.1.1 ∙ ap (λ (b : Bits). Some b) left.1) in

@@ -187,7 +187,8 @@ module _ (settings : DecodeSettings) (wide : 0 < settings.columns) where
       → Reaches (move_on settings) (first_line settings bits) mid → move_on settings mid ≡ unless_over settings
       (sought rows u) found → end_of settings bits ≡ after_turn (goes settings wide) (unless_over settings (sought rows u) found)
   ends_from bits mid rows u found group3 reaches e =
-      (end_t4 settings bits (not_group4 settings.encoding group3) ∙ ending_goes settings wide (first_line settings bits)) ∙ goes_reached (first_line settings bits) mid reaches ∙ repeated_turn (move_on settings)
+      (end_t4 settings bits (not_group4 settings.encoding group3) ∙ ending_goes settings wide (first_line settings bits)) ∙
+      goes_reached (first_line settings bits) mid reaches ∙ repeated_turn (move_on settings)
       (late settings wide) left_to_read (move_shrinks settings wide) mid ∙ ap (after_turn (goes settings wide)) e
 
 -- the law

@@ -108,7 +108,7 @@ modes_end encoding columns after line ends two modes tag = grind (arith, common_
 unreferred_by : (settings : DecodeSettings) (next behind : Bits) (count : ℕ) → IsGroup3 settings.encoding
     → eols_here settings next ≡ (count, behind) → (settings.encoding ≡ Group3_2D → ComesBefore1D settings next)
     → Unreferred settings (count, behind)
-unreferred_by settings next behind count v4 counted tag = grind (arith, common_steps, counted, unreferred)
+unreferred_by settings next behind count given counted tag = grind (arith, common_steps, counted, unreferred)
 
 -- ---- The tests together
 

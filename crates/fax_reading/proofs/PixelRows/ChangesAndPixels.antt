@@ -76,7 +76,7 @@ turned_at color (place ∷ places) = turned_at (not color) places
 
 -- after an even number of changes the colour is the same, and else the other one
 pub turned_at-even : (color : Bool) (places : List ℕ) → turned_at color places ≡ beq (eqb (length places % 2) 0) color
-turned_at-even w0 [] = grind (arith, common_steps)
+turned_at-even color [] = grind (arith, common_steps)
 turned_at-even color (place ∷ places) = grind (arith, common_steps, turned_at-even (not color) places)
 
 -- each lawful change is followed by a pixel, so the last pixel has the colour after all of them
@@ -201,7 +201,8 @@ pub pixels_from-changes_from : (place : ℕ) (before : Bool) (row : Row) (width 
 pixels_from-changes_from place before [] width e = let none : width - place ≡ 0 = omega arith in rw none refl
 pixels_from-changes_from place true (true ∷ row) width e =
     changes_go_on place true row width e (pixels_from-changes_from (suc place) true row width (omega arith))
-pixels_from-changes_from place w0 (false ∷ row) width e = grind (arith, common_steps, changes_go_on, pixels_from-changes_from (suc place) false row width (omega arith))
+pixels_from-changes_from place before (false ∷ row) width e = grind
+    (arith, common_steps, changes_go_on, pixels_from-changes_from (suc place) false row width (omega arith))
 pixels_from-changes_from place false (true ∷ row) width e =
     grind (arith, common_steps, changes_go_on, pixels_from-changes_from (suc place) true row width (omega arith))
 

@@ -135,7 +135,7 @@ module _ (columns : ℕ) (places : List ℕ) (ascend : AreChanges columns places
   change_there j lt = let p : ℕ = get_or places j 0 in
       let left : get_or places j 0 < columns = below j lt in
       let u = before_is p j (omega arith) (split_at j lt) in
-      let v = pixel_is p (suc j) left ((grind (arith, order, cases_eq))) ∙ turned-not j false in
+      let v = pixel_is p (suc j) left (grind (arith, order, cases_eq)) ∙ turned-not j false in
       rw (u, v) (ap not (other_beq (turned j false)))
 
   -- no other position is
@@ -257,7 +257,8 @@ b2_from_front reference front color within = grind (arith, common_steps, b2_abov
 split_count : (first width : ℕ) (places : List ℕ) (p j : ℕ) → AscendFrom first width places → IsSplit places (suc p) j
     → j ≡ length (filter (λ place. leb place p) places)
 split_count first width [] p j ascend split = omega (arith, split.within)
-split_count first width (place ∷ places) p zero ascend split = grind (arith, common_steps, ascend_bounds, cond-false, lt-leb, split_count (suc place) width places p 0 ascend.2)
+split_count first width (place ∷ places) p zero ascend split = grind
+    (arith, common_steps, ascend_bounds, cond-false, lt-leb, split_count (suc place) width places p 0 ascend.2)
 split_count first width (place ∷ places) p (suc j) ascend split = let left : place < suc p = split.before 0 (omega arith) in
     let within : suc j ≤ suc (length places) = split.within in
     let rest : IsSplit places (suc p) j =

@@ -63,14 +63,15 @@ pub missed_counts : (settings : DecodeSettings) (bits : Bits) (so_far : Progress
     (before : Repairs) → row_of_line settings so_far.has_eols so_far.rest line ≡ Ok (row, rest) → before.last ≤ length so_far.rows
     → before.missed ≤ length so_far.rows → (repairs_behind (context_at settings (with_row so_far row rest) (repairs_with line
     strict (length so_far.rows) before)) rest).missed ≡ before.missed + length (missed_behind settings bits so_far line)
-missed_counts settings bits so_far v3 strict row rest before is last few = grind (arith, common_steps, cuts_keep, length-append)
+missed_counts settings bits so_far line strict row rest before is last few = grind (arith, common_steps, cuts_keep, length-append)
 
 -- it is missed where its row ends
 pub missed_starts : (settings : DecodeSettings) (bits : Bits) (so_far : Progress) (line : Line) (row : Row) (rest : Bits)
     → row_of_line settings so_far.has_eols so_far.rest line ≡ Ok (row, rest) → (after : Repairs) (before : ℕ)
     → after.missed ≡ before + length (missed_behind settings bits so_far line)
     → missed_since after before (length bits - length rest) ≡ start_in (missed_behind settings bits so_far line)
-missed_starts settings bits so_far v3 row rest is after before more = grind (arith, common_steps, cond-true, eq-eqb, cond-false, ne_eqb)
+missed_starts settings bits so_far line row rest is after before more = grind
+    (arith, common_steps, cond-true, eq-eqb, cond-false, ne_eqb)
 
 -- where there is no row, no EOL is missed
 pub missed_none : (settings : DecodeSettings) (bits : Bits) (so_far : Progress) (line : Line) (e : DecodeError)

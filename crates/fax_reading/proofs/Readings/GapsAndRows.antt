@@ -97,7 +97,8 @@ module _ (one two : DecodeSettings) (wide : 0 < one.columns) (wide_two : 0 < two
   pub readings_follow : (gap other : Move) → Follows P Q (ending_from (move_on two)) gap other
       → Q (ending_behind one gap) (ending_behind two other)
   readings_follow (Turn.next s) (Turn.next t) p = repeated_follows (move_on one) _ left_to_read (move_shrinks one wide) (move_on
-      two) _ left_to_read (move_shrinks two wide_two) P Q (follows _ (λ r. (repeated_adds (move_on two) _ left_to_read (move_shrinks two wide_two) (move_adds two)) (suc (left_to_read r)) r (omega arith)))
+      two) _ left_to_read (move_shrinks two wide_two) P Q (follows _ (λ r. (repeated_adds (move_on two) _ left_to_read
+      (move_shrinks two wide_two) (move_adds two)) (suc (left_to_read r)) r (omega arith)))
       (suc (suc (length s.rest))) (suc (suc (length t.rest))) s t (left_below s) (left_below t) p
   readings_follow (Turn.next s) (Turn.done q) p = absurd p
   readings_follow (Turn.done r) (Turn.next t) q = q

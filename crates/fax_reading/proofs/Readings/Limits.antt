@@ -62,7 +62,8 @@ module _ (settings : DecodeSettings) (limit : ℕ) (some : 0 < limit) (wide : 0 
     after_row_follows : (run : Progress) → length run.rows ≤ limit
         → Follows Same Cut rest (after_row limited run) (after_row unlimited run)
     after_row_follows run le = elim (cases_lt (length run.rows) limit) [
-      | inl lt ↦ rw (after_row_open run ((and_right (not (eqb limit 0)) (eqb limit (length run.rows)) (ne_eqb limit (length run.rows) (λ e. absurd (omega (arith, e, lt)))))))
+      | inl lt ↦ rw (after_row_open run (and_right (not (eqb limit 0)) (eqb limit (length run.rows)) (ne_eqb limit
+          (length run.rows) (λ e. absurd (omega (arith, e, lt))))))
           (same_turn run.rows (after_row unlimited run) lt (after_row_keeps unlimited run))
       | inr ge ↦ let full : length run.rows ≡ limit = omega arith in
           rw (at_limit run (rw full is_met))

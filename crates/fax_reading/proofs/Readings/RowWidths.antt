@@ -36,7 +36,11 @@ module _ (settings : DecodeSettings) where
   none = All-nil (λ row. length row ≡ settings.columns)
 
   behind_width : (gap : Move) → Keeps [] gap → HaveWidth settings.columns (ending_behind settings gap).rows
-  behind_width (Turn.next so_far) keeps = repeated_keeps (move_on settings) (record { rows = so_far.rows; has_eols = so_far.has_eols; outcome = Err UnexpectedEof }) (λ s. HaveWidth settings.columns s.rows) (λ end. HaveWidth settings.columns end.rows) (subst (HaveWidth settings.columns) (sym keeps) none) (λ s t p e. subst (LeavesWidth settings.columns) e (move_width s p)) (λ s end p e. subst (LeavesWidth settings.columns) e (move_width s p)) (suc (suc (length so_far.rest))) so_far (subst (HaveWidth settings.columns) (sym keeps) none)
+  behind_width (Turn.next so_far) keeps = repeated_keeps (move_on settings)
+      (record { rows = so_far.rows; has_eols = so_far.has_eols; outcome = Err UnexpectedEof }) (λ s. HaveWidth settings.columns
+      s.rows) (λ end. HaveWidth settings.columns end.rows) (subst (HaveWidth settings.columns) (sym keeps) none) (λ s t p e. subst
+      (LeavesWidth settings.columns) e (move_width s p)) (λ s end p e. subst (LeavesWidth settings.columns) e (move_width s p))
+      (suc (suc (length so_far.rest))) so_far (subst (HaveWidth settings.columns) (sym keeps) none)
   behind_width (Turn.done end) keeps = subst (HaveWidth settings.columns) (sym keeps) none
 
   -- each row has the width

@@ -48,7 +48,8 @@ module _ (settings : DecodeSettings) (wide : 0 < settings.columns) where
     same_turn m = grind (arith, common_steps)
 
     after_row_follows : (run : Progress) → Follows SameRun Precedes rest (after_row strictly run) (after_row leniently run)
-    after_row_follows run = grind (arith, common_steps, seek_eol, unless_over, turn_extends, seek_from_keeps, false≢true, same_turn)
+    after_row_follows run = grind
+        (arith, common_steps, seek_eol, unless_over, turn_extends, seek_from_keeps, false≢true, same_turn)
 
     after_line_follows : (run : Progress) (line other : Line) → Agrees line other → Adds run.rows (after_line leniently run other)
         → Follows SameRun Precedes rest (after_line strictly run line) (after_line leniently run other)

@@ -57,7 +57,8 @@ run_count strict columns pen = step_more (count pen.front + length found)
     by_run_from : (r : Result (ℕ × Bits) DecodeError) → run_from pen.color (0, pen.rest) ≡ r
         → StepCount (count pen.front + length found) (try pen.front r after)
     by_run_from (Ok run) e =
-        painted run ((grind (arith, common_steps, run_stands pen.color 0 pen.rest, run_shorter pen.color 0 pen.rest run.0 run.1 e))) (paint strict columns pen.front pen.color run.0) refl
+        painted run (grind (arith, common_steps, run_stands pen.color 0 pen.rest, run_shorter pen.color 0 pen.rest run.0 run.1 e))
+        (paint strict columns pen.front pen.color run.0) refl
     by_run_from (Err fault) e = omega arith
 
 -- what is tried adds at most what it yields

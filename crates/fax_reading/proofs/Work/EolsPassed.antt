@@ -143,7 +143,8 @@ line_without_eols settings taken k here rest e = (
 pub unsought_after : (settings : DecodeSettings) (taken : ℕ) (before has_eols : Bool) (here rest : Bits)
     (answer : Result Bool DecodeError) → before ≡ false → gap_behind_row settings taken before here ≡ gap_said answer has_eols
     rest → IfOk answer (λ over. over ≡ true → has_eols ≡ before) → OnErr answer (has_eols ≡ before) → has_eols ≡ false
-unsought_after settings taken before has_eols here rest v6 unsought said given_up same = grind (arith, common_steps, line_without_eols)
+unsought_after settings taken before has_eols here rest answer unsought said given_up same = grind
+    (arith, common_steps, line_without_eols)
 
 -- if there is a line, bits are left
 pub line_has_bits : (settings : DecodeSettings) (taken : ℕ) (k : Bool) (here rest : Bits)
@@ -160,12 +161,12 @@ few_tag_tests encoding = grind arith
 -- no more than the bits here are examined
 pub looked_most : (here : Bits) → looked here ≤ length here
 looked_most [] = omega arith
-looked_most (w0 ∷ here) = grind (arith, common_steps, looked_most here)
+looked_most (bit ∷ here) = grind (arith, common_steps, looked_most here)
 
 -- no bit after a one is examined
 looked_to_one : (before after : Bits) → looked (before ++ true ∷ after) + length after ≤ length (before ++ true ∷ after)
 looked_to_one [] after = omega arith
-looked_to_one (w0 ∷ before) after = grind (arith, common_steps, length-append, looked_to_one before after)
+looked_to_one (bit ∷ before) after = grind (arith, common_steps, length-append, looked_to_one before after)
 
 -- no more than the bits here are examined ahead
 pub looked_ahead_most : (encoding : EncodingMode) (here : Bits) → looked_ahead encoding here ≤ length here
