@@ -3,7 +3,7 @@ use Rattle.fax_reading.proofs.Names.{DecodeSettings, is_prefix_free, UnexpectedE
 use Rattle.fax_reading.proofs.Names.{Result, Group4, false, subst, arith, Color, paint, start, Bits, Code, Turn, Some, Bool, None}
 use Rattle.fax_reading.proofs.Names.{replicate, Group3_1D, Group3_2D, read_code, line_here, Overflow, codes_of, run_turn, line_by}
 use Rattle.fax_reading.proofs.Names.{run_from, is_short, cases_lt, line_1d, line_2d, IsWord, Option, le-ltb, lt-ltb, length, refl}
-use Rattle.fax_reading.proofs.Names.{true, cond, List, ◌++◌, Line, ◌+◌, ◌∷◌, Err, sym, ◌∙◌, inl, inr, Has, Row, ◌≤◌, ◌≡◌, ◌↔◌, Ok}
+use Rattle.fax_reading.proofs.Names.{true, cond, List, ◌++◌, Line, ◌+◌, ◌∷◌, Err, sym, ◌∙◌, inl, inr, Has, Row, ◌≤◌, ◌≡◌, Ok}
 use Rattle.fax_reading.proofs.Names.{unless_fault, DecodeError, LinesSettle, StaysAsRead, mode_codes, place_from, misses_end, suc}
 use Rattle.fax_bits.proofs.BitReading.ZerosInWords.{scan-append, scan_below, scan_holds, word_quiet, codes_free, modes_free, scan}
 use Rattle.fax_bits.proofs.CodeWords.{ReadRuns.run_shrinks, ReadRuns.size, ReadCodes.read_code_found, CodeReadings.reads_codes}
@@ -52,8 +52,7 @@ module _ {V : Type 0} (list : List (Code V)) (free : is_prefix_free list ≡ tru
   code_known here zeros = by_read_code (read_code list here) refl
     where
       by_read_code : (r : Result (V × Bits) DecodeError) → read_code list here ≡ r → IsKnown (λ found. HasZeros found.1) r
-      by_read_code (Ok (v, rest)) e =
-          let (w, has, is) = read_code_found list here v rest e in zeros_behind here w rest (words v w has) zeros is
+      by_read_code (Ok (v, rest)) e = grind (arith, common_steps, read_code_found, zeros_behind)
       by_read_code (Err fault) e = not_missing_end fault
           (λ is. uncut_zeros here zeros (((reads_codes list free).cut here).0 (e ∙ ap Err is)).1)
 
@@ -140,11 +139,6 @@ pub settled_not_short : (settings : DecodeSettings) (reference : Row) (here : Bi
 settled_not_short settings reference here settled = sym (grind (arith, common_steps))
     ∙ sym (ap is_short (settled (replicate 16 false))) ∙ zeros_end_line settings reference here (replicate 5 false)
 
--- Exactly the lines that aren't short are settled.
-pub line_settled_exactly : (settings : DecodeSettings) (reference : Row) (here : Bits)
-    → (is_short (line_here settings reference here) ≡ false) ↔ LineIsSettled settings reference here
-line_settled_exactly settings reference here = grind (arith, common_steps, line_settled, settled_not_short)
-
 -- A line that isn't short stays as it was read.
 pub line_stays : (settings : DecodeSettings) (reference : Row) (here : Bits)
     → is_short (line_here settings reference here) ≡ false → StaysAsRead settings reference here
@@ -152,4 +146,4 @@ line_stays settings reference here known = grind (arith, common_steps, line_sett
 
 -- the law
 pub lines_settle : LinesSettle
-lines_settle = grind (arith, common_steps, line_settled_exactly, line_stays, zeros_end_line)
+lines_settle = grind (arith, common_steps, line_settled, settled_not_short, line_stays, zeros_end_line)

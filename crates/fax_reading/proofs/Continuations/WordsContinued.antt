@@ -41,10 +41,7 @@ module _ {S R A : Type 0} (step : S → Turn S R) (gives : S → List A) (late :
           → step s ≡ turn → waits (after_turn (repeated step late n) turn) ≡ false
           → (after_turn (repeated step late m) (step (on s)) ≡ ends (after_turn (repeated step late n) turn)) × (gives (on s)
           ++ gathered_after (gathered step gives m) (step (on s)) ≡ gives s ++ gathered_after (gathered step gives n) turn)
-      by_step later (Turn.next t) e k = let a = goes s (ap (turn_waits waits) e) in
-          let there : step (on s) ≡ Turn.next (on t) = a.0 ∙ ap (turn_on on ends) e in
-          grind arith
-      by_step later (Turn.done r) e k = grind (arith, common_steps)
+      by_step later v1 e k = grind (arith, common_steps)
 
 -- ---- Code words
 

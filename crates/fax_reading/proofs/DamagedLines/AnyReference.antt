@@ -59,12 +59,8 @@ quiet_line reference row from color bits (EncodesLine2D.horizontal from2 word {f
 spelled_is_read : (color : Color) (n : ℕ) (bits : Bits) (total : ℕ) (more : Bits) → Spells color n bits
     → (run_from color (total, bits ++ more) ≡ Ok (total + n, more))
     ⊎ ((fault : DecodeError) × (run_from color (total, bits ++ more) ≡ Err fault))
-spelled_is_read color n bits total more (Spells.terminating m word has small) =
-    let read = read_code_again (codes_of color) n bits more (codes_free color) has in
-    elim (cases_lt 4294967295 (total + n)) [
-      | inl big ↦ inr (Overflow, run_passes color total n (bits ++ more) more read big)
-      | inr fits ↦ inl (run_ends color total n (bits ++ more) more read fits small)
-    ]
+spelled_is_read color n bits total more (Spells.terminating m word has small) = grind
+    (arith, common_steps, read_code_again (codes_of color) n bits more (codes_free color) has, run_passes, run_ends)
 spelled_is_read color n bits total more (Spells.makeup m word {n = k} {bits = next} has large rest) =
     let here : (word ++ next) ++ more ≡ word ++ (next ++ more) = append_assoc word next more in
     let read : read_code (codes_of color)

@@ -1,5 +1,6 @@
 -- Damage to one line changes its row alone.
-use Rattle.fax_reading.proofs.Names.{AreSettings, length-drop, append-nil, row_before, first_line, after_eol, cases_lt, cases_eq}
+use Rattle.fax_reading.proofs.Names.{AreSettings, length-drop, append-nil, row_before, first_line, after_eol, cases_lt}
+use Rattle.fax_reading.proofs.Names.{cond-true, eq-eqb}
 use Rattle.fax_reading.proofs.Names.{AreWholeBytes, OneRowDiffers, length-append, bytes_before, common_steps, DecodeError, length}
 use Rattle.fax_reading.proofs.Names.{Ending, end_of, EndsAt, subst, arith, plain, IsEol, refl, Bits, true, ◌||◌, List, ◌++◌}
 use Rattle.fax_reading.proofs.Names.{Ok, ap, [], ℕ}
@@ -145,8 +146,18 @@ module _ (settings : DecodeSettings) (one two : Bits) (from : ℕ) (after : Bits
       (left_below (first one)) (left_below (first two)) begin)
 
   -- and rows and results are alike
-  pub damage : AreWholeBytes one → AreWholeBytes two → Differ
+  damage : AreWholeBytes one → AreWholeBytes two → Differ
   damage whole_one whole_two = answers_alike whole_one whole_two ends_alike
+
+-- also if there are no columns
+pub damage_alike : (settings : DecodeSettings) (one two : Bits) (from : ℕ) (after : Bits) (lines : ℕ)
+    → LinesDiffer settings one two from after lines → AreWholeBytes one → AreWholeBytes two
+    → RowsAlike (suc lines) (Begun settings one two from) (plain settings one).rows (plain settings two).rows × EndAlike settings
+    one two from (suc lines) (plain settings one).rows (plain settings one).outcome (plain settings two).outcome
+damage_alike settings one two from after lines given whole_one whole_two = elim (cases_lt 0 settings.columns) [
+  | inl wide ↦ damage settings one two from after lines given wide whole_one whole_two
+  | inr none ↦ grind (arith, common_steps, cond-true, eq-eqb)
+]
 
 -- ---- One-dimensional data
 
@@ -168,7 +179,9 @@ one_row_differs settings one two from rows others (inr (before, a ∷ [], b ∷ 
 
 -- the law
 pub locality : Locality
-locality settings one are whole_one two from to to2 whole_two differ = in_each_case (cases_eq settings.columns 0)
+locality settings one are whole_one two from to to2 whole_two differ =
+    let both = damage_alike settings one two from local_one.closes.0 0 lines_differ whole_one whole_two in
+    (one_row_differs settings one two from (plain settings one).rows (plain settings two).rows both.0, both.1)
   where
     local_one : IsLocal settings one from to
     local_one = differ.body
@@ -192,15 +205,6 @@ locality settings one are whole_one two from to to2 whole_two differ = in_each_c
       stays_two = grind (arith, common_steps, stays_1d settings two from to2 local_two, local_two, same_after);
       settles = grind (arith, sought_line_is);
     }
-
-    in_each_case : (settings.columns ≡ 0) ⊎ (settings.columns ≡ 0 → ⊥)
-        → OneRowDiffers settings one two from (plain settings one).rows (plain settings two).rows
-        × EndAlike settings one two from 1 (plain settings one).rows (plain settings one).outcome (plain settings two).outcome
-    in_each_case (inl e) = grind (arith, common_steps)
-    in_each_case (inr e) = let wide : 0
-        < settings.columns = elim (cases_lt 0 settings.columns) [ inl lt ↦ lt | inr ge ↦ absurd (e (omega arith)) ] in
-        let both = damage settings one two from local_one.closes.0 0 lines_differ wide whole_one whole_two in
-        (one_row_differs settings one two from (plain settings one).rows (plain settings two).rows both.0, both.1)
 
 -- a run with the rows and the result of the plain reading has what the law says
 pub damage_stays_in_row : (settings : DecodeSettings) (bits : Bits) (rows : List Row) (outcome : Result ℕ DecodeError)

@@ -1,10 +1,10 @@
 -- Damage to a line of two-dimensional data ends at the next one-dimensional line.
 use Rattle.fax_reading.proofs.Names.{ComesBefore1D, length-append, AreWholeBytes, IsTaggedBody, ComeBefore1D, EncodingMode, false}
-use Rattle.fax_reading.proofs.Names.{Group3_2D, after_eol, line_here, eols_here, EndAlike, IsLine2D, cases_lt, cases_eq, one_more}
-use Rattle.fax_reading.proofs.Names.{common_steps, DecodeError, AreSettings, tagged_eols, LocalityByK, RowsDiffer, cond-true, ◌≡◌}
-use Rattle.fax_reading.proofs.Names.{drop, Some, Bits, List, suc, ◌-◌, ◌<◌, ◌≤◌, ◌∷◌, sym, ◌∙◌, ◌⊎◌, inl, inr, Row, ap}
+use Rattle.fax_reading.proofs.Names.{Group3_2D, after_eol, line_here, eols_here, IsLine2D, one_more}
+use Rattle.fax_reading.proofs.Names.{common_steps, DecodeError, AreSettings, tagged_eols, LocalityByK, RowsDiffer, ◌≡◌}
+use Rattle.fax_reading.proofs.Names.{drop, Some, Bits, List, suc, ◌-◌, ◌≤◌, ◌∷◌, sym, ◌∙◌, inl, inr, Row, ap}
 use Rattle.fax_reading.proofs.Names.{length-replicate, DecodeSettings, DamageEndsAt1D, EncodesLine2D, pass_last_tag, append_assoc}
-use Rattle.fax_reading.proofs.Names.{line_by, eols_by, IsEolAt, length, Result, eq-eqb, subst, arith, White, plain, zero, ◌++◌, ℕ}
+use Rattle.fax_reading.proofs.Names.{line_by, eols_by, IsEolAt, length, Result, subst, arith, White, plain, zero, ◌++◌, ℕ}
 use Rattle.std.proofs.Math.Seq.{take-append_seam, drop-append-add}
 use Rattle.fax_bits.proofs.BitReading.ConsecutiveEols.{after_eol_shorter, all_tagged-some, all_tagged-none, next_eol_found}
 use Rattle.fax_reading.proofs.DamagedLines.AnyReference.{encoded_ends, quiet_line, modes_read, scan_past}
@@ -13,7 +13,7 @@ use Rattle.fax_reading.proofs.DamagedLines.PastEol.{after_eol_is, then_after, pa
 use Rattle.fax_reading.proofs.DamagedLines.RunsAlike.{LinesDiffer, Unreferred, RowsAlike, Settles, Begun}
 use Rattle.fax_reading.proofs.DamagedLines.SoughtTurns.{eols_here_same, found_next, rest_of}
 use Rattle.fax_reading.proofs.{EncodedPictures.PicturesT4.line_2d_after_tag, DamagedLines.EolsAlike.IsLineIn}
-use Rattle.fax_reading.proofs.{Readings.TurnsMoveOn.eols_end, DamagedLines.Damage.damage}
+use Rattle.fax_reading.proofs.{Readings.TurnsMoveOn.eols_end, DamagedLines.Damage.damage_alike}
 
 -- ---- The lines that follow
 
@@ -89,7 +89,9 @@ rows_differ settings one two from differ rows others (inr (before, these, those,
 
 -- the law
 pub locality_by_k : LocalityByK
-locality_by_k settings one are whole_one two from to to2 lines whole_two differ = in_each_case (cases_eq settings.columns 0)
+locality_by_k settings one are whole_one two from to to2 lines whole_two differ =
+    let both = damage_alike settings one two from body.closes.0 lines lines_differ whole_one whole_two in
+    (rows_differ settings one two from (suc lines) (plain settings one).rows (plain settings two).rows both.0, both.1)
   where
     body : IsTaggedBody settings one from to
     body = differ.body
@@ -114,15 +116,6 @@ locality_by_k settings one are whole_one two from to to2 lines whole_two differ 
       stays_two = λ rows reached. stays_2d settings two from to2 other rows reached ∙ ap Some same_after;
       settles = settles settings differ.encoding lines (drop to one) body.closes.0 differ.follow body.closes.1;
     }
-
-    in_each_case : (settings.columns ≡ 0) ⊎ (settings.columns ≡ 0 → ⊥) → RowsDiffer settings one two from
-        (suc lines) (plain settings one).rows (plain settings two).rows × EndAlike settings one two from
-        (suc lines) (plain settings one).rows (plain settings one).outcome (plain settings two).outcome
-    in_each_case (inl e) = grind (arith, common_steps, cond-true, eq-eqb)
-    in_each_case (inr e) = let wide : 0
-        < settings.columns = elim (cases_lt 0 settings.columns) [ inl lt ↦ lt | inr ge ↦ absurd (e (omega arith)) ] in
-        let both = damage settings one two from body.closes.0 lines lines_differ wide whole_one whole_two in
-        (rows_differ settings one two from (suc lines) (plain settings one).rows (plain settings two).rows both.0, both.1)
 
 -- a run with the rows and the result of the plain reading has what the law says
 pub damage_ends : (settings : DecodeSettings) (bits : Bits) (rows : List Row) (outcome : Result ℕ DecodeError)

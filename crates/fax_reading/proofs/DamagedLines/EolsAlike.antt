@@ -94,9 +94,7 @@ module _ (n : ℕ) (z : Bits) (none : after_eol 0 z ≡ None) where
       where
         by_after_eol : ((rest : Bits) → EndsByOne n rest → Kept (count most rest) (count most (rest ++ z))) → (o : Option Bits)
             → after_eol 0 here ≡ o → Kept (count (suc most) here) (count (suc most) (here ++ z))
-        by_after_eol on None e =
-            rw (counts.none (suc most) here e, counts.none (suc most) (here ++ z) (eol_kept here ends ∙ ap (then_more z) e))
-            (refl, ends)
+        by_after_eol on None e = grind (arith, common_steps, eol_kept, then_more)
         by_after_eol on (Some rest) e = let is = after_eol_is 0 here rest e in
             let behind = passes rest (still_ends n here (replicate is.0 false) rest ends is.1) in
             let more = on (pass rest) behind.1 in
@@ -126,8 +124,7 @@ module _ (n : ℕ) (z : Bits) (none : after_eol 0 z ≡ None) where
 
       by_after_eol : (o : Option Bits) → after_eol 0 here ≡ o
           → (past_tag (true ∷ here ++ z) ≡ past_tag (true ∷ here) ++ z) × EndsByOne n (past_tag (true ∷ here))
-      by_after_eol None e = rw (e, eol_kept here behind ∙ ap (then_more z) e, past_tag) (refl, ends)
-      by_after_eol (Some rest) e = rw (e, eol_kept here behind ∙ ap (then_more z) e, past_tag) (refl, behind)
+      by_after_eol v0 e = grind (arith, common_steps, eol_kept, then_more, behind)
 
   last_tag_kept : (found : ℕ × Bits) → EndsByOne n found.1 → (found.1 ≡ [] → found.0 < 6)
       → Kept (pass_last_tag found) (pass_last_tag (count_then_more z found))
@@ -184,8 +181,7 @@ module _ {pass : Bits → Bits} {count : ℕ → Bits → ℕ × Bits} (counts :
     where
       by_after_eol : (o : Option Bits) → after_eol 0 here ≡ o → (rest : Bits) × (after_eol 0 here ≡ Some rest)
           × (pass rest ≡ line) × (after_eol 0 line ≡ None)
-      by_after_eol None f =
-          absurd (omega (arith, ap (λ (f : ℕ × Bits). f.0) (sym (counts.none (length here) here f) ∙ e)))
+      by_after_eol None f = grind (arith, common_steps)
       by_after_eol (Some rest) f = let left = none_left (pass rest) line
           (one_is_none line (count (length (pass rest)) (pass rest)) (sym (count_all-some counts here rest f) ∙ e)) in
           (rest, f, left.0, subst (λ (b : Bits). after_eol 0 b ≡ None) left.0 left.1)

@@ -40,9 +40,7 @@ behind_mode_shorter color here found e = by_read_code (read_code mode_codes here
   where
     by_read_code : (r : Result (Mode × Bits) DecodeError) → read_code mode_codes here ≡ r → behind_read color r ≡ Some found
         → length found.1 < length here
-    by_read_code (Ok (mode, rest)) f g =
-        omega (arith, read_code_shorter mode_codes here mode rest modes_not_empty f, word_shorter color mode rest found g)
-    by_read_code (Err fault) f g = absurd (none_is_not_some found g)
+    by_read_code v0 f g = grind (arith, common_steps, read_code_shorter, modes_not_empty, word_shorter, none_is_not_some)
 
 -- ---- Modes that are passed, one after another
 

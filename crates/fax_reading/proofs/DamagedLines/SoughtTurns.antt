@@ -1,10 +1,10 @@
 -- A turn of a lenient run that seeks EOLs.
-use Rattle.fax_reading.proofs.Names.{◌≡◌, Bool, true, false, not, List, [], ◌∷◌, ◌++◌, length, Option, Some, None, Ok, refl, sym}
+use Rattle.fax_reading.proofs.Names.{◌≡◌, Bool, true, false, List, [], ◌∷◌, ◌++◌, length, Option, Some, None, Ok, refl, sym}
 use Rattle.fax_reading.proofs.Names.{ap, ◌∙◌, arith, and_from, not_from_false, cond-true, cond-false, ne_eqb, EncodingMode}
 use Rattle.fax_reading.proofs.Names.{Group4, Group3_1D, Group3_2D, DecodeSettings, Bits, Row, Line, line_1d, after_eol, one_more}
 use Rattle.fax_reading.proofs.Names.{all_eols, next_eol, pass_last_tag, Progress, line_by, eols_by, line_here, limit_met, at_end}
 use Rattle.fax_reading.proofs.Names.{ends_with, eols_here, after_line, move_on, line_of_turn, row_of, row_at, misses_eol}
-use Rattle.fax_reading.proofs.Names.{repaired, ◌||◌, common_steps}
+use Rattle.fax_reading.proofs.Names.{common_steps}
 use Rattle.fax_reading.proofs.DamagedLines.PastEol.{past, past-eol, past_is, then_after, next_eol_leaves}
 use Rattle.fax_bits.proofs.BitReading.ConsecutiveEols.{all_eols-some, all_tagged-some, eols-some}
 use Rattle.fax_reading.proofs.Readings.RowsAndGaps.{unless_over, after_row, row_added, after_whole-is, after_damage-is}
@@ -75,8 +75,7 @@ module _ (settings : DecodeSettings) where
         by_line : (line : Line) → after_line settings (sought rows here) line ≡ after_row settings
             (sought (rows ++ row_of settings.columns line ∷ []) (rest_of line here))
         by_line (Line.whole row rest) = after_whole-is settings (sought rows here) row rest ∙ unaligned row rest
-        by_line (Line.broken front fault) = after_damage-is settings (sought rows here) front fault
-            ∙ cond-false (settings.strict || not true) _ _ (rw lenient refl) ∙ unaligned (repaired settings.columns front) here
+        by_line (Line.broken front fault) = grind (arith, common_steps, after_damage-is, cond-false, unaligned)
 
 -- ---- One-dimensional data
 

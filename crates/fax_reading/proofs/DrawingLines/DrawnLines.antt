@@ -49,8 +49,7 @@ pub change_has_black : (row front : Row) → StopsAtChange row front → HasBlac
 change_has_black row front stops = subst HasBlack (sym stops.2) (by_pixel stops.0 stops.3)
   where
     by_pixel : (pixel : Bool) → pixel ≢ last_pixel false front → HasBlack (front ++ pixel ∷ stops.1)
-    by_pixel true other = Contains-append_right front (true ∷ stops.1) true (first_black stops.1)
-    by_pixel false other = Contains-append_left front (false ∷ stops.1) true (last_black false front refl (λ e. other (sym e)))
+    by_pixel v0 other = grind (arith, common_steps, Contains-append_right, first_black, Contains-append_left, last_black)
 
 -- a line that is cut off by an allocation failure has a black pixel
 pub memory_has_black : (line : Line) (front : Row) (rest : Bits) → DrawsLine line (Err OutOfMemory) front rest
@@ -135,14 +134,9 @@ Stays P = (row more : Row) → P row → P (row ++ more)
 abbrev pub KeepsFront : (Row → Type 0) → (Pen → Step) → Type 0
 KeepsFront P go_on = (pen : Pen) → P pen.front → P (front_after (go_on pen))
 
--- painting keeps what was painted
-paint_keeps : (P : Row → Type 0) → Stays P → (strict : Bool) (columns : ℕ) (front : Row) (color : Color) (n : ℕ) (row : Row)
-    → paint strict columns front color n ≡ Ok row → P front → P row
-paint_keeps P on strict columns front color n row e holds = grind (arith, common_steps, paint_ok)
-
 stays_kept : (P : Row → Type 0) → Stays P → (strict : Bool) (columns : ℕ)
     → AreKept strict columns (λ front rest. P front) (λ line. P (front_of line))
-stays_kept P on strict columns = grind (arith, common_steps, fronts_kept, paint_keeps)
+stays_kept P on strict columns = grind (arith, common_steps, fronts_kept, paint_ok)
 
 after_kept : (P : Row → Type 0) (step : Step) → Yields (λ pen. P pen.front) (λ line. P (front_of line)) step
     → P (front_after step)

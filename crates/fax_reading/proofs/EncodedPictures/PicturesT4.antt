@@ -52,8 +52,7 @@ eols_more most fill more = rw (eol_stands fill more, eols) refl
 
 -- one EOL before a line
 pub one_eol : (fill : ℕ) (here : Bits) → after_eol 0 here ≡ None → all_eols (eol fill ++ here) ≡ (1, here)
-one_eol fill here none = (grind (arith, common_steps, length-eol, eols_more)) ∙ ap one_more (eols-none (11 + fill + length here)
-    here none)
+one_eol fill here none = grind (arith, common_steps, length-eol, eols_more, eols-none)
 
 tagged_eols_more : (most fill : ℕ) (more : Bits)
     → eols_with_tags (suc most) (eol fill ++ more) ≡ one_more (eols_with_tags most (past_tag more))

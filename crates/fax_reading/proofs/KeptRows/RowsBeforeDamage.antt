@@ -203,9 +203,7 @@ module _ (settings : DecodeSettings) (x y : Bits) where
         let closes = closes_front bits after.0 (next.1.1 ∙ ap (λ (b : Bits). Some b) after.1) in
         let (row, left, some, turn) = turn_closed settings lenient rows closes.0 closes.1 in
         let shape : (z : Bits) → move_on settings (sought rows (bits ++ z)) ≡ after_row settings
-        (sought (rows ++ row ∷ []) ((left ++ after.0) ++ z)) = λ z. ap (λ (b : Bits). move_on settings (sought rows b))
-        (ap (λ (b : Bits). b ++ z) closes.2 ∙ append_assoc closes.0 after.0 z) ∙ turn (after.0 ++ z)
-        ∙ ap (λ (b : Bits). after_row settings (sought (rows ++ row ∷ []) b)) (sym (append_assoc left after.0 z)) in
+        (sought (rows ++ row ∷ []) ((left ++ after.0) ++ z)) = grind (arith, common_steps, sought, append_assoc, after_row) in
         record {
           row = row;
           left = left ++ after.0;
@@ -294,9 +292,8 @@ module _ (settings : DecodeSettings) (x y : Bits) where
           let left_is : after.rest ≡ leaves.0.0 ++ x = leaves.0.1 ∙ ap (λ (b : Bits). leaves.0.0 ++ b) at in
           let on = rows_stay after end leaves.0.0 reaches (seeks ∙ sym has) at left_is in
           let next : Progress = run_at after.rows after.has_eols leaves.0.0 in
-          let moved : move_on settings (run_at from.rows from.has_eols (bits ++ x)) ≡ Turn.next (followed next x) = ap
-          (λ (b : Bits). move_on settings (run_at from.rows from.has_eols b)) (sym rest_is) ∙ e
-          ∙ ap {B = Move} (λ (b : Bits). Turn.next (record after { rest = b })) left_is in
+          let moved : move_on settings (run_at from.rows from.has_eols (bits ++ x)) ≡ Turn.next (followed next x) = grind
+          (arith, common_steps, run_at) in
           let found = turn_found from.rows from.has_eols bits next has moved in
           let run : Bits → Progress = λ z. run_at (from.rows ++ found.row ∷ []) from.has_eols (found.left ++ z) in
           let turned : rest_end (run_at from.rows from.has_eols (bits ++ y)) ≡ after_turn rest_end (after_row settings (run y))

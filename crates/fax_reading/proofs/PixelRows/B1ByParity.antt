@@ -4,7 +4,7 @@ use Rattle.fax_reading.proofs.Names.{get_or, refl, sym, ap, ◌∙◌, arith, in
 use Rattle.fax_reading.proofs.Names.{get_or_default_zero, Color, White, Row, AreChanges, pixels, is_black, opposite}
 use Rattle.fax_reading.proofs.Names.{right_of, b1, b2, right_of_painted, TurnsFrom, IsNear, IsB1}
 use Rattle.fax_reading.proofs.PixelRows.ReferencePlaces.{turned, turned-not, turned_by_parity, not_not, IsSplit}
-use Rattle.fax_reading.proofs.PixelRows.ReferencePlaces.{IsSplit-none, order, end_within, in_list_if_below, b1_is, b2_after_b1}
+use Rattle.fax_reading.proofs.PixelRows.ReferencePlaces.{order, end_within, in_list_if_below, b1_is, b2_after_b1}
 
 -- ---- The colour that a change turns from.
 -- one change less gives the other colour
@@ -84,7 +84,7 @@ module _ (columns : ℕ) (places : List ℕ) (ascend : AreChanges columns places
       → (0 < painted) ⊎ (painted ≤ 0) → (first : ℕ) × IsSplit places (right_of_painted painted) first
       × ((index ≡ first) ⊎ ((index ≡ suc first) × (turned first false ≡ not (is_black color))))
   split_near painted zero color inside colored near right (inl some) = grind (arith, split_some)
-  split_near painted zero color inside colored near right (inr none) = (0, IsSplit-none places painted none, inl refl)
+  split_near painted zero color inside colored near right (inr none) = (0, (grind (arith, common_steps)), inl refl)
   split_near painted (suc zero) color inside colored near right (inr none) = grind (arith, common_steps, turned_before)
   split_near painted (suc (suc k)) color inside colored near right (inr none) =
       absurd (omega (arith, none, (near.left 0 (omega arith)).0))

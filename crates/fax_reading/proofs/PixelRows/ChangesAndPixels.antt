@@ -99,18 +99,7 @@ last_pixel-odd width places ascend = grind (arith, common_steps, last_pixel-pixe
 
 -- ---- Painting.
 
--- a wider row continues in its last colour
-pub pixels_from-wider : (place : ℕ)
-    (color : Bool) (width more : ℕ) (places : List ℕ) → place ≤ width → AscendFrom place width places → pixels_from place color
-    (width + more) places ≡ pixels_from place color width places ++ replicate more (turned_at color places)
-pixels_from-wider place color width more [] le ascend = grind (arith, common_steps, replicate-append-replicate)
-pixels_from-wider place color width more (change ∷ places) le ascend = grind (
-  arith,
-  append_assoc,
-  pixels_from-wider change (not color) width more places (omega arith) (AscendFrom-here change width places ascend.2),
-)
-
--- the same if the last change may equal the width
+-- a wider row continues in its last colour; the last change may equal the width
 pub pixels_from-on : (place : ℕ) (color : Bool)
     (width more : ℕ) (places : List ℕ) → place ≤ width → AscendFrom place (suc width) places → pixels_from place color
     (width + more) places ≡ pixels_from place color width places ++ replicate more (turned_at color places)
@@ -124,7 +113,8 @@ pixels_from-on place color width more (change ∷ places) le ascend = grind (
 -- so painting pixels of the last colour adds no change
 pub pixels-same : (width more : ℕ) (places : List ℕ) → AreChanges width places
     → pixels (width + more) places ≡ pixels width places ++ replicate more (last_pixel false (pixels width places))
-pixels-same width more places ascend = grind (arith, common_steps, last_pixel-pixels, pixels_from-wider)
+pixels-same width more places ascend = rw (last_pixel-pixels width places ascend) (pixels_from-on 0 false width more places
+    (omega arith) (AscendFrom-wider 0 0 width (suc width) places (omega arith) (omega arith) ascend))
 
 -- one change more at the end of a row continues in the other colour
 pub pixels_from-push : (place : ℕ) (color : Bool) (width more : ℕ) (places : List ℕ) → pixels_from place color (width + more)

@@ -208,10 +208,6 @@ pub right_of-pixels : (painted : ℕ) (places : List ℕ) → AreChanges painted
     → right_of (pixels painted places) ≡ right_of_painted painted
 right_of-pixels painted places ascend = grind (arith, common_steps, row_length)
 
--- while none is, a0 is left of them all
-pub IsSplit-none : (places : List ℕ) (painted : ℕ) → painted ≤ 0 → IsSplit places (right_of_painted painted) 0
-IsSplit-none places painted none = grind (arith, common_steps)
-
 -- b2 is the change after b1
 pub b2_after_b1 : (columns : ℕ) (places : List ℕ) (from index : ℕ) (color : Color) → AreChanges columns places
     → b1 (pixels columns places) from color ≡ get_or places index columns

@@ -12,19 +12,13 @@ use Rattle.fax_reading.proofs.Readings.TurnsAddRows.{Adds, Keeps, after_row_keep
 use Rattle.fax_reading.proofs.Readings.TurnsAddRows.{prefix_trans}
 use Rattle.fax_reading.proofs.Readings.TurnsMoveOn.{left_to_read, left_below, move_shrinks}
 
--- the element at an index begins what is there from it on
-pub slice_get-drop_cons : {A : Type 0} (xs : List A) (k : ℕ) (x : A) (more : List A) → drop k xs ≡ x ∷ more
-    → slice_get xs k ≡ Some x
-slice_get-drop_cons [] zero x more e = absurd cc
-slice_get-drop_cons [] (suc k) x more e = absurd cc
-slice_get-drop_cons (y ∷ xs) zero x more e = cc
-slice_get-drop_cons (y ∷ xs) (suc k) x more e = slice_get-drop_cons xs k x more e
-
-drop-suc_cons : {A : Type 0} (xs : List A) (k : ℕ) (x : A) (more : List A) → drop k xs ≡ x ∷ more → drop (suc k) xs ≡ more
-drop-suc_cons [] zero x more e = absurd cc
-drop-suc_cons [] (suc k) x more e = absurd cc
-drop-suc_cons (y ∷ xs) zero x more e = cc
-drop-suc_cons (y ∷ xs) (suc k) x more e = drop-suc_cons xs k x more e
+-- the element at an index begins what is there from it on, and the rest is there from the next one on
+pub drop_begins : {A : Type 0} (xs : List A) (k : ℕ) (x : A) (more : List A) → drop k xs ≡ x ∷ more
+    → (slice_get xs k ≡ Some x) × (drop (suc k) xs ≡ more)
+drop_begins [] zero x more e = absurd cc
+drop_begins [] (suc k) x more e = absurd cc
+drop_begins (y ∷ xs) zero x more e = (cc, cc)
+drop_begins (y ∷ xs) (suc k) x more e = drop_begins xs k x more e
 
 -- the element after a list is the one of its length
 pub get_or-behind : {A : Type 0} (xs : List A) (x : A) (more : List A) (other : A)
@@ -134,8 +128,8 @@ module _ (settings : DecodeSettings) (wide : 0 < settings.columns) {start : Prog
     comes_next : {after : Progress} → move_on settings so_far ≡ Turn.next after → Comes settings start after
     comes_next {after} is = let more = turn_adds settings so_far after is in record {
       ends = comes_turn ∙ ap (after_turn (ending settings start)) is;
-      follow = ap (λ (k : ℕ). drop k (turns_from (move_on settings) start)) more ∙ drop-suc_cons (turns_from (move_on settings)
-          start) (length so_far.rows) so_far _ turns_on ∙ ap (gathered_after (turns_left settings)) is;
+      follow = ap (λ (k : ℕ). drop k (turns_from (move_on settings) start)) more ∙ (drop_begins (turns_from
+          (move_on settings) start) (length so_far.rows) so_far _ turns_on).1 ∙ ap (gathered_after (turns_left settings)) is;
       room = omega (arith, comes.room, more, move_shrinks settings wide so_far after is);
     }
 

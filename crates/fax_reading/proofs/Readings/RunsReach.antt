@@ -5,7 +5,7 @@ use Rattle.fax_reading.proofs.Names.{◌∙◌, sym, subst, arith, slice_get, co
 use Rattle.fax_reading.proofs.Names.{Progress, Ending, first_gap, move_on, turns_of, Turn, Reaches, get_or-drop}
 use Rattle.fax_reading.proofs.Names.{drop-map, slice_get_within, get_or_from_slice_get, sum_by_more, sum_by-take-drop}
 use Rattle.fax_bits.proofs.Repetition.Gathered.{gathered_after}
-use Rattle.fax_reading.proofs.Readings.RunsOverRows.{slice_get-drop_cons, Comes, comes_there, turns_left, turns_on}
+use Rattle.fax_reading.proofs.Readings.RunsOverRows.{drop_begins, Comes, comes_there, turns_left, turns_on}
 use Rattle.fax_reading.proofs.Readings.TurnsAddRows.{Keeps, first_gap_keeps}
 
 module _ (settings : DecodeSettings) (wide : 0 < settings.columns) (bits : Bits) {first : Progress}
@@ -29,7 +29,7 @@ module _ (settings : DecodeSettings) (wide : 0 < settings.columns) (bits : Bits)
 
       -- it is the one of its index
       pub given_there : slice_get given (length so_far.rows) ≡ Some (gives so_far)
-      given_there = slice_get-drop_cons given (length so_far.rows) (gives so_far) _ given_on
+      given_there = (drop_begins given (length so_far.rows) (gives so_far) _ given_on).0
 
       pub given_is : (other : A) → get_or given (length so_far.rows) other ≡ gives so_far
       given_is other = get_or_from_slice_get given (length so_far.rows) (gives so_far) other given_there

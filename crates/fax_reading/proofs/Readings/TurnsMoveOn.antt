@@ -53,9 +53,6 @@ seek_left : (settings : DecodeSettings) (run t : Progress) (o : Option Bits) →
 seek_left settings run t None h e k = grind (arith, common_steps)
 seek_left settings run t (Some found) h e k = grind (arith, next_eol_found, eols_here_counted, unless_over_next, eols_here_some)
 
-pub at_end_length : (rest : Bits) → at_end rest ≡ false → 0 < length rest
-at_end_length rest e = grind (arith, common_steps)
-
 took_more : (line : Line) (n : ℕ) → TookBits n line → TookBits (suc n) line
 took_more line n took = grind arith
 
@@ -67,7 +64,7 @@ after_row_next settings run t n e small = elim (chosen (misses_eol settings (len
   | inr a ↦ let open_run = unless_over_open settings run t (eols_here settings run.rest) a.1 in
       let counted = eols_here_counted settings run.rest in
       subst (λ (r : Progress). left_to_read r < n) (unless_over_next settings run t (eols_here settings run.rest) a.1)
-      (grind (arith, common_steps, at_end_length, eqb-false, either))
+      (grind (arith, common_steps, eqb-false, either))
 ]
   where
     either : (b : Bool) (k : ℕ) → suc k < n → cond b (suc k) k < n

@@ -2,12 +2,12 @@
 use Rattle.fax_reading.proofs.Names.{DecodeSettings, missed_by_turn, missed_behind, sum_by-append, ending_behind, length-append}
 use Rattle.fax_reading.proofs.Names.{EncodingMode, cuts_by_line, DecodeError, InvalidCode, AreSettings, repaired_in, cut_by_turn}
 use Rattle.fax_reading.proofs.Names.{PicturesAreUndamaged, StrictIsUndamaged, repaired_by_turn, IsLimitedPicture, damaged_by_turn}
-use Rattle.fax_reading.proofs.Names.{Reading, move_on, Damaged, length, sum_by, Ending, at_gap, arith, plain, false, zero, Bool}
-use Rattle.fax_reading.proofs.Names.{flat_map, cuts_run, Progress, with_row, pass_gap, turns_of, repeated, gathered, add_row, ◌≡◌}
+use Rattle.fax_reading.proofs.Names.{Reading, move_on, Damaged, length, sum_by, Ending, arith, plain, false, zero, Bool}
+use Rattle.fax_reading.proofs.Names.{flat_map, cuts_run, Progress, turns_of, repeated, gathered, add_row, ◌≡◌}
 use Rattle.fax_reading.proofs.Names.{flat_map-cons, UnexpectedEof, AreWholeBytes, line_of_turn, turns_behind, common_steps, subst}
 use Rattle.fax_reading.proofs.Names.{repairs_by_line, IsClosedPicture, misses_by_line, gap_behind_row, sum_by-take-le, false≢true}
-use Rattle.fax_reading.proofs.Names.{row_before, after_line, misses_eol, behind_row, cond-false, cond-true, damage_of, first_gap}
-use Rattle.fax_reading.proofs.Names.{sym, not, ◌∙◌, Gap, map, Row, ◌+◌, ◌-◌, ◌⊎◌, inl, [], ap, ℕ}
+use Rattle.fax_reading.proofs.Names.{row_before, after_line, misses_eol, cond-false, cond-true, damage_of, first_gap}
+use Rattle.fax_reading.proofs.Names.{sym, not, ◌∙◌, Gap, map, Row, ◌-◌, ◌⊎◌, inl, [], ap, ℕ}
 use Rattle.fax_reading.proofs.Names.{true, cond, ◌&&◌, List, ◌++◌, take, refl, IsOk, Bits, Line, Move, Turn, inr, suc, ◌∷◌, Err}
 use Rattle.fax_bits.proofs.Repetition.{Gathered.gathered_after, Repeated.after_turn}
 use Rattle.fax_reading.proofs.EncodedPictures.PicturesOfEachKind.{limited_pictures, closed_pictures}
@@ -95,12 +95,7 @@ module _ (settings : DecodeSettings) (bits : Bits) where
       by_line_of_turn : (line : Line) → line_of_turn strictly s ≡ line → Agrees line (line_of_turn leniently s)
           → Fails (move_on strictly s) ⊎ ((damaged_by_turn leniently bits s ≡ []) × (move_on strictly s ≡ move_on leniently s))
       by_line_of_turn (Line.broken front fault) e agrees = inl (fault, _, ap (after_line strictly s) e, refl)
-      by_line_of_turn (Line.whole row rest) e agrees =
-          let next : Progress = with_row s row (behind_row settings s.has_eols rest) in
-          let one : move_on strictly s ≡ pass_gap strictly next = ap (after_line strictly s) e in
-          let more : length next.rows ≡ length s.rows + 1 = length-append s.rows (row ∷ []) in
-          elim (gap_sound (length next.rows) s.has_eols next.rest)
-          [ inl fails ↦ inl (InvalidCode, _, one ∙ ap (at_gap next) fails, refl) | inr (none, same) ↦ grind arith ]
+      by_line_of_turn (Line.whole row rest) e agrees = grind (arith, common_steps, length-append, gap_sound)
 
   -- ---- All turns
 
@@ -206,8 +201,7 @@ module _ (settings : DecodeSettings) (bits : Bits) where
 
       by_line : (line : Line) → repaired_in strictly s.has_eols (length s.rows) (length bits - length s.rest) line
           ++ (cut_of s (cuts_run line line) ++ missed_behind strictly bits s line) ≡ []
-      by_line (Line.broken front fault) = refl
-      by_line (Line.whole row rest) = grind (arith, common_steps)
+      by_line v0 = grind (arith, common_steps)
 
 -- ---- The laws
 
