@@ -16,7 +16,7 @@ use Rattle.fax_bits.proofs.Repetition.Repeated.{after_turn, repeated_turn}
 use Rattle.fax_reading.proofs.Continuations.LinesContinued.{Continues, then_continues, finds_continue, same_continues}
 use Rattle.fax_reading.proofs.Continuations.LinesContinued.{mode_goes_on, full_on}
 use Rattle.fax_reading.proofs.Continuations.ShortLines.{GoesOrEnds, Anything, paint_known, place_known}
-use Rattle.fax_reading.proofs.Continuations.WordsContinued.{code_continues, rest_on}
+use Rattle.fax_reading.proofs.Continuations.LinesContinued.{code_continues, rest_on}
 use Rattle.fax_reading.proofs.DrawingLines.Drawings.{run_then, mode_step, step_1d_is, step_2d_is}
 use Rattle.fax_reading.proofs.DrawingLines.ReadLines.{drawn1, drawn2, modes_not_empty}
 use Rattle.fax_bits.proofs.{CodeWords.CodeReadings.reads_codes, CodeWords.ReadCodes.read_code_found, ErrorKinds.missing_end}

@@ -11,7 +11,7 @@ use Rattle.fax_bits.proofs.{BitReading.ConsecutiveEols.counts_plain, Repetition.
 use Rattle.fax_reading.proofs.DamagedLines.RunsAlike.{moves_alike, LinesDiffer, not_group4, RowsAlike, EndsAlike, RunsAlike}
 use Rattle.fax_reading.proofs.DamagedLines.{EolsAlike.all_eols_kept, EolsAlike.IsLineIn, EolsAlike.EndsByOne, LinesByEols.seeks}
 use Rattle.fax_reading.proofs.DamagedLines.{LineTails.eol_closes, LineTails.line_in_1d, LineTails.stays_1d, PastEol.past_shorter}
-use Rattle.fax_reading.proofs.DamagedLines.{SoughtTurns.sought_line_is, SoughtTurns.sought, RunsAlike.Begun}
+use Rattle.fax_reading.proofs.DamagedLines.{PastEol.sought_line_is, PastEol.sought, RunsAlike.Begun}
 use Rattle.fax_reading.proofs.Readings.TurnsMoveOn.{left_to_read, move_shrinks, left_below}
 use Rattle.fax_reading.proofs.{GapsContinued.ContinuedEols.count_then_more, DrawingLines.LinesLeaveBits.LeavesBits}
 use Rattle.fax_reading.proofs.{Readings.GapsAndRows.plain_is, Readings.GapsAndRows.end_t4, KeptRows.TurnsLeave.count_leaves}

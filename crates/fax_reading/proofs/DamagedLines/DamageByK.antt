@@ -11,7 +11,7 @@ use Rattle.fax_reading.proofs.DamagedLines.AnyReference.{encoded_ends, quiet_lin
 use Rattle.fax_reading.proofs.DamagedLines.LineTails.{line_past_by, past_before, line_in_2d, stays_2d}
 use Rattle.fax_reading.proofs.DamagedLines.PastEol.{after_eol_is, then_after, past_is, past}
 use Rattle.fax_reading.proofs.DamagedLines.RunsAlike.{LinesDiffer, Unreferred, RowsAlike, Settles, Begun}
-use Rattle.fax_reading.proofs.DamagedLines.SoughtTurns.{eols_here_same, found_next, rest_of}
+use Rattle.fax_reading.proofs.DamagedLines.PastEol.{eols_here_same, found_next, rest_of}
 use Rattle.fax_reading.proofs.{EncodedPictures.PicturesT4.line_2d_after_tag, DamagedLines.EolsAlike.IsLineIn}
 use Rattle.fax_reading.proofs.{Readings.TurnsMoveOn.eols_end, DamagedLines.Damage.damage_alike}
 

@@ -13,7 +13,7 @@ use Rattle.fax_reading.proofs.DamagedLines.AnyReference.{quiet_append, leaves_ne
 use Rattle.fax_reading.proofs.DamagedLines.LineTails.{after_eol_more, past_before, first_one, drop_at}
 use Rattle.fax_reading.proofs.DamagedLines.{PastEol.after_eol_is, PastEol.past-eol, PastEol.past, EolsAlike.one_tagged}
 use Rattle.fax_reading.proofs.DrawingLines.LinesLeaveBits.{leaves_trans, LeavesBits}
-use Rattle.fax_reading.proofs.EncodedPictures.{EncodedRuns.line_1d_again, PicturesT4.eol_stands}
+use Rattle.fax_reading.proofs.EncodedPictures.{EncodedLines.line_1d_again, PicturesT4.eol_stands}
 use Rattle.fax_reading.proofs.KeptRows.TurnsLeave.{past_tag_leaves}
 
 -- ---- Suffixes

@@ -9,12 +9,12 @@ use Rattle.fax_bits.proofs.BitReading.ConsecutiveEols.{count_past, count_same, a
 use Rattle.fax_bits.proofs.BitReading.ConsecutiveEols.{last_tag_count, count_all-some, counts_tagged, count_shorter, counts_plain}
 use Rattle.fax_reading.proofs.Continuations.{LinesContinued.line_settled, ShortLines.zeros_end_line}
 use Rattle.fax_reading.proofs.DamagedLines.PastEol.{next_eol_leaves, after_eol_is, past_shorter, past-front, past}
-use Rattle.fax_reading.proofs.DamagedLines.SoughtTurns.{eols_here_same, not_past_end, move_sought, found_next, row_past, rest_of}
+use Rattle.fax_reading.proofs.DamagedLines.PastEol.{eols_here_same, not_past_end, move_sought, found_next, row_past, rest_of}
 use Rattle.fax_reading.proofs.DrawingLines.LinesLeaveBits.{line_by_leaves, leaves_trans, LeavesBits, LineLeaves}
 use Rattle.fax_reading.proofs.EncodedPictures.PicturesT4.{eols_here_one, eols_here_two}
 use Rattle.fax_reading.proofs.GapsContinued.ContinuedEols.{count_then_more, after_eol-more, then_more}
 use Rattle.fax_reading.proofs.{KeptRows.TurnsLeave.eols_leave_bits, Names.inl, Names.inr, Names.Row, Names.ℕ}
-use Rattle.fax_reading.proofs.{Readings.RowsAndGaps.unless_over, Readings.RowsAndGaps.after_row, DamagedLines.SoughtTurns.sought}
+use Rattle.fax_reading.proofs.{Readings.RowsAndGaps.unless_over, Readings.RowsAndGaps.after_row, DamagedLines.PastEol.sought}
 use Rattle.fax_reading.specs.GapsContinued.{holds_one}
 
 -- bits before a line: none, or they end with a one behind at least so many zeros

@@ -9,7 +9,7 @@ use Rattle.std.proofs.Math.Seq.{drop-append_seam}
 use Rattle.fax_bits.proofs.BitReading.ConsecutiveEols.{all_tagged}
 use Rattle.fax_reading.proofs.DamagedLines.EolsAlike.{IsLineIn, Closes}
 use Rattle.fax_reading.proofs.DamagedLines.PastEol.{next_eol_leaves, after_eol_is, past_later, eol_at_one, past-eol, past}
-use Rattle.fax_reading.proofs.DamagedLines.SoughtTurns.{sought_line_is, found_next, rest_of, sought}
+use Rattle.fax_reading.proofs.DamagedLines.PastEol.{sought_line_is, found_next, rest_of, sought}
 use Rattle.fax_reading.proofs.DrawingLines.LinesLeaveBits.{line_by_leaves, LineLeaves}
 
 -- without a prefix, of this length, the rest is left

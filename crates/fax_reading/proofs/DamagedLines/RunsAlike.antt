@@ -10,7 +10,7 @@ use Rattle.fax_bits.proofs.BitReading.ConsecutiveEols.{next_eol_found, cond_le}
 use Rattle.fax_bits.proofs.Repetition.Repeated.{Follows}
 use Rattle.fax_reading.proofs.DamagedLines.EolsAlike.{leaves_length, turn_closed, left_closes, row_counted, eols_left, eols_past}
 use Rattle.fax_reading.proofs.DamagedLines.EolsAlike.{left_ends, past_ends, with_tail, EndsByOne, IsGroup3, IsLineIn, not_end}
-use Rattle.fax_reading.proofs.DamagedLines.SoughtTurns.{eols_here_same, move_sought, sought_done, row_past, rest_of, sought}
+use Rattle.fax_reading.proofs.DamagedLines.PastEol.{eols_here_same, move_sought, sought_done, row_past, rest_of, sought}
 use Rattle.fax_reading.proofs.DamagedLines.{PastEol.past_shorter, PastEol.past, EolsAlike.counted, EolsAlike.Closes}
 use Rattle.fax_reading.proofs.DrawingLines.LinesLeaveBits.{line_by_leaves, leaves_trans, LeavesBits, LineLeaves}
 use Rattle.fax_reading.proofs.Readings.RowsAndGaps.{after_damage-is, after_whole-is, unless_over, seek_from, after_row, row_added}

@@ -9,7 +9,7 @@ use Rattle.fax_bits.proofs.Repetition.Repeated.{repeated_turn, after_turn, not_n
 use Rattle.fax_bits.proofs.{BitReading.ZerosInWords.codes_free, BitReading.ZerosInWords.modes_free, CodeWords.ReadRuns.chosen}
 use Rattle.fax_reading.proofs.DrawingLines.Drawings.{horizontal_is, mode_step, run_then, drawn_by, step_2d, step_1d, try}
 use Rattle.fax_reading.proofs.DrawingLines.ReadLines.{draws_mode, draws_run, mode_read, try_next, pen_left, full_by, IsStep}
-use Rattle.fax_reading.proofs.EncodedPictures.EncodedRuns.{draws}
+use Rattle.fax_reading.proofs.EncodedPictures.EncodedLines.{draws}
 
 -- ---- A run.
 abbrev pub RunFound : Color → ℕ → Bits → ℕ → Bits → Type 0

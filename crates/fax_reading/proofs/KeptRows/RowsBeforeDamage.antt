@@ -13,17 +13,17 @@ use Rattle.fax_bits.proofs.CodeWords.ReadRuns.{chosen}
 use Rattle.fax_bits.proofs.Repetition.Repeated.{repeated_turn, repeated_same, after_turn, not_next, next_is}
 use Rattle.fax_reading.proofs.DamagedLines.EolsAlike.{turn_closed, eols_past, one_among, Closes}
 use Rattle.fax_reading.proofs.DamagedLines.PastEol.{next_eol_leaves, eols_here-none, past-front, past-eol, past_is, past}
-use Rattle.fax_reading.proofs.DamagedLines.SoughtTurns.{eols_here_same, sought_done, move_sought, found_next, row_past, sought}
+use Rattle.fax_reading.proofs.DamagedLines.PastEol.{eols_here_same, sought_done, move_sought, found_next, row_past, sought}
 use Rattle.fax_reading.proofs.KeptRows.EqualFronts.{one_in_line, one_in_bits, past_front, eols_front, all_front}
-use Rattle.fax_reading.proofs.KeptRows.LinesAgain.{one_in_whole, line_again, one_stays}
+use Rattle.fax_reading.proofs.KeptRows.EqualFronts.{one_in_whole, line_again, one_stays}
 use Rattle.fax_reading.proofs.KeptRows.TurnsLeave.{after_row_leaves, reached_leaves}
 use Rattle.fax_reading.proofs.Readings.RowsAndGaps.{after_damage-is, after_whole-is, unless_over, pass_gap-is, after_row}
 use Rattle.fax_reading.proofs.Readings.RowsAndGaps.{missed_sought}
-use Rattle.fax_reading.proofs.Readings.TurnsAddRows.{after_row_keeps, first_gap_keeps, repeated_adds, turn_extends, move_adds}
+use Rattle.fax_reading.proofs.Readings.TurnsMoveOn.{after_row_keeps, first_gap_keeps, repeated_adds, turn_extends, move_adds}
 use Rattle.fax_reading.proofs.Readings.TurnsMoveOn.{eols_here_counted, unless_over_next, unless_over_open, left_to_read}
-use Rattle.fax_reading.proofs.Readings.{GapsAndRows.plain_is, TurnsAddRows.Keeps}
+use Rattle.fax_reading.proofs.Readings.{GapsAndRows.plain_is, TurnsMoveOn.Keeps}
 use Rattle.fax_reading.proofs.{DamagedLines.LineTails.eol_closes, DamagedLines.RunsAlike.run_at}
-use Rattle.fax_reading.proofs.{EncodedPictures.AfterEofb.aligned_split, DamagedLines.LineStarts.more_left}
+use Rattle.fax_reading.proofs.{EncodedPictures.PicturesT6.aligned_split, DamagedLines.LinesByEols.more_left}
 use Rattle.fax_reading.proofs.{Readings.TurnsMoveOn.move_shrinks, Readings.TurnsMoveOn.left_below, DamagedLines.LinesByEols.seeks}
 use Rattle.fax_reading.specs.GapsContinued.{holds_one}
 

@@ -14,7 +14,7 @@ use Rattle.fax_reading.proofs.DamagedLines.EolsAlike.{leaves_length, all_eols_ke
 use Rattle.fax_reading.proofs.DamagedLines.LineTails.{line_past_by, eol_closes}
 use Rattle.fax_reading.proofs.DamagedLines.PastEol.{then_after, past_is, past}
 use Rattle.fax_reading.proofs.DamagedLines.RunsAlike.{move_beyond, not_group4, StayAlike, SameLine, run_at}
-use Rattle.fax_reading.proofs.DamagedLines.SoughtTurns.{eols_here_same, move_sought, row_past, rest_of, sought}
+use Rattle.fax_reading.proofs.DamagedLines.PastEol.{eols_here_same, move_sought, row_past, rest_of, sought}
 use Rattle.fax_reading.proofs.DamagedLines.{EolsAlike.not_end, EolsAlike.counted, EolsAlike.IsAlone, LinesByEols.seeks}
 use Rattle.fax_reading.proofs.DrawingLines.LinesLeaveBits.{leaves_trans, LeavesBits}
 use Rattle.fax_reading.proofs.Readings.GapsAndRows.{ending_goes, plain_is, end_t4, late, goes}

@@ -6,7 +6,7 @@ use Rattle.fax_reading.proofs.Names.{line_of_turn, at_front, first_line, first_g
 use Rattle.fax_reading.proofs.Names.{cond-false, Turn, repeated, Reaches, Row, common_steps, ne_eqb, plain, whole_reading}
 use Rattle.fax_bits.proofs.Repetition.Repeated.{Follows, after_turn, repeated_follows, repeated_turn, not_next}
 use Rattle.fax_reading.proofs.Readings.RowsAndGaps.{pass_gap-is, unless_over, unmissed}
-use Rattle.fax_reading.proofs.Readings.TurnsAddRows.{move_adds, repeated_adds}
+use Rattle.fax_reading.proofs.Readings.TurnsMoveOn.{move_adds, repeated_adds}
 use Rattle.fax_reading.proofs.Readings.TurnsMoveOn.{left_to_read, left_below, move_shrinks}
 
 -- ---- The first gap

@@ -1,5 +1,5 @@
 -- A row limit cuts what comes without one.
-use Rattle.fax_reading.proofs.Readings.TurnsAddRows.{turn_extends, Keeps, after_row_keeps}
+use Rattle.fax_reading.proofs.Readings.TurnsMoveOn.{turn_extends, Keeps, after_row_keeps}
 use Rattle.fax_reading.proofs.Names.{◌≡◌, ℕ, ◌-◌, ◌<◌, ◌≤◌, Bool, true, false, cond, not, ◌&&◌, ◌||◌, eqb, List, [], ◌∷◌, ◌++◌}
 use Rattle.fax_reading.proofs.Names.{length, take, replicate, Option, Err, refl, sym, arith, inl, inr, IsOk}
 use Rattle.fax_reading.proofs.Names.{length-append, take_all, cases_eq, and_right, or_left, or_right, eq-eqb, ne_eqb, cond-true}

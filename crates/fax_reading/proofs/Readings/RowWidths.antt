@@ -5,8 +5,8 @@ use Rattle.fax_reading.proofs.Names.{DecodeSettings, front_of, Bits, Turn, Row, 
 use Rattle.fax_reading.proofs.Names.{ending_behind, with_row, behind_row, after_line, move_on}
 use Rattle.fax_bits.proofs.Repetition.Repeated.{repeated_keeps}
 use Rattle.fax_reading.proofs.Readings.RowsAndGaps.{row_added, after_whole-is, after_damage-is}
-use Rattle.fax_reading.proofs.Readings.TurnsAddRows.{Keeps, after_row_keeps, first_gap_keeps}
-use Rattle.fax_reading.proofs.DrawingLines.{LineWidths.line_by_within, FullRows.IsFull, FullRows.line_by_full}
+use Rattle.fax_reading.proofs.Readings.TurnsMoveOn.{Keeps, after_row_keeps, first_gap_keeps}
+use Rattle.fax_reading.proofs.DrawingLines.{FullRows.line_by_within, FullRows.IsFull, FullRows.line_by_full}
 
 -- the rows that a turn leaves have a width
 abbrev pub LeavesWidth : ℕ → Move → Type 0

@@ -6,7 +6,7 @@ use Rattle.fax_reading.proofs.Names.{ending_from, false≢true, row_before, afte
 use Rattle.fax_reading.proofs.Names.{eq-eqb, ne_eqb, false, subst, arith, plain, true, cond, ◌&&◌, List, ◌++◌, IsOk, Bits, Turn}
 use Rattle.fax_bits.proofs.Repetition.Repeated.{after_turn, Follows}
 use Rattle.fax_reading.proofs.Readings.RowsAndGaps.{after_whole-is, unless_over, after_row, seek_eol}
-use Rattle.fax_reading.proofs.Readings.TurnsAddRows.{seek_from_keeps, turn_extends, prefix_trans, move_adds, Adds}
+use Rattle.fax_reading.proofs.Readings.TurnsMoveOn.{seek_from_keeps, turn_extends, prefix_trans, move_adds, Adds}
 use Rattle.fax_reading.proofs.{Continuations.StrictLines.strict_line, Readings.GapsAndRows.readings_follow}
 
 -- ---- Lines

@@ -12,7 +12,7 @@ use Rattle.fax_reading.proofs.Names.{true, cond, ◌&&◌, List, ◌++◌, take,
 use Rattle.fax_bits.proofs.Repetition.{Gathered.gathered_after, Repeated.after_turn}
 use Rattle.fax_reading.proofs.EncodedPictures.PicturesOfEachKind.{limited_pictures, closed_pictures}
 use Rattle.fax_reading.proofs.Readings.Strictness.{line_by_agrees, strict_first, ok_outcome, Agrees}
-use Rattle.fax_reading.proofs.{DamagedLines.SoughtTurns.sought, DamagedLines.EolsAlike.counted, Readings.RowsAndGaps.unmissed}
+use Rattle.fax_reading.proofs.{DamagedLines.PastEol.sought, DamagedLines.EolsAlike.counted, Readings.RowsAndGaps.unmissed}
 
 -- ---- Turns that give nothing
 
