@@ -138,10 +138,10 @@ decodes settings bits step before after held place ticks answer are whole
     unrepaired ok = repaired.of_taken ∙ (none_damaged settings bits held.taken ok).0
 
     uncut : IsOk (plain (record settings { strict = true }) bits).outcome → held.repairs.cut ≡ 0
-    uncut ok = cut.of_taken ∙ (none_damaged settings bits held.taken ok).1.0
+    uncut ok = cut.of_taken ∙ (none_damaged settings bits held.taken ok).1
 
     unmissed : IsOk (plain (record settings { strict = true }) bits).outcome → held.repairs.missed ≡ 0
-    unmissed ok = missed.of_taken ∙ (none_damaged settings bits held.taken ok).1.1
+    unmissed ok = missed.of_taken ∙ (none_damaged settings bits held.taken ok).2
 
     silent : (r : Result ℕ DecodeError) → r ≡ (plain settings bits).outcome
         → held.repairs.rows ≡ sum_by length (repairs_by_line settings bits)
