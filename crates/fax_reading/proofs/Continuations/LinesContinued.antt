@@ -1,7 +1,7 @@
 -- Code words, runs and lines where more bits follow.
 use Rattle.fax_reading.proofs.Names.{DecodeSettings, is_prefix_free, AreWholeBytes, LineIsSettled, UnexpectedEof, row_continued}
-use Rattle.fax_reading.proofs.Names.{EncodingMode, append_assoc, common_steps, unless_fault, words_behind, DecodeError, draw_mode}
-use Rattle.fax_reading.proofs.Names.{InvalidCode, line_before, row_of_line, turn_behind, unless_full, Horizontal, false≢true, Err}
+use Rattle.fax_reading.proofs.Names.{EncodingMode, append_assoc, common_steps, unless_fault, DecodeError, draw_mode}
+use Rattle.fax_reading.proofs.Names.{InvalidCode, line_before, row_of_line, unless_full, Horizontal, false≢true, Err}
 use Rattle.fax_reading.proofs.Names.{found_here, line_found, misses_end, mode_codes, word_found, line_here, mode_here, read_code}
 use Rattle.fax_reading.proofs.Names.{run_found, run_gives, Vertical, cases_lt, codes_of, draw_run, found_1d, found_2d, gathered}
 use Rattle.fax_reading.proofs.Names.{is_short, opposite, repeated, run_from, run_here, run_turn, Drawing, draw_1d, draw_2d, Color}
@@ -113,14 +113,6 @@ run_turn_on color more (total, here) known = by_read_code (read_code (codes_of c
     by_read_code (Ok found) e = grind (arith, common_steps, code_continues, codes_free)
     by_read_code (Err fault) e = grind (arith, common_steps, code_continues, codes_free)
 
--- A run whose words so far sum to a total stays, with the words that it finds, unless the end is missing.
-pub run_continues : (color : Color) (total : ℕ) (here more : Bits) → result_waits (run_from color (total, here)) ≡ false
-    → (run_from color (total, here ++ more) ≡ result_on (rest_on more) (run_from color (total, here)))
-    × (run_found color (total, here ++ more) ≡ run_found color (total, here))
-run_continues color total here more known = repeated_on (run_turn color)
-    (run_gives color) (Err UnexpectedEof) size (run_shrinks color) (rest_on more) (result_on (rest_on more)) result_waits
-    (run_turn_on color more) (suc (length here)) (suc (length (here ++ more))) (total, here) (omega arith) (omega arith) known
-
 -- ---- Drawing
 
 -- two turns and the words before them are the same where more bits follow, unless the first is a short line
@@ -135,15 +127,10 @@ Continues more on drawing other = AreContinued more on drawing.turn other.turn d
 module _ (more : Bits) where
   module _ {A B : Type 0} (on : A → A) (further : B → B) (behind other_behind : A → Drawing B)
       (second : (x : A) → Continues more further (behind x) (other_behind (on x))) where
-    turns_continue : (turn other : Turn A Line) (words others : List Bits) → AreContinued more on turn other words others
-        → AreContinued more further (turn_behind turn (λ x. (behind x).turn)) (turn_behind other (λ x. (other_behind x).turn))
-        (words ++ words_behind turn (λ x. (behind x).words)) (others ++ words_behind other (λ x. (other_behind x).words))
-    turns_continue turn other words others first known = grind arith
-
     -- one step after another
     pub then_continues : (drawing other : Drawing A) → Continues more on drawing other
         → Continues more further (drawing >>= behind) (other >>= other_behind)
-    then_continues drawing other first = turns_continue drawing.turn other.turn drawing.words other.words first
+    then_continues drawing other first = λ known. grind arith
 
   -- what is read or painted
   pub finds_continue : {A : Type 0} (on : A → A) (front : Row) (result other : Result A DecodeError) (words others : List Bits)
@@ -170,7 +157,10 @@ module _ (more : Bits) where
   draw_run_on strict columns pen = then_continues (rest_on more) pen_on
       (behind pen) (behind (pen_on pen)) (λ run. second run) (run_here pen) (run_here (pen_on pen))
       (finds_continue (rest_on more) pen.front (run_from pen.color (0, pen.rest)) (run_from pen.color (0, pen.rest ++ more))
-      (run_found pen.color (0, pen.rest)) (run_found pen.color (0, pen.rest ++ more)) (run_continues pen.color 0 pen.rest more))
+      (run_found pen.color (0, pen.rest)) (run_found pen.color (0, pen.rest ++ more)) (λ known. repeated_on (run_turn pen.color)
+      (run_gives pen.color) (Err UnexpectedEof) size (run_shrinks pen.color) (rest_on more) (result_on (rest_on more))
+      result_waits (run_turn_on pen.color more) (suc (length pen.rest)) (suc (length (pen.rest ++ more))) (0, pen.rest)
+      (omega arith) (omega arith) known))
     where
       behind : Pen → ℕ × Bits → Drawing Pen
       behind p run = painted strict columns p run.0
@@ -189,10 +179,6 @@ module _ (more : Bits) where
 
   pub full_on : (columns : ℕ) (pen : Pen) → Continues more pen_on (unless_full columns pen) (unless_full columns (pen_on pen))
   full_on columns pen = grind (arith, common_steps)
-
-  draw_1d_on : (strict : Bool) (columns : ℕ) (pen : Pen)
-      → Continues more pen_on (draw_1d strict columns pen) (draw_1d strict columns (pen_on pen))
-  draw_1d_on strict columns pen = grind (arith, common_steps, then_continues, draw_run_on strict columns, full_on columns pen)
 
   draw_2d_on : (strict : Bool) (columns : ℕ) (reference : Row) (pen : Pen)
       → Continues more pen_on (draw_2d strict columns reference pen) (draw_2d strict columns reference (pen_on pen))
@@ -218,7 +204,8 @@ module _ (more : Bits) where
   line_1d_on strict columns here known =
       repeated_on (λ pen. (draw_1d strict columns pen).turn) (λ pen. (draw_1d strict columns pen).words)
       (Line.broken [] UnexpectedEof) pen_left (step_1d_shrinks strict columns) pen_on (line_before more) is_short
-      (draw_1d_on strict columns) (suc (length here)) (suc (length (here ++ more))) (start here) (omega arith) (omega arith) known
+      (λ pen. grind (arith, common_steps, then_continues, draw_run_on strict columns, full_on columns pen)) (suc (length here))
+      (suc (length (here ++ more))) (start here) (omega arith) (omega arith) known
 
   -- and a two-dimensional one
   line_2d_on : (strict : Bool) (columns : ℕ) (reference : Row) (here : Bits) → is_short (line_2d strict columns reference here)

@@ -15,7 +15,7 @@ use Rattle.fax_bits.proofs.CodeWords.ReadRuns.{read_code_shorter, words_not_empt
 use Rattle.fax_bits.proofs.Repetition.Repeated.{after_turn, repeated_turn}
 use Rattle.fax_reading.proofs.Continuations.LinesContinued.{Continues, then_continues, finds_continue, same_continues}
 use Rattle.fax_reading.proofs.Continuations.LinesContinued.{mode_goes_on, full_on}
-use Rattle.fax_reading.proofs.Continuations.ShortLines.{GoesOrEnds, Anything, paint_known, place_known}
+use Rattle.fax_reading.proofs.Continuations.ShortLines.{GoesOrEnds, Anything, place_known}
 use Rattle.fax_reading.proofs.Continuations.LinesContinued.{code_continues, rest_on}
 use Rattle.fax_reading.proofs.DrawingLines.Drawings.{run_then, mode_step, step_1d_is, step_2d_is}
 use Rattle.fax_reading.proofs.DrawingLines.ReadLines.{drawn1, drawn2, modes_not_empty}
@@ -228,12 +228,12 @@ module _ (settings : DecodeSettings) (reference : Row) (part : LinePart) (pen : 
   mode_leads_on : (rest : Bits) (mode : Mode) → WordIsRead {V = Mode} pen.rest (mode, rest) → 2 * length pen.rest ≤ part_size part
       → LeadsOn part (mode_added settings.strict settings.columns reference (record pen { rest = rest }) mode).turn
   mode_leads_on rest mode word size_is = grind
-      (arith, common_steps, behind_leads, paint_leads, paint_known, behind_word_leads, place_known)
+      (arith, common_steps, behind_leads, paint_leads, behind_word_leads, place_known)
 
   run_leads_on : (run : OpenRun) (rest : Bits) (n : ℕ) → WordIsRead {V = ℕ} pen.rest (n, rest) → 2 * length pen.rest
       ≤ part_size part → LeadsOn part (word_added settings.strict settings.columns run (record pen { rest = rest }) n).turn
   run_leads_on run rest n word size_is =
-      grind (arith, common_steps, behind_leads, false≢true, behind_word_leads, paint_leads, paint_known)
+      grind (arith, common_steps, behind_leads, false≢true, behind_word_leads, paint_leads)
 
 module _ (settings : DecodeSettings) (reference : Row) where
   -- One word more leads to a part with fewer bits left, or ends the line; which is short only if that word isn't whole.

@@ -1,6 +1,6 @@
 -- Lines before zeros: none is short.
 use Rattle.fax_reading.proofs.Names.{DecodeSettings, is_prefix_free, UnexpectedEof, LineIsSettled, common_steps, EncodingMode, []}
-use Rattle.fax_reading.proofs.Names.{Result, Group4, false, subst, arith, Color, paint, start, Bits, Code, Turn, Some, Bool, None}
+use Rattle.fax_reading.proofs.Names.{Result, Group4, false, subst, arith, Color, start, Bits, Code, Turn, Some, Bool, None}
 use Rattle.fax_reading.proofs.Names.{replicate, Group3_1D, Group3_2D, read_code, line_here, Overflow, codes_of, run_turn, line_by}
 use Rattle.fax_reading.proofs.Names.{run_from, is_short, cases_lt, line_1d, line_2d, IsWord, Option, le-ltb, lt-ltb, length, refl}
 use Rattle.fax_reading.proofs.Names.{true, cond, List, ◌++◌, Line, ◌+◌, ◌∷◌, Err, sym, ◌∙◌, inl, inr, Has, Row, ◌≤◌, ◌≡◌, Ok}
@@ -87,10 +87,6 @@ found_known P front r known = grind arith
 -- painting needs no bits
 abbrev pub Anything : {A : Type 0} → A → Type 0
 Anything x = Unit {0}
-
-pub paint_known : (strict : Bool) (columns : ℕ) (front : Row) (color : Color) (n : ℕ)
-    → GoesOrEnds Anything (unless_fault front (paint strict columns front color n))
-paint_known strict columns front color n = grind (arith, common_steps)
 
 pub place_known : (front : Row) (z : ℤ) → GoesOrEnds Anything (unless_fault front (place_from (length front) z))
 place_known front z = grind arith

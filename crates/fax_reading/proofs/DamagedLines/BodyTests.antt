@@ -260,7 +260,7 @@ local_by_end settings bits from to end before lenient order within starts one no
     within = within;
     starts = starts;
     one = one;
-    no_eol = (grind (arith, common_steps));
+    no_eol = grind (arith, common_steps);
     closes = (drop end bits, eol, ends.0 test);
   }),
   λ local. ends.1 (same_end local.closes.0 (sym local.closes.1 ∙ eol) local.closes.2),

@@ -8,7 +8,7 @@ use Rattle.fax_reading.proofs.Names.{◌∷◌, sym, ◌∙◌, Row, inl, inr, [
 use Rattle.std.proofs.Math.Seq.{drop-append_seam}
 use Rattle.fax_bits.proofs.BitReading.ConsecutiveEols.{all_tagged}
 use Rattle.fax_reading.proofs.DamagedLines.EolsAlike.{IsLineIn, Closes}
-use Rattle.fax_reading.proofs.DamagedLines.PastEol.{next_eol_leaves, after_eol_is, past_later, eol_at_one, past-eol, past}
+use Rattle.fax_reading.proofs.DamagedLines.PastEol.{next_eol_leaves, after_eol_is, past_later, past-eol, past}
 use Rattle.fax_reading.proofs.DamagedLines.PastEol.{sought_line_is, found_next, rest_of, sought}
 use Rattle.fax_reading.proofs.DrawingLines.LinesLeaveBits.{line_by_leaves, LineLeaves}
 
@@ -43,14 +43,14 @@ pub after_eol_more : (seen more : ℕ) (here rest : Bits) → seen ≤ more → 
     → after_eol more here ≡ Some rest
 after_eol_more seen more [] rest le e = absurd cc
 after_eol_more seen more (false ∷ here) rest le e = after_eol_more (suc seen) (suc more) here rest (omega arith) e
-after_eol_more seen more (true ∷ here) rest le e = grind (arith, common_steps, eol_at_one, le-leb)
+after_eol_more seen more (true ∷ here) rest le e = grind (arith, common_steps, le-leb)
 
 -- an EOL stays one, whatever follows
 pub after_eol-append : (seen : ℕ) (here rest z : Bits) → after_eol seen here ≡ Some rest
     → after_eol seen (here ++ z) ≡ Some (rest ++ z)
 after_eol-append seen [] rest z e = absurd cc
 after_eol-append seen (false ∷ here) rest z e = after_eol-append (suc seen) here rest z e
-after_eol-append seen (true ∷ here) rest z e = grind (arith, common_steps, eol_at_one, le-leb)
+after_eol-append seen (true ∷ here) rest z e = grind (arith, common_steps, le-leb)
 
 -- if no EOL ends within some bits, the next is the one after them
 pub past_before : (seen : ℕ) (bits z after : Bits) → past seen bits ≡ None → after_eol 0 z ≡ Some after

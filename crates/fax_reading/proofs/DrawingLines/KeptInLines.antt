@@ -83,10 +83,6 @@ module _ {strict : Bool} {columns : ℕ} {P : Row → Bits → Type 0} {Q : Line
   full_keeps : (pen : Pen) → OfPen pen → Yields OfPen Q (unless_full columns pen).turn
   full_keeps pen p = let whole = kept.whole pen.front pen.rest p in grind arith
 
-  -- a step of a one-dimensional line
-  pub step_1d_keeps : (pen : Pen) → OfPen pen → Yields OfPen Q (draw_1d strict columns pen).turn
-  step_1d_keeps pen p = grind (arith, behind_yields, full_keeps, run_keeps)
-
   -- and one of a two-dimensional line
   pub step_2d_keeps : (reference : Row) (pen : Pen) → OfPen pen → Yields OfPen Q (draw_2d strict columns reference pen).turn
   step_2d_keeps reference pen p = behind_yields OfPen OfPen Q (unless_full columns pen).turn (λ p. (behind p).turn)
@@ -108,7 +104,8 @@ module _ {strict : Bool} {columns : ℕ} {P : Row → Bits → Type 0} {Q : Line
 
   -- the line from a pen on
   pub line_1d_keeps : (pen : Pen) → OfPen pen → Q (drawn (draw_1d strict columns) pen)
-  line_1d_keeps = steps_keep (draw_1d strict columns) (step_1d_shrinks strict columns) step_1d_keeps
+  line_1d_keeps = steps_keep (draw_1d strict columns) (step_1d_shrinks strict columns) (λ pen p. grind
+      (arith, behind_yields, full_keeps, run_keeps))
 
   pub line_2d_keeps : (reference : Row) (pen : Pen) → OfPen pen → Q (drawn (draw_2d strict columns reference) pen)
   line_2d_keeps reference =

@@ -1,5 +1,5 @@
 -- Where lines of pictures begin, their padding, and how readings that reach their end are described.
-use Rattle.fax_reading.proofs.Names.{◌≡◌, ℕ, suc, ◌+◌, ◌-◌, ◌/◌, ◌%◌, ◌<◌, ◌≤◌, Bool, true, false, cond, not, leb, List, [], ◌∷◌}
+use Rattle.fax_reading.proofs.Names.{◌≡◌, ℕ, suc, ◌+◌, ◌-◌, ◌/◌, ◌<◌, ◌≤◌, Bool, true, false, cond, not, leb, List, [], ◌∷◌}
 use Rattle.fax_reading.proofs.Names.{◌++◌, length, None, Ok, refl, arith, not-true, false≢true, Color, EncodingMode}
 use Rattle.fax_reading.proofs.Names.{DecodeSettings, Bits, Row, after_eol, Progress, Ending, row_before}
 use Rattle.fax_reading.proofs.Names.{aligned, at_end, limit_met, end_of, plain, Allows, EncodesLine2D, padding, common_steps}
@@ -53,11 +53,6 @@ not_met settings n k given lt = grind (arith, common_steps)
 -- ---- Padding.
 abbrev pub fill : Bool → Bits → Bits
 fill b line = cond b (padding (length line)) []
-
--- the next line begins at a whole byte too
-pub aligned_on : (b : Bool) (line next : Bits) → (b ≡ true → length ((line ++ fill b line) ++ next) % 8 ≡ 0) → b ≡ true
-    → length next % 8 ≡ 0
-aligned_on b line next whole e = grind (arith, common_steps)
 
 -- ---- The lines of a picture.
 pub row_before_push : (columns : ℕ) (rows : List Row) (row : Row) → row_before columns (rows ++ row ∷ []) ≡ row

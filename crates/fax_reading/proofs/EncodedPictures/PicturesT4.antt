@@ -11,7 +11,7 @@ use Rattle.fax_reading.proofs.Names.{ne_eqb, White, arith, false, subst, Bool, L
 use Rattle.fax_reading.proofs.Names.{true, zero, ◌&&◌, ◌++◌, Err, Row, eol, inl, inr, suc, sym, ◌%◌, ◌+◌, ◌<◌, ◌∙◌, ◌∷◌, ◌≡◌, ◌≢◌}
 use Rattle.fax_bits.proofs.BitReading.ConsecutiveEols.{eols_with_tags-none, eols_with_tags-some, last_tag_count, one_more-count}
 use Rattle.fax_reading.proofs.EncodedPictures.PictureLines.{closed_settings, row_before_push, line_2d_starts, no_eol_at_word}
-use Rattle.fax_reading.proofs.EncodedPictures.PictureLines.{begins_no_eol, bits_at_word, IsLineStart, aligned_on, allows_sum}
+use Rattle.fax_reading.proofs.EncodedPictures.PictureLines.{begins_no_eol, bits_at_word, IsLineStart, allows_sum}
 use Rattle.fax_reading.proofs.EncodedPictures.PictureLines.{ended_with, plain_ends, between, not_met, fill}
 use Rattle.fax_reading.proofs.Readings.GapsAndRows.{first_gap_t4, gap_unsought, reaches_end, ending_t4}
 use Rattle.fax_reading.proofs.EncodedPictures.EncodedLines.{line_1d_again, line_2d_again}
@@ -356,7 +356,7 @@ module _ (settings : DecodeSettings) (wide : 0 < settings.columns) (small : sett
         let count : length rows1 + length rows ≡ length before + length (row ∷ rows) = grind
         (arith, common_steps, length-append) in
         let on = body_again rows1 rows next more (subst (Allows settings) (sym count) limit) (ap length pushed ∙ row_len)
-        (All-tail (λ row. length row ≡ settings.columns) row rows widths) (aligned_on b line tail whole2)
+        (All-tail (λ row. length row ≡ settings.columns) row rows widths) (λ e. grind (arith, common_steps))
         (subst (λ (r : Row). EncodesRows encoding b r rows next) (sym pushed) lines) in
         Reaches.moves (between before (body ++ more)) (between rows1 tail)
         (between (before ++ row ∷ rows) more) moved (grind (arith, common_steps, append_assoc))

@@ -212,18 +212,6 @@ module _ (settings : DecodeSettings) (x y : Bits) where
           there = shape y;
         }
 
-    broken_found : (rows : List Row) (has_eols : Bool) (bits : Bits) (t : Progress) → t.has_eols ≡ has_eols
-        → move_on settings (run_at rows has_eols (bits ++ x)) ≡ Turn.next (followed t x) → (front : Row) (fault : DecodeError)
-        → line_here settings (row_before settings.columns rows) (bits ++ x) ≡ Line.broken front fault
-        → TurnFound rows has_eols bits
-    broken_found rows has_eols bits t seeks e front fault is = elim (chosen (settings.strict || not has_eols)
-        _ _ _ (sym (after_damage-is settings (run_at rows has_eols (bits ++ x)) front fault)
-        ∙ sym (ap (after_line settings (run_at rows has_eols (bits ++ x))) is) ∙ e)) [
-          | inl over ↦ absurd (not_next _ (followed t x) over.1)
-          | inr added ↦ let parts = or_parts settings.strict (not has_eols) added.0 in
-              grind (arith, common_steps, not-false has_eols parts.1, sought_broken parts.0 rows bits t)
-        ]
-
     -- the turn in both
     pub turn_found : (rows : List Row) (has_eols : Bool) (bits : Bits) (t : Progress) → t.has_eols ≡ has_eols
         → move_on settings (run_at rows has_eols (bits ++ x)) ≡ Turn.next (followed t x) → TurnFound rows has_eols bits
@@ -256,7 +244,13 @@ module _ (settings : DecodeSettings) (x y : Bits) where
               here = grind arith;
               there = grind (arith, whole_turn);
             }
-        by_line (Line.broken front fault) is = broken_found rows has_eols bits t seeks e front fault is
+        by_line (Line.broken front fault) is = elim (chosen (settings.strict || not has_eols) _ _ _ (sym (after_damage-is settings
+            (run_at rows has_eols (bits ++ x)) front fault) ∙ sym (ap (after_line settings (run_at rows has_eols (bits ++ x))) is)
+            ∙ e)) [
+              | inl over ↦ absurd (not_next _ (followed t x) over.1)
+              | inr added ↦ let parts = or_parts settings.strict (not has_eols) added.0 in
+                  grind (arith, common_steps, not-false has_eols parts.1, sought_broken parts.0 rows bits t)
+            ]
 
     -- ---- Turns one after another
 

@@ -98,11 +98,6 @@ words_end Group3_2D columns after (false ∷ line) is ends modes = modes refl li
 words_end Group4 columns after line (inl is) ends modes = absurd cc
 words_end Group4 columns after line (inr is) ends modes = absurd cc
 
--- the modes of a two-dimensional line
-pub modes_end : (encoding : EncodingMode) (columns : ℕ) (after line : Bits) → EndsByWords encoding columns after line
-    → encoding ≡ Group3_2D → (modes : Bits) → line ≡ false ∷ modes → ModesEndBefore after modes
-modes_end encoding columns after line ends two modes tag = grind (arith, common_steps)
-
 -- ---- The line behind the second EOL
 
 unreferred_by : (settings : DecodeSettings) (next behind : Bits) (count : ℕ) → IsGroup3 settings.encoding
@@ -124,7 +119,7 @@ told_by settings here line next after behind count group3 lenient alone next_is 
     ends_any settings.encoding settings.columns after line ends,
     unreferred_by settings next behind count group3 counted tag,
   );
-  modes = modes_end settings.encoding settings.columns after line ends;
+  modes = (λ two modes tag. grind (arith, common_steps));
   tag = tag;
 }
 

@@ -7,6 +7,9 @@ use Rattle.fax_reading.proofs.PixelRows.ReferencePlaces.{turned, turned-not, tur
 use Rattle.fax_reading.proofs.PixelRows.ReferencePlaces.{order, end_within, in_list_if_below, b1_is, b2_after_b1}
 
 -- ---- The colour that a change turns from.
+pub turns_by : (index : ℕ) (color : Color) → TurnsFrom index color → turned index false ≡ is_black color
+turns_by index color e = grind (arith, turned_by_parity)
+
 -- one change less gives the other colour
 pub turned_before : (k : ℕ) (color : Color) → turned (suc k) false ≡ is_black color → turned k false ≡ not (is_black color)
 turned_before k color colored = sym (not_not (turned k false)) ∙ ap not (sym (turned-not k false) ∙ colored)
@@ -21,6 +24,10 @@ turns_next index color e = grind arith
 
 pub turns_second : (index : ℕ) (color : Color) → TurnsFrom index color → TurnsFrom (index + 2) color
 turns_second index color e = grind arith
+
+-- and so does the change before it
+pub turns_before : (index : ℕ) (color : Color) → TurnsFrom (index + 1) color → TurnsFrom index (opposite color)
+turns_before index color e = grind arith
 
 -- where a0 is, by the length of the front
 right_of_length : (front : Row) (painted : ℕ) → length front ≡ painted → right_of front ≡ right_of_painted painted
@@ -84,7 +91,7 @@ module _ (columns : ℕ) (places : List ℕ) (ascend : AreChanges columns places
       → (0 < painted) ⊎ (painted ≤ 0) → (first : ℕ) × IsSplit places (right_of_painted painted) first
       × ((index ≡ first) ⊎ ((index ≡ suc first) × (turned first false ≡ not (is_black color))))
   split_near painted zero color inside colored near right (inl some) = grind (arith, split_some)
-  split_near painted zero color inside colored near right (inr none) = (0, (grind (arith, common_steps)), inl refl)
+  split_near painted zero color inside colored near right (inr none) = (0, grind (arith, common_steps), inl refl)
   split_near painted (suc zero) color inside colored near right (inr none) = grind (arith, common_steps, turned_before)
   split_near painted (suc (suc k)) color inside colored near right (inr none) =
       absurd (omega (arith, none, (near.left 0 (omega arith)).0))
@@ -101,7 +108,7 @@ module _ (columns : ℕ) (places : List ℕ) (ascend : AreChanges columns places
   pub b1_by_parity : (painted index : ℕ) (color : Color) → painted < columns → IsB1 columns places painted index color
       → b1 (pixels columns places) (right_of_painted painted) color ≡ get_or places index columns
   b1_by_parity painted index color inside at =
-      let colored : turned index false ≡ is_black color = (grind (arith, turned_by_parity)) in
+      let colored : turned index false ≡ is_black color = turns_by index color at.turns in
       let split = split_near painted index color inside colored at.near at.right (cases_lt 0 painted) in
       b1_is columns places ascend (right_of_painted painted) split.0 index color split.1 colored split.2
 

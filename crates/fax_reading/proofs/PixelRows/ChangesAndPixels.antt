@@ -92,11 +92,6 @@ pub last_pixel-pixels : (width : ℕ) (places : List ℕ) → AreChanges width p
     → last_pixel false (pixels width places) ≡ turned_at false places
 last_pixel-pixels width places ascend = last_pixel-pixels_from 0 false width places ascend
 
--- it is black exactly where the number of changes is odd
-pub last_pixel-odd : (width : ℕ) (places : List ℕ) → AreChanges width places
-    → last_pixel false (pixels width places) ≡ not (eqb (length places % 2) 0)
-last_pixel-odd width places ascend = grind (arith, common_steps, last_pixel-pixels, turned_at-even)
-
 -- ---- Painting.
 
 -- a wider row continues in its last colour; the last change may equal the width

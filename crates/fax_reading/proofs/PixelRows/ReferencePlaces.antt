@@ -217,10 +217,6 @@ b2_after_b1 columns places from index color ascend e =
     ∙ next_change columns places ascend index
     ∙ ap (λ (n : ℕ). get_or places n columns) (let s : suc index ≡ index + 1 = omega arith in s)
 
--- what a colour and the parity of an index say
-black_from_white : (color : Color) (white : Bool) → IsTrue white ↔ (color ≡ White) → is_black color ≡ not white
-black_from_white color white h = grind (arith, common_steps)
-
 turned_from_even : (n : ℕ) (even : Bool) → IsTrue even ↔ (n % 2 ≡ 0) → turned n false ≡ not even
 turned_from_even n even h = grind (arith, common_steps, cases_eq, common_steps, false≢true, turned_by_parity)
 
@@ -233,13 +229,13 @@ module _ (columns : ℕ) (places : List ℕ) (from first : ℕ) (color : Color) 
   -- the first change right of a0 is b1, where it turns the colour to the other one
   pub b1_first : not (beq even white) ≡ false → b1 (pixels columns places) from color ≡ get_or places first columns
   b1_first same = let turns : turned first false ≡ is_black color = grind
-      (arith, common_steps, turned_from_even, black_from_white) in
+      (arith, common_steps, turned_from_even) in
       b1_is columns places ascend from first first color split turns (inl refl)
 
   -- and else the next one is
   pub b1_second : not (beq even white) ≡ true → b1 (pixels columns places) from color ≡ get_or places (first + 1) columns
   b1_second other = let stays : turned first false ≡ not (is_black color) = grind
-      (arith, common_steps, turned_from_even, black_from_white) in
+      (arith, common_steps, turned_from_even) in
       let turns : turned (suc first) false ≡ is_black color = turned-not first false ∙ ap not stays ∙ not_not (is_black color) in
       let next : first + 1 ≡ suc first = omega arith in
       rw next (b1_is columns places ascend from first (suc first) color split turns (inr (refl, stays)))

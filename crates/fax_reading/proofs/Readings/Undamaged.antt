@@ -131,11 +131,6 @@ module _ (settings : DecodeSettings) (bits : Bits) where
 
   -- ---- A lenient reading that passes no damage
 
-  -- a lenient gap that misses no EOL is the strict one
-  gap_same : (taken : ℕ) (has_eols : Bool) (rest : Bits) → misses_eol leniently taken has_eols rest ≡ false
-      → gap_behind_row strictly taken has_eols rest ≡ gap_behind_row leniently taken has_eols rest
-  gap_same taken has_eols rest none = grind (arith, common_steps, cond-false)
-
   -- a lenient turn without damage fails, or it is the strict one
   turn_same : (s : Progress) → damaged_by_turn leniently bits s ≡ []
       → Fails (move_on leniently s) ⊎ (move_on strictly s ≡ move_on leniently s)
@@ -159,7 +154,7 @@ module _ (settings : DecodeSettings) (bits : Bits) where
       by_lines (Line.whole row rest) (Line.broken front fault) e f agrees repaired cut missed =
           grind (arith, common_steps, cond-true)
       by_lines (Line.whole row rest) (Line.whole other behind) e f agrees repaired cut missed =
-          grind (arith, length-append, unmissed_by, gap_same)
+          grind (arith, length-append, unmissed_by, cond-false)
         where
           unmissed_by : (b : Bool) (x : Damaged) → cond {A = List Damaged} (b && true) (x ∷ []) [] ≡ [] → b ≡ false
           unmissed_by b x is = grind arith
@@ -189,7 +184,7 @@ module _ (settings : DecodeSettings) (bits : Bits) where
 
   strict_ok : IsOk (plain leniently bits).outcome → AreEmpty (passed (turns_of leniently bits))
       → IsOk (plain strictly bits).outcome
-  strict_ok = grind (arith, common_steps, ok_outcome, same_behind, gap_same, unmissed)
+  strict_ok = grind (arith, common_steps, ok_outcome, same_behind, cond-false, unmissed)
 
   -- ---- Strict readings pass no damage
 

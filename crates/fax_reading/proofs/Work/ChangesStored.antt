@@ -105,11 +105,6 @@ unless_full_count : (full : Bool) (pen : Pen) (draw : Pen → Drawing Pen)
     (turn_behind (cond full (Turn.done (Line.whole pen.front pen.rest)) (Turn.next pen)) (λ p. (draw p).turn))
 unless_full_count full pen draw few = grind arith
 
-step_1d_count : (strict : Bool) (columns : ℕ) (pen : Pen)
-    → StepCount (count pen.front + length (draw_1d strict columns pen).words) (draw_1d strict columns pen).turn
-step_1d_count strict columns pen =
-    unless_full_count (leb columns (length pen.front)) pen (draw_run strict columns) (run_count strict columns pen)
-
 step_2d_count : (strict : Bool) (columns : ℕ) (reference : Row) (pen : Pen) → StepCount
     (count pen.front + length (draw_2d strict columns reference pen).words) (draw_2d strict columns reference pen).turn
 step_2d_count strict columns reference pen =
@@ -128,7 +123,8 @@ line_1d_count : (strict : Bool) (columns : ℕ) (here : Bits)
     → LineCount (length (found_1d strict columns here)) (line_1d strict columns here)
 line_1d_count strict columns here = omega (
   arith,
-  pen_count (λ pen. (draw_1d strict columns pen).turn) (λ pen. (draw_1d strict columns pen).words) (step_1d_count strict columns)
+  pen_count (λ pen. (draw_1d strict columns pen).turn) (λ pen. (draw_1d strict columns pen).words) (λ pen. unless_full_count
+      (leb columns (length pen.front)) pen (draw_run strict columns) (run_count strict columns pen))
       (suc (length here)) (start here),
 )
 
