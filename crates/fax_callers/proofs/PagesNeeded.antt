@@ -18,7 +18,7 @@ use Rattle.hayro_ccitt.specs.RowFeeds.{Feeding, IsFeedOf, IsOpenAt, StandsIn, fe
 use Rattle.hayro_ccitt.specs.declared.row_reader.Stand.{Stand}
 use Rattle.hayro_ccitt.specs.declared.row_reader.Stand.TheVariants.{AtLine, BehindRow, AtEnd, AtFault}
 use Rattle.hayro_ccitt.proofs.KeptRows.EqualFronts.{one_in_bits}
-use Rattle.hayro_ccitt.proofs.KeptRows.LinesAgain.{line_again, one_in_whole, one_stays}
+use Rattle.hayro_ccitt.proofs.KeptRows.EqualFronts.{line_again, one_in_whole, one_stays}
 use Rattle.hayro_ccitt.proofs.Readings.FeedsPaid.{short_row}
 use Rattle.hayro_ccitt.proofs.Readings.GapsAndRows.{gap_unsought}
 use Rattle.hayro_ccitt.specs.FeedsKeepLittle.{left_by}

@@ -4,7 +4,7 @@ use Rattle.hayro_ccitt.proofs.Names.{arith, Color, Mode, Pass, Horizontal, Verti
 use Rattle.hayro_ccitt.proofs.Names.{read_code, opposite, a1, a2, run_from, Spells, EncodesLine2D}
 use Rattle.hayro_ccitt.proofs.BitReading.ZerosInWords.{modes_free}
 use Rattle.hayro_ccitt.proofs.CodeWords.ReadCodes.{read_code_again, read_code_found}
-use Rattle.hayro_ccitt.proofs.EncodedPictures.EncodedRuns.{run_spelled}
+use Rattle.hayro_ccitt.proofs.EncodedPictures.EncodedLines.{run_spelled}
 use Rattle.hayro_ccitt.proofs.PixelRows.ChangePlaces.{a1_next, a2_next}
 use Rattle.fax_conforms.specs.Standing.{StepsStand, StepsBehind}
 use Rattle.fax_conforms.proofs.SpelledRuns.{run_is_spelled}

@@ -37,7 +37,7 @@ pub use Rattle.hayro_ccitt.proofs.BitReading.ZerosPassed.{one_times, some_number
 pub use Rattle.hayro_ccitt.proofs.DamagedLines.DamageByK.{encoded_follows, locality_by_k}
 pub use Rattle.hayro_ccitt.proofs.DamagedLines.EncodedBodies.{encoded_lines_are_bodies}
 pub use Rattle.hayro_ccitt.proofs.DamagedLines.LineTails.{drop_at}
-pub use Rattle.hayro_ccitt.proofs.EncodedPictures.Bodies.{body_end, rows_t4_end}
+pub use Rattle.hayro_ccitt.proofs.EncodedPictures.PicturesT4.{body_end, rows_t4_end}
 pub use Rattle.hayro_ccitt.proofs.EncodedPictures.PictureLines.{ended_with, plain_ends}
 pub use Rattle.hayro_ccitt.proofs.EncodedPictures.PicturesOfEachKind.{closed_pictures}
 pub use Rattle.hayro_ccitt.proofs.EncodedPictures.PicturesT4.{closed_picture_t4, eol_before, eol_stands, eols_here_one}

@@ -2,4 +2,3 @@ pub mod LinesContinued
 pub mod LinesGoOn
 pub mod ShortLines
 pub mod StrictLines
-pub mod WordsContinued

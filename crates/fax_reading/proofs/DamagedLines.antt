@@ -5,12 +5,9 @@ pub mod Damage
 pub mod DamageByK
 pub mod EncodedBodies
 pub mod EolsAlike
-pub mod LineStarts
 pub mod LineTails
 pub mod LinesByEols
 pub mod LinesPassed
-pub mod LocalByTests
 pub mod PassedWork
 pub mod PastEol
 pub mod RunsAlike
-pub mod SoughtTurns

@@ -4,7 +4,6 @@ pub mod Drawings
 pub mod DrawnLines
 pub mod FullRows
 pub mod KeptInLines
-pub mod LineWidths
 pub mod LinesLeaveBits
 pub mod ReadLines
 pub mod UnreadRows

@@ -1,7 +1,4 @@
-pub mod AfterEofb
-pub mod Bodies
 pub mod EncodedLines
-pub mod EncodedRuns
 pub mod EncodingsExist
 pub mod PictureLines
 pub mod PicturesOfEachKind

@@ -1,3 +1,2 @@
 pub mod ContinuedEols
-pub mod ContinuedTags
 pub mod SettledGaps

@@ -1,5 +1,4 @@
 pub mod EqualFronts
-pub mod LinesAgain
 pub mod RowsBeforeDamage
 pub mod RowsBehindDamage
 pub mod StepsTold

@@ -5,8 +5,6 @@ pub mod PlainAnswers
 pub mod RowWidths
 pub mod RowsAndGaps
 pub mod RunsOverRows
-pub mod RunsReach
 pub mod Strictness
-pub mod TurnsAddRows
 pub mod TurnsMoveOn
 pub mod Undamaged

@@ -14,7 +14,7 @@ use Rattle.hayro_ccitt.proofs.DrawingLines.CountedLines.{on_answer_weaker}
 use Rattle.hayro_ccitt.proofs.EncodedPictures.PicturesOfEachKind.{closed_pictures, limited_pictures}
 use Rattle.hayro_ccitt.proofs.KeptRows.RowsBeforeDamage.{rows_before}
 use Rattle.hayro_ccitt.proofs.KeptRows.RowsBehindDamage.{rows_behind}
-use Rattle.hayro_ccitt.proofs.Readings.Undamaged.{no_row_repaired, no_cuts, no_misses, closed_strict, limited_strict}
+use Rattle.hayro_ccitt.proofs.Readings.Undamaged.{none_damaged, closed_strict, limited_strict}
 use Rattle.hayro_ccitt.proofs.Readings.Undamaged.{ok_of_strict, strict_if_undamaged}
 
 -- unless an allocation failure or the sink ended it, all rows were accepted, and the result is that of the reading
@@ -135,13 +135,13 @@ decodes settings bits step before after held place ticks answer are whole
         (rows_behind settings bits whole))) end
 
     unrepaired : IsOk (plain (record settings { strict = true }) bits).outcome → held.repairs.rows ≡ 0
-    unrepaired ok = repaired.of_taken ∙ no_row_repaired settings bits held.taken ok
+    unrepaired ok = repaired.of_taken ∙ (none_damaged settings bits held.taken ok).0
 
     uncut : IsOk (plain (record settings { strict = true }) bits).outcome → held.repairs.cut ≡ 0
-    uncut ok = cut.of_taken ∙ no_cuts settings bits held.taken ok
+    uncut ok = cut.of_taken ∙ (none_damaged settings bits held.taken ok).1
 
     unmissed : IsOk (plain (record settings { strict = true }) bits).outcome → held.repairs.missed ≡ 0
-    unmissed ok = missed.of_taken ∙ no_misses settings bits held.taken ok
+    unmissed ok = missed.of_taken ∙ (none_damaged settings bits held.taken ok).2
 
     silent : (r : Result ℕ DecodeError) → r ≡ (plain settings bits).outcome
         → held.repairs.rows ≡ sum_by length (repairs_by_line settings bits)

@@ -14,7 +14,6 @@ pub use Rattle.fax_reading.proofs.DrawingLines.CutRuns
 pub use Rattle.fax_reading.proofs.DrawingLines.Drawings
 pub use Rattle.fax_reading.proofs.DrawingLines.DrawnLines
 pub use Rattle.fax_reading.proofs.DrawingLines.FullRows
-pub use Rattle.fax_reading.proofs.DrawingLines.LineWidths
 pub use Rattle.fax_reading.proofs.DrawingLines.LinesLeaveBits
 pub use Rattle.fax_reading.proofs.DrawingLines.ReadLines
 pub use Rattle.fax_reading.proofs.DrawingLines.UnreadRows

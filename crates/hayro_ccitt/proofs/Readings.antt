@@ -36,8 +36,6 @@ pub use Rattle.fax_reading.proofs.Readings.PlainAnswers
 pub use Rattle.fax_reading.proofs.Readings.RowWidths
 pub use Rattle.fax_reading.proofs.Readings.RowsAndGaps
 pub use Rattle.fax_reading.proofs.Readings.RunsOverRows
-pub use Rattle.fax_reading.proofs.Readings.RunsReach
 pub use Rattle.fax_reading.proofs.Readings.Strictness
-pub use Rattle.fax_reading.proofs.Readings.TurnsAddRows
 pub use Rattle.fax_reading.proofs.Readings.TurnsMoveOn
 pub use Rattle.fax_reading.proofs.Readings.Undamaged

@@ -22,7 +22,7 @@ use Rattle.hayro_ccitt.specs.PlainReading.{Progress, Move, first_line, move_on, 
 use Rattle.hayro_ccitt.proofs.PixelRows.ChangesAndPixels.{changes-recursive}
 use Rattle.hayro_ccitt.proofs.PixelRows.RowChanges.{changes_from-same}
 use Rattle.hayro_ccitt.specs.DecodeSettings.{DecodeSettings}
-use Rattle.hayro_ccitt.proofs.DamagedLines.LocalByTests.{local_by_tests}
+use Rattle.hayro_ccitt.proofs.DamagedLines.BodyTests.{local_by_tests}
 
 pub two_lines_encoded : EncodesTwoLines
 two_lines_encoded = (

@@ -15,8 +15,8 @@ use Rattle.fax_bits.proofs.CodeWords.ReadRuns.{read_code_shorter, words_not_empt
 use Rattle.fax_bits.proofs.Repetition.Repeated.{after_turn, repeated_turn}
 use Rattle.fax_reading.proofs.Continuations.LinesContinued.{Continues, then_continues, finds_continue, same_continues}
 use Rattle.fax_reading.proofs.Continuations.LinesContinued.{mode_goes_on, full_on}
-use Rattle.fax_reading.proofs.Continuations.ShortLines.{GoesOrEnds, Anything, paint_known, place_known}
-use Rattle.fax_reading.proofs.Continuations.WordsContinued.{code_continues, rest_on}
+use Rattle.fax_reading.proofs.Continuations.ShortLines.{GoesOrEnds, Anything, place_known}
+use Rattle.fax_reading.proofs.Continuations.LinesContinued.{code_continues, rest_on}
 use Rattle.fax_reading.proofs.DrawingLines.Drawings.{run_then, mode_step, step_1d_is, step_2d_is}
 use Rattle.fax_reading.proofs.DrawingLines.ReadLines.{drawn1, drawn2, modes_not_empty}
 use Rattle.fax_bits.proofs.{CodeWords.CodeReadings.reads_codes, CodeWords.ReadCodes.read_code_found, ErrorKinds.missing_end}
@@ -30,10 +30,6 @@ if_read front result behind = turn_behind (unless_fault front result) behind
 -- a turn that goes on with its state is that turn
 same_turn : (f : Pen → Line) (turn : Step) → after_turn f turn ≡ after_turn f (turn_behind turn Turn.next)
 same_turn f turn = grind arith
-
-run_is : (color : Color) (total : ℕ) (here : Bits)
-    → run_from color (total, here) ≡ after_turn (run_from color) (run_turn color (total, here))
-run_is color total here = repeated_turn (run_turn color) (Err UnexpectedEof) size (run_shrinks color) (total, here)
 
 module _ (settings : DecodeSettings) (reference : Row) where
   -- steps of a line from a pen on
@@ -62,7 +58,8 @@ module _ (settings : DecodeSettings) (reference : Row) where
   -- a line within a run
   in_run_is : (run : OpenRun) (pen : Pen) → line_from_part settings reference (LinePart.in_run run pen)
       ≡ line_then (read_on settings reference (LinePart.in_run run pen)).turn
-  in_run_is run pen = ap behind (run_is pen.color run.total pen.rest) ∙ by_read_code (read_code (codes_of pen.color) pen.rest)
+  in_run_is run pen = ap behind (repeated_turn (run_turn pen.color) (Err UnexpectedEof) size (run_shrinks pen.color)
+      (run.total, pen.rest)) ∙ by_read_code (read_code (codes_of pen.color) pen.rest)
     where
       with_run : ℕ × Bits → Step
       with_run found = if_read pen.front (paint settings.strict settings.columns pen.front pen.color found.0)
@@ -137,12 +134,6 @@ module _ (settings : DecodeSettings) (reference : Row) where
 
 -- ---- One word more, where more bits follow
 
-word_goes_on : (more : Bits) (pen : Pen)
-    → Continues more (rest_on more) (word_here pen) (word_here (record pen { rest = pen.rest ++ more }))
-word_goes_on more pen = finds_continue more (rest_on more) pen.front (read_code (codes_of pen.color) pen.rest)
-    (read_code (codes_of pen.color) (pen.rest ++ more)) (word_found (codes_of pen.color) pen.rest) (word_found
-    (codes_of pen.color) (pen.rest ++ more)) (code_continues (codes_of pen.color) (codes_free pen.color) pen.rest more)
-
 module _ (settings : DecodeSettings) (reference : Row) (more : Bits) where
   -- a pen, where more bits follow
   abbrev longer : Pen → Pen
@@ -152,16 +143,12 @@ module _ (settings : DecodeSettings) (reference : Row) (more : Bits) where
       (word_added settings.strict settings.columns run pen n) (word_added settings.strict settings.columns run (longer pen) n)
   word_added_on run pen n = grind (arith, common_steps, then_continues, same_continues)
 
-  mode_added_on : (pen : Pen) (mode : Mode)
-      → Continues more (part_before more) (mode_added settings.strict settings.columns reference pen mode)
-      (mode_added settings.strict settings.columns reference (longer pen) mode)
-  mode_added_on pen mode = grind (arith, common_steps, then_continues, same_continues)
-
   begin_step_on : (is_2d : Bool) (pen : Pen)
       → Continues more (part_before more) (begin_step is_2d settings.strict settings.columns reference pen)
       (begin_step is_2d settings.strict settings.columns reference (longer pen))
   begin_step_on true pen = then_continues more (rest_on more) (part_before more) (added pen) (added (longer pen)) (λ
-      mode. mode_added_on (record pen { rest = mode.1 }) mode.0) (mode_here pen) (mode_here (longer pen)) (mode_goes_on more pen)
+      mode. (grind (arith, common_steps, then_continues, same_continues))) (mode_here pen) (mode_here (longer pen)) (mode_goes_on
+      more pen)
     where
       added : Pen → Mode × Bits → Drawing LinePart
       added p mode = mode_added settings.strict settings.columns reference (record p { rest = mode.1 }) mode.0
@@ -174,7 +161,10 @@ module _ (settings : DecodeSettings) (reference : Row) (more : Bits) where
   read_on_continues (LinePart.at_step is_2d pen) = grind (arith, common_steps, then_continues, begin_step_on, full_on)
   read_on_continues (LinePart.in_run run pen) = then_continues more (rest_on more) (part_before more) (added pen)
       (added (longer pen)) (λ found. word_added_on run (record pen { rest = found.1 }) found.0) (word_here pen)
-      (word_here (longer pen)) (word_goes_on more pen)
+      (word_here (longer pen)) (finds_continue more (rest_on more) pen.front (read_code (codes_of pen.color) pen.rest)
+      (read_code (codes_of pen.color) (pen.rest ++ more)) (word_found (codes_of pen.color) pen.rest)
+      (word_found (codes_of pen.color) (pen.rest ++ more)) (code_continues (codes_of pen.color) (codes_free pen.color) pen.rest
+      more))
     where
       added : Pen → ℕ × Bits → Drawing LinePart
       added p found = word_added settings.strict settings.columns run (record p { rest = found.1 }) found.0
@@ -237,15 +227,13 @@ module _ (settings : DecodeSettings) (reference : Row) (part : LinePart) (pen : 
 
   mode_leads_on : (rest : Bits) (mode : Mode) → WordIsRead {V = Mode} pen.rest (mode, rest) → 2 * length pen.rest ≤ part_size part
       → LeadsOn part (mode_added settings.strict settings.columns reference (record pen { rest = rest }) mode).turn
-  mode_leads_on rest Pass word size_is = grind (arith, common_steps, behind_leads, paint_leads, paint_known, behind_word_leads)
-  mode_leads_on rest Horizontal word size_is = grind (arith, common_steps, behind_word_leads)
-  mode_leads_on rest (Vertical k) word size_is =
-      grind (arith, common_steps, behind_leads, paint_leads, place_known, paint_known, behind_word_leads)
+  mode_leads_on rest mode word size_is = grind
+      (arith, common_steps, behind_leads, paint_leads, behind_word_leads, place_known)
 
   run_leads_on : (run : OpenRun) (rest : Bits) (n : ℕ) → WordIsRead {V = ℕ} pen.rest (n, rest) → 2 * length pen.rest
       ≤ part_size part → LeadsOn part (word_added settings.strict settings.columns run (record pen { rest = rest }) n).turn
   run_leads_on run rest n word size_is =
-      grind (arith, common_steps, behind_leads, false≢true, behind_word_leads, paint_leads, paint_known)
+      grind (arith, common_steps, behind_leads, false≢true, behind_word_leads, paint_leads)
 
 module _ (settings : DecodeSettings) (reference : Row) where
   -- One word more leads to a part with fewer bits left, or ends the line; which is short only if that word isn't whole.
@@ -286,9 +274,6 @@ IsShorter n list = list_all (λ c. leb (length c.word) n) list
 words_few : (color : Color) → IsShorter 13 (codes_of color) ≡ true
 words_few color = grind (arith, common_steps)
 
-modes_few : IsShorter 13 mode_codes ≡ true
-modes_few = refl
-
 word_few : {V : Type 0} (n : ℕ) (list : List (Code V)) (v : V) (w : Bits) → IsShorter n list ≡ true → Has list v w → length w ≤ n
 word_few n [] v w e i = elim i [ ]
 word_few n (c ∷ list) v w e (inl i) = grind (arith, common_steps, leb-true, and_parts)
@@ -305,7 +290,7 @@ cut_few {V} n list here free few e = let cut = ((reads_codes list free).cut here
 
 pub lacks_few : (part : LinePart) → LacksWord part → length (left_of part) < 13
 lacks_few (LinePart.begins here) e = omega (arith, ap length e)
-lacks_few (LinePart.at_step true pen) e = cut_few 13 mode_codes pen.rest modes_free modes_few e
+lacks_few (LinePart.at_step true pen) e = cut_few 13 mode_codes pen.rest modes_free (refl) e
 lacks_few (LinePart.at_step false pen) e = cut_few 13 (codes_of pen.color) pen.rest (codes_free pen.color) (words_few pen.color) e
 lacks_few (LinePart.in_run run pen) e = cut_few 13 (codes_of pen.color) pen.rest (codes_free pen.color) (words_few pen.color) e
 

@@ -1,9 +1,9 @@
 -- Lines before zeros: none is short.
 use Rattle.fax_reading.proofs.Names.{DecodeSettings, is_prefix_free, UnexpectedEof, LineIsSettled, common_steps, EncodingMode, []}
-use Rattle.fax_reading.proofs.Names.{Result, Group4, false, subst, arith, Color, paint, start, Bits, Code, Turn, Some, Bool, None}
+use Rattle.fax_reading.proofs.Names.{Result, Group4, false, subst, arith, Color, start, Bits, Code, Turn, Some, Bool, None}
 use Rattle.fax_reading.proofs.Names.{replicate, Group3_1D, Group3_2D, read_code, line_here, Overflow, codes_of, run_turn, line_by}
 use Rattle.fax_reading.proofs.Names.{run_from, is_short, cases_lt, line_1d, line_2d, IsWord, Option, le-ltb, lt-ltb, length, refl}
-use Rattle.fax_reading.proofs.Names.{true, cond, List, ◌++◌, Line, ◌+◌, ◌∷◌, Err, sym, ◌∙◌, inl, inr, Has, Row, ◌≤◌, ◌≡◌, ◌↔◌, Ok}
+use Rattle.fax_reading.proofs.Names.{true, cond, List, ◌++◌, Line, ◌+◌, ◌∷◌, Err, sym, ◌∙◌, inl, inr, Has, Row, ◌≤◌, ◌≡◌, Ok}
 use Rattle.fax_reading.proofs.Names.{unless_fault, DecodeError, LinesSettle, StaysAsRead, mode_codes, place_from, misses_end, suc}
 use Rattle.fax_bits.proofs.BitReading.ZerosInWords.{scan-append, scan_below, scan_holds, word_quiet, codes_free, modes_free, scan}
 use Rattle.fax_bits.proofs.CodeWords.{ReadRuns.run_shrinks, ReadRuns.size, ReadCodes.read_code_found, CodeReadings.reads_codes}
@@ -52,8 +52,7 @@ module _ {V : Type 0} (list : List (Code V)) (free : is_prefix_free list ≡ tru
   code_known here zeros = by_read_code (read_code list here) refl
     where
       by_read_code : (r : Result (V × Bits) DecodeError) → read_code list here ≡ r → IsKnown (λ found. HasZeros found.1) r
-      by_read_code (Ok (v, rest)) e =
-          let (w, has, is) = read_code_found list here v rest e in zeros_behind here w rest (words v w has) zeros is
+      by_read_code (Ok (v, rest)) e = grind (arith, common_steps, read_code_found, zeros_behind)
       by_read_code (Err fault) e = not_missing_end fault
           (λ is. uncut_zeros here zeros (((reads_codes list free).cut here).0 (e ∙ ap Err is)).1)
 
@@ -74,11 +73,6 @@ run_turn_known color (total, here) zeros = by_read_code (read_code (codes_of col
         → IsKnown (λ found. HasZeros found.1) r → TurnIsKnown (run_turn color (total, here))
     by_read_code r e left = grind (arith, either_way)
 
-run_known : (color : Color) (here : Bits) → HasZeros here → IsKnown (λ found. HasZeros found.1) (run_from color (0, here))
-run_known color here zeros = repeated_induct (run_turn color) (Err UnexpectedEof) size (run_shrinks color) (λ s r. HasZeros s.1
-    → IsKnown (λ found. HasZeros found.1) r) (λ s r e left. subst TurnIsKnown e (run_turn_known color s left))
-    (λ s t r e on left. on (subst TurnIsKnown e (run_turn_known color s left))) (suc (length here)) (0, here) (omega arith) zeros
-
 -- ---- Lines
 
 -- a turn goes on with such a value, or its line isn't short
@@ -94,10 +88,6 @@ found_known P front r known = grind arith
 abbrev pub Anything : {A : Type 0} → A → Type 0
 Anything x = Unit {0}
 
-pub paint_known : (strict : Bool) (columns : ℕ) (front : Row) (color : Color) (n : ℕ)
-    → GoesOrEnds Anything (unless_fault front (paint strict columns front color n))
-paint_known strict columns front color n = grind (arith, common_steps)
-
 pub place_known : (front : Row) (z : ℤ) → GoesOrEnds Anything (unless_fault front (place_from (length front) z))
 place_known front z = grind arith
 
@@ -107,7 +97,9 @@ before_zeros : (strict : Bool) (columns : ℕ)
 before_zeros strict columns = record {
   paints = λ front rest color n zeros. grind (arith, common_steps);
   run = λ front rest color zeros. found_known (λ run. HasZeros run.1) front (run_from color (0, rest))
-      (run_known color rest zeros);
+      (repeated_induct (run_turn color) (Err UnexpectedEof) size (run_shrinks color) (λ s r. HasZeros s.1 → IsKnown
+      (λ found. HasZeros found.1) r) (λ s r e left. subst TurnIsKnown e (run_turn_known color s left)) (λ s t r e on left. on
+      (subst TurnIsKnown e (run_turn_known color s left))) (suc (length rest)) (0, rest) (omega arith) zeros);
   mode = λ front rest zeros. found_known (λ mode. HasZeros mode.1) front (read_code mode_codes rest)
       (code_known mode_codes modes_free (λ mode word has. inr (mode, has)) rest zeros);
   place = λ front rest zeros. refl;
@@ -143,11 +135,6 @@ pub settled_not_short : (settings : DecodeSettings) (reference : Row) (here : Bi
 settled_not_short settings reference here settled = sym (grind (arith, common_steps))
     ∙ sym (ap is_short (settled (replicate 16 false))) ∙ zeros_end_line settings reference here (replicate 5 false)
 
--- Exactly the lines that aren't short are settled.
-pub line_settled_exactly : (settings : DecodeSettings) (reference : Row) (here : Bits)
-    → (is_short (line_here settings reference here) ≡ false) ↔ LineIsSettled settings reference here
-line_settled_exactly settings reference here = grind (arith, common_steps, line_settled, settled_not_short)
-
 -- A line that isn't short stays as it was read.
 pub line_stays : (settings : DecodeSettings) (reference : Row) (here : Bits)
     → is_short (line_here settings reference here) ≡ false → StaysAsRead settings reference here
@@ -155,8 +142,4 @@ line_stays settings reference here known = grind (arith, common_steps, line_sett
 
 -- the law
 pub lines_settle : LinesSettle
-lines_settle = record {
-  exactly = line_settled_exactly;
-  stays = line_stays;
-  ends = λ settings reference here. zeros_end_line settings reference here (replicate 5 false);
-}
+lines_settle = grind (arith, common_steps, line_settled, settled_not_short, line_stays, zeros_end_line)

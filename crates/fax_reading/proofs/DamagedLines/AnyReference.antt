@@ -59,12 +59,8 @@ quiet_line reference row from color bits (EncodesLine2D.horizontal from2 word {f
 spelled_is_read : (color : Color) (n : ℕ) (bits : Bits) (total : ℕ) (more : Bits) → Spells color n bits
     → (run_from color (total, bits ++ more) ≡ Ok (total + n, more))
     ⊎ ((fault : DecodeError) × (run_from color (total, bits ++ more) ≡ Err fault))
-spelled_is_read color n bits total more (Spells.terminating m word has small) =
-    let read = read_code_again (codes_of color) n bits more (codes_free color) has in
-    elim (cases_lt 4294967295 (total + n)) [
-      | inl big ↦ inr (Overflow, run_passes color total n (bits ++ more) more read big)
-      | inr fits ↦ inl (run_ends color total n (bits ++ more) more read fits small)
-    ]
+spelled_is_read color n bits total more (Spells.terminating m word has small) = grind
+    (arith, common_steps, read_code_again (codes_of color) n bits more (codes_free color) has, run_passes, run_ends)
 spelled_is_read color n bits total more (Spells.makeup m word {n = k} {bits = next} has large rest) =
     let here : (word ++ next) ++ more ≡ word ++ (next ++ more) = append_assoc word next more in
     let read : read_code (codes_of color)
@@ -181,11 +177,8 @@ encoded_from reference row from color bits tail rest EncodesLine2D.over none rea
 encoded_from reference row from color bits tail rest (EncodesLine2D.pass from2 word {bits = next} inside has left_of steps) none
     reads = grind (arith, encoded_from reference row _ color next tail rest steps none, mode_is, left_behind, long)
 encoded_from reference row from color bits tail rest (EncodesLine2D.vertical from2 word k {bits = next} inside has exact steps)
-    none reads = elim (subst (LeftBehind ((word ++ next) ++ tail) rest)
-    (ap (behind_read color) (mode_is (Vertical k) word next tail has)) (left_behind color ((word ++ next) ++ tail) rest reads)) [
-      | inl e ↦ long (word ++ next) tail rest e
-      | inr more ↦ encoded_from reference row _ (opposite color) next tail rest steps none more
-    ]
+    none reads = grind
+    (arith, common_steps, mode_is, left_behind, long, encoded_from reference row _ (opposite color) next tail rest steps)
 encoded_from reference row from color bits tail rest (EncodesLine2D.horizontal from2 word {first = run1} {second = run2}
     {bits = next} inside has spells1 spells2 steps) none reads = grind
     (arith, encoded_from reference row _ color next tail rest steps none, append_assoc, mode_is, left_behind, runs_are, long)

@@ -1,5 +1,5 @@
 -- What the tests of a body look at.
-use Rattle.fax_reading.proofs.Names.{◌≡◌, ℕ, zero, suc, ◌+◌, ◌-◌, ◌*◌, ◌≤◌, true, false, List, [], ◌∷◌, length, drop, Option}
+use Rattle.fax_reading.proofs.Names.{◌≡◌, ℕ, zero, suc, ◌+◌, ◌-◌, ◌*◌, ◌≤◌, List, [], ◌∷◌, length, drop, Option}
 use Rattle.fax_reading.proofs.Names.{Some, None, refl, sym, ap, ◌∙◌, arith, none-some, length-drop, drop-drop, Bits, after_eol}
 use Rattle.fax_reading.proofs.Names.{next_eol, looked, common_steps}
 use Rattle.fax_bits.proofs.BitReading.{SoughtEols.next_eol-here, ConsecutiveEols.next_eol_found}
@@ -8,8 +8,7 @@ use Rattle.fax_bits.proofs.BitReading.{SoughtEols.next_eol-here, ConsecutiveEols
 looked_further : (k : ℕ) (here : Bits) → looked here ≤ k + looked (drop k here)
 looked_further zero here = omega arith
 looked_further (suc k) [] = omega arith
-looked_further (suc k) (false ∷ here) = omega (arith, looked_further k here)
-looked_further (suc k) (true ∷ here) = omega arith
+looked_further (suc k) (bit ∷ here) = grind (arith, common_steps, looked_further k here)
 
 -- what a count of zeros looks at before a place, by what one looks at there
 pub looked_between : (bits : Bits) (from to : ℕ) → from ≤ to → looked (drop from bits) ≤ (to - from) + looked (drop to bits)

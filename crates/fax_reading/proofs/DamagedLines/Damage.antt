@@ -1,7 +1,8 @@
 -- Damage to one line changes its row alone.
-use Rattle.fax_reading.proofs.Names.{AreSettings, length-drop, append-nil, row_before, first_line, after_eol, cases_lt, cases_eq}
+use Rattle.fax_reading.proofs.Names.{AreSettings, length-drop, append-nil, row_before, first_line, after_eol, cases_lt}
+use Rattle.fax_reading.proofs.Names.{cond-true, eq-eqb}
 use Rattle.fax_reading.proofs.Names.{AreWholeBytes, OneRowDiffers, length-append, bytes_before, common_steps, DecodeError, length}
-use Rattle.fax_reading.proofs.Names.{Ending, end_of, EndsAt, subst, arith, plain, IsEol, refl, Bits, Bool, true, ◌||◌, List, ◌++◌}
+use Rattle.fax_reading.proofs.Names.{Ending, end_of, EndsAt, subst, arith, plain, IsEol, refl, Bits, true, ◌||◌, List, ◌++◌}
 use Rattle.fax_reading.proofs.Names.{Ok, ap, [], ℕ}
 use Rattle.fax_reading.proofs.Names.{append_cancel_right, take-append-drop, DamageStaysInRow, DecodeSettings, UnexpectedEof, None}
 use Rattle.fax_reading.proofs.Names.{repeated, all_eols, Progress, EndAlike, Locality, move_on, IsLocal, Reading, Result, set_at}
@@ -10,7 +11,7 @@ use Rattle.fax_bits.proofs.{BitReading.ConsecutiveEols.counts_plain, Repetition.
 use Rattle.fax_reading.proofs.DamagedLines.RunsAlike.{moves_alike, LinesDiffer, not_group4, RowsAlike, EndsAlike, RunsAlike}
 use Rattle.fax_reading.proofs.DamagedLines.{EolsAlike.all_eols_kept, EolsAlike.IsLineIn, EolsAlike.EndsByOne, LinesByEols.seeks}
 use Rattle.fax_reading.proofs.DamagedLines.{LineTails.eol_closes, LineTails.line_in_1d, LineTails.stays_1d, PastEol.past_shorter}
-use Rattle.fax_reading.proofs.DamagedLines.{SoughtTurns.sought_line_is, SoughtTurns.sought, RunsAlike.Begun}
+use Rattle.fax_reading.proofs.DamagedLines.{PastEol.sought_line_is, PastEol.sought, RunsAlike.Begun}
 use Rattle.fax_reading.proofs.Readings.TurnsMoveOn.{left_to_read, move_shrinks, left_below}
 use Rattle.fax_reading.proofs.{GapsContinued.ContinuedEols.count_then_more, DrawingLines.LinesLeaveBits.LeavesBits}
 use Rattle.fax_reading.proofs.{Readings.GapsAndRows.plain_is, Readings.GapsAndRows.end_t4, KeptRows.TurnsLeave.count_leaves}
@@ -116,9 +117,7 @@ module _ (settings : DecodeSettings) (one two : Bits) (from : ℕ) (after : Bits
   first_is : (bits : Bits) → (ltb 0 (all_eols front).0 || settings.end_of_line) ≡ true
       → all_eols bits ≡ count_then_more (drop from bits) (all_eols front)
       → first_line settings bits ≡ sought [] ((all_eols front).1 ++ drop from bits)
-  first_is bits seeks counts = ap
-      (λ (f : ℕ × Bits). record { rows = []; has_eols = ltb 0 f.0 || settings.end_of_line; rest = f.1 }) counts
-      ∙ ap (λ (b : Bool). record { rows = []; has_eols = b; rest = (all_eols front).1 ++ drop from bits }) seeks
+  first_is bits seeks counts = grind (arith, common_steps, seeks)
 
   begin : RunsAlike settings one two from after lines (first_line settings one) (first_line settings two)
   begin = let these = first_at one (sym (take-append-drop from one)) given.line_one.none in
@@ -147,8 +146,18 @@ module _ (settings : DecodeSettings) (one two : Bits) (from : ℕ) (after : Bits
       (left_below (first one)) (left_below (first two)) begin)
 
   -- and rows and results are alike
-  pub damage : AreWholeBytes one → AreWholeBytes two → Differ
+  damage : AreWholeBytes one → AreWholeBytes two → Differ
   damage whole_one whole_two = answers_alike whole_one whole_two ends_alike
+
+-- also if there are no columns
+pub damage_alike : (settings : DecodeSettings) (one two : Bits) (from : ℕ) (after : Bits) (lines : ℕ)
+    → LinesDiffer settings one two from after lines → AreWholeBytes one → AreWholeBytes two
+    → RowsAlike (suc lines) (Begun settings one two from) (plain settings one).rows (plain settings two).rows × EndAlike settings
+    one two from (suc lines) (plain settings one).rows (plain settings one).outcome (plain settings two).outcome
+damage_alike settings one two from after lines given whole_one whole_two = elim (cases_lt 0 settings.columns) [
+  | inl wide ↦ damage settings one two from after lines given wide whole_one whole_two
+  | inr none ↦ grind (arith, common_steps, cond-true, eq-eqb)
+]
 
 -- ---- One-dimensional data
 
@@ -170,7 +179,9 @@ one_row_differs settings one two from rows others (inr (before, a ∷ [], b ∷ 
 
 -- the law
 pub locality : Locality
-locality settings one are whole_one two from to to2 whole_two differ = in_each_case (cases_eq settings.columns 0)
+locality settings one are whole_one two from to to2 whole_two differ =
+    let both = damage_alike settings one two from local_one.closes.0 0 lines_differ whole_one whole_two in
+    (one_row_differs settings one two from (plain settings one).rows (plain settings two).rows both.0, both.1)
   where
     local_one : IsLocal settings one from to
     local_one = differ.body
@@ -194,15 +205,6 @@ locality settings one are whole_one two from to to2 whole_two differ = in_each_c
       stays_two = grind (arith, common_steps, stays_1d settings two from to2 local_two, local_two, same_after);
       settles = grind (arith, sought_line_is);
     }
-
-    in_each_case : (settings.columns ≡ 0) ⊎ (settings.columns ≡ 0 → ⊥)
-        → OneRowDiffers settings one two from (plain settings one).rows (plain settings two).rows
-        × EndAlike settings one two from 1 (plain settings one).rows (plain settings one).outcome (plain settings two).outcome
-    in_each_case (inl e) = grind (arith, common_steps)
-    in_each_case (inr e) = let wide : 0
-        < settings.columns = elim (cases_lt 0 settings.columns) [ inl lt ↦ lt | inr ge ↦ absurd (e (omega arith)) ] in
-        let both = damage settings one two from local_one.closes.0 0 lines_differ wide whole_one whole_two in
-        (one_row_differs settings one two from (plain settings one).rows (plain settings two).rows both.0, both.1)
 
 -- a run with the rows and the result of the plain reading has what the law says
 pub damage_stays_in_row : (settings : DecodeSettings) (bits : Bits) (rows : List Row) (outcome : Result ℕ DecodeError)

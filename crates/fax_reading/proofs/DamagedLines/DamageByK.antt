@@ -1,19 +1,19 @@
 -- Damage to a line of two-dimensional data ends at the next one-dimensional line.
 use Rattle.fax_reading.proofs.Names.{ComesBefore1D, length-append, AreWholeBytes, IsTaggedBody, ComeBefore1D, EncodingMode, false}
-use Rattle.fax_reading.proofs.Names.{Group3_2D, after_eol, line_here, eols_here, EndAlike, IsLine2D, cases_lt, cases_eq, one_more}
-use Rattle.fax_reading.proofs.Names.{common_steps, DecodeError, AreSettings, tagged_eols, LocalityByK, RowsDiffer, cond-true, ◌≡◌}
-use Rattle.fax_reading.proofs.Names.{drop, Some, None, Bits, List, suc, ◌-◌, ◌<◌, ◌≤◌, ◌∷◌, sym, ◌∙◌, ◌⊎◌, inl, inr, Row, ◌+◌, ap}
+use Rattle.fax_reading.proofs.Names.{Group3_2D, after_eol, line_here, eols_here, IsLine2D, one_more}
+use Rattle.fax_reading.proofs.Names.{common_steps, DecodeError, AreSettings, tagged_eols, LocalityByK, RowsDiffer, ◌≡◌}
+use Rattle.fax_reading.proofs.Names.{drop, Some, Bits, List, suc, ◌-◌, ◌≤◌, ◌∷◌, sym, ◌∙◌, inl, inr, Row, ap}
 use Rattle.fax_reading.proofs.Names.{length-replicate, DecodeSettings, DamageEndsAt1D, EncodesLine2D, pass_last_tag, append_assoc}
-use Rattle.fax_reading.proofs.Names.{line_by, eols_by, IsEolAt, length, Result, eq-eqb, subst, arith, White, plain, zero, ◌++◌, ℕ}
+use Rattle.fax_reading.proofs.Names.{line_by, eols_by, IsEolAt, length, Result, subst, arith, White, plain, zero, ◌++◌, ℕ}
 use Rattle.std.proofs.Math.Seq.{take-append_seam, drop-append-add}
 use Rattle.fax_bits.proofs.BitReading.ConsecutiveEols.{after_eol_shorter, all_tagged-some, all_tagged-none, next_eol_found}
 use Rattle.fax_reading.proofs.DamagedLines.AnyReference.{encoded_ends, quiet_line, modes_read, scan_past}
 use Rattle.fax_reading.proofs.DamagedLines.LineTails.{line_past_by, past_before, line_in_2d, stays_2d}
 use Rattle.fax_reading.proofs.DamagedLines.PastEol.{after_eol_is, then_after, past_is, past}
 use Rattle.fax_reading.proofs.DamagedLines.RunsAlike.{LinesDiffer, Unreferred, RowsAlike, Settles, Begun}
-use Rattle.fax_reading.proofs.DamagedLines.SoughtTurns.{eols_here_same, found_next, rest_of}
+use Rattle.fax_reading.proofs.DamagedLines.PastEol.{eols_here_same, found_next, rest_of}
 use Rattle.fax_reading.proofs.{EncodedPictures.PicturesT4.line_2d_after_tag, DamagedLines.EolsAlike.IsLineIn}
-use Rattle.fax_reading.proofs.{Readings.TurnsMoveOn.eols_end, DamagedLines.Damage.damage}
+use Rattle.fax_reading.proofs.{Readings.TurnsMoveOn.eols_end, DamagedLines.Damage.damage_alike}
 
 -- ---- The lines that follow
 
@@ -25,12 +25,6 @@ module _ (settings : DecodeSettings) (encoding : settings.encoding ≡ Group3_2D
   -- a one-dimensional line has no reference row
   pub unreferred : (here : Bits) → ComesBefore1D settings here → Unreferred settings (eols_here settings here)
   unreferred here (eol, ends) = grind (arith, common_steps, eols_end)
-
-  -- one EOL is counted before a two-dimensional line
-  one_before : (line found : Bits) → after_eol 0 (false ∷ line) ≡ None → after_eol 0 found ≡ Some (false ∷ line)
-      → eols_here settings found ≡ (1, false ∷ line)
-  one_before line found none e = ap (λ (e : EncodingMode). eols_by e settings.end_of_block found) encoding
-      ∙ ap pass_last_tag (all_tagged-some found (false ∷ line) e ∙ ap one_more (all_tagged-none (false ∷ line) none))
 
   -- the next EOL is the one behind it, whatever it is read against
   next_behind : (other : Row) (line next : Bits) (is : IsLine2D line next)
@@ -47,7 +41,8 @@ module _ (settings : DecodeSettings) (encoding : settings.encoding ≡ Group3_2D
       subst (Settles settings (suc lines)) after_is (
         is.ends.0,
         omega (arith, after_eol_shorter 0 next is.ends.0 is.ends.1, (next_eol_found (false ∷ line) next is.next_is).0),
-        λ found g. one_before line found is.no_eol g,
+        λ found g. (ap (λ (g : EncodingMode). eols_by g settings.end_of_block found) encoding ∙ ap pass_last_tag (all_tagged-some
+            found (false ∷ line) g ∙ ap one_more (all_tagged-none (false ∷ line) is.no_eol))),
         λ other. next_behind other line next is,
         settles lines next is.ends.0 more is.ends.1,
       )
@@ -83,8 +78,7 @@ module _ (settings : DecodeSettings) (encoding : settings.encoding ≡ Group3_2D
 -- ---- Rows of which some may differ
 
 drop_past : {A : Type 0} (n : ℕ) (front rest : List A) → length front ≤ n → drop n (front ++ rest) ≡ drop (n - length front) rest
-drop_past n front rest le = let e : n ≡ length front + (n - length front) = omega arith in
-    ap (λ (m : ℕ). drop m (front ++ rest)) e ∙ drop-append-add front rest (n - length front)
+drop_past n front rest le = grind (arith, common_steps, drop-append-add)
 
 -- rows that are alike differ in that many at most
 rows_differ : (settings : DecodeSettings) (one two : Bits) (from differ : ℕ) (rows others : List Row)
@@ -95,7 +89,9 @@ rows_differ settings one two from differ rows others (inr (before, these, those,
 
 -- the law
 pub locality_by_k : LocalityByK
-locality_by_k settings one are whole_one two from to to2 lines whole_two differ = in_each_case (cases_eq settings.columns 0)
+locality_by_k settings one are whole_one two from to to2 lines whole_two differ =
+    let both = damage_alike settings one two from body.closes.0 lines lines_differ whole_one whole_two in
+    (rows_differ settings one two from (suc lines) (plain settings one).rows (plain settings two).rows both.0, both.1)
   where
     body : IsTaggedBody settings one from to
     body = differ.body
@@ -120,15 +116,6 @@ locality_by_k settings one are whole_one two from to to2 lines whole_two differ 
       stays_two = λ rows reached. stays_2d settings two from to2 other rows reached ∙ ap Some same_after;
       settles = settles settings differ.encoding lines (drop to one) body.closes.0 differ.follow body.closes.1;
     }
-
-    in_each_case : (settings.columns ≡ 0) ⊎ (settings.columns ≡ 0 → ⊥) → RowsDiffer settings one two from
-        (suc lines) (plain settings one).rows (plain settings two).rows × EndAlike settings one two from
-        (suc lines) (plain settings one).rows (plain settings one).outcome (plain settings two).outcome
-    in_each_case (inl e) = grind (arith, common_steps, cond-true, eq-eqb)
-    in_each_case (inr e) = let wide : 0
-        < settings.columns = elim (cases_lt 0 settings.columns) [ inl lt ↦ lt | inr ge ↦ absurd (e (omega arith)) ] in
-        let both = damage settings one two from body.closes.0 lines lines_differ wide whole_one whole_two in
-        (rows_differ settings one two from (suc lines) (plain settings one).rows (plain settings two).rows both.0, both.1)
 
 -- a run with the rows and the result of the plain reading has what the law says
 pub damage_ends : (settings : DecodeSettings) (bits : Bits) (rows : List Row) (outcome : Result ℕ DecodeError)

@@ -13,7 +13,7 @@ use Rattle.fax_reading.proofs.DamagedLines.AnyReference.{quiet_append, leaves_ne
 use Rattle.fax_reading.proofs.DamagedLines.LineTails.{after_eol_more, past_before, first_one, drop_at}
 use Rattle.fax_reading.proofs.DamagedLines.{PastEol.after_eol_is, PastEol.past-eol, PastEol.past, EolsAlike.one_tagged}
 use Rattle.fax_reading.proofs.DrawingLines.LinesLeaveBits.{leaves_trans, LeavesBits}
-use Rattle.fax_reading.proofs.EncodedPictures.{EncodedRuns.line_1d_again, PicturesT4.eol_stands}
+use Rattle.fax_reading.proofs.EncodedPictures.{EncodedLines.line_1d_again, PicturesT4.eol_stands}
 use Rattle.fax_reading.proofs.KeptRows.TurnsLeave.{past_tag_leaves}
 
 -- ---- Suffixes
@@ -227,10 +227,6 @@ module _ (settings : DecodeSettings) (encoding : settings.encoding ≡ Group3_2D
   line_on : drop from whole ≡ line ++ next
   line_on = drop-append_seam (front ++ eol fill) (line ++ next)
 
-  next_on : drop to whole ≡ next
-  next_on = drop_at whole ((front ++ eol fill) ++ line) next to (sym (append_assoc (front ++ eol fill) line next))
-      (length-append (front ++ eol fill) line)
-
   -- the next EOL behind its start
   next_from : past 0 (line ++ next) ≡ Some after
   next_from = grind (arith, common_steps, past_before, scan_past)
@@ -277,7 +273,8 @@ module _ (settings : DecodeSettings) (encoding : settings.encoding ≡ Group3_2D
     no_eol = no_eol_in;
     closes = (
       after,
-      ap (after_eol 0) next_on ∙ eol_next,
+      ap (after_eol 0) (drop_at whole ((front ++ eol fill) ++ line) next to (sym (append_assoc (front ++ eol fill) line next))
+          (length-append (front ++ eol fill) line)) ∙ eol_next,
       λ so_far reached here read rest e. read_before (row_before settings.columns so_far.rows) read rest
           (ap (line_here settings (row_before settings.columns so_far.rows)) (sym (here ∙ line_on)) ∙ e),
     );

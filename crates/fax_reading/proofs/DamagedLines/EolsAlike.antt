@@ -9,12 +9,12 @@ use Rattle.fax_bits.proofs.BitReading.ConsecutiveEols.{count_past, count_same, a
 use Rattle.fax_bits.proofs.BitReading.ConsecutiveEols.{last_tag_count, count_all-some, counts_tagged, count_shorter, counts_plain}
 use Rattle.fax_reading.proofs.Continuations.{LinesContinued.line_settled, ShortLines.zeros_end_line}
 use Rattle.fax_reading.proofs.DamagedLines.PastEol.{next_eol_leaves, after_eol_is, past_shorter, past-front, past}
-use Rattle.fax_reading.proofs.DamagedLines.SoughtTurns.{eols_here_same, not_past_end, move_sought, found_next, row_past, rest_of}
+use Rattle.fax_reading.proofs.DamagedLines.PastEol.{eols_here_same, not_past_end, move_sought, found_next, row_past, rest_of}
 use Rattle.fax_reading.proofs.DrawingLines.LinesLeaveBits.{line_by_leaves, leaves_trans, LeavesBits, LineLeaves}
 use Rattle.fax_reading.proofs.EncodedPictures.PicturesT4.{eols_here_one, eols_here_two}
 use Rattle.fax_reading.proofs.GapsContinued.ContinuedEols.{count_then_more, after_eol-more, then_more}
 use Rattle.fax_reading.proofs.{KeptRows.TurnsLeave.eols_leave_bits, Names.inl, Names.inr, Names.Row, Names.ℕ}
-use Rattle.fax_reading.proofs.{Readings.RowsAndGaps.unless_over, Readings.RowsAndGaps.after_row, DamagedLines.SoughtTurns.sought}
+use Rattle.fax_reading.proofs.{Readings.RowsAndGaps.unless_over, Readings.RowsAndGaps.after_row, DamagedLines.PastEol.sought}
 use Rattle.fax_reading.specs.GapsContinued.{holds_one}
 
 -- bits before a line: none, or they end with a one behind at least so many zeros
@@ -52,8 +52,7 @@ ends_last (b ∷ before) (c ∷ left) (d ∷ first) e = grind (arith, ends_last 
 
 pub one_among : (before after : Bits) → holds_one (before ++ true ∷ after) ≡ true
 one_among [] after = refl
-one_among (true ∷ before) after = refl
-one_among (false ∷ before) after = one_among before after
+one_among (bit ∷ before) after = grind (arith, common_steps, one_among before after)
 
 -- a suffix isn't longer
 pub leaves_length : (bits rest : Bits) → LeavesBits bits rest → length rest ≤ length bits
@@ -70,9 +69,7 @@ past_last seen (false ∷ first) z e = past_last (suc seen) first z e
 past_last seen (true ∷ first) z e = grind (arith, common_steps, past_last 0 first z)
 
 pub past_ends : (left z : Bits) → EndsByOne 0 left → past 0 left ≡ None → past 0 (left ++ z) ≡ past 0 z
-past_ends left z (inl none) e = rw none refl
-past_ends left z (inr (first, is)) e = ap (λ (b : Bits). past 0 (b ++ z)) is ∙ ap (past 0) (append_assoc first (true ∷ []) z)
-    ∙ past_last 0 first z (ap (past 0) (sym is) ∙ e)
+past_ends left z given e = grind (arith, common_steps, past, append_assoc, past_last)
 
 -- ---- EOLs, where none begins at the line
 
@@ -97,9 +94,7 @@ module _ (n : ℕ) (z : Bits) (none : after_eol 0 z ≡ None) where
       where
         by_after_eol : ((rest : Bits) → EndsByOne n rest → Kept (count most rest) (count most (rest ++ z))) → (o : Option Bits)
             → after_eol 0 here ≡ o → Kept (count (suc most) here) (count (suc most) (here ++ z))
-        by_after_eol on None e =
-            rw (counts.none (suc most) here e, counts.none (suc most) (here ++ z) (eol_kept here ends ∙ ap (then_more z) e))
-            (refl, ends)
+        by_after_eol on None e = grind (arith, common_steps, eol_kept, then_more)
         by_after_eol on (Some rest) e = let is = after_eol_is 0 here rest e in
             let behind = passes rest (still_ends n here (replicate is.0 false) rest ends is.1) in
             let more = on (pass rest) behind.1 in
@@ -129,8 +124,7 @@ module _ (n : ℕ) (z : Bits) (none : after_eol 0 z ≡ None) where
 
       by_after_eol : (o : Option Bits) → after_eol 0 here ≡ o
           → (past_tag (true ∷ here ++ z) ≡ past_tag (true ∷ here) ++ z) × EndsByOne n (past_tag (true ∷ here))
-      by_after_eol None e = rw (e, eol_kept here behind ∙ ap (then_more z) e, past_tag) (refl, ends)
-      by_after_eol (Some rest) e = rw (e, eol_kept here behind ∙ ap (then_more z) e, past_tag) (refl, behind)
+      by_after_eol v0 e = grind (arith, common_steps, eol_kept, then_more, behind)
 
   last_tag_kept : (found : ℕ × Bits) → EndsByOne n found.1 → (found.1 ≡ [] → found.0 < 6)
       → Kept (pass_last_tag found) (pass_last_tag (count_then_more z found))
@@ -179,11 +173,7 @@ one_is_none rest (count, left) e = grind (arith, common_steps)
 
 module _ {pass : Bits → Bits} {count : ℕ → Bits → ℕ × Bits} (counts : CountsEols pass count) where
   none_left : (rest line : Bits) → count (length rest) rest ≡ (0, line) → (rest ≡ line) × (after_eol 0 rest ≡ None)
-  none_left rest line e = by_after_eol (after_eol 0 rest) refl
-    where
-      by_after_eol : (o : Option Bits) → after_eol 0 rest ≡ o → (rest ≡ line) × (after_eol 0 rest ≡ None)
-      by_after_eol None f = (ap (λ (f : ℕ × Bits). f.1) (sym (counts.none (length rest) rest f) ∙ e), f)
-      by_after_eol (Some next) f = absurd (omega (arith, count_some counts rest next f, ap (λ (f : ℕ × Bits). f.0) e))
+  none_left rest line e = grind (arith, common_steps, count_some)
 
   one_left : (here line : Bits) → count (length here) here ≡ (1, line) → (rest : Bits) × (after_eol 0 here ≡ Some rest)
       × (pass rest ≡ line) × (after_eol 0 line ≡ None)
@@ -191,8 +181,7 @@ module _ {pass : Bits → Bits} {count : ℕ → Bits → ℕ × Bits} (counts :
     where
       by_after_eol : (o : Option Bits) → after_eol 0 here ≡ o → (rest : Bits) × (after_eol 0 here ≡ Some rest)
           × (pass rest ≡ line) × (after_eol 0 line ≡ None)
-      by_after_eol None f =
-          absurd (omega (arith, ap (λ (f : ℕ × Bits). f.0) (sym (counts.none (length here) here f) ∙ e)))
+      by_after_eol None f = grind (arith, common_steps)
       by_after_eol (Some rest) f = let left = none_left (pass rest) line
           (one_is_none line (count (length (pass rest)) (pass rest)) (sym (count_all-some counts here rest f) ∙ e)) in
           (rest, f, left.0, subst (λ (b : Bits). after_eol 0 b ≡ None) left.0 left.1)

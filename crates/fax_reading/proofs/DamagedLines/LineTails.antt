@@ -8,8 +8,8 @@ use Rattle.fax_reading.proofs.Names.{◌∷◌, sym, ◌∙◌, Row, inl, inr, [
 use Rattle.std.proofs.Math.Seq.{drop-append_seam}
 use Rattle.fax_bits.proofs.BitReading.ConsecutiveEols.{all_tagged}
 use Rattle.fax_reading.proofs.DamagedLines.EolsAlike.{IsLineIn, Closes}
-use Rattle.fax_reading.proofs.DamagedLines.PastEol.{next_eol_leaves, after_eol_is, past_later, eol_at_one, past-eol, past}
-use Rattle.fax_reading.proofs.DamagedLines.SoughtTurns.{sought_line_is, found_next, rest_of, sought}
+use Rattle.fax_reading.proofs.DamagedLines.PastEol.{next_eol_leaves, after_eol_is, past_later, past-eol, past}
+use Rattle.fax_reading.proofs.DamagedLines.PastEol.{sought_line_is, found_next, rest_of, sought}
 use Rattle.fax_reading.proofs.DrawingLines.LinesLeaveBits.{line_by_leaves, LineLeaves}
 
 -- without a prefix, of this length, the rest is left
@@ -43,14 +43,14 @@ pub after_eol_more : (seen more : ℕ) (here rest : Bits) → seen ≤ more → 
     → after_eol more here ≡ Some rest
 after_eol_more seen more [] rest le e = absurd cc
 after_eol_more seen more (false ∷ here) rest le e = after_eol_more (suc seen) (suc more) here rest (omega arith) e
-after_eol_more seen more (true ∷ here) rest le e = grind (arith, common_steps, eol_at_one, le-leb)
+after_eol_more seen more (true ∷ here) rest le e = grind (arith, common_steps, le-leb)
 
 -- an EOL stays one, whatever follows
 pub after_eol-append : (seen : ℕ) (here rest z : Bits) → after_eol seen here ≡ Some rest
     → after_eol seen (here ++ z) ≡ Some (rest ++ z)
 after_eol-append seen [] rest z e = absurd cc
 after_eol-append seen (false ∷ here) rest z e = after_eol-append (suc seen) here rest z e
-after_eol-append seen (true ∷ here) rest z e = grind (arith, common_steps, eol_at_one, le-leb)
+after_eol-append seen (true ∷ here) rest z e = grind (arith, common_steps, le-leb)
 
 -- if no EOL ends within some bits, the next is the one after them
 pub past_before : (seen : ℕ) (bits z after : Bits) → past seen bits ≡ None → after_eol 0 z ≡ Some after
@@ -80,18 +80,6 @@ module _ (bits : Bits) (from to : ℕ) (after : Bits) (local : IsBody bits from 
   abbrev pub eol_on : Bits
   eol_on = drop to bits
 
-  -- the body begins within the data
-  pub within_from : from ≤ length bits
-  within_from = omega (arith, local.order, local.within)
-
-  -- as many bits precede it
-  pub front_length : length (take from bits) ≡ from
-  front_length = length-take-le from bits within_from
-
-  -- its length
-  pub body_length : length body ≡ to - from
-  body_length = length-take-le (to - from) line_on (omega (arith, length-drop from bits, local.order, local.within))
-
   -- the body, and what follows
   pub cut : line_on ≡ body ++ eol_on
   cut = grind (arith, common_steps, drop-drop (to - from) from bits, take-append-drop (to - from) line_on)
@@ -108,7 +96,7 @@ module _ (bits : Bits) (from to : ℕ) (after : Bits) (local : IsBody bits from 
     append_assoc,
     drop_at bits (take from bits ++ before) found (from + length before),
     drop_at bits ((take from bits ++ before) ++ (replicate k false ++ true ∷ [])) rest (from + (length before + (k + 1))),
-    front_length,
+    length-take-le from bits (omega (arith, local.order, local.within)),
     length-append,
     length-replicate,
     whole,
@@ -123,7 +111,16 @@ module _ (bits : Bits) (from to : ℕ) (after : Bits) (local : IsBody bits from 
       by_past (Some rest) e = let next = found_next body rest e in
           let before = next_eol_leaves body next.0 next.1 in
           let is = after_eol_is 0 next.0 rest next.2 in
-          grind (arith, append_assoc, after_eol-append, body_length, length-append, length-replicate, not_within, cut)
+          grind (
+            arith,
+            append_assoc,
+            after_eol-append,
+            (length-take-le (to - from) line_on (omega (arith, length-drop from bits, local.order, local.within))),
+            length-append,
+            length-replicate,
+            not_within,
+            cut,
+          )
 
   pub no_eol_here : after_eol 0 line_on ≡ None
   no_eol_here = by_after_eol (after_eol 0 line_on) refl
@@ -155,8 +152,7 @@ line_past_of (Line.broken front fault) here after leaves next stays = next
 pub line_past_by : (settings : DecodeSettings) (reference : Row) (here after : Bits) → past 0 here ≡ Some after
     → ((row : Row) (rest : Bits) → line_here settings reference here ≡ Line.whole row rest → length after + 12 ≤ length rest)
     → past 0 (rest_of (line_here settings reference here) here) ≡ Some after
-line_past_by settings reference here after next stays = line_past_of (line_here settings reference here) here after
-    (line_by_leaves settings.encoding settings.strict settings.columns reference here) next stays
+line_past_by settings reference here after next stays = grind (arith, common_steps, line_past_of, line_by_leaves)
 
 -- ---- One-dimensional data
 

@@ -40,9 +40,7 @@ behind_mode_shorter color here found e = by_read_code (read_code mode_codes here
   where
     by_read_code : (r : Result (Mode × Bits) DecodeError) → read_code mode_codes here ≡ r → behind_read color r ≡ Some found
         → length found.1 < length here
-    by_read_code (Ok (mode, rest)) f g =
-        omega (arith, read_code_shorter mode_codes here mode rest modes_not_empty f, word_shorter color mode rest found g)
-    by_read_code (Err fault) f g = absurd (none_is_not_some found g)
+    by_read_code v0 f g = grind (arith, common_steps, read_code_shorter, modes_not_empty, word_shorter, none_is_not_some)
 
 -- ---- Modes that are passed, one after another
 
@@ -110,10 +108,6 @@ CountsRows settings start rows here =
 same_line : (line other : Bits) (o : Option Bits) → o ≡ Some (false ∷ line) → o ≡ Some (false ∷ other) → line ≡ other
 same_line line other o e f = grind (arith, common_steps)
 
-same_next : (line other next found : Bits) → line ≡ other → next_eol (false ∷ line) ≡ Some next
-    → next_eol (false ∷ other) ≡ Some found → next ≡ found
-same_next line other next found same e f = grind (arith, common_steps)
-
 pub counted_on : (settings : DecodeSettings) (start here line next : Bits) (rows : ℕ) → CountsRows settings start rows here
     → after_eol 0 here ≡ Some (false ∷ line) → IsLine2D line next → CountsRows settings start (rows + 1) next
 counted_on settings start here line next rows so_far e is = (
@@ -127,7 +121,7 @@ counted_on settings start here line next rows so_far e is = (
     by_left : (lines : ℕ) → (left : ℕ) × (lines ≡ left + (rows - 1)) × ComeBefore1D settings left here
         → (left : ℕ) × (lines ≡ left + (rows + 1 - 1)) × ComeBefore1D settings left next
     by_left lines (zero, same, comes) = absurd (line_not_before_1d settings here line next e is comes)
-    by_left lines (suc left, same, (other, found, f, is2, more)) = grind (arith, common_steps, same_next, same_line)
+    by_left lines (suc left, same, (other, found, f, is2, more)) = grind (arith, common_steps, same_line)
 
 pub last_line_counted : (settings : DecodeSettings) (start here : Bits) (rows : ℕ) → CountsRows settings start rows here
     → ComesBefore1D settings here → (lines : ℕ) → (Some rows ≡ Some (suc lines)) ↔ ComeBefore1D settings lines start

@@ -10,7 +10,7 @@ use Rattle.fax_bits.proofs.BitReading.ConsecutiveEols.{next_eol_found, cond_le}
 use Rattle.fax_bits.proofs.Repetition.Repeated.{Follows}
 use Rattle.fax_reading.proofs.DamagedLines.EolsAlike.{leaves_length, turn_closed, left_closes, row_counted, eols_left, eols_past}
 use Rattle.fax_reading.proofs.DamagedLines.EolsAlike.{left_ends, past_ends, with_tail, EndsByOne, IsGroup3, IsLineIn, not_end}
-use Rattle.fax_reading.proofs.DamagedLines.SoughtTurns.{eols_here_same, move_sought, sought_done, row_past, rest_of, sought}
+use Rattle.fax_reading.proofs.DamagedLines.PastEol.{eols_here_same, move_sought, sought_done, row_past, rest_of, sought}
 use Rattle.fax_reading.proofs.DamagedLines.{PastEol.past_shorter, PastEol.past, EolsAlike.counted, EolsAlike.Closes}
 use Rattle.fax_reading.proofs.DrawingLines.LinesLeaveBits.{line_by_leaves, leaves_trans, LeavesBits, LineLeaves}
 use Rattle.fax_reading.proofs.Readings.RowsAndGaps.{after_damage-is, after_whole-is, unless_over, seek_from, after_row, row_added}
@@ -87,8 +87,7 @@ module _ (settings : DecodeSettings) (most : ℕ) (Alike : List Row → List Row
   -- a row is added to both, after which the next line is the same
   added_beyond : (xs ys : List Row) (h : Bool) (u v : Bits) (row : Row) (here : Bits) → Alike xs ys → length here ≤ most
       → Together (row_added settings (run_at xs h u) row here) (row_added settings (run_at ys h v) row here)
-  added_beyond xs ys h u v row here alike short = let al : Bool = settings.rows_are_byte_aligned && not h in
-      grind (arith, row_beyond, row_before_push, cond_le, length-drop)
+  added_beyond xs ys h u v row here alike short = grind (arith, common_steps, row_beyond, row_before_push, cond_le, length-drop)
 
   line_beyond : (xs ys : List Row) (h : Bool) (here : Bits) (line : Line) → Alike xs ys → length here ≤ most → LineLeaves here
       line → Together (after_line settings (run_at xs h here) line) (after_line settings (run_at ys h here) line)
@@ -205,8 +204,7 @@ module _ (settings : DecodeSettings) (one two : Bits) (from : ℕ) (after : Bits
   -- ---- Before the line
 
   short : (bits : Bits) → LeavesBits one (bits ++ x) → length bits ≤ from
-  short bits leaves =
-      omega (arith, leaves_length one (bits ++ x) leaves, length-append bits x, length-drop from one, given.fits_one)
+  short bits leaves = grind (arith, common_steps, leaves_length, length-append, length-drop)
 
   -- after EOLs that end up to there
   unless_ahead : (rows : List Row) (u v bits : Bits) (count : ℕ) → EndsByOne 11 bits → LeavesBits one (bits ++ x)
@@ -323,9 +321,8 @@ module _ (settings : DecodeSettings) (one two : Bits) (from : ℕ) (after : Bits
   pub moves_alike : (s t : Progress) → ((rows : List Row) → s ≡ sought rows x → t ≡ sought rows y
       → Begun settings one two from rows) → RunsAlike settings one two from after lines s t
       → Both (move_on settings s) (move_on settings t)
-  moves_alike s t begins (RunsAlike.ahead rows bits (inl none) leaves leaves2 e f) =
-      let here : s ≡ sought rows x = rw none at e in
-      let there : t ≡ sought rows y = rw none at f in rw (here, there) (line_there rows (begins rows here there))
+  moves_alike s t begins (RunsAlike.ahead rows bits (inl none) leaves leaves2 e f) = grind
+      (arith, common_steps, sought, line_there)
   moves_alike s t begins (RunsAlike.ahead rows bits (inr closes) leaves leaves2 e f) =
       rw (e, f) (line_ahead rows bits closes leaves leaves2)
   moves_alike s t begins (RunsAlike.among before these those here left begun same few settled short e f) =

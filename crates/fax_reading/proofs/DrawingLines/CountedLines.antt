@@ -38,11 +38,6 @@ found_1d_from strict columns pen = words_drawn (draw_1d strict columns) pen
 abbrev pub found_2d_from : Bool → ℕ → Row → Pen → List Bits
 found_2d_from strict columns reference pen = words_drawn (draw_2d strict columns reference) pen
 
--- if a row isn't full, a step finds what its drawing does
-unless_full_words : (full : Bool) (line : Line) (pen : Pen) (words : Pen → List Bits) → full ≡ false
-    → ◌≡◌ {A = List Bits} ([] ++ words_behind (cond full (Turn.done line) (Turn.next pen)) words) (words pen)
-unless_full_words full line pen words open_row = grind (arith, false≢true)
-
 -- and it is that drawing
 unless_full_step : (full : Bool) (line : Line) (pen : Pen) (step : Pen → Step) → full ≡ false
     → turn_behind (cond full (Turn.done line) (Turn.next pen)) step ≡ step pen
@@ -59,7 +54,7 @@ pub found_1d_on : (strict : Bool) (columns : ℕ) (pen : Pen) → length pen.fro
 found_1d_on strict columns pen open_row =
     gathered_turn (step_1d strict columns) (λ pen. (draw_1d strict columns pen).words) pen_left (step_1d_shrinks strict columns)
     pen ∙ ap (λ (words : List Bits). words ++ found_after (found_1d_from strict columns) (step_1d strict columns pen))
-    (grind (arith, common_steps, unless_full_words, lt-leb)) ∙ ap (λ (step : Step). (draw_run strict
+    (grind (arith, common_steps, false≢true, lt-leb)) ∙ ap (λ (step : Step). (draw_run strict
     columns pen).words ++ found_after (found_1d_from strict columns) step) (grind (arith, common_steps, unless_full_step, lt-leb))
 
 -- a two-dimensional line whose row isn't full finds what reading and drawing its next mode does, and then the words after it
@@ -69,7 +64,7 @@ found_2d_turn : (strict : Bool) (columns : ℕ) (reference : Row) (pen : Pen)
 found_2d_turn strict columns reference pen open_row = gathered_turn (step_2d strict columns reference)
     (λ pen. (draw_2d strict columns reference pen).words) pen_left (step_2d_shrinks strict columns reference) pen ∙ ap
     (λ (words : List Bits). words ++ found_after (found_2d_from strict columns reference) (step_2d strict columns reference pen))
-    (grind (arith, common_steps, unless_full_words, lt-leb)) ∙ ap (λ (step : Step). mode_words strict columns reference
+    (grind (arith, common_steps, false≢true, lt-leb)) ∙ ap (λ (step : Step). mode_words strict columns reference
     pen ++ found_after (found_2d_from strict columns reference) step) (grind (arith, common_steps, unless_full_step, lt-leb))
 
 -- so if there is a mode, its word, those of its drawing, and those after it

@@ -44,10 +44,6 @@ strict_on line after now step pen before cut so_far is tells = grind (arith, fal
 pub strict_same : (line now next : Line) (cut : Bool) → StrictSoFar line now cut → next ≡ now → StrictSoFar line next cut
 strict_same line now next cut so_far is = grind arith
 
--- at its end
-pub strict_end : (line now : Line) (cut : Bool) → StrictSoFar line now cut → is_broken now ≡ false → cut ≡ is_broken line
-strict_end line now cut so_far whole = grind arith
-
 -- ---- The steps of a context
 
 -- a run that is read and painted
@@ -134,9 +130,9 @@ cut_begun_2d before now new begun next frame goes same = let line = rw frame at 
 pub cut_drawn_1d : (before now : Held) (cut : Bool) (line : Line) (at : Bits) → now ≡ redrawn before now.front now.color
     → now.settings.columns ≤ length now.front
     → StrictSoFar line (drawn_by (step_1d true before.settings.columns) (pen_of now at)) cut → cut ≡ is_broken line
-cut_drawn_1d before now cut line at kept full so_far = grind (arith, common_steps, strict_end)
+cut_drawn_1d before now cut line at kept full so_far = grind (arith, common_steps)
 
 pub cut_drawn_2d : (before now : Held) (cut : Bool) (line : Line)
     (at : Bits) → now ≡ redrawn before now.front now.color → now.settings.columns ≤ length now.front → StrictSoFar line
     (drawn_by (step_2d true before.settings.columns before.reference) (pen_of now at)) cut → cut ≡ is_broken line
-cut_drawn_2d before now cut line at kept full so_far = grind (arith, common_steps, strict_end)
+cut_drawn_2d before now cut line at kept full so_far = grind (arith, common_steps)

@@ -32,20 +32,16 @@ step_2d strict columns reference pen = (draw_2d strict columns reference pen).tu
 abbrev pub drawn_by : (Pen → Step) → Pen → Line
 drawn_by step pen = repeated step (Line.broken [] UnexpectedEof) (suc (length pen.rest)) pen
 
-unless_full_is : (full : Bool) (line : Line) (pen : Pen) (behind : Pen → Step)
-    → turn_behind (cond full (Turn.done line) (Turn.next pen)) behind ≡ cond full (Turn.done line) (behind pen)
-unless_full_is full line pen behind = grind arith
-
 -- a step of a one-dimensional line is a run, unless the line is whole
 pub step_1d_is : (strict : Bool) (columns : ℕ) (pen : Pen)
     → step_1d strict columns pen ≡ step_unless_full columns pen (run_then strict columns pen Turn.next)
-step_1d_is strict columns pen = grind (arith, common_steps, unless_full_is)
+step_1d_is strict columns pen = grind (arith, common_steps)
 
 -- a step of a two-dimensional line is the mode that is read, unless the line is whole
 pub step_2d_is : (strict : Bool) (columns : ℕ) (reference : Row) (pen : Pen)
     → step_2d strict columns reference pen ≡ step_unless_full columns pen (try pen.front (read_code mode_codes pen.rest)
     (λ mode. mode_step strict columns reference (record pen { rest = mode.1 }) mode.0))
-step_2d_is strict columns reference pen = grind (arith, common_steps, unless_full_is)
+step_2d_is strict columns reference pen = grind (arith, common_steps)
 
 -- a step after a run is the run, and then that step
 pub run_then_is : (strict : Bool) (columns : ℕ) (pen : Pen) (behind : Pen → Step)

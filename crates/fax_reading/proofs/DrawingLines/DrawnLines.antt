@@ -49,8 +49,7 @@ pub change_has_black : (row front : Row) → StopsAtChange row front → HasBlac
 change_has_black row front stops = subst HasBlack (sym stops.2) (by_pixel stops.0 stops.3)
   where
     by_pixel : (pixel : Bool) → pixel ≢ last_pixel false front → HasBlack (front ++ pixel ∷ stops.1)
-    by_pixel true other = Contains-append_right front (true ∷ stops.1) true (first_black stops.1)
-    by_pixel false other = Contains-append_left front (false ∷ stops.1) true (last_black false front refl (λ e. other (sym e)))
+    by_pixel v0 other = grind (arith, common_steps, Contains-append_right, first_black, Contains-append_left, last_black)
 
 -- a line that is cut off by an allocation failure has a black pixel
 pub memory_has_black : (line : Line) (front : Row) (rest : Bits) → DrawsLine line (Err OutOfMemory) front rest
@@ -58,11 +57,6 @@ pub memory_has_black : (line : Line) (front : Row) (rest : Bits) → DrawsLine l
 memory_has_black line front rest draws = change_has_black (front_of line) front draws
 
 -- ---- What a step returns.
-
--- a fault of the data ends the line with the front that is left
-pub fault_ends : (step : Step) (e : DecodeError) (pen : Pen) → IsFault e → step ≡ Turn.done (Line.broken pen.front e)
-    → DrawsStep step (Err e) pen
-fault_ends step e pen fault is = of_fault_kind (kind_of e) _ _ _ fault is
 
 -- why painting this many pixels is refused
 pub record IsUnpainted (held : Held) (count : ℕ) (e : DecodeError) : Type 0 where
@@ -94,10 +88,7 @@ pub paint_draws : (held new : Held) (count : ℕ) (rest : Bits) (r : Result (Uni
     (new ≡ redrawn held new.front held.color) → OnErr r (new ≡ held) → ((e : DecodeError) → r ≡ Err e → IsUnpainted held count e)
     → DrawsStep (try held.front (paint held.settings.strict held.settings.columns held.front held.color count)
     (λ front. Turn.next (record (pen_of held rest) { front = front }))) r (pen_of new rest)
-paint_draws held new count rest (Ok x) painted kept same unpainted = grind (arith, common_steps)
-paint_draws held new count rest (Err e) painted kept same unpainted =
-    paint_fails held count (λ front. Turn.next (record (pen_of held rest) { front = front })) e (pen_of new rest)
-    (ap (λ (h : Held). h.front) same) (unpainted e refl) (λ row stops. stops)
+paint_draws held new count rest r painted kept same unpainted = grind (arith, common_steps, paint_fails, unpainted)
 
 -- what pass draws is what its painting draws
 pub pass_draws : (old held new : Held) (count : ℕ) (rest : Bits) (r : Result (Unit {0}) DecodeError) → held ≡ old → count
@@ -119,14 +110,12 @@ place_of z o p iff is = grind (arith, some_where, ints)
 pub vertical_unpainted : (held new : Held) (k : ℤ) (p : ℕ) (rest : Bits) (e : DecodeError)
     → pos (b1 held.reference (right_of held.front) held.color) +ℤ k ≡ pos p → p ≤ 4294967295 → length held.front ≤ p → new ≡ held
     → IsUnpainted held (p - length held.front) e → DrawsStep (step_of_mode held rest (Vertical k)) (Err e) (pen_of new rest)
-vertical_unpainted held new k p rest e is fits above same unpainted =
-    let go_on : Row → Step = λ front. Turn.next (record { front = front; color = opposite held.color; rest = rest }) in
-    grind (arith, common_steps, paint_fails held (p - length held.front) go_on e (pen_of new rest))
+vertical_unpainted held new k p rest e is fits above same unpainted = grind (arith, common_steps, paint_fails)
 
 -- a run that isn't read ends the line
 pub run_unread : (held : Held) (rest after : Bits) (e : DecodeError) → IsFault e → run_from held.color (0, rest) ≡ Err e
     → DrawsStep (step_of_run held rest) (Err e) (pen_of held after)
-run_unread held rest after e fault unread = fault_ends _ e (pen_of held after) fault (rw unread refl)
+run_unread held rest after e fault unread = of_fault_kind (kind_of e) _ _ _ fault (rw unread refl)
 
 -- a run that is read and not painted ends the line
 pub run_unpainted : (held new : Held) (n : ℕ) (rest after : Bits) (e : DecodeError) → run_from held.color (0, rest)
@@ -145,20 +134,13 @@ Stays P = (row more : Row) → P row → P (row ++ more)
 abbrev pub KeepsFront : (Row → Type 0) → (Pen → Step) → Type 0
 KeepsFront P go_on = (pen : Pen) → P pen.front → P (front_after (go_on pen))
 
--- painting keeps what was painted
-paint_keeps : (P : Row → Type 0) → Stays P → (strict : Bool) (columns : ℕ) (front : Row) (color : Color) (n : ℕ) (row : Row)
-    → paint strict columns front color n ≡ Ok row → P front → P row
-paint_keeps P on strict columns front color n row e holds = grind (arith, common_steps, paint_ok)
-
 stays_kept : (P : Row → Type 0) → Stays P → (strict : Bool) (columns : ℕ)
     → AreKept strict columns (λ front rest. P front) (λ line. P (front_of line))
-stays_kept P on strict columns = fronts_kept strict columns P (λ line. P (front_of line)) (paint_keeps P on strict columns)
-    (λ front holds fault. holds) (λ front rest holds. holds)
+stays_kept P on strict columns = grind (arith, common_steps, fronts_kept, paint_ok)
 
 after_kept : (P : Row → Type 0) (step : Step) → Yields (λ pen. P pen.front) (λ line. P (front_of line)) step
     → P (front_after step)
-after_kept P (Turn.next pen) holds = holds
-after_kept P (Turn.done line) holds = holds
+after_kept P step holds = grind (arith, common_steps)
 
 -- so what is true of a front is true of the row of the line that continues it, or of the front of a broken one
 pub drawn_1d_keeps : (P : Row → Type 0) → Stays P → (strict : Bool) (columns : ℕ) (pen : Pen) → P pen.front

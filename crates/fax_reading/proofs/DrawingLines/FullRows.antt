@@ -1,10 +1,29 @@
--- A whole line has all its pixels.
-use Rattle.fax_reading.proofs.Names.{arith, ◌≡◌, ◌≤◌, ℕ, suc, Bool, [], length, EncodingMode, line_by, UnexpectedEof, Bits}
-use Rattle.fax_reading.proofs.Names.{mode_codes, read_code, Turn, Row, Line, Pen, start, line_1d, line_2d, Step}
-use Rattle.fax_reading.proofs.DrawingLines.Drawings.{try, run_then, mode_step, step_unless_full, drawn_by, step_1d, step_2d}
-use Rattle.fax_reading.proofs.DrawingLines.Drawings.{step_1d_is, step_2d_is}
-use Rattle.fax_reading.proofs.DrawingLines.ReadLines.{EndsNoLine, full_by, try_goes_on, draw_run_goes_on, draw_mode_goes_on}
+-- A whole line has all its pixels, and no line has more than there are columns.
+use Rattle.fax_reading.proofs.Names.{UnexpectedEof, EncodingMode, common_steps, mode_codes, read_code, front_of, line_1d, line_2d}
+use Rattle.fax_reading.proofs.Names.{line_by, length, arith, start, Bits, Bool, Line, Step, Turn, Pen, Row, suc, ◌≡◌, ◌≤◌, [], ℕ}
+use Rattle.fax_reading.proofs.DrawingLines.Drawings.{step_unless_full, step_1d_is, step_2d_is, mode_step, drawn_by, run_then, try}
+use Rattle.fax_reading.proofs.DrawingLines.KeptInLines.{line_1d_keeps, line_2d_keeps, fronts_kept, AreKept}
+use Rattle.fax_reading.proofs.DrawingLines.ReadLines.{draw_mode_goes_on, draw_run_goes_on, try_goes_on, EndsNoLine, full_by}
 use Rattle.fax_bits.proofs.Repetition.Repeated.{repeated_keeps}
+use Rattle.fax_reading.proofs.DrawingLines.Drawings.{step_1d, step_2d}
+
+-- no step paints beyond the columns
+widths : (strict : Bool) (columns : ℕ)
+    → AreKept strict columns (λ front rest. length front ≤ columns) (λ line. length (front_of line) ≤ columns)
+widths strict columns = fronts_kept strict columns (λ front. length front ≤ columns) (λ line. length (front_of line) ≤ columns)
+    (λ front color n row e within. grind (arith, common_steps)) (λ front within fault. within) (λ front rest within. within)
+
+line_1d_within : (strict : Bool) (columns : ℕ) (here : Bits) → length (front_of (line_1d strict columns here)) ≤ columns
+line_1d_within strict columns here = line_1d_keeps (widths strict columns) (start here) (omega arith)
+
+line_2d_within : (strict : Bool) (columns : ℕ) (reference : Row) (here : Bits)
+    → length (front_of (line_2d strict columns reference here)) ≤ columns
+line_2d_within strict columns reference here = line_2d_keeps (widths strict columns) reference (start here) (omega arith)
+
+-- no line of any kind has more pixels
+pub line_by_within : (encoding : EncodingMode) (strict : Bool) (columns : ℕ) (reference : Row) (here : Bits)
+    → length (front_of (line_by encoding strict columns reference here)) ≤ columns
+line_by_within encoding strict columns reference here = grind (arith, line_1d_within, line_2d_within)
 
 -- what a line has, if it is whole
 abbrev pub IsFull : ℕ → Line → Type 0

@@ -1,8 +1,8 @@
 -- What reading and painting keep, of a front and of the bits that are left, steps and lines keep.
-use Rattle.fax_reading.proofs.Names.{Err, ◌≡◌, suc, ◌-◌, [], Ok, ℕ, ℤ}
+use Rattle.fax_reading.proofs.Names.{Err, ◌≡◌, suc, [], Ok, ℕ, ℤ}
 use Rattle.fax_reading.proofs.Names.{UnexpectedEof, unless_fault, turn_behind, unless_full, DecodeError, Horizontal, painted_to}
 use Rattle.fax_reading.proofs.Names.{drawn, go_on, ◌>>=◌, paint, subst, arith, Bool, Mode, Pass, Bits, Turn, Line, refl, Row, Pen}
-use Rattle.fax_reading.proofs.Names.{place_from, mode_codes, mode_here, draw_mode, read_code, draw_run, place_by, opposite, Color}
+use Rattle.fax_reading.proofs.Names.{place_from, mode_codes, mode_here, draw_mode, read_code, draw_run, opposite, Color}
 use Rattle.fax_reading.proofs.Names.{run_from, Vertical, Overflow, run_here, Drawing, painted, draw_1d, draw_2d, length, Result}
 use Rattle.fax_bits.proofs.Repetition.Repeated.{repeated_induct, Shrinks}
 use Rattle.fax_reading.proofs.DrawingLines.ReadLines.{step_1d_shrinks, step_2d_shrinks, pen_left}
@@ -71,27 +71,17 @@ module _ {strict : Bool} {columns : ℕ} {P : Row → Bits → Type 0} {Q : Line
 
   to_place_keeps : (pen : Pen) (place : ℕ) (color : Color) → OfPen pen → Yields OfPen Q (painted_to strict columns pen place
       >>= (λ front. go_on (record { front = front; color = color; rest = pen.rest }))).turn
-  to_place_keeps pen place color p = behind_yields (λ (row : Row). P row pen.rest) OfPen Q
-      (painted_to strict columns pen place).turn (λ front. Turn.next (record { front = front; color = color; rest = pen.rest }))
-      (kept.paints pen.front pen.rest pen.color (place - length pen.front) p) (λ front q. q)
+  to_place_keeps pen place color p = grind (arith, behind_yields)
 
   mode_keeps : (reference : Row) (pen : Pen) (mode : Mode) → OfPen pen
       → Yields OfPen Q (draw_mode strict columns reference pen mode).turn
   mode_keeps reference pen Pass p = to_place_keeps pen _ pen.color p
   mode_keeps reference pen Horizontal p = behind_yields OfPen OfPen Q (draw_run strict columns pen).turn
       (λ p. (draw_run strict columns p).turn) (run_keeps pen p) run_keeps
-  mode_keeps reference pen (Vertical k) p = behind_yields (λ (place : ℕ). OfPen pen) OfPen Q (place_by reference pen k).turn
-      (λ place. (painted_to strict columns pen place
-      >>= (λ front. go_on (record { front = front; color = opposite pen.color; rest = pen.rest }))).turn) (place_keeps pen _ p)
-      (λ place q. to_place_keeps pen place (opposite pen.color) q)
+  mode_keeps reference pen (Vertical k) p = grind (arith, behind_yields, place_keeps, to_place_keeps)
 
   full_keeps : (pen : Pen) → OfPen pen → Yields OfPen Q (unless_full columns pen).turn
   full_keeps pen p = let whole = kept.whole pen.front pen.rest p in grind arith
-
-  -- a step of a one-dimensional line
-  pub step_1d_keeps : (pen : Pen) → OfPen pen → Yields OfPen Q (draw_1d strict columns pen).turn
-  step_1d_keeps pen p = behind_yields OfPen OfPen Q (unless_full columns pen).turn (λ p. (draw_run strict columns p).turn)
-      (full_keeps pen p) run_keeps
 
   -- and one of a two-dimensional line
   pub step_2d_keeps : (reference : Row) (pen : Pen) → OfPen pen → Yields OfPen Q (draw_2d strict columns reference pen).turn
@@ -114,7 +104,8 @@ module _ {strict : Bool} {columns : ℕ} {P : Row → Bits → Type 0} {Q : Line
 
   -- the line from a pen on
   pub line_1d_keeps : (pen : Pen) → OfPen pen → Q (drawn (draw_1d strict columns) pen)
-  line_1d_keeps = steps_keep (draw_1d strict columns) (step_1d_shrinks strict columns) step_1d_keeps
+  line_1d_keeps = steps_keep (draw_1d strict columns) (step_1d_shrinks strict columns) (λ pen p. grind
+      (arith, behind_yields, full_keeps, run_keeps))
 
   pub line_2d_keeps : (reference : Row) (pen : Pen) → OfPen pen → Q (drawn (draw_2d strict columns reference) pen)
   line_2d_keeps reference =

@@ -2,7 +2,7 @@
 use Rattle.fax_reading.proofs.Names.{Row, Pen, [], Ok}
 use Rattle.fax_reading.proofs.Names.{UnexpectedEof, common_steps, DecodeError, Horizontal, mode_codes, read_code, leb-true, subst}
 use Rattle.fax_reading.proofs.Names.{Vertical, opposite, run_from, line_1d, line_2d, length, Result, arith, paint, start, Bool, ℕ}
-use Rattle.fax_reading.proofs.Names.{true, Mode, Pass, Bits, Turn, Line, Step, refl, ◌∙◌, sym, ◌≡◌, suc, ◌<◌, ◌≤◌, ◌⊎◌, inl, inr}
+use Rattle.fax_reading.proofs.Names.{true, Mode, Pass, Bits, Turn, Line, Step, refl, ◌∙◌, sym, ◌≡◌, suc, ◌<◌, ◌≤◌, ◌⊎◌, inr}
 use Rattle.fax_bits.proofs.CodeWords.ReadRuns.{read_code_shorter, has_no_empty_word, run_shorter, chosen}
 use Rattle.fax_bits.proofs.Repetition.Repeated.{repeated_keeps, repeated_turn, after_turn, not_next, Shrinks, next_is}
 use Rattle.fax_reading.proofs.DrawingLines.Drawings.{run_then, step_1d, step_2d, try}
@@ -124,20 +124,14 @@ mode_read strict columns reference pen = try pen.front (read_code mode_codes pen
 
 pub draws_mode : (strict : Bool) (columns : ℕ) (reference : Row)
     → IsStep columns (step_2d strict columns reference) (mode_read strict columns reference)
-draws_mode strict columns reference = record {
-  shrinks = step_2d_shrinks strict columns reference;
-  goes = λ p. try_goes_on p.front (read_code mode_codes p.rest) _
-      (λ mode. draw_mode_goes_on strict columns reference (record p { rest = mode.1 }) mode.0);
-  same = step_2d_is strict columns reference;
-}
+draws_mode strict columns reference = grind (arith, common_steps, step_2d_shrinks, try_goes_on, draw_mode_goes_on, step_2d_is)
 
 module _ {columns : ℕ} (wide : 0 < columns) {step body : Pen → Step} (draws : IsStep columns step body) where
   ends : (n : ℕ) (s : Pen) (l : Line) → HasRead n s → step s ≡ Turn.done l → TookBits n l
   ends n s l p e = grind (arith, full_by, draws.goes, draws.same)
 
   keeps : (n : ℕ) (s t : Pen) → HasRead n s → step s ≡ Turn.next t → HasRead n t
-  keeps n s t p e = elim p
-      [ inl lt ↦ inl (omega (arith, draws.shrinks s t e, lt)) | inr q ↦ inl (omega (arith, draws.shrinks s t e, q.0)) ]
+  keeps n s t p e = grind (arith, common_steps)
 
   pub line_took_bits : (here : Bits) → TookBits (length here) (drawn_by step (start here))
   line_took_bits here = repeated_keeps step (Line.broken [] UnexpectedEof) (HasRead (length here)) (TookBits (length here)) tt

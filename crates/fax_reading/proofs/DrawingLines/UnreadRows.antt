@@ -1,5 +1,5 @@
 -- A line that isn't read is no row.
-use Rattle.fax_reading.proofs.Names.{arith, common_steps, ◌≡◌, Bool, true, false, not, ◌||◌, Result, Err, refl, sym, ap, subst}
+use Rattle.fax_reading.proofs.Names.{arith, common_steps, ◌≡◌, Bool, false, not, ◌||◌, Result, Err, refl, sym, ap, subst}
 use Rattle.fax_reading.proofs.Names.{cond-true, or_from, or_parts, not-false, not_from_true, DecodeError, kind_of}
 use Rattle.fax_reading.proofs.Names.{OutOfMemory, DrawsLine, IsFault, IsRepairable, RepairStoresChange, HasBlack, front_of, Bits}
 use Rattle.fax_reading.proofs.Names.{Held, redrawn, TakesOneRow, Line, Row, row_of_line}
@@ -63,8 +63,7 @@ module _ (line strict : Line) (start : Bits) (old new : Held) (held : new ≡ re
 
       by_strict : (b : Bool) → (old.settings.strict || not old.has_eols) ≡ b
           → TakesOneRow line strict row old new (Err answer) rest
-      by_strict true is = grind (arith, itself, cond-true, or_from, not_from_true, same_eols)
-      by_strict false is = lenient e draws is (λ r. stores (broken e draws r.fault) r) otherwise
+      by_strict v0 is = grind (arith, common_steps, cond-true, or_from, not_from_true, same_eols, itself, stores, broken, lenient)
 
 -- a line that isn't read says nothing of the bits that are left
 pub draws_anywhere : (line : Line) (e : DecodeError) (front : Row) (rest other : Bits) → DrawsLine line (Err e) front rest

@@ -9,7 +9,7 @@ use Rattle.fax_bits.proofs.Repetition.Repeated.{repeated_turn, after_turn, not_n
 use Rattle.fax_bits.proofs.{BitReading.ZerosInWords.codes_free, BitReading.ZerosInWords.modes_free, CodeWords.ReadRuns.chosen}
 use Rattle.fax_reading.proofs.DrawingLines.Drawings.{horizontal_is, mode_step, run_then, drawn_by, step_2d, step_1d, try}
 use Rattle.fax_reading.proofs.DrawingLines.ReadLines.{draws_mode, draws_run, mode_read, try_next, pen_left, full_by, IsStep}
-use Rattle.fax_reading.proofs.EncodedPictures.EncodedRuns.{draws}
+use Rattle.fax_reading.proofs.EncodedPictures.EncodedLines.{draws}
 
 -- ---- A run.
 abbrev pub RunFound : Color → ℕ → Bits → ℕ → Bits → Type 0
@@ -41,11 +41,6 @@ run_found_by (suc fuel) color total here n rest lt e = let by_read_code : (r : R
           ]
     ] in by_read_code (read_code (codes_of color) here) refl
 
--- a run that was read is read again, whatever follows
-pub run_read_again : (color : Color) (here : Bits) (n : ℕ) (rest : Bits) → run_from color (0, here) ≡ Ok (n, rest)
-    → RunFound color 0 here n rest
-run_read_again color here n rest e = run_found_by (suc (length here)) color 0 here n rest (omega arith) e
-
 -- ---- A step of a line.
 abbrev pub Carries : (Pen → Step) → Type 0
 Carries f = (pen t : Pen) → f pen ≡ Turn.next t → (w : Bits) × (pen.rest ≡ w ++ t.rest)
@@ -61,7 +56,7 @@ draw_run_carries strict columns g carries pen t e = let a = try_next pen.front (
     let b = try_next pen.front (paint strict columns pen.front pen.color a.0.0)
     (λ front. g (record { front = front; color = opposite pen.color; rest = a.0.1 })) t a.2 in
     let c = carries (record { front = b.0; color = opposite pen.color; rest = a.0.1 }) t b.2 in
-    let d = run_read_again pen.color pen.rest a.0.0 a.0.1 a.1 in
+    let d = (run_found_by (suc (length pen.rest)) pen.color 0 pen.rest a.0.0 a.0.1 (omega arith) a.1) in
     (d.0 ++ c.0, d.1 ∙ ap (λ (x : Bits). d.0 ++ x) c.1 ∙ sym (append_assoc d.0 c.0 t.rest), grind (arith, draws, append_assoc))
 
 mode_carries : (strict : Bool) (columns : ℕ) (reference : Row) (mode : Mode)

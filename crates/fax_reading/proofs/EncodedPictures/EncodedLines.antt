@@ -1,15 +1,62 @@
--- A two-dimensional line is read as the row that was encoded.
-use Rattle.fax_reading.proofs.Names.{◌≡◌, ℕ, suc, ◌+◌, ◌-◌, ◌<◌, ◌≤◌, Bool, false, [], ◌++◌, length, take, replicate, Ok, refl}
-use Rattle.fax_reading.proofs.Names.{sym, ap, subst, ◌∙◌, append_assoc, arith, inl, inr, pos, ◌+ℤ◌, ℤ, cases_lt, length-take-le}
-use Rattle.fax_reading.proofs.Names.{append-nil, Color, White, Black, Mode, Pass, Horizontal, Vertical, Bits, mode_codes, Has}
-use Rattle.fax_reading.proofs.Names.{Turn, Row, is_black, opposite, pixel, pixel_before, is_change, right_of, b1, b2, a1, a2}
-use Rattle.fax_reading.proofs.Names.{run_from, Line, Pen, line_2d, Step, Spells, EncodesLine2D, common_steps}
-use Rattle.fax_bits.proofs.Repetition.Repeated.{after_turn}
-use Rattle.fax_reading.proofs.DrawingLines.Drawings.{run_then, mode_step, drawn_by, step_2d, horizontal_is}
-use Rattle.fax_reading.proofs.EncodedPictures.EncodedRuns.{run_spelled, read_as, whole_run_painted, draws}
-use Rattle.fax_reading.proofs.PixelRows.ChangePlaces.{a1_next, a2_next, a2_least, b2_above, b1_right, b2_right, before_same}
-use Rattle.fax_reading.proofs.PixelRows.ChangePlaces.{pixels_same, at_change, take_painted}
-use Rattle.fax_reading.proofs.{PixelRows.ReferencePlaces.opposite_twice, DrawingLines.ReadLines.drawn2}
+-- Runs, and two-dimensional lines, are read as what was encoded.
+use Rattle.fax_reading.proofs.Names.{length-replicate, length-take-le, EncodesLine1D, EncodesLine2D, length-append, append_assoc}
+use Rattle.fax_reading.proofs.Names.{common_steps, pixel_before, DecodeError, Horizontal, append-nil, mode_codes, add_assoc, Bits}
+use Rattle.fax_reading.proofs.Names.{is_change, replicate, Vertical, cases_lt, codes_of, is_black, opposite, right_of, run_from}
+use Rattle.fax_reading.proofs.Names.{line_2d, Result, Spells, length, lt-leb, Black, Color, White, arith, false, paint, pixel, Ok}
+use Rattle.fax_reading.proofs.Names.{subst, Bool, Line, Mode, Pass, Step, Turn, refl, take, ◌++◌, ◌+ℤ◌, Has, Pen, Row, inl, inr}
+use Rattle.fax_reading.proofs.Names.{pos, suc, sym, ◌+◌, ◌-◌, ◌<◌, ◌∙◌, ◌≡◌, ◌≤◌, [], a1, a2, ap, b1, b2, ℕ}
+use Rattle.fax_reading.proofs.DrawingLines.Drawings.{horizontal_is, mode_step, drawn_by, run_then, step_1d, step_2d}
+use Rattle.fax_reading.proofs.PixelRows.ChangePlaces.{take_painted, before_same, pixels_same, at_change, a2_least, b1_right}
+use Rattle.fax_reading.proofs.PixelRows.ChangePlaces.{b2_above, b2_right, a1_next, a2_next}
+use Rattle.fax_bits.proofs.{CodeWords.ReadRuns.run_goes_on, CodeWords.ReadRuns.run_ends, CodeWords.ReadCodes.read_code_again}
+use Rattle.fax_bits.proofs.{BitReading.ZerosInWords.codes_free, Repetition.Repeated.after_turn}
+use Rattle.fax_reading.proofs.DrawingLines.ReadLines.{drawn1, drawn2}
+use Rattle.fax_reading.proofs.PixelRows.ReferencePlaces.{opposite_twice}
+
+-- the words that spell a run are read as that run
+pub run_spelled : (color : Color) (n : ℕ) (bits : Bits) (total : ℕ) (more : Bits) → Spells color n bits → total + n ≤ 4294967295
+    → run_from color (total, bits ++ more) ≡ Ok (total + n, more)
+run_spelled color n bits total more (Spells.terminating m word has small) le =
+    run_ends color total n (bits ++ more) more (read_code_again (codes_of color) n bits more (codes_free color) has) le small
+run_spelled color n bits total more (Spells.makeup m word {n = k} {bits = next} has large rest) le =
+    let step = run_spelled color k next (total + m) more rest (omega arith) in
+    grind (arith, common_steps, add_assoc, append_assoc, codes_free, read_code_again, run_goes_on, step)
+
+-- a run that was read
+abbrev pub read_as : Bits → ℕ → Result (ℕ × Bits) DecodeError
+read_as rest n = Ok (n, rest)
+
+-- pixels that fit are painted
+pub whole_run_painted : (strict : Bool) (columns : ℕ) (front : Row) (color : Color) (n : ℕ) → length front + n ≤ columns
+    → paint strict columns front color n ≡ Ok (front ++ replicate n (is_black color))
+whole_run_painted strict columns front color n le = grind (arith, common_steps)
+
+-- a run that is read and fits is drawn
+pub draws : (strict : Bool) (columns : ℕ) (front : Row) (color : Color) (here : Bits) (n : ℕ) (rest : Bits)
+    (painted : Row) (f : Pen → Step) → run_from color (0, here) ≡ Ok (n, rest) → paint strict columns front color n ≡ Ok painted
+    → run_then strict columns (record { front = front; color = color; rest = here }) f
+    ≡ f (record { front = painted; color = opposite color; rest = rest })
+draws strict columns front color here n rest painted f read paints = grind (arith, common_steps)
+
+-- a one-dimensional line is read as its row
+pub line_1d_again : (strict : Bool) (columns : ℕ) (front row : Row) (color : Color) (bits more : Bits)
+    → EncodesLine1D color row bits → columns ≤ 4294967295 → length front + length row ≡ columns → drawn_by
+    (step_1d strict columns) (record { front = front; color = color; rest = bits ++ more }) ≡ Line.whole (front ++ row) more
+line_1d_again strict columns front row color bits more EncodesLine1D.over le full = grind (arith, common_steps)
+line_1d_again strict columns front row color bits more (EncodesLine1D.run n word {row = others} {bits = next} spells some maximal
+    rest) le full = let len : length (replicate n (is_black color) ++ others) ≡ n + length others = length-append
+    (replicate n (is_black color)) others ∙ ap (λ (k : ℕ). k + length others) (length-replicate n (is_black color)) in
+    let here : (word ++ next) ++ more ≡ word ++ (next ++ more) = append_assoc word next more in
+    let sum : 0 + n ≡ n = omega arith in
+    let read : run_from color (0, (word ++ next) ++ more) ≡ Ok (n, next ++ more) = grind (arith, common_steps, run_spelled) in
+    let painted = whole_run_painted strict columns front color n (omega (arith, len)) in
+    let stepped : step_1d strict columns (record { front = front; color = color; rest = (word ++ next) ++ more }) ≡ Turn.next
+    (record { front = front ++ replicate n (is_black color); color = opposite color; rest = next ++ more }) = grind
+    (arith, common_steps, draws, lt-leb) in
+    let on = line_1d_again strict columns (front ++ replicate n (is_black color)) others (opposite color) next more rest le
+    (omega (arith, len, length-append front (replicate n (is_black color)), length-replicate n (is_black color))) in
+    drawn1 strict columns _ ∙ ap (after_turn (drawn_by (step_1d strict columns))) stepped ∙ on
+    ∙ ap (λ (r : Row). Line.whole r more) (append_assoc front (replicate n (is_black color)) others)
 
 -- a mode that is read is drawn
 pub mode_drawn : (strict : Bool) (columns : ℕ) (reference front : Row) (color : Color) (mode : Mode) (word rest here : Bits)
@@ -24,13 +71,6 @@ pub pass_drawn : (strict : Bool) (columns : ℕ) (reference front : Row) (color 
     → mode_step strict columns reference (record { front = front; color = color; rest = rest }) Pass ≡ Turn.next
     (record { front = front ++ replicate (to - length front) (is_black color); color = color; rest = rest })
 pass_drawn strict columns reference front color rest to is le fits = grind (arith, common_steps)
-
--- a vertical mode paints up to a1 and turns the colour
-pub vertical_drawn : (strict : Bool) (columns : ℕ) (reference front : Row) (color : Color) (rest : Bits) (k : ℤ) (to : ℕ)
-    → pos (b1 reference (right_of front) color) +ℤ k ≡ pos to → length front ≤ to → to ≤ columns → columns ≤ 4294967295
-    → mode_step strict columns reference (record { front = front; color = color; rest = rest }) (Vertical k) ≡ Turn.next
-    (record { front = front ++ replicate (to - length front) (is_black color); color = opposite color; rest = rest })
-vertical_drawn strict columns reference front color rest k to is le fits small = grind (arith, common_steps)
 
 white_first : (color : Color) → false ≡ is_black color → opposite color ≡ Black
 white_first color e = grind (arith, common_steps)
@@ -111,7 +151,7 @@ module _ (strict : Bool) (columns : ℕ) (reference row : Row) (wide : 0 < colum
       before_same row from p (is_black color) (at.inside inside) one.before p above (omega arith) in
       reads_on _ _ more (mode_drawn strict columns reference front color (Vertical k) word (next ++ more) _
       (omega (arith, len)) has (append_assoc word next more)
-      ∙ vertical_drawn strict columns reference front color (next ++ more) k p place (omega (arith, len)) (omega arith) small)
+      ∙ (grind (arith, common_steps)))
       (line_2d_from (front ++ replicate (p - length front) (is_black color)) (suc p) (opposite color) next more steps (record {
         painted = painted_at row _ p painted;
         inside = λ le. at_change row p color (one.change (omega arith)) before;

@@ -57,9 +57,6 @@ every_run_spelled color n = grind (arith, common_steps, run_has_words color (n /
 pixel_or : (color : Color) (pixel : Bool) → (pixel ≡ is_black color) ⊎ (pixel ≡ is_black (opposite color))
 pixel_or color pixel = grind (arith, common_steps)
 
-colors_differ : (color : Color) → is_black (opposite color) ≡ is_black color → ⊥
-colors_differ color e = grind (arith, common_steps)
-
 replicate-push : (n : ℕ) (pixel : Bool) (row : Row) → replicate n pixel ++ (pixel ∷ row) ≡ replicate (suc n) pixel ++ row
 replicate-push zero pixel row = refl
 replicate-push (suc n) pixel row = ap (λ (r : Row). pixel ∷ r) (replicate-push n pixel row)
@@ -76,8 +73,7 @@ line_1d_exists color n (pixel ∷ row) some = elim (pixel_or color pixel) [
       let is : is_black (opposite color) ∷ row ≡ pixel ∷ row = ap (λ (p : Bool). p ∷ row) (sym other) in (
         run.0 ++ next.0,
         EncodesLine1D.run n run.0 run.1 some
-            (λ rest e. colors_differ color (sym other ∙ (let heads : pixel ≡ is_black color = cc in
-            heads))) (subst (λ (r : Row). EncodesLine1D (opposite color) r next.0) is next.1),
+            (λ rest e. (grind (arith, common_steps))) (subst (λ (r : Row). EncodesLine1D (opposite color) r next.0) is next.1),
       )
 ]
 
@@ -164,8 +160,7 @@ value (bit ∷ bits) = digit bit * 2 ^ length bits + value bits
 value_below : (bits : Bits) → value bits < 2 ^ length bits
 unfolding value
 value_below [] = omega arith
-value_below (true ∷ bits) = grind (arith, common_steps, value_below bits)
-value_below (false ∷ bits) = grind (arith, common_steps, value_below bits)
+value_below (bit ∷ bits) = grind (arith, common_steps, value_below bits)
 
 -- the bits of the number that bits write
 low_bits_value : (bits : Bits) → low_bits (length bits) (value bits) ≡ bits
@@ -186,9 +181,6 @@ abbrev highest_first : BitOrder → Bits → Bits
 highest_first HighestFirst front = front
 highest_first LowestFirst front = reverse front
 
-length-highest_first : (order : BitOrder) (front : Bits) → length (highest_first order front) ≡ length front
-length-highest_first order front = grind (arith, common_steps)
-
 -- the byte whose bits these are
 byte_of : (order : BitOrder) (front : Bits) → length front ≡ 8 → bits_of_byte order (value (highest_first order front)) ≡ front
 byte_of HighestFirst front eight = subst (λ (n : ℕ). low_bits n (value front) ≡ front) eight (low_bits_value front)
@@ -208,7 +200,7 @@ bytes_of order (suc n) bits e =
     let f = cut_front 8 bits (omega (arith, e)) in
     let on = bytes_of order n f.1 (omega (arith, e, ap length f.2, length-append f.0 f.1, f.3)) in
     let first : Bits = highest_first order f.0 in
-    let small : value first < 256 = grind (arith, common_steps, length-highest_first, value_below) in (
+    let small : value first < 256 = grind (arith, common_steps, value_below) in (
       value first ∷ on.0,
       All-cons (λ byte. byte < 256) (value first) on.0 small on.1,
       bits_more order f.0 f.1 bits (value first) on.0 (byte_of order f.0 f.3) on.2 f.2,

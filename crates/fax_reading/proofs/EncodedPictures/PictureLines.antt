@@ -1,8 +1,8 @@
 -- Where lines of pictures begin, their padding, and how readings that reach their end are described.
-use Rattle.fax_reading.proofs.Names.{◌≡◌, ℕ, suc, ◌+◌, ◌-◌, ◌/◌, ◌%◌, ◌<◌, ◌≤◌, Bool, true, false, cond, not, leb, List, [], ◌∷◌}
+use Rattle.fax_reading.proofs.Names.{◌≡◌, ℕ, suc, ◌+◌, ◌-◌, ◌/◌, ◌<◌, ◌≤◌, Bool, true, false, cond, not, leb, List, [], ◌∷◌}
 use Rattle.fax_reading.proofs.Names.{◌++◌, length, None, Ok, refl, arith, not-true, false≢true, Color, EncodingMode}
-use Rattle.fax_reading.proofs.Names.{DecodeSettings, Bits, Row, after_eol, eols, Progress, Ending, row_before}
-use Rattle.fax_reading.proofs.Names.{aligned, at_end, limit_met, end_of, plain, Allows, EncodesLine2D, padding, eol, common_steps}
+use Rattle.fax_reading.proofs.Names.{DecodeSettings, Bits, Row, after_eol, Progress, Ending, row_before}
+use Rattle.fax_reading.proofs.Names.{aligned, at_end, limit_met, end_of, plain, Allows, EncodesLine2D, padding, common_steps}
 
 -- settings for a closed picture: the end of the block is looked for, and there is no limit
 abbrev pub closed_settings : EncodingMode → ℕ → Bool → DecodeSettings
@@ -54,11 +54,6 @@ not_met settings n k given lt = grind (arith, common_steps)
 abbrev pub fill : Bool → Bits → Bits
 fill b line = cond b (padding (length line)) []
 
--- the next line begins at a whole byte too
-pub aligned_on : (b : Bool) (line next : Bits) → (b ≡ true → length ((line ++ fill b line) ++ next) % 8 ≡ 0) → b ≡ true
-    → length next % 8 ≡ 0
-aligned_on b line next whole e = grind (arith, common_steps)
-
 -- ---- The lines of a picture.
 pub row_before_push : (columns : ℕ) (rows : List Row) (row : Row) → row_before columns (rows ++ row ∷ []) ≡ row
 row_before_push columns [] row = refl
@@ -68,10 +63,6 @@ row_before_push columns (first ∷ next ∷ rows) row = row_before_push columns 
 -- a state between lines, where no EOLs are sought
 abbrev pub between : List Row → Bits → Progress
 between rows rest = record { rows = rows; has_eols = false; rest = rest }
-
--- two EOLs are counted, whatever follows
-pub eofb_stands : (more : Bits) → eols 2 (eol 0 ++ (eol 0 ++ more)) ≡ (2, more)
-eofb_stands more = refl
 
 -- the end of a run that reached its end
 abbrev pub ended_with : List Row → Bits → Ending

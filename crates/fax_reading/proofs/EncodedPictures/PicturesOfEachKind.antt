@@ -2,7 +2,8 @@
 use Rattle.fax_reading.proofs.Names.{ℕ, Ok, sym, ap, ◌∙◌, Reading, IsClosedPicture, IsLimitedPicture, ReadsClosedPictures}
 use Rattle.fax_reading.proofs.Names.{ReadsLimitedPictures}
 use Rattle.fax_reading.proofs.EncodedPictures.PicturesT4.{closed_picture_t4, limited_picture_t4}
-use Rattle.fax_reading.proofs.EncodedPictures.{Bodies.limited_rows_t4, PicturesT6.closed_picture_t6, PicturesT6.limited_rows_t6}
+use Rattle.fax_reading.proofs.EncodedPictures.{PicturesT4.limited_rows_t4, PicturesT6.closed_picture_t6}
+use Rattle.fax_reading.proofs.EncodedPictures.{PicturesT6.limited_rows_t6}
 
 -- the law
 pub closed_pictures : ReadsClosedPictures

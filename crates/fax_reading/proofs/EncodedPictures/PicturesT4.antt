@@ -1,23 +1,25 @@
--- A T.4 picture is read again.
-use Rattle.fax_reading.proofs.Names.{◌≡◌, ◌≢◌, ℕ, zero, suc, ◌+◌, ◌<◌, ◌≤◌, Bool, true, false, cond, ◌&&◌, List, [], ◌∷◌, ◌++◌}
-use Rattle.fax_reading.proofs.Names.{length, replicate, Some, None, Ok, Err, refl, sym, ap, subst, ◌∙◌, append_assoc, arith, inl}
-use Rattle.fax_reading.proofs.Names.{inr, All, and_right, or_from, cond-false, ne_eqb, All-head}
-use Rattle.fax_reading.proofs.Names.{length-append, length-replicate, append-nil, All-tail, Color, White, UnexpectedEof, Group4}
-use Rattle.fax_reading.proofs.Names.{EncodingMode, Group3_1D, Group3_2D, DecodeSettings, Bits, Turn, repeated, Row, codes_of, eol}
-use Rattle.fax_reading.proofs.Names.{Line, line_1d, line_2d, after_eol, one_more, eols, all_eols, past_tag, eols_with_tags}
-use Rattle.fax_reading.proofs.Names.{tagged_eols, is_over, cond-true, Progress, Ending, row_before, aligned, at_end}
-use Rattle.fax_reading.proofs.Names.{line_here, eols_here, after_line, move_on, end_of, Spells, EncodesLine1D, EncodesLine2D}
-use Rattle.fax_reading.proofs.Names.{EncodesLine, tag_of, IsPicture, EncodesRowsWithEols, ClosesWithEols, PictureT4, each_word}
-use Rattle.fax_reading.proofs.Names.{ReadsPictureT4, ReadsLimitedPictureT4, OnePictureT4, Allows, common_steps}
+-- A T.4 picture is read again; lines without EOLs are, in every encoding.
+use Rattle.fax_reading.proofs.Names.{ReadsLimitedPictureT4, EncodesRowsWithEols, ReadsLimitedRowsT4, length-replicate, after_line}
+use Rattle.fax_reading.proofs.Names.{ClosesWithEols, DecodeSettings, ReadsPictureT4, eols_with_tags, EncodesLine1D, EncodesLine2D}
+use Rattle.fax_reading.proofs.Names.{UnexpectedEof, ending_behind, length-append, EncodingMode, OnePictureT4, append_assoc, Color}
+use Rattle.fax_reading.proofs.Names.{common_steps, EncodesLine, EncodesRows, gap_and_row, tagged_eols, append-nil, cond-false, Ok}
+use Rattle.fax_reading.proofs.Names.{row_before, Group3_1D, Group3_2D, IsPicture, PictureT4, after_eol, and_right, cond-true, All}
+use Rattle.fax_reading.proofs.Names.{each_word, ends_with, eols_here, limit_met, line_here, replicate, All-head, All-tail, Allows}
+use Rattle.fax_reading.proofs.Names.{Progress, all_eols, codes_of, one_more, pass_gap, past_tag, repeated, Reaches, aligned, Bits}
+use Rattle.fax_reading.proofs.Names.{is_over, line_1d, line_2d, move_on, or_from, Ending, Group4, Spells, at_end, end_of, length}
+use Rattle.fax_reading.proofs.Names.{ne_eqb, White, arith, false, subst, Bool, Line, List, None, Some, Turn, cond, eols, refl, []}
+use Rattle.fax_reading.proofs.Names.{true, zero, ◌&&◌, ◌++◌, Err, Row, eol, inl, inr, suc, sym, ◌%◌, ◌+◌, ◌<◌, ◌∙◌, ◌∷◌, ◌≡◌, ◌≢◌}
+use Rattle.fax_bits.proofs.BitReading.ConsecutiveEols.{eols_with_tags-none, eols_with_tags-some, last_tag_count, one_more-count}
+use Rattle.fax_reading.proofs.EncodedPictures.PictureLines.{closed_settings, row_before_push, line_2d_starts, no_eol_at_word}
+use Rattle.fax_reading.proofs.EncodedPictures.PictureLines.{begins_no_eol, bits_at_word, IsLineStart, allows_sum}
+use Rattle.fax_reading.proofs.EncodedPictures.PictureLines.{ended_with, plain_ends, between, not_met, fill}
+use Rattle.fax_reading.proofs.Readings.GapsAndRows.{first_gap_t4, gap_unsought, reaches_end, ending_t4}
+use Rattle.fax_reading.proofs.EncodedPictures.EncodedLines.{line_1d_again, line_2d_again}
+use Rattle.fax_reading.proofs.{Readings.RowsAndGaps.after_whole-is, Readings.RowsAndGaps.after_row, Readings.TurnsMoveOn.eols_end}
+use Rattle.fax_reading.proofs.Names.{◌≤◌, ap, ℕ}
+use Rattle.fax_bits.proofs.BitReading.ConsecutiveEols.{eols-none, eol_of}
+use Rattle.fax_bits.proofs.{BitReading.PlainEols.few_keep_the_tag, BitReading.ZerosInWords.each_word_at}
 use Rattle.fax_bits.proofs.Repetition.Repeated.{after_turn}
-use Rattle.fax_reading.proofs.EncodedPictures.PictureLines.{closed_settings, begins_no_eol, no_eol_at_word, bits_at_word}
-use Rattle.fax_reading.proofs.EncodedPictures.PictureLines.{IsLineStart, not_met, row_before_push, plain_ends}
-use Rattle.fax_reading.proofs.Readings.RowsAndGaps.{after_row, after_whole-is}
-use Rattle.fax_bits.proofs.BitReading.ConsecutiveEols.{eols-none, one_more-count, eol_of, eols_with_tags-some}
-use Rattle.fax_bits.proofs.BitReading.ConsecutiveEols.{eols_with_tags-none, last_tag_count}
-use Rattle.fax_bits.proofs.BitReading.{PlainEols.few_keep_the_tag, ZerosInWords.each_word_at}
-use Rattle.fax_reading.proofs.EncodedPictures.{EncodedLines.line_2d_again, EncodedRuns.line_1d_again}
-use Rattle.fax_reading.proofs.Readings.{GapsAndRows.first_gap_t4, GapsAndRows.ending_t4, TurnsMoveOn.eols_end}
 
 -- ---- What a line begins with.
 codes_miss : (color : Color) → each_word (begins_no_eol 0) (codes_of color) ≡ true
@@ -40,11 +42,6 @@ pub line_2d_after_tag : (reference row : Row) (from : ℕ) (color : Color) (bits
     → EncodesLine2D reference row from color bits → from ≤ length row → after_eol 1 (bits ++ more) ≡ None
 line_2d_after_tag reference row from color bits more given le = grind (arith, common_steps)
 
--- where a line of T.4 begins: there is no EOL there, nor after a tag
-record IsTagStart (here : Bits) : Type 0 where
-  start : IsLineStart here
-  no_tag : past_tag here ≡ here
-
 -- ---- EOLs that are there.
 pub eol_stands : (fill : ℕ) (more : Bits) → after_eol 0 (eol fill ++ more) ≡ Some more
 eol_stands fill more = grind (arith, common_steps, append_assoc, eol_of)
@@ -55,12 +52,9 @@ length-eol fill more = grind (arith, common_steps)
 eols_more : (most fill : ℕ) (more : Bits) → eols (suc most) (eol fill ++ more) ≡ one_more (eols most more)
 eols_more most fill more = rw (eol_stands fill more, eols) refl
 
-all_eols_more : (fill : ℕ) (more : Bits) → all_eols (eol fill ++ more) ≡ one_more (eols (11 + fill + length more) more)
-all_eols_more fill more = grind (arith, common_steps, length-eol, eols_more)
-
 -- one EOL before a line
 pub one_eol : (fill : ℕ) (here : Bits) → after_eol 0 here ≡ None → all_eols (eol fill ++ here) ≡ (1, here)
-one_eol fill here none = all_eols_more fill here ∙ ap one_more (eols-none (11 + fill + length here) here none)
+one_eol fill here none = grind (arith, common_steps, length-eol, eols_more, eols-none)
 
 tagged_eols_more : (most fill : ℕ) (more : Bits)
     → eols_with_tags (suc most) (eol fill ++ more) ≡ one_more (eols_with_tags most (past_tag more))
@@ -95,11 +89,6 @@ length-closing encoding zero closing more is = omega arith
 length-closing encoding (suc n) closing more (fill, next, then, is) =
     grind (arith, common_steps, append_assoc, common_steps, length-append, length-eol, length-closing encoding n next more)
 
--- the first of them, and its tag
-tag_after : (fill : ℕ) (closing next more : Bits) → closing ≡ eol fill ++ tag_of Group3_2D ++ next
-    → closing ++ more ≡ eol fill ++ (true ∷ (next ++ more))
-tag_after fill closing next more is = grind (arith, common_steps)
-
 -- a tag before EOLs is consumed
 tagged_eols_behind : (n most : ℕ) (closing more : Bits) → ClosesWithEols Group3_2D n closing
     → n ≤ (eols_with_tags most (closing ++ more)).0 → n ≤ (eols_with_tags most (past_tag (true ∷ (closing ++ more)))).0
@@ -110,7 +99,7 @@ tagged_eols_closing : (n most : ℕ) (closing more : Bits) → ClosesWithEols Gr
 tagged_eols_closing zero most closing more is le = omega arith
 tagged_eols_closing (suc n) zero closing more is le = absurd (omega arith)
 tagged_eols_closing (suc n) (suc most) closing more (fill, next, then, is) le = let step = tagged_eols_closing n most next more in
-    grind (arith, common_steps, one_more-count, tag_after, tagged_eols_behind, tagged_eols_more, step)
+    grind (arith, common_steps, one_more-count, tagged_eols_behind, tagged_eols_more, step)
 
 -- the six EOLs of RTC are counted
 pub six_tagged : (closing more : Bits) → ClosesWithEols Group3_2D 6 closing → 6 ≤ (tagged_eols (closing ++ more)).0
@@ -226,11 +215,6 @@ module _ (settings : DecodeSettings) (wide : 0 < settings.columns) (small : sett
       → after_row settings (with_eols rows here) ≡ Turn.done (ended_with_eols rows (eols_here settings here).1)
   six_stop rows here block six = grind (arith, common_steps, cond-false, ne_eqb, cond-true, eols_end)
 
-  -- data of Group 3 are read as such
-  pub end_of_three : (encoding : EncodingMode) (bits : Bits) → Matches encoding settings
-      → end_of settings bits ≡ ending_t4 settings bits
-  end_of_three encoding bits matches = grind (arith, common_steps, first_gap_t4)
-
   length-lines : (encoding : EncodingMode) (reference : Row) (rows : List Row) (bits : Bits)
       → EncodesRowsWithEols encoding reference rows bits → length rows ≤ length bits
   length-lines encoding reference [] bits lines = omega arith
@@ -252,7 +236,7 @@ module _ (settings : DecodeSettings) (wide : 0 < settings.columns) (small : sett
       let started : ending_t4 settings (eol fill ++ rest)
       ≡ repeated (move_on settings) late (suc (suc (length rest))) (with_eols [] rest) = grind arith in
       let short : length rows < suc (suc (length rest)) = grind (arith, common_steps, length-append, length-lines) in
-      end_of_three encoding (lines ++ tail) matches ∙ ap (ending_t4 settings) here
+      (grind (arith, common_steps, first_gap_t4)) ∙ ap (ending_t4 settings) here
       ∙ started ∙ lines_t4_again encoding matches late tail last (row ∷ rows) allows stops [] row rows line next
       (suc (suc (length rest))) refl (length-replicate settings.columns false) is_picture.1 is more short
 
@@ -301,3 +285,113 @@ one_picture_t4 Group3_1D columns rows others bits more three small one two =
     one_picture_at (closed_settings Group3_1D columns false) Group3_1D rows others bits more (omega arith) refl refl refl one two
 one_picture_t4 Group3_2D columns rows others bits more three small one two =
     one_picture_at (closed_settings Group3_2D columns false) Group3_2D rows others bits more (omega arith) refl refl refl one two
+
+-- ---- No EOL is counted where there is none.
+
+-- ---- Gaps
+
+module _ (settings : DecodeSettings) where
+  -- the gap before a line is nothing
+  gap_at_line : (rows : List Row) (here : Bits) → IsLineStart here → limit_met settings (length rows) ≡ false
+      → pass_gap settings (between rows here) ≡ Turn.next (between rows here)
+  gap_at_line rows here start open_limit = grind (arith, common_steps)
+
+  -- so does EOFB
+  pub gap_at_eofb : (run : Progress) (rest : Bits) → run.has_eols ≡ false → settings.encoding ≡ Group4
+      → settings.end_of_block ≡ true → eols 2 run.rest ≡ (2, rest) → pass_gap settings run ≡ ends_with run (Ok rest)
+  gap_at_eofb run rest unsought four block two = grind (arith, common_steps, gap_unsought, cond-true, eols_end)
+
+-- ---- Lines
+
+module _ (settings : DecodeSettings) (wide : 0 < settings.columns) (small : settings.columns ≤ 4294967295) where
+  -- whether rows begin at whole bytes
+  abbrev b : Bool
+  b = settings.rows_are_byte_aligned
+
+  line_again : (encoding : EncodingMode) (reference row : Row) (line more : Bits) → settings.encoding ≡ encoding
+      → EncodesLine encoding reference row line → length reference ≡ settings.columns → length row ≡ settings.columns
+      → line_here settings reference (line ++ more) ≡ Line.whole row more
+  line_again Group4 reference row line more same is ref_len row_len = grind (arith, common_steps, line_2d_again)
+  line_again Group3_1D reference row line more same is ref_len row_len =
+      line_t4_again settings wide small Group3_1D reference row line more same is ref_len row_len
+  line_again Group3_2D reference row line more same is ref_len row_len =
+      line_t4_again settings wide small Group3_2D reference row line more same is ref_len row_len
+
+  line_starts : (encoding : EncodingMode) (reference row : Row) (line more : Bits) → settings.encoding ≡ encoding
+      → EncodesLine encoding reference row line → length row ≡ settings.columns → IsLineStart (line ++ more)
+  line_starts Group4 reference row line more same is row_len = line_2d_starts reference row 0 White line more is (omega arith)
+  line_starts Group3_1D reference row line more same is row_len =
+      line_t4_starts settings wide small Group3_1D reference row line more same is row_len
+  line_starts Group3_2D reference row line more same is row_len =
+      line_t4_starts settings wide small Group3_2D reference row line more same is row_len
+
+  -- a line is read, with its padding
+  row_read : (rows : List Row) (here : Bits) (row : Row) (line tail : Bits)
+      → IsLineStart here → limit_met settings (length rows) ≡ false → (b ≡ true → length ((line ++ fill b line) ++ tail) % 8 ≡ 0)
+      → line_here settings (row_before settings.columns rows) here ≡ Line.whole row (fill b line ++ tail)
+      → gap_and_row settings (between rows here) ≡ Turn.next (between (rows ++ row ∷ []) tail)
+  row_read rows here row line tail start open_limit whole read = grind (arith, common_steps, gap_at_line, between, fill)
+
+  module _ (encoding : EncodingMode) (same : settings.encoding ≡ encoding) where
+    -- from a line's start, at a whole byte if lines are aligned, the lines are read and what follows is left
+    pub body_again : (before rows : List Row) (body more : Bits) → Allows settings (length before + length rows)
+        → length (row_before settings.columns before) ≡ settings.columns → All (λ row. length row ≡ settings.columns) rows
+        → (b ≡ true → length (body ++ more) % 8 ≡ 0) → EncodesRows encoding b (row_before settings.columns before) rows body
+        → Reaches (gap_and_row settings) (between before (body ++ more)) (between (before ++ rows) more)
+    body_again before [] body more limit ref_len widths whole lines =
+        let here : body ++ more ≡ more = ap (λ (x : Bits). x ++ more) lines in
+        rw (here, append-nil before) (Reaches.stays (between before more))
+    body_again before (row ∷ rows) body more limit ref_len widths whole (line, next, is, lines, split) =
+        let reference : Row = row_before settings.columns before in
+        let tail : Bits = next ++ more in
+        let rows1 : List Row = before ++ row ∷ [] in
+        let row_len : length row ≡ settings.columns = All-head (λ row. length row ≡ settings.columns) row rows widths in
+        let here : body ++ more ≡ line ++ (fill b line ++ tail) = grind (arith, common_steps, append_assoc, fill) in
+        let whole2 : b ≡ true → length ((line ++ fill b line) ++ tail) % 8 ≡ 0 = grind (arith, common_steps) in
+        let moved = row_read before (body ++ more) row line tail
+        (subst IsLineStart (sym here) (line_starts encoding reference row line (fill b line ++ tail) same is row_len))
+        (not_met settings (length before + length (row ∷ rows)) (length before) limit (omega arith)) whole2
+        (grind (arith, common_steps, line_again)) in
+        let pushed : row_before settings.columns rows1 ≡ row = row_before_push settings.columns before row in
+        let count : length rows1 + length rows ≡ length before + length (row ∷ rows) = grind
+        (arith, common_steps, length-append) in
+        let on = body_again rows1 rows next more (subst (Allows settings) (sym count) limit) (ap length pushed ∙ row_len)
+        (All-tail (λ row. length row ≡ settings.columns) row rows widths) (λ e. grind (arith, common_steps))
+        (subst (λ (r : Row). EncodesRows encoding b r rows next) (sym pushed) lines) in
+        Reaches.moves (between before (body ++ more)) (between rows1 tail)
+        (between (before ++ row ∷ rows) more) moved (grind (arith, common_steps, append_assoc))
+
+    module _ (rows : List Row) (body more : Bits) (some : 0 < length rows) (limit : settings.rows ≡ length rows)
+        (is : IsPicture settings.columns rows) (whole : b ≡ true → length (body ++ more) % 8 ≡ 0)
+        (lines : EncodesRows encoding b (replicate settings.columns false) rows body) where
+      allows : Allows settings (length rows)
+      allows = inr (omega arith)
+
+      -- a limit of as many rows ends the lines
+      pub body_end : ending_behind settings (pass_gap settings (between [] (body ++ more)))
+          ≡ ended_with rows (eols_here settings more).1
+      body_end = reaches_end settings wide (between [] (body ++ more)) (between rows more)
+          (ended_with rows (eols_here settings more).1) (body_again [] rows body more (allows_sum settings (length rows) allows)
+          (length-replicate settings.columns false) is.1 whole lines) (grind (arith, common_steps))
+
+      -- they begin where there is no EOL
+      pub body_starts : IsLineStart (body ++ more)
+      body_starts = by_rows rows some is.1 lines
+        where
+          by_rows : (rows : List Row) → 0 < length rows → All (λ row. length row ≡ settings.columns) rows
+              → EncodesRows encoding b (replicate settings.columns false) rows body → IsLineStart (body ++ more)
+          by_rows [] some widths lines = absurd (omega arith)
+          by_rows (row ∷ rows) some widths (line, next, is, lines, split) =
+              let here : body ++ more ≡ line ++ (fill b line ++ (next ++ more)) = grind (arith, append_assoc) in
+              subst IsLineStart (sym here) (line_starts encoding (replicate settings.columns false) row line
+              (fill b line ++ (next ++ more)) same is (All-head (λ row. length row ≡ settings.columns) row rows widths))
+
+      -- T.4 lines without EOLs are read as their rows, up to the limit
+      pub rows_t4_end : settings.encoding ≢ Group4 → settings.end_of_line ≡ false
+          → end_of settings (body ++ more) ≡ ended_with rows (eols_here settings more).1
+      rows_t4_end other no_line =
+          grind (arith, common_steps, allows, between, body_end, body_starts, eols-none, first_gap_t4, gap_at_line, not_met)
+
+-- the law
+pub limited_rows_t4 : ReadsLimitedRowsT4
+limited_rows_t4 settings rows bits stream are all begins = grind (arith, common_steps, ended_with, plain_ends, rows_t4_end)

@@ -12,7 +12,7 @@ use Rattle.fax_reading.specs.GapsContinued.{GapIsSettled, FirstGapIsSettled, Gap
 use Rattle.fax_bits.proofs.BitReading.ConsecutiveEols.{all_eols-some, all_tagged-some, eols-some}
 use Rattle.fax_reading.proofs.GapsContinued.ContinuedEols.{count_then_more, next_eol-more, next_eol_may_come, eols-more}
 use Rattle.fax_reading.proofs.GapsContinued.ContinuedEols.{all_eols-more, eols_may_come, all_eols_may_come, bytes_of_eol}
-use Rattle.fax_reading.proofs.GapsContinued.ContinuedTags.{tagged_eols-more, tagged_eols_may_come}
+use Rattle.fax_reading.proofs.GapsContinued.ContinuedEols.{tagged_eols-more, tagged_eols_may_come}
 
 -- ---- The test, by encodings
 settled_1d : (block : Bool) (found : ℕ × Bits) → eols_are_settled Group3_1D block found ≡ holds_one found.1

@@ -1,15 +1,19 @@
--- EOLs of two data that begin with the same bits: what is found ahead of a one among these is found in both.
-use Rattle.fax_reading.proofs.Names.{append_cancel_right, DecodeSettings, eols_with_tags, length-append, pass_last_tag, after_eol}
-use Rattle.fax_reading.proofs.Names.{common_steps, EncodingMode, tagged_eols, false≢true, Group3_1D, Group3_2D, eols_here, Option}
-use Rattle.fax_reading.proofs.Names.{none-some, all_eols, one_more, past_tag, or_right, eols_by, Group4, length, false, arith, []}
-use Rattle.fax_reading.proofs.Names.{zero, Bool, true, cond, ◌++◌, Some, None, refl, Bits, eols, ◌≡◌, suc, ◌<◌, ◌≤◌, leb, ◌∷◌, ap}
-use Rattle.fax_bits.proofs.BitReading.ConsecutiveEols.{count_shorter, counts_tagged, counts_plain, all_tagged, CountsEols}
+-- EOLs and lines of two data that begin with the same bits: what is found ahead of a one among these is found in both.
+use Rattle.fax_reading.proofs.Names.{append_cancel_right, DecodeSettings, eols_with_tags, length-append, pass_last_tag, Group3_1D}
+use Rattle.fax_reading.proofs.Names.{EncodingMode, common_steps, tagged_eols, false≢true, line_found, Group3_2D, after_eol, arith}
+use Rattle.fax_reading.proofs.Names.{eols_here, none-some, AreWords, all_eols, one_more, or_right, past_tag, eols_by, line_by, []}
+use Rattle.fax_reading.proofs.Names.{Group4, Option, joined, length, false, Bits, Bool, Line, List, None, Some, cond, eols, refl}
+use Rattle.fax_reading.proofs.Names.{true, zero, ◌++◌, Row, leb, suc, sym, ◌+◌, ◌<◌, ◌∙◌, ◌∷◌, ◌≡◌, ◌≤◌, ap, ℕ}
 use Rattle.fax_bits.proofs.BitReading.ConsecutiveEols.{eols_with_tags-some, after_eol_shorter, past_tag_shorter, length-one_more}
-use Rattle.fax_bits.proofs.BitReading.{ConsecutiveEols.count_same, ZeroRuns.eols_enough}
-use Rattle.fax_reading.proofs.DamagedLines.PastEol.{past_shorter, past}
+use Rattle.fax_bits.proofs.BitReading.ConsecutiveEols.{count_shorter, counts_tagged, counts_plain, CountsEols, all_tagged}
+use Rattle.fax_reading.proofs.DrawingLines.ReadLines.{line_1d_took_bits, line_2d_took_bits, TookBits}
 use Rattle.fax_reading.proofs.GapsContinued.ContinuedEols.{count_then_more, all_eols-more, eol-more}
-use Rattle.fax_reading.proofs.{GapsContinued.SettledGaps.eols_here-more, Names.sym, Names.◌∙◌, Names.◌+◌, Names.ℕ}
 use Rattle.fax_reading.specs.GapsContinued.{eols_are_settled, holds_one}
+use Rattle.fax_bits.proofs.BitReading.ZerosInWords.{holds_a_one, word_one}
+use Rattle.fax_bits.proofs.{BitReading.ConsecutiveEols.count_same, BitReading.ZeroRuns.eols_enough}
+use Rattle.fax_reading.proofs.DrawingLines.WhatFollows.{line_1d_found, line_2d_found}
+use Rattle.fax_reading.proofs.DamagedLines.PastEol.{past_shorter, past}
+use Rattle.fax_reading.proofs.{GapsContinued.SettledGaps.eols_here-more, CodeWords.WordsFound.words_synchronised}
 
 -- ---- The bits of a line contain a one
 
@@ -27,11 +31,6 @@ one_in_line Group4 bits = holds_one bits
 -- a one follows here
 pub one_in_bits : (encoding : EncodingMode) (bits : Bits) → one_in_line encoding bits ≡ true → holds_one bits ≡ true
 one_in_bits encoding bits one = grind arith
-
--- so EOLs before such bits are settled
-settled_one : (encoding : EncodingMode) (block : Bool) (count : ℕ) (more : Bits) → one_in_line encoding more ≡ true
-    → eols_are_settled encoding block (count, more) ≡ true
-settled_one encoding block count more one = grind (arith, common_steps, or_right)
 
 -- ---- What is found among the first bits is found in them alone
 
@@ -139,14 +138,6 @@ module _ (x : Bits) where
           )) in
           rw (f, g, past_tag) refl
 
-  all_tagged_first : (bits more : Bits) (n : ℕ) → 0 < length more → all_tagged (bits ++ x) ≡ (n, more ++ x)
-      → all_tagged bits ≡ (n, more)
-  all_tagged_first bits more n some e =
-      count_same counts_tagged (length bits) (length (bits ++ x)) bits (omega arith) (omega (arith, length-append bits x))
-      ∙ count_first counts_tagged (λ most b. length b + length x ≤ most) (λ most b left fits lt. omega (arith, fits, lt)) more
-      (λ most k left fits f. tag_first most k left more fits some f) (length (bits ++ x)) bits n
-      (omega (arith, length-append bits x)) e
-
   -- what is before the tag of RTC, or of a line
   last_tag_first : (found : ℕ × Bits) (more : Bits) (n : ℕ) → IsPair (pass_last_tag found) n (more ++ x)
       → one_behind_tag more ≡ true
@@ -164,7 +155,10 @@ module _ (x : Bits) where
   tagged_first : (bits more : Bits) (n : ℕ) → tagged_eols (bits ++ x) ≡ (n, more ++ x) → one_behind_tag more ≡ true
       → tagged_eols bits ≡ (n, more)
   tagged_first bits more n e one = let (raw, some, is, last) = last_tag_first (all_tagged (bits ++ x)) more n e one in
-      ap pass_last_tag (all_tagged_first bits raw n some is) ∙ last
+      ap pass_last_tag (count_same counts_tagged (length bits) (length (bits ++ x)) bits (omega arith)
+      (omega (arith, length-append bits x)) ∙ count_first counts_tagged (λ most b. length b + length x ≤ most) (λ most b left fits
+      lt. omega (arith, fits, lt)) raw (λ most k left fits f. tag_first most k left raw fits some f) (length (bits ++ x)) bits n
+      (omega (arith, length-append bits x)) is) ∙ last
 
   by_first : (encoding : EncodingMode) (block : Bool) (bits more : Bits) (n : ℕ)
       → eols_by encoding block (bits ++ x) ≡ (n, more ++ x) → one_in_line encoding more ≡ true
@@ -188,4 +182,69 @@ pub eols_front : (x y : Bits) (settings : DecodeSettings) (bits more : Bits) (n 
 ) → one_in_line settings.encoding more ≡ true → eols_here settings (bits ++ y) ≡ (n, more ++ y)
 eols_front x y settings bits more n e one = let is = by_first x settings.encoding settings.end_of_block bits more n e one in
     eols_here-more y settings bits (ap (eols_are_settled settings.encoding settings.end_of_block) is
-    ∙ settled_one settings.encoding settings.end_of_block n more one) ∙ ap (count_then_more y) is
+    ∙ (grind (arith, common_steps, or_right))) ∙ ap (count_then_more y) is
+
+-- ---- A whole line is read again, whatever follows
+
+-- what was read of a line, and that it is read again
+abbrev pub ReadAgain : EncodingMode → Bool → ℕ → Row → Bits → Row → Bits → Type 0
+ReadAgain encoding strict columns reference here row rest = (bits : Bits) × (here ≡ bits ++ rest)
+    × ((more : Bits) → line_by encoding strict columns reference (bits ++ more) ≡ Line.whole row more)
+
+pub line_again : (encoding : EncodingMode) (strict : Bool) (columns : ℕ) (reference : Row) (here : Bits) (row : Row) (rest : Bits)
+    → line_by encoding strict columns reference here ≡ Line.whole row rest
+    → ReadAgain encoding strict columns reference here row rest
+line_again Group3_1D strict columns reference here row rest e =
+    let again = line_1d_found strict columns here row rest e in (again.bits, again.is, again.again)
+line_again Group3_2D strict columns reference [] row rest e = absurd cc
+line_again Group3_2D strict columns reference (true ∷ here) row rest e =
+    let again = line_1d_found strict columns here row rest e in
+    (true ∷ again.bits, ap (λ (b : Bits). true ∷ b) again.is, again.again)
+line_again Group3_2D strict columns reference (false ∷ here) row rest e =
+    let again = line_2d_found strict columns reference here row rest e in
+    (false ∷ again.bits, ap (λ (b : Bits). false ∷ b) again.is, again.again)
+line_again Group4 strict columns reference here row rest e =
+    let again = line_2d_found strict columns reference here row rest e in (again.bits, again.is, again.again)
+
+-- ---- Its bits contain a one, behind its tag
+
+same_ones : (bits : Bits) → holds_a_one bits ≡ holds_one bits
+same_ones [] = refl
+same_ones (bit ∷ bits) = grind (arith, common_steps, same_ones bits)
+
+-- a one at the front
+pub one_stays : (front rest : Bits) → holds_one front ≡ true → holds_one (front ++ rest) ≡ true
+one_stays [] rest one = absurd (false≢true one)
+one_stays (true ∷ front) rest one = refl
+one_stays (false ∷ front) rest one = one_stays front rest one
+
+one_in_words : (words : List Bits) → AreWords words → 0 < length (joined words) → holds_one (joined words) ≡ true
+one_in_words [] are some = absurd (omega (arith, some))
+one_in_words (word ∷ words) are some = one_stays word (joined words) (sym (same_ones word) ∙ word_one word are.0)
+
+-- a whole line consumed bits
+took_bits : (line : Line) (n : ℕ) (row : Row) (rest : Bits) → TookBits n line → line ≡ Line.whole row rest → length rest < n
+took_bits line n row rest took e = grind arith
+
+-- the bits of words that were consumed
+words_consumed : (words : List Bits) (bits rest : Bits) → AreWords words → bits ++ rest ≡ joined words ++ rest
+    → length rest < length (bits ++ rest) → holds_one bits ≡ true
+words_consumed words bits rest are is took = grind (arith, common_steps, append_cancel_right, one_in_words, length-append)
+
+pub one_in_whole : (encoding : EncodingMode) (strict : Bool) (columns : ℕ) (reference : Row) (bits rest : Bits) (row : Row) → 0
+    < columns → line_by encoding strict columns reference (bits ++ rest) ≡ Line.whole row rest → one_in_line encoding bits ≡ true
+one_in_whole Group3_1D strict columns reference bits rest row wide e = words_consumed (line_found Group3_1D strict columns
+    reference (bits ++ rest)) bits rest (words_synchronised.before_eol Group3_1D strict columns reference (bits ++ rest)).are
+    (words_synchronised.to_the_end Group3_1D strict columns reference row (bits ++ rest) rest e)
+    (grind (arith, common_steps, took_bits, line_1d_took_bits))
+one_in_whole Group4 strict columns reference bits rest row wide e = words_consumed (line_found Group4 strict columns reference
+    (bits ++ rest)) bits rest (words_synchronised.before_eol Group4 strict columns reference (bits ++ rest)).are
+    (words_synchronised.to_the_end Group4 strict columns reference row (bits ++ rest) rest e)
+    (grind (arith, common_steps, took_bits, line_2d_took_bits))
+one_in_whole Group3_2D strict columns reference [] [] row wide e = absurd cc
+one_in_whole Group3_2D strict columns reference [] (bit ∷ rest) row wide e = grind
+    (arith, common_steps, took_bits, line_1d_took_bits, line_2d_took_bits)
+one_in_whole Group3_2D strict columns reference (true ∷ bits) rest row wide e =
+    one_in_whole Group3_1D strict columns reference bits rest row wide e
+one_in_whole Group3_2D strict columns reference (false ∷ bits) rest row wide e =
+    one_in_whole Group4 strict columns reference bits rest row wide e

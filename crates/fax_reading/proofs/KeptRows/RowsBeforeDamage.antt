@@ -2,8 +2,8 @@
 use Rattle.fax_reading.proofs.Names.{append_cancel_right, append_cancel_left, take-append-drop, DecodeSettings, UnexpectedEof, []}
 use Rattle.fax_reading.proofs.Names.{cases_Bool, cond-false, false≢true, misses_eol, row_before, behind_row, after_line, all_eols}
 use Rattle.fax_reading.proofs.Names.{ending_behind, length-append, append_assoc, EncodingMode, common_steps, DecodeError, move_on}
-use Rattle.fax_reading.proofs.Names.{first_line, RowsBefore, eols_here, limit_met, line_here, first_gap, replicate, cond-true, ap}
-use Rattle.fax_reading.proofs.Names.{not-false, Group3_1D, Group3_2D, after_eol, at_front, Progress, or_parts, IsPrefix, repeated}
+use Rattle.fax_reading.proofs.Names.{first_line, RowsBefore, eols_here, limit_met, line_here, first_gap, replicate, ap}
+use Rattle.fax_reading.proofs.Names.{not-false, Group3_1D, Group3_2D, at_front, Progress, or_parts, IsPrefix, repeated}
 use Rattle.fax_reading.proofs.Names.{repaired, Reaches, length, Option, Group4, end_of, Ending, false, subst, arith, plain, true}
 use Rattle.fax_reading.proofs.Names.{◌&&◌, ◌||◌, ◌++◌, take, drop, Some, None, refl, Turn, Line, Bits, Bool, List, Move, ◌%◌, ◌<◌}
 use Rattle.fax_reading.proofs.Names.{◌≤◌, not, ◌∷◌, sym, ◌∙◌, ◌⊎◌, inl, inr, Err, Row, ◌≡◌, suc, ℕ}
@@ -13,16 +13,17 @@ use Rattle.fax_bits.proofs.CodeWords.ReadRuns.{chosen}
 use Rattle.fax_bits.proofs.Repetition.Repeated.{repeated_turn, repeated_same, after_turn, not_next, next_is}
 use Rattle.fax_reading.proofs.DamagedLines.EolsAlike.{turn_closed, eols_past, one_among, Closes}
 use Rattle.fax_reading.proofs.DamagedLines.PastEol.{next_eol_leaves, eols_here-none, past-front, past-eol, past_is, past}
-use Rattle.fax_reading.proofs.DamagedLines.SoughtTurns.{eols_here_same, sought_done, move_sought, found_next, row_past, sought}
+use Rattle.fax_reading.proofs.DamagedLines.PastEol.{eols_here_same, sought_done, move_sought, found_next, row_past, sought}
 use Rattle.fax_reading.proofs.KeptRows.EqualFronts.{one_in_line, one_in_bits, past_front, eols_front, all_front}
-use Rattle.fax_reading.proofs.KeptRows.LinesAgain.{one_in_whole, line_again, one_stays}
+use Rattle.fax_reading.proofs.KeptRows.EqualFronts.{one_in_whole, line_again, one_stays}
 use Rattle.fax_reading.proofs.KeptRows.TurnsLeave.{after_row_leaves, reached_leaves}
 use Rattle.fax_reading.proofs.Readings.RowsAndGaps.{after_damage-is, after_whole-is, unless_over, pass_gap-is, after_row}
-use Rattle.fax_reading.proofs.Readings.TurnsAddRows.{after_row_keeps, first_gap_keeps, repeated_adds, turn_extends, move_adds}
+use Rattle.fax_reading.proofs.Readings.RowsAndGaps.{missed_sought}
+use Rattle.fax_reading.proofs.Readings.TurnsMoveOn.{after_row_keeps, first_gap_keeps, repeated_adds, turn_extends, move_adds}
 use Rattle.fax_reading.proofs.Readings.TurnsMoveOn.{eols_here_counted, unless_over_next, unless_over_open, left_to_read}
-use Rattle.fax_reading.proofs.Readings.{GapsAndRows.plain_is, TurnsAddRows.Keeps}
-use Rattle.fax_reading.proofs.{DamagedLines.LineTails.eol_closes, DamagedLines.RunsAlike.run_at, Readings.RowsAndGaps.unmissed}
-use Rattle.fax_reading.proofs.{EncodedPictures.AfterEofb.aligned_split, DamagedLines.LineStarts.more_left}
+use Rattle.fax_reading.proofs.Readings.{GapsAndRows.plain_is, TurnsMoveOn.Keeps}
+use Rattle.fax_reading.proofs.{DamagedLines.LineTails.eol_closes, DamagedLines.RunsAlike.run_at}
+use Rattle.fax_reading.proofs.{EncodedPictures.PicturesT6.aligned_split, DamagedLines.LinesByEols.more_left}
 use Rattle.fax_reading.proofs.{Readings.TurnsMoveOn.move_shrinks, Readings.TurnsMoveOn.left_below, DamagedLines.LinesByEols.seeks}
 use Rattle.fax_reading.specs.GapsContinued.{holds_one}
 
@@ -62,79 +63,72 @@ one_closes bits more (first, is) =
     ap holds_one shape ∙ one_among (first ++ replicate 11 false) more
 
 -- EOLs that aren't missed were counted
-not_missed : (none met ends : Bool) → met ≡ false → ends ≡ false → (((none && true) && not met) && not ends) ≡ false
-    → none ≡ false
-not_missed none met ends e f missed = grind (arith, common_steps)
+not_missed : (none has met ends : Bool) → met ≡ false → ends ≡ false → (((none && has) && not met) && not ends) ≡ false
+    → (none && has) ≡ false
+not_missed none has met ends e f missed = grind (arith, common_steps)
+
+-- a state whose bits are followed by these
+abbrev followed : Progress → Bits → Progress
+followed s z = record s { rest = s.rest ++ z }
 
 module _ (settings : DecodeSettings) (x y : Bits) where
   -- a line follows the EOLs in both
-  unless_front : (rows : List Row) (has_eols : Bool) (u v more : Bits) (count : ℕ) (t : Progress) → 0 < length more
-      → unless_over settings (run_at rows has_eols u) (count, more ++ x) ≡ Turn.next t
-      → unless_over settings (run_at rows has_eols v) (count, more ++ y) ≡ Turn.next (run_at rows has_eols (more ++ y))
-  unless_front rows has_eols u v [] count t some e = absurd (omega (arith, some))
-  unless_front rows has_eols u v (b ∷ more) count t some e = grind (arith, common_steps, chosen, not_next, cond-false)
+  unless_front : (s : Progress) (u v more : Bits) (count : ℕ) (t : Progress) → 0 < length more
+      → unless_over settings (record s { rest = u }) (count, more ++ x) ≡ Turn.next t
+      → unless_over settings (record s { rest = v }) (count, more ++ y) ≡ Turn.next (record s { rest = more ++ y })
+  unless_front s u v [] count t some e = absurd (omega (arith, some))
+  unless_front s u v (b ∷ more) count t some e = grind (arith, common_steps, chosen, not_next, cond-false)
 
-  -- the EOLs from one on that ends among the equal bits
-  eols_from_front : (found other left more : Bits) (count : ℕ) → after_eol 0 found ≡ Some (left ++ x)
-      → after_eol 0 other ≡ Some (left ++ y) → eols_here settings found ≡ (count, more ++ x)
-      → one_in_line settings.encoding more ≡ true → eols_here settings other ≡ (count, more ++ y)
-  eols_from_front found other left more count e f counted one = let eol : Bits = replicate 11 false ++ true ∷ left in
-      eols_here_same settings other (eol ++ y) (left ++ y) f refl ∙ eols_front x y settings eol more count
-      (eols_here_same settings (eol ++ x) found (left ++ x) refl e ∙ counted) one
-
-  -- after the same rows, and EOLs that are here or not sought
-  counted_front : (rows : List Row) (has_eols : Bool) (bits more : Bits) (t : Progress) → t.rest ≡ more ++ x
-      → one_in_line settings.encoding more ≡ true
-      → unless_over settings (run_at rows has_eols (bits ++ x)) (eols_here settings (bits ++ x)) ≡ Turn.next t
-      → (eols_here settings (bits ++ y) ≡ ((eols_here settings (bits ++ x)).0, more ++ y)) × (unless_over settings
-      (run_at rows has_eols (bits ++ y)) (eols_here settings (bits ++ y)) ≡ Turn.next (run_at rows has_eols (more ++ y)))
-  counted_front rows has_eols bits more t rest_is one e = let count : ℕ = (eols_here settings (bits ++ x)).0 in
-      let same = unless_over_next settings (run_at rows has_eols (bits ++ x)) t (eols_here settings (bits ++ x)) e in
-      let left_is : (eols_here settings (bits ++ x)).1 ≡ more ++ x = ap (λ (p : Progress). p.rest) same ∙ rest_is in
-      let counted : eols_here settings (bits ++ x) ≡ (count, more ++ x) = ap (λ (b : Bits). (count, b)) left_is in
-      let other = eols_front x y settings bits more count counted one in
-      grind (arith, unless_front, some_bits, one_in_bits)
+  -- so EOLs that are counted here lead to the same line
+  counted_front : (s t : Progress) (u v : Bits) (found other : ℕ × Bits) → one_in_line settings.encoding t.rest ≡ true
+      → (found ≡ (found.0, t.rest ++ x) → other ≡ (found.0, t.rest ++ y))
+      → unless_over settings (record s { rest = u }) found ≡ Turn.next (followed t x)
+      → (other ≡ (found.0, t.rest ++ y)) × (unless_over settings (record s { rest = v }) other ≡ Turn.next (followed t y))
+  counted_front s t u v found other one same e =
+      let next = unless_over_next settings (record s { rest = u }) (followed t x) found e in
+      let at : found ≡ (found.0, t.rest ++ x) = ap (λ (p : Progress). (found.0, p.rest)) next in
+      let some = some_bits t.rest (one_in_bits settings.encoding t.rest one) in
+      (same at, grind (arith, unless_front s u v t.rest found.0 (followed t x) some, same at, at, next))
 
   -- the gap leads to the same line in both, if its bits have a one among the equal ones
-  pub gap_front : (rows : List Row) (has_eols : Bool) (bits more : Bits) (t : Progress) → t.has_eols ≡ has_eols
-      → t.rest ≡ more ++ x → one_in_line settings.encoding more ≡ true → after_row settings (run_at rows has_eols (bits ++ x))
-      ≡ Turn.next t → after_row settings (run_at rows has_eols (bits ++ y)) ≡ Turn.next (run_at rows has_eols (more ++ y))
-  gap_front rows false bits more t seeks rest_is one e = cond-false (misses_eol settings (length rows) false (bits ++ y))
-      _ _ (unmissed settings (length rows) (bits ++ y)) ∙ (counted_front rows false bits more t rest_is one (sym
-      (cond-false (misses_eol settings (length rows) false (bits ++ x)) _ _ (unmissed settings (length rows) (bits ++ x))) ∙ e)).1
-  gap_front rows true bits more t seeks rest_is one e = by_strict (cases_Bool settings.strict)
-    where
-      by_strict : (settings.strict ≡ true) ⊎ (settings.strict ≡ false)
-          → after_row settings (run_at rows true (bits ++ y)) ≡ Turn.next (run_at rows true (more ++ y))
-      by_strict (inl strict) = elim (chosen (misses_eol settings (length rows) true (bits ++ x)) _ _ _ e) [
-        | inl missed ↦ absurd (not_next _ t (sym (cond-true settings.strict _ _ strict) ∙ missed.1))
-        | inr counted ↦ let other = counted_front rows true bits more t rest_is one counted.1 in grind (
-          arith,
-          unless_over_open,
-          eols_here_counted,
-          unless_over_next,
-          length-append,
-          some_bits,
-          one_in_bits,
-          not_missed,
-          more_left,
-          cond-false,
-        )
+  sought_front : settings.strict ≡ false → (rows : List Row) (bits : Bits) (t : Progress) → t.has_eols ≡ true
+      → one_in_line settings.encoding t.rest ≡ true → after_row settings (sought rows (bits ++ x)) ≡ Turn.next (followed t x)
+      → after_row settings (sought rows (bits ++ y)) ≡ Turn.next (followed t y)
+  sought_front lenient rows bits t seeks one e = let there = past_there settings lenient rows (bits ++ x) (followed t x) e seeks
+      in
+      let left = past_front x 0 bits there.1.0 there.1.1 (omega (arith, there.1.2, length-append t.rest x)) in
+      let one_x = row_past settings lenient rows (bits ++ x)
+      (left.0 ++ x) there.0 (there.1.1 ∙ ap (λ (b : Bits). Some b) left.1) in
+      let one_y = row_past settings lenient rows (bits ++ y) (left.0 ++ y) there.0 (past-front 0 bits left.0 y left.2) in
+      let eol : Bits = replicate 11 false ++ true ∷ left.0 in
+      one_y.3 ∙ (counted_front (sought rows []) t (bits ++ x) (bits ++ y) (eols_here settings one_x.0)
+      (eols_here settings one_y.0) one (λ is. eols_here_same settings one_y.0 (eol ++ y) (left.0 ++ y) one_y.2 refl
+      ∙ eols_front x y settings eol t.rest (eols_here settings one_x.0).0
+      (eols_here_same settings (eol ++ x) one_x.0 (left.0 ++ x) refl one_x.2 ∙ is) one) (sym one_x.3 ∙ e)).1
+
+  pub gap_front : (rows : List Row) (has_eols : Bool) (bits : Bits) (t : Progress) → t.has_eols ≡ has_eols
+      → one_in_line settings.encoding t.rest ≡ true
+      → after_row settings (run_at rows has_eols (bits ++ x)) ≡ Turn.next (followed t x)
+      → after_row settings (run_at rows has_eols (bits ++ y)) ≡ Turn.next (followed t y)
+  gap_front rows has_eols bits t seeks one e =
+      elim (chosen (misses_eol settings (length rows) has_eols (bits ++ x)) _ _ _ e) [
+        | inl missed ↦ grind (arith, chosen, not_next, missed_sought, sought_front)
+        | inr counted ↦ let other = counted_front (run_at rows has_eols []) t (bits ++ x) (bits ++ y)
+            (eols_here settings (bits ++ x)) (eols_here settings (bits ++ y)) one
+            (λ is. eols_front x y settings bits t.rest (eols_here settings (bits ++ x)).0 is one) counted.1 in
+            grind (
+              arith,
+              unless_over_open,
+              eols_here_counted,
+              unless_over_next,
+              length-append,
+              some_bits,
+              one_in_bits,
+              not_missed,
+              more_left,
+              cond-false,
+            )
       ]
-      by_strict (inr lenient) = let there = past_there settings lenient rows (bits ++ x) t e seeks in
-          let left = past_front x 0 bits there.1.0 there.1.1
-          (omega (arith, there.1.2, ap length rest_is, length-append more x)) in
-          let one_x = row_past settings lenient rows (bits ++ x)
-          (left.0 ++ x) there.0 (there.1.1 ∙ ap (λ (b : Bits). Some b) left.1) in
-          let one_y = row_past settings lenient rows (bits ++ y) (left.0 ++ y) there.0 (past-front 0 bits left.0 y left.2) in
-          let count : ℕ = (eols_here settings one_x.0).0 in
-          let same = unless_over_next settings (sought rows (bits ++ x)) t (eols_here settings one_x.0) (sym one_x.3 ∙ e) in
-          let left_is : (eols_here settings one_x.0).1 ≡ more ++ x = ap (λ (p : Progress). p.rest) same ∙ rest_is in
-          let counted : eols_here settings one_x.0 ≡ (count, more ++ x) = ap (λ (b : Bits). (count, b)) left_is in
-          let other = eols_from_front one_x.0 one_y.0 left.0 more count one_x.2 one_y.2 counted one in
-          one_y.3 ∙ ap (unless_over settings (sought rows (bits ++ y))) other ∙ unless_front rows true (bits ++ x)
-          (bits ++ y) more count t (some_bits more (one_in_bits settings.encoding more one))
-          (ap (unless_over settings (sought rows (bits ++ x))) (sym counted) ∙ sym one_x.3 ∙ e)
 
   -- ---- The line
 
@@ -198,19 +192,18 @@ module _ (settings : DecodeSettings) (x y : Bits) where
         (front, closes, append_cancel_right bits (front ++ left) x (before.1 ∙ is ∙ sym (append_assoc front left x)))
 
     -- a broken line that is repaired
-    sought_broken : settings.strict ≡ false → (rows : List Row) (bits : Bits) (t : Progress) → t.has_eols ≡ true → length x
-        ≤ length t.rest → move_on settings (sought rows (bits ++ x)) ≡ Turn.next t → (front : Row) (fault : DecodeError)
+    sought_broken : settings.strict ≡ false → (rows : List Row) (bits : Bits) (t : Progress) → t.has_eols ≡ true
+        → move_on settings (sought rows (bits ++ x)) ≡ Turn.next (followed t x) → (front : Row) (fault : DecodeError)
         → line_here settings (row_before settings.columns rows) (bits ++ x) ≡ Line.broken front fault → TurnFound rows true bits
-    sought_broken lenient rows bits t seeks le e front fault is =
+    sought_broken lenient rows bits t seeks e front fault is =
         let moved = sym (repaired_turn rows (bits ++ x) front fault lenient is) ∙ e in
-        let next = past_there settings lenient (rows ++ repaired settings.columns front ∷ []) (bits ++ x) t moved seeks in
-        let after = past_front x 0 bits next.1.0 next.1.1 (omega (arith, le, next.1.2)) in
+        let next = past_there settings lenient (rows ++ repaired settings.columns front ∷ []) (bits ++ x)
+        (followed t x) moved seeks in
+        let after = past_front x 0 bits next.1.0 next.1.1 (omega (arith, length-append t.rest x, next.1.2)) in
         let closes = closes_front bits after.0 (next.1.1 ∙ ap (λ (b : Bits). Some b) after.1) in
         let (row, left, some, turn) = turn_closed settings lenient rows closes.0 closes.1 in
         let shape : (z : Bits) → move_on settings (sought rows (bits ++ z)) ≡ after_row settings
-        (sought (rows ++ row ∷ []) ((left ++ after.0) ++ z)) = λ z. ap (λ (b : Bits). move_on settings (sought rows b))
-        (ap (λ (b : Bits). b ++ z) closes.2 ∙ append_assoc closes.0 after.0 z) ∙ turn (after.0 ++ z)
-        ∙ ap (λ (b : Bits). after_row settings (sought (rows ++ row ∷ []) b)) (sym (append_assoc left after.0 z)) in
+        (sought (rows ++ row ∷ []) ((left ++ after.0) ++ z)) = grind (arith, common_steps, sought, append_assoc, after_row) in
         record {
           row = row;
           left = left ++ after.0;
@@ -219,22 +212,10 @@ module _ (settings : DecodeSettings) (x y : Bits) where
           there = shape y;
         }
 
-    broken_found : (rows : List Row) (has_eols : Bool) (bits : Bits) (t : Progress) → t.has_eols ≡ has_eols
-        → length x ≤ length t.rest → move_on settings (run_at rows has_eols (bits ++ x)) ≡ Turn.next t → (front : Row)
-        (fault : DecodeError) → line_here settings (row_before settings.columns rows) (bits ++ x) ≡ Line.broken front fault
-        → TurnFound rows has_eols bits
-    broken_found rows has_eols bits t seeks le e front fault is = elim (chosen (settings.strict || not has_eols)
-        _ _ _ (sym (after_damage-is settings (run_at rows has_eols (bits ++ x)) front fault)
-        ∙ sym (ap (after_line settings (run_at rows has_eols (bits ++ x))) is) ∙ e)) [
-          | inl over ↦ absurd (not_next _ t over.1)
-          | inr added ↦ let parts = or_parts settings.strict (not has_eols) added.0 in
-              grind (arith, common_steps, not-false has_eols parts.1, sought_broken parts.0 rows bits t)
-        ]
-
     -- the turn in both
-    pub turn_found : (rows : List Row) (has_eols : Bool) (bits : Bits) (t : Progress) → t.has_eols ≡ has_eols → length x
-        ≤ length t.rest → move_on settings (run_at rows has_eols (bits ++ x)) ≡ Turn.next t → TurnFound rows has_eols bits
-    turn_found rows has_eols bits t seeks le e = by_line (line_here settings above (bits ++ x)) refl
+    pub turn_found : (rows : List Row) (has_eols : Bool) (bits : Bits) (t : Progress) → t.has_eols ≡ has_eols
+        → move_on settings (run_at rows has_eols (bits ++ x)) ≡ Turn.next (followed t x) → TurnFound rows has_eols bits
+    turn_found rows has_eols bits t seeks e = by_line (line_here settings above (bits ++ x)) refl
       where
         above : Row
         above = row_before settings.columns rows
@@ -243,9 +224,10 @@ module _ (settings : DecodeSettings) (x y : Bits) where
         by_line (Line.whole row rest) is = let moved = whole_turn rows has_eols (bits ++ x) rest row is in
             let again = line_again settings.encoding settings.strict settings.columns above (bits ++ x) row rest is in
             let behind : Bits = behind_row settings has_eols rest in
-            let more = after_row_leaves settings (run_at (rows ++ row ∷ []) has_eols behind) t (sym moved ∙ e) in
+            let more = after_row_leaves settings (run_at (rows ++ row ∷ []) has_eols behind) (followed t x) (sym moved ∙ e) in
             let shorter : length behind ≤ length rest = grind (arith, common_steps, aligned_split, length-append) in
-            let long : length x ≤ length behind = omega (arith, le, ap length more.0.1, length-append more.0.0 t.rest) in
+            let long : length x ≤ length behind = omega
+            (arith, ap length more.0.1, length-append more.0.0 (t.rest ++ x), length-append t.rest x) in
             let read : length again.0 ≤ length bits = omega
             (arith, long, shorter, ap length again.1, length-append again.0 rest, length-append bits x) in
             let kept = prefix_of_prefix again.0 rest bits x again.1 read in
@@ -262,7 +244,13 @@ module _ (settings : DecodeSettings) (x y : Bits) where
               here = grind arith;
               there = grind (arith, whole_turn);
             }
-        by_line (Line.broken front fault) is = broken_found rows has_eols bits t seeks le e front fault is
+        by_line (Line.broken front fault) is = elim (chosen (settings.strict || not has_eols) _ _ _ (sym (after_damage-is settings
+            (run_at rows has_eols (bits ++ x)) front fault) ∙ sym (ap (after_line settings (run_at rows has_eols (bits ++ x))) is)
+            ∙ e)) [
+              | inl over ↦ absurd (not_next _ (followed t x) over.1)
+              | inr added ↦ let parts = or_parts settings.strict (not has_eols) added.0 in
+                  grind (arith, common_steps, not-false has_eols parts.1, sought_broken parts.0 rows bits t)
+            ]
 
     -- ---- Turns one after another
 
@@ -287,9 +275,6 @@ module _ (settings : DecodeSettings) (x y : Bits) where
           → mid ≡ first
       still_sought first mid last e e5 g = grind arith
 
-      rows_added : (run t : Progress) → after_row settings run ≡ Turn.next t → t.rows ≡ run.rows
-      rows_added run t e = subst (Keeps run.rows) e (after_row_keeps settings run)
-
       pub rows_stay : (s last : Progress) (bits : Bits) → Reaches (move_on settings) s last → last.has_eols ≡ s.has_eols
           → last.rest ≡ x → s.rest ≡ bits ++ x → RowsStay s last bits
       rows_stay s last bits (Reaches.stays same) seeks at rest_is = (inl refl, grows (run_at same.rows same.has_eols (bits ++ y)))
@@ -300,58 +285,48 @@ module _ (settings : DecodeSettings) (x y : Bits) where
           ≡ from.has_eols = still_sought from.has_eols after.has_eols end.has_eols seeks first.1 leaves.1 in
           let left_is : after.rest ≡ leaves.0.0 ++ x = leaves.0.1 ∙ ap (λ (b : Bits). leaves.0.0 ++ b) at in
           let on = rows_stay after end leaves.0.0 reaches (seeks ∙ sym has) at left_is in
-          let moved : move_on settings (run_at from.rows from.has_eols (bits ++ x)) ≡ Turn.next after = ap
-          (λ (b : Bits). move_on settings (run_at from.rows from.has_eols b)) (sym rest_is) ∙ e in
-          let found = turn_found from.rows from.has_eols bits after has
-          (omega (arith, ap length left_is, length-append leaves.0.0 x)) moved in
-          let rows : List Row = from.rows ++ found.row ∷ [] in
-          let added : after_row settings (run_at rows from.has_eols (found.left ++ x)) ≡ Turn.next after = sym found.here
-          ∙ moved in
-          let rows_are : after.rows ≡ rows = rows_added (run_at rows from.has_eols (found.left ++ x)) after added in
-          let turned : rest_end (run_at from.rows from.has_eols (bits ++ y)) ≡ after_turn rest_end
-          (after_row settings (run_at rows from.has_eols (found.left ++ y))) = turn_is
-          (run_at from.rows from.has_eols (bits ++ y)) ∙ ap (after_turn rest_end) found.there in (
+          let next : Progress = run_at after.rows after.has_eols leaves.0.0 in
+          let moved : move_on settings (run_at from.rows from.has_eols (bits ++ x)) ≡ Turn.next (followed next x) = grind
+          (arith, common_steps, run_at) in
+          let found = turn_found from.rows from.has_eols bits next has moved in
+          let run : Bits → Progress = λ z. run_at (from.rows ++ found.row ∷ []) from.has_eols (found.left ++ z) in
+          let turned : rest_end (run_at from.rows from.has_eols (bits ++ y)) ≡ after_turn rest_end (after_row settings (run y))
+          = turn_is (run_at from.rows from.has_eols (bits ++ y)) ∙ ap (after_turn rest_end) found.there in (
             inr found.one,
             subst (λ (q : Ending). IsPrefix end.rows q.rows) (sym turned) (elim on.0 [
-              | inl same ↦ subst (λ (r : List Row). IsPrefix r (after_turn rest_end (after_row settings
-                  (run_at rows from.has_eols (found.left ++ y)))).rows) (sym rows_are ∙ ap (λ (p : Progress). p.rows) same)
-                  (turn_extends rest_end grows rows (after_row settings (run_at rows from.has_eols (found.left ++ y)))
-                  (after_row_keeps settings (run_at rows from.has_eols (found.left ++ y))))
-              | inr one ↦ let goes : after_row settings (run_at rows from.has_eols (found.left ++ y)) ≡ Turn.next
-                  (run_at after.rows after.has_eols (leaves.0.0 ++ y)) = gap_front rows from.has_eols found.left leaves.0.0 after
-                  has left_is one added ∙ ap {B = Move} (λ (h : Bool). Turn.next (run_at rows h (leaves.0.0 ++ y))) (sym has)
-                  ∙ ap {B = Move} (λ (r : List Row). Turn.next (run_at r after.has_eols (leaves.0.0 ++ y))) (sym rows_are) in
-                  subst (λ (m : Move). IsPrefix end.rows (after_turn rest_end m).rows) (sym goes) on.1
+              | inl same ↦ subst (λ (r : List Row). IsPrefix r (after_turn rest_end (after_row settings (run y))).rows)
+                  (sym (subst (Keeps (run x).rows) (sym found.here ∙ moved) (after_row_keeps settings (run x)))
+                  ∙ ap (λ (p : Progress). p.rows) same)
+                  (turn_extends rest_end grows (run y).rows (after_row settings (run y)) (after_row_keeps settings (run y)))
+              | inr one ↦ subst (λ (m : Move). IsPrefix end.rows (after_turn rest_end m).rows) (sym (gap_front
+                  (run y).rows from.has_eols found.left next has one (sym found.here ∙ moved))) on.1
             ]),
           )
 
 -- ---- The whole
 
 -- the first line of the other data, if its bits have a one among the equal ones
-first_front : (settings : DecodeSettings) (x y front bits : Bits) (first : Progress) → first.rest ≡ bits ++ x
-    → one_in_line settings.encoding bits ≡ true → first_gap settings.encoding settings (front ++ x) ≡ Turn.next first
-    → first_gap settings.encoding settings (front ++ y) ≡ Turn.next (run_at first.rows first.has_eols (bits ++ y))
-first_front settings x y front bits first rest_is one begins = by_encoding settings.encoding refl begins
+first_front : (settings : DecodeSettings) (x y front : Bits) (first : Progress)
+    → one_in_line settings.encoding first.rest ≡ true → first_gap settings.encoding settings (front ++ x)
+    ≡ Turn.next (followed first x) → first_gap settings.encoding settings (front ++ y) ≡ Turn.next (followed first y)
+first_front settings x y front first one begins = by_encoding settings.encoding refl begins
   where
-    in_bits : holds_one bits ≡ true
-    in_bits = one_in_bits settings.encoding bits one
+    in_bits : holds_one first.rest ≡ true
+    in_bits = one_in_bits settings.encoding first.rest one
 
-    group3 : first_line settings (front ++ x) ≡ first
-        → first_line settings (front ++ y) ≡ run_at first.rows first.has_eols (bits ++ y)
-    group3 is = let count : ℕ = (all_eols (front ++ x)).0 in grind (arith, common_steps, all_front x y front bits count, in_bits)
+    group3 : first_line settings (front ++ x) ≡ followed first x → first_line settings (front ++ y) ≡ followed first y
+    group3 is = let count : ℕ = (all_eols (front ++ x)).0 in
+        grind (arith, common_steps, all_front x y front first.rest count, in_bits)
 
     by_encoding : (encoding : EncodingMode) → settings.encoding ≡ encoding → first_gap encoding settings (front ++ x)
-        ≡ Turn.next first → first_gap encoding settings (front ++ y) ≡ Turn.next (run_at first.rows first.has_eols (bits ++ y))
-    by_encoding Group3_1D same e = ap {B = Move} (λ (p : Progress). Turn.next p) (group3 (next_is _ first e))
-    by_encoding Group3_2D same e = ap {B = Move} (λ (p : Progress). Turn.next p) (group3 (next_is _ first e))
-    by_encoding Group4 same e = let gap : after_row settings (at_front (front ++ x)) ≡ Turn.next first = sym
+        ≡ Turn.next (followed first x) → first_gap encoding settings (front ++ y) ≡ Turn.next (followed first y)
+    by_encoding Group3_1D same e = ap {B = Move} (λ (p : Progress). Turn.next p) (group3 (next_is _ (followed first x) e))
+    by_encoding Group3_2D same e = ap {B = Move} (λ (p : Progress). Turn.next p) (group3 (next_is _ (followed first x) e))
+    by_encoding Group4 same e = let gap : after_row settings (at_front (front ++ x)) ≡ Turn.next (followed first x) = sym
         (pass_gap-is settings (at_front (front ++ x))) ∙ e in
-        let unsought : first.has_eols
-        ≡ false = elim (after_row_leaves settings (at_front (front ++ x)) first gap).1 [ inl f ↦ f | inr f ↦ f ] in
-        let none : first.rows ≡ [] = subst (Keeps []) gap (after_row_keeps settings (at_front (front ++ x))) in
-        pass_gap-is settings (at_front (front ++ y)) ∙ gap_front settings x y [] false front bits first unsought rest_is one gap
-        ∙ ap {B = Move} (λ (h : Bool). Turn.next (run_at [] h (bits ++ y))) (sym unsought)
-        ∙ ap {B = Move} (λ (r : List Row). Turn.next (run_at r first.has_eols (bits ++ y))) (sym none)
+        let unsought : first.has_eols ≡ false =
+        elim (after_row_leaves settings (at_front (front ++ x)) (followed first x) gap).1 [ inl f ↦ f | inr f ↦ f ] in
+        pass_gap-is settings (at_front (front ++ y)) ∙ gap_front settings x y [] false front first unsought one gap
 
 -- rows that are the first of some
 first_rows : (rows all : List Row) (index : ℕ) → IsPrefix rows all → length rows ≡ index
@@ -401,14 +376,15 @@ rows_before settings one whole_one two place index whole_two same reads =
         let late : Ending = record { rows = first.rows; has_eols = first.has_eols; outcome = Err UnexpectedEof } in
         let on = rows_stay settings x z as_many reads.wide late first last leaves.0.0 reads.reaches reads.sought reads.place_is
         rest_is in
-        let begins : first_gap settings.encoding settings (front ++ x) ≡ Turn.next first = ap
-        (first_gap settings.encoding settings) (sym one_is) ∙ reads.begins in
+        let begins : first_gap settings.encoding settings (front ++ x) ≡ Turn.next (record first { rest = leaves.0.0 ++ x }) =
+        ap (first_gap settings.encoding settings) (sym one_is) ∙ reads.begins
+        ∙ ap {B = Move} (λ (b : Bits). Turn.next (record first { rest = b })) rest_is in
         let s : Progress = run_at first.rows first.has_eols (leaves.0.0 ++ z) in
         elim on.0 [
           | inl none ↦ let empty : last.rows ≡ [] = grind (arith, first_gap_keeps) in
               ((end_of settings bits).rows, ap (λ (r : List Row). r ++ (end_of settings bits).rows) (sym empty))
           | inr one ↦ let ends : end_of settings bits ≡ rest_end settings x z as_many reads.wide late s = ap (end_of settings)
-              is ∙ ap (ending_behind settings) (first_front settings x z front leaves.0.0 first rest_is one begins)
+              is ∙ ap (ending_behind settings) (first_front settings x z front (record first { rest = leaves.0.0 }) one begins)
               ∙ repeated_same (move_on settings) late left_to_read (move_shrinks settings reads.wide) (suc (suc (length s.rest)))
               (suc (left_to_read s)) s (left_below s) (omega arith) in
               subst (λ (e : Ending). IsPrefix last.rows e.rows) (sym ends) on.1

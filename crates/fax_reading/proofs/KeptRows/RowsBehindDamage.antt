@@ -14,7 +14,7 @@ use Rattle.fax_reading.proofs.DamagedLines.EolsAlike.{leaves_length, all_eols_ke
 use Rattle.fax_reading.proofs.DamagedLines.LineTails.{line_past_by, eol_closes}
 use Rattle.fax_reading.proofs.DamagedLines.PastEol.{then_after, past_is, past}
 use Rattle.fax_reading.proofs.DamagedLines.RunsAlike.{move_beyond, not_group4, StayAlike, SameLine, run_at}
-use Rattle.fax_reading.proofs.DamagedLines.SoughtTurns.{eols_here_same, move_sought, row_past, rest_of, sought}
+use Rattle.fax_reading.proofs.DamagedLines.PastEol.{eols_here_same, move_sought, row_past, rest_of, sought}
 use Rattle.fax_reading.proofs.DamagedLines.{EolsAlike.not_end, EolsAlike.counted, EolsAlike.IsAlone, LinesByEols.seeks}
 use Rattle.fax_reading.proofs.DrawingLines.LinesLeaveBits.{leaves_trans, LeavesBits}
 use Rattle.fax_reading.proofs.Readings.GapsAndRows.{ending_goes, plain_is, end_t4, late, goes}
@@ -106,8 +106,7 @@ module _ (settings : DecodeSettings) (unlimited : settings.rows ≡ 0) (a b : Li
 
   -- a turn of both
   pub moves_in_step : (s t : Progress) → InStep s t → Follows InStep EndInStep rest (move_on settings s) (move_on settings t)
-  moves_in_step s t (xs, ys, h, here, both, short, same, e, f) =
-      rw (e, f) (move_beyond settings most BothThen InStep EndInStep stay rest xs ys h here both short same)
+  moves_in_step s t (xs, ys, h, here, both, short, same, e, f) = grind (arith, common_steps, move_beyond, stay)
 
 -- ---- The whole
 
@@ -174,10 +173,6 @@ module _ (settings : DecodeSettings) (wide : 0 < settings.columns) where
   goes_reached s t (Reaches.moves from after last e reaches) = repeated_turn (move_on settings) (late settings wide) left_to_read
       (move_shrinks settings wide) from ∙ ap (after_turn (goes settings wide)) e ∙ goes_reached after last reaches
 
-  end_goes : (bits : Bits) → IsGroup3 settings.encoding → end_of settings bits ≡ goes settings wide (first_line settings bits)
-  end_goes bits group3 =
-      end_t4 settings bits (not_group4 settings.encoding group3) ∙ ending_goes settings wide (first_line settings bits)
-
   -- what two readings that end in step yield
   in_step : (one two behind : Bits) (a b : List Row) → AreWholeBytes one
       → AreWholeBytes two → length behind ≤ length one → length behind ≤ length two → ComesTo settings one behind
@@ -192,12 +187,14 @@ module _ (settings : DecodeSettings) (wide : 0 < settings.columns) where
       → Reaches (move_on settings) (first_line settings bits) mid → move_on settings mid ≡ unless_over settings
       (sought rows u) found → end_of settings bits ≡ after_turn (goes settings wide) (unless_over settings (sought rows u) found)
   ends_from bits mid rows u found group3 reaches e =
-      end_goes bits group3 ∙ goes_reached (first_line settings bits) mid reaches ∙ repeated_turn (move_on settings)
+      (end_t4 settings bits (not_group4 settings.encoding group3) ∙ ending_goes settings wide (first_line settings bits)) ∙
+      goes_reached (first_line settings bits) mid reaches ∙ repeated_turn (move_on settings)
       (late settings wide) left_to_read (move_shrinks settings wide) mid ∙ ap (after_turn (goes settings wide)) e
 
 -- the law
 pub rows_behind : RowsBehind
-rows_behind settings one whole_one two line behind to to2 whole_two alike = by_over (is_over settings 0 found) refl
+rows_behind settings one whole_one two line behind to to2 whole_two alike =
+    by_over (is_over settings 0 found) refl (comes one these) (comes two those)
   where
     step : PutsInStep settings (drop to one) line behind
     step = alike.step
@@ -222,11 +219,6 @@ rows_behind settings one whole_one two line behind to to2 whole_two alike = by_o
     short_two : length behind ≤ length two
     short_two = omega (arith, short, ap length alike.same, length-drop to2 two)
 
-    -- the turn behind the EOL
-    turn_is : (s : Progress) (rows : List Row) (u : Bits) → move_on settings s ≡ unless_over settings
-        (sought rows u) (eols_here settings step.next) → move_on settings s ≡ unless_over settings (sought rows u) found
-    turn_is s rows u e = e ∙ ap (unless_over settings (sought rows u)) step.behind_is
-
     -- both are over there
     over_end : (bits : Bits) (rows : List Row) (u : Bits) → is_over settings 0 found ≡ true
         → end_of settings bits ≡ after_turn (goes settings alike.wide) (unless_over settings (sought rows u) found)
@@ -246,45 +238,42 @@ rows_behind settings one whole_one two line behind to to2 whole_two alike = by_o
         ≡ record { rows = rows; has_eols = true; outcome = Ok behind } → ComesTo settings bits behind (length rows)
     comes_over bits rows e = grind (arith, plain_is)
 
-    by_over : (over : Bool) → is_over settings 0 found ≡ over → AreInStep settings one two behind
+    -- how a reading that comes there ends, and the line that it reaches if it isn't over
+    Comes : Bits → Type 0
+    Comes bits = (rows : List Row) × (u : Bits)
+        × (end_of settings bits ≡ after_turn (goes settings alike.wide) (unless_over settings (sought rows u) found))
+        × (is_over settings 0 found ≡ false → Reaches (move_on settings) (first_line settings bits) (sought rows behind))
+
+    comes : (bits : Bits) → ComesBehind settings step.next (first_line settings bits) → Comes bits
+    comes bits (mid, rows, u, reaches, turn) =
+        let moved = turn ∙ ap (unless_over settings (sought rows u)) step.behind_is in (
+          rows,
+          u,
+          ends_from settings alike.wide bits mid rows u found alike.encoding reaches moved,
+          λ open_end. reaches_on (move_on settings) (first_line settings bits) mid (sought rows behind) reaches
+              (moved ∙ line_next rows u open_end),
+        )
+
+    by_over : (over : Bool) → is_over settings 0 found ≡ over → Comes one → Comes two → AreInStep settings one two behind
         (plain settings one).rows (plain settings two).rows (plain settings one).outcome (plain settings two).outcome
-    by_over over e = let (mid, a, u, reaches, turn) = these in
-        let (mid2, b, v, reaches2, turn2) = those in
-        let moved = turn_is mid a u turn in
-        let moved2 = turn_is mid2 b v turn2 in
-        let ends = ends_from settings alike.wide one mid a u found alike.encoding reaches moved in
-        let ends2 = ends_from settings alike.wide two mid2 b v found alike.encoding reaches2 moved2 in
-        either_way over e a b u v ends ends2 (λ open_end. reaches_on (move_on settings) (first_line settings one) mid
-        (sought a behind) reaches (moved ∙ line_next a u open_end)) (λ open_end. reaches_on (move_on settings)
-        (first_line settings two) mid2 (sought b behind) reaches2 (moved2 ∙ line_next b v open_end))
-      where
-        either_way : (over : Bool) → is_over settings 0 found ≡ over → (a b : List Row) (u v : Bits)
-            → end_of settings one ≡ after_turn (goes settings alike.wide) (unless_over settings (sought a u) found)
-            → end_of settings two ≡ after_turn (goes settings alike.wide) (unless_over settings (sought b v) found)
-            → (is_over settings 0 found ≡ false → Reaches (move_on settings) (first_line settings one) (sought a behind))
-            → (is_over settings 0 found ≡ false → Reaches (move_on settings) (first_line settings two) (sought b behind))
-            → AreInStep settings one two behind (plain settings one).rows (plain settings two).rows
-            (plain settings one).outcome (plain settings two).outcome
-        either_way true over a b u v ends ends2 reaches reaches2 = let end = over_end one a u over ends in
-            let end2 = over_end two b v over ends2 in
-            in_step settings alike.wide one two behind a b whole_one whole_two short_one short_two (comes_over one a end)
-            (comes_over two b end2) alike.unlimited (
-              ([], ap (λ (q : Ending). q.rows) end ∙ sym (append-nil a), ap (λ (q : Ending). q.rows) end2 ∙ sym (append-nil b)),
-              inr (behind, ap (λ (q : Ending). q.outcome) end, ap (λ (q : Ending). q.outcome) end2, omega arith),
-            )
-        either_way false open_end a b u v ends ends2 reaches reaches2 = let end : end_of settings one ≡ goes settings alike.wide
-            (sought a behind) = ends ∙ ap (after_turn (goes settings alike.wide)) (line_next a u open_end) in
-            let end2 : end_of settings two ≡ goes settings alike.wide (sought b behind) = ends2
-            ∙ ap (after_turn (goes settings alike.wide)) (line_next b v open_end) in
-            let both = repeated_follows (move_on settings) (late settings alike.wide) left_to_read
-            (move_shrinks settings alike.wide) (move_on settings) (late settings alike.wide) left_to_read
-            (move_shrinks settings alike.wide) (InStep settings alike.unlimited a b (length behind) (goes settings alike.wide))
-            (EndInStep settings alike.unlimited a b (length behind) (goes settings alike.wide))
-            (moves_in_step settings alike.unlimited a b (length behind) (goes settings alike.wide))
-            (suc (left_to_read (sought a behind))) (suc (left_to_read (sought b behind))) (sought a behind) (sought b behind)
-            (omega arith) (omega arith) (pair a b open_end) in
-            in_step settings alike.wide one two behind a b whole_one whole_two short_one short_two
-            (inl (sought a behind, reaches open_end, refl, refl)) (inl (sought b behind, reaches2 open_end, refl, refl))
-            alike.unlimited (subst (λ (q : Ending). EndInStep settings alike.unlimited a b (length behind) (goes settings
-            alike.wide) q (end_of settings two)) (sym end) (subst (λ (q : Ending). EndInStep settings alike.unlimited a b
-            (length behind) (goes settings alike.wide) (goes settings alike.wide (sought a behind)) q) (sym end2) both))
+    by_over true over (a, u, ends, reaches) (b, v, ends2, reaches2) = let end = over_end one a u over ends in
+        let end2 = over_end two b v over ends2 in
+        in_step settings alike.wide one two behind a b whole_one whole_two short_one short_two (comes_over one a end)
+        (comes_over two b end2) alike.unlimited (
+          ([], ap (λ (q : Ending). q.rows) end ∙ sym (append-nil a), ap (λ (q : Ending). q.rows) end2 ∙ sym (append-nil b)),
+          inr (behind, ap (λ (q : Ending). q.outcome) end, ap (λ (q : Ending). q.outcome) end2, omega arith),
+        )
+    by_over false open_end (a, u, ends, reaches) (b, v, ends2, reaches2) =
+        let end : end_of settings one ≡ goes settings alike.wide (sought a behind)
+        = ends ∙ ap (after_turn (goes settings alike.wide)) (line_next a u open_end) in
+        let end2 : end_of settings two ≡ goes settings alike.wide (sought b behind)
+        = ends2 ∙ ap (after_turn (goes settings alike.wide)) (line_next b v open_end) in
+        in_step settings alike.wide one two behind a b whole_one whole_two short_one short_two
+        (inl (sought a behind, reaches open_end, refl, refl)) (inl (sought b behind, reaches2 open_end, refl, refl))
+        alike.unlimited (rw (end, end2) (repeated_follows (move_on settings) (late settings alike.wide) left_to_read
+        (move_shrinks settings alike.wide) (move_on settings) (late settings alike.wide) left_to_read
+        (move_shrinks settings alike.wide) (InStep settings alike.unlimited a b (length behind) (goes settings alike.wide))
+        (EndInStep settings alike.unlimited a b (length behind) (goes settings alike.wide))
+        (moves_in_step settings alike.unlimited a b (length behind) (goes settings alike.wide))
+        (suc (left_to_read (sought a behind))) (suc (left_to_read (sought b behind))) (sought a behind) (sought b behind)
+        (omega arith) (omega arith) (pair a b open_end)))

@@ -1,9 +1,9 @@
 -- An EOL and the line behind it, as they are tested.
 use Rattle.fax_reading.proofs.Names.{ComesBefore1D, AreWholeBytes, common_steps, EncodingMode, IsInStepFrom, looked_ahead, looked}
-use Rattle.fax_reading.proofs.Names.{EndsByWords, length-drop, EndsBefore, RowsFollow, after_eol, eols_here, run_found, line_here}
+use Rattle.fax_reading.proofs.Names.{EndsByWords, length-drop, EndsBefore, RowsFollow, after_eol, eols_here, run_found}
 use Rattle.fax_reading.proofs.Names.{TellsStep, tag_tests, cond-true, Group3_1D, Group3_2D, leb-true, next_eol, read_run, line_1d}
 use Rattle.fax_reading.proofs.Names.{length-replicate, DecodeSettings, ModesEndBefore, most_for_lines, length-append, DecodeError}
-use Rattle.fax_reading.proofs.Names.{opposite, line_by, length, Result, IsTrue, le-leb, Group4, subst, false, arith, Color, None}
+use Rattle.fax_reading.proofs.Names.{opposite, line_by, length, IsTrue, le-leb, Group4, subst, false, arith, Color, None}
 use Rattle.fax_reading.proofs.Names.{refl, Bits, Line, drop, true, Bool, Some, leb, ◌∷◌, Err, ◌≡◌, inl, inr, min, Row, Pen, ◌+◌}
 use Rattle.fax_reading.proofs.Names.{◌-◌, ◌*◌, ◌<◌, ◌≤◌, ◌↔◌, [], Ok, ap, ℕ}
 use Rattle.fax_bits.proofs.BitReading.{ConsecutiveEols.after_eol_shorter, ConsecutiveEols.next_eol_found, ZeroRuns.looked_eol}
@@ -46,18 +46,11 @@ runs_whole columns begun passed color here full (front, long, is) =
 pub runs_broken : (columns : ℕ) (begun : Bits) (passed : ℕ) (color : Color) (here : Bits) (fault : DecodeError)
     → passed < columns → RunsPassed columns begun passed color here → read_run color here ≡ Err fault
     → (row : Row) (rest : Bits) → line_1d false columns begun ≡ Line.whole row rest → ⊥
-runs_broken columns begun passed color here fault few (front, long, is) read row rest e =
-    let next = run_open false columns (pen_of_runs front color here) (omega (arith, few, long)) in
-    grind (arith, common_steps, next)
-
--- the words of a run are no more than the bits that it takes
-run_counted : (color : Color) (here : Bits) (r : Result (ℕ × Bits) DecodeError) → read_run color here ≡ r → (n : ℕ) (rest : Bits)
-    → r ≡ Ok (n, rest) → length (run_found color (0, here)) + length rest ≤ length here
-run_counted color here r e n rest f = grind (arith, common_steps, run_stands color 0 here, stands_count)
+runs_broken columns begun passed color here fault few (front, long, is) read row rest e = grind (arith, common_steps, run_open)
 
 pub run_work : (color : Color) (here rest : Bits) (n : ℕ) → read_run color here ≡ Ok (n, rest)
     → length (run_found color (0, here)) + length rest ≤ length here
-run_work color here rest n e = run_counted color here (read_run color here) refl n rest e
+run_work color here rest n e = grind (arith, common_steps, run_stands color 0 here, stands_count)
 
 pub no_run_work : (color : Color) (here : Bits) → length (run_found color (0, here)) ≤ length here
 no_run_work color here =
@@ -105,19 +98,12 @@ words_end Group3_2D columns after (false ∷ line) is ends modes = modes refl li
 words_end Group4 columns after line (inl is) ends modes = absurd cc
 words_end Group4 columns after line (inr is) ends modes = absurd cc
 
--- the modes of a two-dimensional line
-pub modes_end : (encoding : EncodingMode) (columns : ℕ) (after line : Bits) → EndsByWords encoding columns after line
-    → encoding ≡ Group3_2D → (modes : Bits) → line ≡ false ∷ modes → ModesEndBefore after modes
-modes_end encoding columns after line ends two modes tag = grind (arith, common_steps)
-
 -- ---- The line behind the second EOL
 
 unreferred_by : (settings : DecodeSettings) (next behind : Bits) (count : ℕ) → IsGroup3 settings.encoding
     → eols_here settings next ≡ (count, behind) → (settings.encoding ≡ Group3_2D → ComesBefore1D settings next)
     → Unreferred settings (count, behind)
-unreferred_by settings next behind count (inl one) counted tag = inr (λ reference other. rw (one, line_here) refl)
-unreferred_by settings next behind count (inr two) counted tag =
-    subst (Unreferred settings) counted (unreferred settings two next (tag two))
+unreferred_by settings next behind count given counted tag = grind (arith, common_steps, counted, unreferred)
 
 -- ---- The tests together
 
@@ -133,7 +119,7 @@ told_by settings here line next after behind count group3 lenient alone next_is 
     ends_any settings.encoding settings.columns after line ends,
     unreferred_by settings next behind count group3 counted tag,
   );
-  modes = modes_end settings.encoding settings.columns after line ends;
+  modes = (λ two modes tag. grind (arith, common_steps));
   tag = tag;
 }
 

@@ -76,8 +76,7 @@ counted_leaves settings run t here leaves e =
 
 seek_leaves : (settings : DecodeSettings) (run t : Progress) (o : Option Bits) → next_eol run.rest ≡ o
     → seek_from settings run o ≡ Turn.next t → TurnLeavesBits run.has_eols run.rest t
-seek_leaves settings run t None e f = grind (arith, common_steps)
-seek_leaves settings run t (Some found) e f = counted_leaves settings run t found (next_eol_leaves run.rest found e) f
+seek_leaves settings run t o e f = grind (arith, common_steps, counted_leaves, next_eol_leaves)
 
 pub after_row_leaves : (settings : DecodeSettings) (run t : Progress) → after_row settings run ≡ Turn.next t
     → TurnLeavesBits run.has_eols run.rest t

@@ -3,8 +3,8 @@ use Rattle.fax_reading.proofs.Names.{common_steps, ◌≡◌, ℕ, zero, suc, �
 use Rattle.fax_reading.proofs.Names.{get_or, refl, sym, ap, ◌∙◌, arith, inl, inr, cases_lt, cases_eq, get_or_past}
 use Rattle.fax_reading.proofs.Names.{get_or_default_zero, Color, White, Row, AreChanges, pixels, is_black, opposite}
 use Rattle.fax_reading.proofs.Names.{right_of, b1, b2, right_of_painted, TurnsFrom, IsNear, IsB1}
-use Rattle.fax_reading.proofs.PixelRows.ReferencePlaces.{turned, turned-not, turned_by_parity, not_not, IsSplit, IsSplit-painted}
-use Rattle.fax_reading.proofs.PixelRows.ReferencePlaces.{IsSplit-none, order, end_within, in_list_if_below, b1_is, b2_after_b1}
+use Rattle.fax_reading.proofs.PixelRows.ReferencePlaces.{turned, turned-not, turned_by_parity, not_not, IsSplit}
+use Rattle.fax_reading.proofs.PixelRows.ReferencePlaces.{order, end_within, in_list_if_below, b1_is, b2_after_b1}
 
 -- ---- The colour that a change turns from.
 pub turns_by : (index : ℕ) (color : Color) → TurnsFrom index color → turned index false ≡ is_black color
@@ -83,7 +83,7 @@ module _ (columns : ℕ) (places : List ℕ) (ascend : AreChanges columns places
   -- of the number of changes that are left of a0 or at it
   split_some : (painted j : ℕ) → 0 < painted → painted < columns → ((k : ℕ) → k < j → get_or places k columns ≤ painted)
       → painted < get_or places j columns → IsSplit places (right_of_painted painted) j
-  split_some painted j some inside left right = grind (arith, IsSplit-painted, get_or_default_zero, in_list_if_below)
+  split_some painted j some inside left right = grind (arith, get_or_default_zero, in_list_if_below)
 
   -- the number of changes that are not right of a0 is the index of b1, or the one before it, which turns from the other colour
   split_near : (painted index : ℕ) (color : Color) → painted < columns → turned index false ≡ is_black color
@@ -91,9 +91,8 @@ module _ (columns : ℕ) (places : List ℕ) (ascend : AreChanges columns places
       → (0 < painted) ⊎ (painted ≤ 0) → (first : ℕ) × IsSplit places (right_of_painted painted) first
       × ((index ≡ first) ⊎ ((index ≡ suc first) × (turned first false ≡ not (is_black color))))
   split_near painted zero color inside colored near right (inl some) = grind (arith, split_some)
-  split_near painted zero color inside colored near right (inr none) = (0, IsSplit-none places painted none, inl refl)
-  split_near painted (suc zero) color inside colored near right (inr none) =
-      (0, IsSplit-none places painted none, inr (refl, turned_before 0 color colored))
+  split_near painted zero color inside colored near right (inr none) = (0, grind (arith, common_steps), inl refl)
+  split_near painted (suc zero) color inside colored near right (inr none) = grind (arith, common_steps, turned_before)
   split_near painted (suc (suc k)) color inside colored near right (inr none) =
       absurd (omega (arith, none, (near.left 0 (omega arith)).0))
   split_near painted (suc k) color inside colored near right (inl some) = elim (cases_lt painted (get_or places k columns)) [
@@ -153,4 +152,4 @@ module _ (columns : ℕ) (places : List ℕ) (ascend : AreChanges columns places
       (right : painted < place) (left : place < get_or places (before + 1) columns) where
     -- the one after b1
     pub after_vl_on : get_or places before columns ≤ place → IsB1 columns places place (before + 2) (opposite color)
-    after_vl_on is_left = grind (arith, turns_second, turns_before, near_up, rising)
+    after_vl_on is_left = grind (arith, turns_second, near_up, rising)

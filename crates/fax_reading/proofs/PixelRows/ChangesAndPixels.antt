@@ -1,5 +1,5 @@
 -- Lawful lists of changes and rows of pixels correspond one to one, and what painting does to both.
-use Rattle.fax_reading.proofs.Names.{◌≡◌, ℕ, zero, suc, ◌+◌, ◌-◌, ◌%◌, ◌<◌, ◌≤◌, eqb, Bool, true, false, cond, not, List, [], ◌∷◌}
+use Rattle.fax_reading.proofs.Names.{◌≡◌, ℕ, zero, suc, ◌+◌, ◌-◌, ◌%◌, ◌<◌, ◌≤◌, eqb, Bool, true, false, not, List, [], ◌∷◌}
 use Rattle.fax_reading.proofs.Names.{◌++◌, length, replicate, refl, sym, arith, append_assoc, length-append, add-one, beq}
 use Rattle.fax_reading.proofs.Names.{range_with_len, filter, length-replicate, replicate-append-replicate, Row, pixel, is_change}
 use Rattle.fax_reading.proofs.Names.{changes, AscendFrom, AreChanges, pixels_from, pixels, last_pixel, continued, common_steps}
@@ -76,8 +76,7 @@ turned_at color (place ∷ places) = turned_at (not color) places
 
 -- after an even number of changes the colour is the same, and else the other one
 pub turned_at-even : (color : Bool) (places : List ℕ) → turned_at color places ≡ beq (eqb (length places % 2) 0) color
-turned_at-even true [] = refl
-turned_at-even false [] = refl
+turned_at-even color [] = grind (arith, common_steps)
 turned_at-even color (place ∷ places) = grind (arith, common_steps, turned_at-even (not color) places)
 
 -- each lawful change is followed by a pixel, so the last pixel has the colour after all of them
@@ -93,25 +92,9 @@ pub last_pixel-pixels : (width : ℕ) (places : List ℕ) → AreChanges width p
     → last_pixel false (pixels width places) ≡ turned_at false places
 last_pixel-pixels width places ascend = last_pixel-pixels_from 0 false width places ascend
 
--- it is black exactly where the number of changes is odd
-pub last_pixel-odd : (width : ℕ) (places : List ℕ) → AreChanges width places
-    → last_pixel false (pixels width places) ≡ not (eqb (length places % 2) 0)
-last_pixel-odd width places ascend = grind (arith, common_steps, last_pixel-pixels, turned_at-even)
-
 -- ---- Painting.
 
--- a wider row continues in its last colour
-pub pixels_from-wider : (place : ℕ)
-    (color : Bool) (width more : ℕ) (places : List ℕ) → place ≤ width → AscendFrom place width places → pixels_from place color
-    (width + more) places ≡ pixels_from place color width places ++ replicate more (turned_at color places)
-pixels_from-wider place color width more [] le ascend = grind (arith, common_steps, replicate-append-replicate)
-pixels_from-wider place color width more (change ∷ places) le ascend = grind (
-  arith,
-  append_assoc,
-  pixels_from-wider change (not color) width more places (omega arith) (AscendFrom-here change width places ascend.2),
-)
-
--- the same if the last change may equal the width
+-- a wider row continues in its last colour; the last change may equal the width
 pub pixels_from-on : (place : ℕ) (color : Bool)
     (width more : ℕ) (places : List ℕ) → place ≤ width → AscendFrom place (suc width) places → pixels_from place color
     (width + more) places ≡ pixels_from place color width places ++ replicate more (turned_at color places)
@@ -125,7 +108,8 @@ pixels_from-on place color width more (change ∷ places) le ascend = grind (
 -- so painting pixels of the last colour adds no change
 pub pixels-same : (width more : ℕ) (places : List ℕ) → AreChanges width places
     → pixels (width + more) places ≡ pixels width places ++ replicate more (last_pixel false (pixels width places))
-pixels-same width more places ascend = grind (arith, common_steps, last_pixel-pixels, pixels_from-wider)
+pixels-same width more places ascend = rw (last_pixel-pixels width places ascend) (pixels_from-on 0 false width more places
+    (omega arith) (AscendFrom-wider 0 0 width (suc width) places (omega arith) (omega arith) ascend))
 
 -- one change more at the end of a row continues in the other colour
 pub pixels_from-push : (place : ℕ) (color : Bool) (width more : ℕ) (places : List ℕ) → pixels_from place color (width + more)
@@ -146,17 +130,12 @@ AreChanges-push width more places some ascend = AscendFrom-push 0 width more pla
 
 -- ---- The changes of a row by recursion are its changes.
 
--- a position is listed where the pixel differs
-listed : (differs : Bool) (x y : Bool) (place : ℕ) (places others : List ℕ) → differs ≡ not (beq x y) → places ≡ others
-    → cond differs (place ∷ places) places ≡ cond (beq x y) others (place ∷ others)
-listed differs x y place places others e same = grind (arith, common_steps)
-
 -- the changes past a front
 changes-rest : (front row : Row) → filter (is_change (front ++ row)) (range_with_len (length front) (length row))
     ≡ changes_from (length front) (last_pixel false front) row
 changes-rest front [] = refl
 changes-rest front (here ∷ row) = let step = changes-rest (front ++ here ∷ []) row in
-    grind (arith, common_steps, add-one, append_assoc, last_pixel-append, length-append, listed, step)
+    grind (arith, common_steps, add-one, append_assoc, last_pixel-append, length-append, step)
 
 -- the changes of a row, by recursion
 pub changes-recursive : (row : Row) → changes row ≡ changes_from 0 false row
@@ -207,10 +186,8 @@ pub pixels_from-changes_from : (place : ℕ) (before : Bool) (row : Row) (width 
 pixels_from-changes_from place before [] width e = let none : width - place ≡ 0 = omega arith in rw none refl
 pixels_from-changes_from place true (true ∷ row) width e =
     changes_go_on place true row width e (pixels_from-changes_from (suc place) true row width (omega arith))
-pixels_from-changes_from place false (false ∷ row) width e =
-    changes_go_on place false row width e (pixels_from-changes_from (suc place) false row width (omega arith))
-pixels_from-changes_from place true (false ∷ row) width e =
-    grind (arith, common_steps, changes_go_on, pixels_from-changes_from (suc place) false row width (omega arith))
+pixels_from-changes_from place before (false ∷ row) width e = grind
+    (arith, common_steps, changes_go_on, pixels_from-changes_from (suc place) false row width (omega arith))
 pixels_from-changes_from place false (true ∷ row) width e =
     grind (arith, common_steps, changes_go_on, pixels_from-changes_from (suc place) true row width (omega arith))
 

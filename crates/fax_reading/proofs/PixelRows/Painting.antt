@@ -1,8 +1,10 @@
 -- Pixels painted at the end of a front, and what the tests of the code that paints them mean.
+use Rattle.fax_reading.proofs.PixelRows.ChangesAndPixels.{last_pixel-pixels}
+use Rattle.fax_reading.proofs.PixelRows.ChangesAndPixels.{turned_at-even}
 use Rattle.fax_reading.proofs.Names.{◌≡◌, ◌≢◌, ℕ, ◌-◌, ◌%◌, ◌<◌, ◌≤◌, ◌⊎◌, eqb, min, Bool, true, false, not, List, ◌++◌, length}
 use Rattle.fax_reading.proofs.Names.{replicate, Ok, Err, arith, beq, lt-ltb, le-ltb, false≢true, Color, White, AreChanges, pixels}
 use Rattle.fax_reading.proofs.Names.{is_black, paint, last_pixel, Held, StoresChange, common_steps, too_many_pixels}
-use Rattle.fax_reading.proofs.PixelRows.ChangesAndPixels.{length-pixels, last_pixel-odd}
+use Rattle.fax_reading.proofs.PixelRows.ChangesAndPixels.{length-pixels}
 use Rattle.std.specs.Bool.{IsTrue}
 
 -- ---- The last pixel's colour, as the code tests it.
@@ -21,14 +23,14 @@ pub last_pixel-agrees : (painted : ℕ) (places : List ℕ) (color : Color) (eve
     → (IsTrue even → length places % 2 ≡ 0) × (length places % 2 ≡ 0 → IsTrue even) → (IsTrue white → color ≡ White)
     × (color ≡ White → IsTrue white) → not (beq even white) ≡ false → last_pixel false (pixels painted places) ≡ is_black color
 last_pixel-agrees painted places color even white ascend is_even is_white agree =
-    grind (arith, common_steps, even_is, false≢true, is_black-not_white, last_pixel-odd)
+    grind (arith, common_steps, even_is, false≢true, is_black-not_white, last_pixel-pixels, turned_at-even)
 
 -- and else the other one
 pub last_pixel-differs : (painted : ℕ) (places : List ℕ) (color : Color) (even white : Bool) → AreChanges painted places
     → (IsTrue even → length places % 2 ≡ 0) × (length places % 2 ≡ 0 → IsTrue even) → (IsTrue white → color ≡ White) ×
     (color ≡ White → IsTrue white) → not (beq even white) ≡ true → not (last_pixel false (pixels painted places)) ≡ is_black color
 last_pixel-differs painted places color even white ascend is_even is_white differ =
-    grind (arith, common_steps, even_is, false≢true, is_black-not_white, last_pixel-odd)
+    grind (arith, common_steps, even_is, false≢true, is_black-not_white, last_pixel-pixels, turned_at-even)
 
 -- a colour that is the other one of a pixel isn't its own
 pub other_color : (pixel color : Bool) → not pixel ≡ color → pixel ≢ color

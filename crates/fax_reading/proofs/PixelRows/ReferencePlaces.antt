@@ -130,16 +130,12 @@ module _ (columns : ℕ) (places : List ℕ) (ascend : AreChanges columns places
   split_at : (j : ℕ) → j < length places → IsSplit places (get_or places j 0) j
   split_at j lt = record { within = omega arith; before = λ k l. order k j l lt; here = λ l. omega arith }
 
-  -- and one more left of the position right of it
-  split_after : (j : ℕ) → j < length places → IsSplit places (suc (get_or places j 0)) (suc j)
-  split_after j lt = grind (arith, order, cases_eq)
-
   -- each of the positions is a changing element
   change_there : (j : ℕ) → j < length places → is_change row (get_or places j 0) ≡ true
   change_there j lt = let p : ℕ = get_or places j 0 in
       let left : get_or places j 0 < columns = below j lt in
       let u = before_is p j (omega arith) (split_at j lt) in
-      let v = pixel_is p (suc j) left (split_after j lt) ∙ turned-not j false in
+      let v = pixel_is p (suc j) left (grind (arith, order, cases_eq)) ∙ turned-not j false in
       rw (u, v) (ap not (other_beq (turned j false)))
 
   -- no other position is
@@ -212,15 +208,6 @@ pub right_of-pixels : (painted : ℕ) (places : List ℕ) → AreChanges painted
     → right_of (pixels painted places) ≡ right_of_painted painted
 right_of-pixels painted places ascend = grind (arith, common_steps, row_length)
 
--- the changes that are at most at a0, while some pixel is painted
-pub IsSplit-painted : (places : List ℕ) (painted j : ℕ) → 0 < painted → j ≤ length places → ((k : ℕ) → k < j → get_or places k 0
-    ≤ painted) → (j < length places → painted < get_or places j 0) → IsSplit places (right_of_painted painted) j
-IsSplit-painted places painted j some within left here = grind (arith, common_steps)
-
--- while none is, a0 is left of them all
-pub IsSplit-none : (places : List ℕ) (painted : ℕ) → painted ≤ 0 → IsSplit places (right_of_painted painted) 0
-IsSplit-none places painted none = grind (arith, common_steps)
-
 -- b2 is the change after b1
 pub b2_after_b1 : (columns : ℕ) (places : List ℕ) (from index : ℕ) (color : Color) → AreChanges columns places
     → b1 (pixels columns places) from color ≡ get_or places index columns
@@ -230,18 +217,8 @@ b2_after_b1 columns places from index color ascend e =
     ∙ next_change columns places ascend index
     ∙ ap (λ (n : ℕ). get_or places n columns) (let s : suc index ≡ index + 1 = omega arith in s)
 
--- what a colour and the parity of an index say
-black_from_white : (color : Color) (white : Bool) → IsTrue white ↔ (color ≡ White) → is_black color ≡ not white
-black_from_white color white h = grind (arith, common_steps)
-
 turned_from_even : (n : ℕ) (even : Bool) → IsTrue even ↔ (n % 2 ≡ 0) → turned n false ≡ not even
 turned_from_even n even h = grind (arith, common_steps, cases_eq, common_steps, false≢true, turned_by_parity)
-
-same_from : (even white : Bool) → not (beq even white) ≡ false → not even ≡ not white
-same_from even white e = grind (arith, common_steps)
-
-other_from : (even white : Bool) → not (beq even white) ≡ true → not even ≡ not (not white)
-other_from even white e = grind (arith, common_steps)
 
 pub not_not : (b : Bool) → not (not b) ≡ b
 not_not b = grind (arith, common_steps)
@@ -252,13 +229,13 @@ module _ (columns : ℕ) (places : List ℕ) (from first : ℕ) (color : Color) 
   -- the first change right of a0 is b1, where it turns the colour to the other one
   pub b1_first : not (beq even white) ≡ false → b1 (pixels columns places) from color ≡ get_or places first columns
   b1_first same = let turns : turned first false ≡ is_black color = grind
-      (arith, common_steps, turned_from_even, same_from, black_from_white) in
+      (arith, common_steps, turned_from_even) in
       b1_is columns places ascend from first first color split turns (inl refl)
 
   -- and else the next one is
   pub b1_second : not (beq even white) ≡ true → b1 (pixels columns places) from color ≡ get_or places (first + 1) columns
   b1_second other = let stays : turned first false ≡ not (is_black color) = grind
-      (arith, common_steps, turned_from_even, other_from, black_from_white) in
+      (arith, common_steps, turned_from_even) in
       let turns : turned (suc first) false ≡ is_black color = turned-not first false ∙ ap not stays ∙ not_not (is_black color) in
       let next : first + 1 ≡ suc first = omega arith in
       rw next (b1_is columns places ascend from first (suc first) color split turns (inr (refl, stays)))
@@ -272,9 +249,8 @@ b2_from_front reference front color within = grind (arith, common_steps, b2_abov
 split_count : (first width : ℕ) (places : List ℕ) (p j : ℕ) → AscendFrom first width places → IsSplit places (suc p) j
     → j ≡ length (filter (λ place. leb place p) places)
 split_count first width [] p j ascend split = omega (arith, split.within)
-split_count first width (place ∷ places) p zero ascend split =
-    let rest : IsSplit places (suc p) 0 = grind (arith, ascend_bounds) in
-    split_count (suc place) width places p 0 ascend.2 rest ∙ ap length (sym (grind (arith, common_steps, cond-false, lt-leb)))
+split_count first width (place ∷ places) p zero ascend split = grind
+    (arith, common_steps, ascend_bounds, cond-false, lt-leb, split_count (suc place) width places p 0 ascend.2)
 split_count first width (place ∷ places) p (suc j) ascend split = let left : place < suc p = split.before 0 (omega arith) in
     let within : suc j ≤ suc (length places) = split.within in
     let rest : IsSplit places (suc p) j =

@@ -1,9 +1,9 @@
 -- The damage that a run passes is counted: the rows that it repairs, those in which it cuts a run, and the EOLs that it misses.
-use Rattle.fax_reading.proofs.Names.{common_steps, ◌≡◌, ◌+◌, ◌-◌, ◌≤◌, ℕ, Bool, false, cond, not, ◌&&◌, List, [], ◌∷◌}
-use Rattle.fax_reading.proofs.Names.{◌++◌, length, Ok, Err, refl, sym, arith, cond-true, cond-false, eq-eqb, ne_eqb, le-leb, Bits}
-use Rattle.fax_reading.proofs.Names.{length-append, DecodeError, DecodeSettings, Held, Repairs, fresh, with_missed, Damaged, Line}
+use Rattle.fax_reading.proofs.Names.{common_steps, ◌≡◌, ◌+◌, ◌-◌, ◌≤◌, ℕ, Bool, false, cond, List, [], ◌∷◌}
+use Rattle.fax_reading.proofs.Names.{length, Ok, Err, arith, cond-true, cond-false, eq-eqb, ne_eqb, le-leb, Bits}
+use Rattle.fax_reading.proofs.Names.{length-append, DecodeError, DecodeSettings, Held, Repairs, fresh, Damaged, Line}
 use Rattle.fax_reading.proofs.Names.{repaired_in, missed_behind, cuts_run, cut_in, cut_since, cuts_with, repairs_with, Progress}
-use Rattle.fax_reading.proofs.Names.{repairs_behind, row_of_line, with_row, misses_eol, context_at, Row, missed_since, start_in}
+use Rattle.fax_reading.proofs.Names.{repairs_behind, row_of_line, with_row, context_at, Row, missed_since, start_in}
 
 -- ---- Rows in which a run is cut
 
@@ -63,31 +63,15 @@ pub missed_counts : (settings : DecodeSettings) (bits : Bits) (so_far : Progress
     (before : Repairs) → row_of_line settings so_far.has_eols so_far.rest line ≡ Ok (row, rest) → before.last ≤ length so_far.rows
     → before.missed ≤ length so_far.rows → (repairs_behind (context_at settings (with_row so_far row rest) (repairs_with line
     strict (length so_far.rows) before)) rest).missed ≡ before.missed + length (missed_behind settings bits so_far line)
-missed_counts settings bits so_far (Line.whole pixels behind) strict row rest before is last few =
-    grind (arith, cuts_keep, by_b, length-append)
-  where
-    by_b : (now : Repairs) → now.last ≡ before.last → now.missed ≡ before.missed → (b c : Bool) → b ≡ c → (taken : ℕ)
-        → taken ≡ length so_far.rows + 1 → (x : Damaged)
-        → (cond b (with_missed taken now) now).missed ≡ before.missed + length (cond {A = List Damaged} c (x ∷ []) [])
-    by_b now at kept b c same taken more x = grind (arith)
-missed_counts settings bits so_far (Line.broken front fault) strict row rest before is last few =
-    by_length (repairs_with (Line.broken front fault) strict (length so_far.rows) before) refl refl
-    (misses_eol settings (length (so_far.rows ++ row ∷ [])) so_far.has_eols rest && not settings.strict)
-    (length (so_far.rows ++ row ∷ [])) (sym (length-append so_far.rows (row ∷ [])))
-  where
-    by_length : (now : Repairs) → now.last ≡ length so_far.rows + 1 → now.missed ≡ before.missed → (b : Bool) (taken : ℕ)
-        → length so_far.rows + 1 ≡ taken → (cond b (with_missed taken now) now).missed ≡ before.missed + 0
-    by_length now last kept b taken more = grind (arith, common_steps)
+missed_counts settings bits so_far line strict row rest before is last few = grind (arith, common_steps, cuts_keep, length-append)
 
 -- it is missed where its row ends
 pub missed_starts : (settings : DecodeSettings) (bits : Bits) (so_far : Progress) (line : Line) (row : Row) (rest : Bits)
     → row_of_line settings so_far.has_eols so_far.rest line ≡ Ok (row, rest) → (after : Repairs) (before : ℕ)
     → after.missed ≡ before + length (missed_behind settings bits so_far line)
     → missed_since after before (length bits - length rest) ≡ start_in (missed_behind settings bits so_far line)
-missed_starts settings bits so_far (Line.broken front fault) row rest is after before more =
-    grind (arith, common_steps, cond-true, eq-eqb)
-missed_starts settings bits so_far (Line.whole pixels behind) row rest is after before more =
-    grind (arith, common_steps, cond-false, ne_eqb, cond-true, eq-eqb)
+missed_starts settings bits so_far line row rest is after before more = grind
+    (arith, common_steps, cond-true, eq-eqb, cond-false, ne_eqb)
 
 -- where there is no row, no EOL is missed
 pub missed_none : (settings : DecodeSettings) (bits : Bits) (so_far : Progress) (line : Line) (e : DecodeError)

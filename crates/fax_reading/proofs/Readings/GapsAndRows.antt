@@ -1,12 +1,12 @@
 -- The first gap, and what gaps and rows lead to.
-use Rattle.fax_reading.proofs.Names.{◌≡◌, ◌≢◌, ◌<◌, suc, false, [], length, arith, Result, Err, refl, ap, ◌∙◌, ℕ, DecodeError}
+use Rattle.fax_reading.proofs.Names.{◌≡◌, ◌≢◌, ◌<◌, suc, false, [], length, arith, Result, Err, refl, ap, ◌∙◌, DecodeError}
 use Rattle.fax_reading.proofs.Names.{UnexpectedEof, DecodeSettings, Group4, Bits, IsPrefix, add_row_alone, row_behind}
 use Rattle.fax_reading.proofs.Names.{gap_and_row, Progress, Ending, Move, eols_here, row_of_line, pass_gap, add_row, move_on}
 use Rattle.fax_reading.proofs.Names.{line_of_turn, at_front, first_line, first_gap, ending_from, ending_behind, end_of}
 use Rattle.fax_reading.proofs.Names.{cond-false, Turn, repeated, Reaches, Row, common_steps, ne_eqb, plain, whole_reading}
 use Rattle.fax_bits.proofs.Repetition.Repeated.{Follows, after_turn, repeated_follows, repeated_turn, not_next}
 use Rattle.fax_reading.proofs.Readings.RowsAndGaps.{pass_gap-is, unless_over, unmissed}
-use Rattle.fax_reading.proofs.Readings.TurnsAddRows.{move_adds, repeated_adds}
+use Rattle.fax_reading.proofs.Readings.TurnsMoveOn.{move_adds, repeated_adds}
 use Rattle.fax_reading.proofs.Readings.TurnsMoveOn.{left_to_read, left_below, move_shrinks}
 
 -- ---- The first gap
@@ -93,14 +93,12 @@ module _ (settings : DecodeSettings) (wide : 0 < settings.columns) where
 module _ (one two : DecodeSettings) (wide : 0 < one.columns) (wide_two : 0 < two.columns) (P : Progress → Progress → Type 0)
     (Q : Ending → Ending → Type 0) (follows : (rest : Progress → Ending) → ((t : Progress) → IsPrefix t.rows (rest t).rows)
     → (s t : Progress) → P s t → Follows P Q rest (move_on one s) (move_on two t)) where
-  rows_grow : (late : Ending) (n : ℕ) (t : Progress) → left_to_read t < n → IsPrefix t.rows (repeated (move_on two) late n t).rows
-  rows_grow late = repeated_adds (move_on two) late left_to_read (move_shrinks two wide_two) (move_adds two)
-
   -- what comes behind a gap in both
   pub readings_follow : (gap other : Move) → Follows P Q (ending_from (move_on two)) gap other
       → Q (ending_behind one gap) (ending_behind two other)
   readings_follow (Turn.next s) (Turn.next t) p = repeated_follows (move_on one) _ left_to_read (move_shrinks one wide) (move_on
-      two) _ left_to_read (move_shrinks two wide_two) P Q (follows _ (λ r. rows_grow _ (suc (left_to_read r)) r (omega arith)))
+      two) _ left_to_read (move_shrinks two wide_two) P Q (follows _ (λ r. (repeated_adds (move_on two) _ left_to_read
+      (move_shrinks two wide_two) (move_adds two)) (suc (left_to_read r)) r (omega arith)))
       (suc (suc (length s.rest))) (suc (suc (length t.rest))) s t (left_below s) (left_below t) p
   readings_follow (Turn.next s) (Turn.done q) p = absurd p
   readings_follow (Turn.done r) (Turn.next t) q = q

@@ -1,5 +1,5 @@
 -- A row limit cuts what comes without one.
-use Rattle.fax_reading.proofs.Readings.TurnsAddRows.{turn_extends, Keeps, after_row_keeps}
+use Rattle.fax_reading.proofs.Readings.TurnsMoveOn.{turn_extends, Keeps, after_row_keeps}
 use Rattle.fax_reading.proofs.Names.{◌≡◌, ℕ, ◌-◌, ◌<◌, ◌≤◌, Bool, true, false, cond, not, ◌&&◌, ◌||◌, eqb, List, [], ◌∷◌, ◌++◌}
 use Rattle.fax_reading.proofs.Names.{length, take, replicate, Option, Err, refl, sym, arith, inl, inr, IsOk}
 use Rattle.fax_reading.proofs.Names.{length-append, take_all, cases_eq, and_right, or_left, or_right, eq-eqb, ne_eqb, cond-true}
@@ -33,9 +33,6 @@ module _ (settings : DecodeSettings) (limit : ℕ) (some : 0 < limit) (wide : 0 
   is_met : limit_met limited limit ≡ true
   is_met = grind (arith, common_steps)
 
-  is_open : (n : ℕ) → n < limit → limit_met limited n ≡ false
-  is_open n lt = and_right (not (eqb limit 0)) (eqb limit n) (ne_eqb limit n (λ e. absurd (omega (arith, e, lt))))
-
   module _ (rest : Progress → Ending) (extends : (t : Progress) → IsPrefix t.rows (rest t).rows) where
     short : (e : Ending) → length e.rows < limit → Cut e e
     short e lt = (sym (take_all limit e.rows (omega arith)), λ full. absurd (omega (arith, full, lt)))
@@ -65,7 +62,8 @@ module _ (settings : DecodeSettings) (limit : ℕ) (some : 0 < limit) (wide : 0 
     after_row_follows : (run : Progress) → length run.rows ≤ limit
         → Follows Same Cut rest (after_row limited run) (after_row unlimited run)
     after_row_follows run le = elim (cases_lt (length run.rows) limit) [
-      | inl lt ↦ rw (after_row_open run (is_open (length run.rows) lt))
+      | inl lt ↦ rw (after_row_open run (and_right (not (eqb limit 0)) (eqb limit (length run.rows)) (ne_eqb limit
+          (length run.rows) (λ e. absurd (omega (arith, e, lt))))))
           (same_turn run.rows (after_row unlimited run) lt (after_row_keeps unlimited run))
       | inr ge ↦ let full : length run.rows ≡ limit = omega arith in
           rw (at_limit run (rw full is_met))

@@ -30,22 +30,18 @@ module _ {M : Type 0} (settings : DecodeSettings) (bits : Bits) (step : M → Li
   abbrev end : Ending
   end = end_of settings bits
 
-  known : (answer : Result ℕ DecodeError)
-      → TakesRows end.rows (bytes_before bits end.outcome) end.has_eols step before after held answer × StopsShort end.rows
-      (lines_of settings bits) before after held answer → LeavesRows settings bits step before after held answer
-  known answer leaves = grind (arith, common_steps, cond-false, some_columns)
-
   -- where the driver ended well at a position
   pub decodes_well : (place count : ℕ) (rest : Bits) → rest ≡ drop place bits → place ≤ length bits → (place + 7) / 8 ≡ count
       → TakesRows end.rows end.outcome end.has_eols step before after held (Ok rest) → StopsShort {A = Bits} end.rows
       (lines_of settings bits) before after held (Ok rest) → LeavesRows settings bits step before after held (Ok count)
-  decodes_well place count rest at within counted takes short = grind (arith, common_steps, known, bytes_before-place)
+  decodes_well place count rest at within counted takes short = grind
+      (arith, common_steps, cond-false, some_columns, bytes_before-place)
 
   -- where it ended with an error
   pub decodes_badly : (error : DecodeError) → TakesRows end.rows end.outcome end.has_eols step before after held (Err error)
       → StopsShort {A = Bits} end.rows (lines_of settings bits) before after held (Err error)
       → LeavesRows settings bits step before after held (Err error)
-  decodes_badly error takes short = grind (arith, common_steps, known)
+  decodes_badly error takes short = grind (arith, common_steps, cond-false, some_columns)
 
 -- where it failed
 pub fault_left : (settings : DecodeSettings) (bits read rest : Bits) → read ≡ bits → (taken : ℕ) → FailsHere settings bits taken

@@ -1,9 +1,9 @@
 -- The turns of the plain reading with the rows so far: what is between rows, over a state and not over numbers.
 use Rattle.fax_reading.proofs.Names.{arith, common_steps, ◌≡◌, ℕ, Bool, true, false, cond, not, ◌||◌, length, Option, Some, None}
-use Rattle.fax_reading.proofs.Names.{Ok, ◌&&◌, Err, refl, ◌∙◌, and_parts, cases_Bool, false≢true, aligned, InvalidCode}
+use Rattle.fax_reading.proofs.Names.{Ok, ◌&&◌, Err, refl, and_parts, cases_Bool, false≢true, aligned, InvalidCode}
 use Rattle.fax_reading.proofs.Names.{DecodeSettings, DecodeError, Bits, Row, repaired, Line, next_eol, Turn, is_over, misses_eol}
 use Rattle.fax_reading.proofs.Names.{Progress, Gap, with_row, behind_row, add_row, after_line, Move, eols_here, behind_eols}
-use Rattle.fax_reading.proofs.Names.{from_next_eol, missing_eol, ends_with, at_gap, pass_gap}
+use Rattle.fax_reading.proofs.Names.{from_next_eol, ends_with, at_gap, pass_gap}
 
 -- EOLs were counted after the rows so far
 abbrev pub unless_over : DecodeSettings → Progress → ℕ × Bits → Move
@@ -59,14 +59,7 @@ unmissed settings taken here = grind (arith, common_steps, cases_Bool, false≢t
 
 -- what follows the rows
 pub pass_gap-is : (settings : DecodeSettings) (so_far : Progress) → pass_gap settings so_far ≡ after_row settings so_far
-pass_gap-is settings so_far =
-    let test : Bool = misses_eol settings (length so_far.rows) so_far.has_eols so_far.rest in
-    at_gap-cond so_far test (missing_eol settings (length so_far.rows) so_far.rest)
-    (behind_eols settings (length so_far.rows) so_far.has_eols (eols_here settings so_far.rest)) ∙ cond-same test _ _ _ _ (λ e.
-    let sought = missed_sought settings (length so_far.rows) so_far.has_eols so_far.rest e in
-    at_gap-cond so_far settings.strict (Gap.over (Err InvalidCode)) (from_next_eol settings (length so_far.rows) so_far.rest
-    (next_eol so_far.rest)) ∙ cond-same settings.strict _ _ _ _ (λ f. refl) (λ f. from_eol settings so_far
-    (next_eol so_far.rest) sought)) (λ e. behind_eols-is settings so_far so_far.has_eols (eols_here settings so_far.rest) refl)
+pass_gap-is settings so_far = grind (arith, common_steps, at_gap-cond, cond-same, missed_sought, from_eol, behind_eols-is)
 
 -- data with EOLs are not aligned
 pub behind_with_eols : (aligns : Bool) (rest : Bits) → cond (aligns && not true) (aligned rest) rest ≡ rest

@@ -1,30 +1,25 @@
 -- A run over the rows of the plain reading: what is known of a state that it reaches, and the turns from there on.
-use Rattle.fax_reading.proofs.Names.{common_steps, length-append, UnexpectedEof, DecodeSettings, with_row_taken, gap_behind_row}
-use Rattle.fax_reading.proofs.Names.{◌≡◌, append-nil, DecodeError, context_at, ending_from, turns_from, row_of_line, line_of_turn}
-use Rattle.fax_reading.proofs.Names.{ℕ, ◌+◌, ◌<◌, ◌≤◌, ◌∷◌, drop, Some, Ok, Err, refl, sym, ap, ◌∙◌, Bits, Gap, Move, Turn, Row}
-use Rattle.fax_reading.proofs.Names.{zero, List, [], ◌++◌, length, get_or, Result, subst, arith, Ending, at_gap, move_on, Reaches}
-use Rattle.fax_reading.proofs.Names.{suc, slice_get, IsPrefix, Repairs, Progress, with_row, add_row, pass_gap, repeated, gathered}
+use Rattle.fax_reading.proofs.Names.{get_or_from_slice_get, slice_get_within, sum_by-take-drop, DecodeSettings, gap_behind_row, ℕ}
+use Rattle.fax_reading.proofs.Names.{with_row_taken, UnexpectedEof, length-append, common_steps, line_of_turn, DecodeError, arith}
+use Rattle.fax_reading.proofs.Names.{ending_from, get_or-drop, row_of_line, sum_by_more, append-nil, cond-false, context_at, Bits}
+use Rattle.fax_reading.proofs.Names.{turns_from, first_gap, slice_get, IsPrefix, Progress, drop-map, gathered, pass_gap, repeated}
+use Rattle.fax_reading.proofs.Names.{turns_of, with_row, Reaches, Repairs, add_row, move_on, Ending, Result, at_gap, get_or, List}
+use Rattle.fax_reading.proofs.Names.{length, ne_eqb, sum_by, subst, Move, Some, Turn, drop, refl, take, zero, ◌++◌, Err, Gap, Row}
+use Rattle.fax_reading.proofs.Names.{map, suc, sym, ◌+◌, ◌<◌, ◌∙◌, ◌∷◌, ◌≡◌, ◌≤◌, Ok, [], ap}
+use Rattle.fax_bits.proofs.Repetition.Gathered.{gathered_after, gathered_same, gathered_turn}
+use Rattle.fax_bits.proofs.Repetition.Repeated.{repeated_same, repeated_turn, after_turn, not_next}
+use Rattle.fax_reading.proofs.Readings.TurnsMoveOn.{after_row_keeps, first_gap_keeps, repeated_adds, left_to_read, move_shrinks}
+use Rattle.fax_reading.proofs.Readings.TurnsMoveOn.{prefix_trans, keeps_adds, left_below, move_adds, Keeps, Adds}
+use Rattle.fax_reading.proofs.Readings.RowsAndGaps.{pass_gap-is, after_row}
 use Rattle.fax_reading.proofs.EncodedPictures.PictureLines.{row_before_push}
-use Rattle.fax_bits.proofs.Repetition.Gathered.{gathered_after, gathered_turn, gathered_same}
-use Rattle.fax_bits.proofs.Repetition.Repeated.{after_turn, repeated_turn, repeated_same, not_next}
-use Rattle.fax_reading.proofs.Readings.RowsAndGaps.{after_row, pass_gap-is}
-use Rattle.fax_reading.proofs.Readings.TurnsAddRows.{Adds, Keeps, after_row_keeps, keeps_adds, move_adds, repeated_adds}
-use Rattle.fax_reading.proofs.Readings.TurnsAddRows.{prefix_trans}
-use Rattle.fax_reading.proofs.Readings.TurnsMoveOn.{left_to_read, left_below, move_shrinks}
 
--- the element at an index begins what is there from it on
-pub slice_get-drop_cons : {A : Type 0} (xs : List A) (k : ℕ) (x : A) (more : List A) → drop k xs ≡ x ∷ more
-    → slice_get xs k ≡ Some x
-slice_get-drop_cons [] zero x more e = absurd cc
-slice_get-drop_cons [] (suc k) x more e = absurd cc
-slice_get-drop_cons (y ∷ xs) zero x more e = cc
-slice_get-drop_cons (y ∷ xs) (suc k) x more e = slice_get-drop_cons xs k x more e
-
-drop-suc_cons : {A : Type 0} (xs : List A) (k : ℕ) (x : A) (more : List A) → drop k xs ≡ x ∷ more → drop (suc k) xs ≡ more
-drop-suc_cons [] zero x more e = absurd cc
-drop-suc_cons [] (suc k) x more e = absurd cc
-drop-suc_cons (y ∷ xs) zero x more e = cc
-drop-suc_cons (y ∷ xs) (suc k) x more e = drop-suc_cons xs k x more e
+-- the element at an index begins what is there from it on, and the rest is there from the next one on
+pub drop_begins : {A : Type 0} (xs : List A) (k : ℕ) (x : A) (more : List A) → drop k xs ≡ x ∷ more
+    → (slice_get xs k ≡ Some x) × (drop (suc k) xs ≡ more)
+drop_begins [] zero x more e = absurd cc
+drop_begins [] (suc k) x more e = absurd cc
+drop_begins (y ∷ xs) zero x more e = (cc, cc)
+drop_begins (y ∷ xs) (suc k) x more e = drop_begins xs k x more e
 
 -- the element after a list is the one of its length
 pub get_or-behind : {A : Type 0} (xs : List A) (x : A) (more : List A) (other : A)
@@ -134,8 +129,8 @@ module _ (settings : DecodeSettings) (wide : 0 < settings.columns) {start : Prog
     comes_next : {after : Progress} → move_on settings so_far ≡ Turn.next after → Comes settings start after
     comes_next {after} is = let more = turn_adds settings so_far after is in record {
       ends = comes_turn ∙ ap (after_turn (ending settings start)) is;
-      follow = ap (λ (k : ℕ). drop k (turns_from (move_on settings) start)) more ∙ drop-suc_cons (turns_from (move_on settings)
-          start) (length so_far.rows) so_far _ turns_on ∙ ap (gathered_after (turns_left settings)) is;
+      follow = ap (λ (k : ℕ). drop k (turns_from (move_on settings) start)) more ∙ (drop_begins (turns_from
+          (move_on settings) start) (length so_far.rows) so_far _ turns_on).1 ∙ ap (gathered_after (turns_left settings)) is;
       room = omega (arith, comes.room, more, move_shrinks settings wide so_far after is);
     }
 
@@ -146,3 +141,56 @@ module _ (settings : DecodeSettings) (wide : 0 < settings.columns) {start : Prog
 
   pub comes_there : {so_far : Progress} → Reaches (move_on settings) start so_far → Comes settings start so_far
   comes_there reaches = comes_along comes_first reaches
+
+module _ (settings : DecodeSettings) (wide : 0 < settings.columns) (bits : Bits) {first : Progress}
+    (begins : first_gap settings.encoding settings bits ≡ Turn.next first) where
+  -- no row comes before the first line
+  pub none_first : first.rows ≡ []
+  none_first = subst (Keeps []) begins (first_gap_keeps settings settings.encoding bits)
+
+  module _ {so_far : Progress} (reaches : Reaches (move_on settings) first so_far) where
+    pub comes : Comes settings first so_far
+    comes = comes_there settings wide none_first reaches
+
+    -- what its turn gives begins what the turns from there on give
+    module _ {A : Type 0} (gives : Progress → A) where
+      abbrev given : List A
+      given = map gives (turns_of settings bits)
+
+      given_on : drop (length so_far.rows) given
+          ≡ gives so_far ∷ map gives (gathered_after (turns_left settings) (move_on settings so_far))
+      given_on = grind (arith, drop-map, map, cond-false, ne_eqb, turns_on, none_first, comes)
+
+      -- it is the one of its index
+      pub given_there : slice_get given (length so_far.rows) ≡ Some (gives so_far)
+      given_there = (drop_begins given (length so_far.rows) (gives so_far) _ given_on).0
+
+      pub given_is : (other : A) → get_or given (length so_far.rows) other ≡ gives so_far
+      given_is other = get_or_from_slice_get given (length so_far.rows) (gives so_far) other given_there
+
+      -- where its turn is the last, it is the last
+      module _ {end : Ending} (ends : move_on settings so_far ≡ Turn.done end) where
+        given_last : drop (length so_far.rows) given ≡ gives so_far ∷ []
+        given_last = grind (arith, common_steps, given_on)
+
+        pub none_given : (other : A) → get_or given (length so_far.rows + 1) other ≡ other
+        none_given other = grind (arith, common_steps, get_or-drop (length so_far.rows) given 1 other, given_last)
+
+    -- what is told of each turn, and counted of them, with that of its turn
+    module _ {A : Type 0} (gives : Progress → List A) {rows : ℕ} (taken : rows ≡ length so_far.rows) where
+      there : slice_get (given gives) rows ≡ Some (gives so_far)
+      there = ap (slice_get (given gives)) taken ∙ given_there gives
+
+      pub given_at : get_or (given gives) rows [] ≡ gives so_far
+      given_at = get_or_from_slice_get (given gives) rows (gives so_far) [] there
+
+      pub given_more : {now : ℕ} → now ≡ length so_far.rows + 1
+          → sum_by length (take now (given gives)) ≡ sum_by length (take rows (given gives)) + length (gives so_far)
+      given_more next = ap (λ (n : ℕ). sum_by length (take n (given gives))) (next ∙ ap (λ (n : ℕ). n + 1) (sym taken))
+          ∙ sum_by_more length (given gives) rows [] (slice_get_within (given gives) rows (gives so_far) there)
+          ∙ ap (λ (x : List A). sum_by length (take rows (given gives)) + length x) given_at
+
+      -- that is all of it, where its turn is the last
+      pub given_whole : {end : Ending} → move_on settings so_far ≡ Turn.done end
+          → sum_by length (given gives) ≡ sum_by length (take rows (given gives)) + length (gives so_far)
+      given_whole ends = grind (arith, common_steps, sum_by-take-drop length (given gives) rows, given_last gives ends)

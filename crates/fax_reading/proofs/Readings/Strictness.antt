@@ -1,12 +1,13 @@
 -- What a strict run reads, a lenient run reads too.
-use Rattle.fax_reading.proofs.Names.{IsPrefix, Progress, cases_lt, aligned, line_by, move_on, Ending, end_of, length, Result, ◌<◌}
-use Rattle.fax_reading.proofs.Names.{Line, Move, Bool, not, ◌∷◌, inl, inr, Row, ◌≡◌, ℕ}
+use Rattle.fax_reading.proofs.Readings.TurnsMoveOn.{unless_over_keeps}
+use Rattle.fax_reading.proofs.Names.{IsPrefix, Progress, cases_lt, aligned, line_by, move_on, Ending, end_of, Result, ◌<◌}
+use Rattle.fax_reading.proofs.Names.{Line, Move, not, ◌∷◌, inl, inr, Row, ◌≡◌, ℕ}
 use Rattle.fax_reading.proofs.Names.{StrictThenLenient, DecodeSettings, EncodingMode, bytes_before, common_steps, DecodeError, []}
-use Rattle.fax_reading.proofs.Names.{ending_from, false≢true, row_before, misses_eol, after_line, eols_here, first_gap, cases_eq}
+use Rattle.fax_reading.proofs.Names.{ending_from, false≢true, row_before, after_line, first_gap, cases_eq}
 use Rattle.fax_reading.proofs.Names.{eq-eqb, ne_eqb, false, subst, arith, plain, true, cond, ◌&&◌, List, ◌++◌, IsOk, Bits, Turn}
 use Rattle.fax_bits.proofs.Repetition.Repeated.{after_turn, Follows}
 use Rattle.fax_reading.proofs.Readings.RowsAndGaps.{after_whole-is, unless_over, after_row, seek_eol}
-use Rattle.fax_reading.proofs.Readings.TurnsAddRows.{seek_from_keeps, turn_extends, prefix_trans, move_adds, Adds}
+use Rattle.fax_reading.proofs.Readings.TurnsMoveOn.{turn_extends, prefix_trans, move_adds, Adds}
 use Rattle.fax_reading.proofs.{Continuations.StrictLines.strict_line, Readings.GapsAndRows.readings_follow}
 
 -- ---- Lines
@@ -48,12 +49,8 @@ module _ (settings : DecodeSettings) (wide : 0 < settings.columns) where
     same_turn m = grind (arith, common_steps)
 
     after_row_follows : (run : Progress) → Follows SameRun Precedes rest (after_row strictly run) (after_row leniently run)
-    after_row_follows run = by_missed (misses_eol settings (length run.rows) run.has_eols run.rest) (eols_here settings run.rest)
-      where
-        by_missed : (b : Bool) (found : ℕ × Bits) → Follows SameRun Precedes rest
-            (cond b (seek_eol strictly run) (unless_over strictly run found))
-            (cond b (seek_eol leniently run) (unless_over leniently run found))
-        by_missed b found = grind (arith, turn_extends, seek_from_keeps, false≢true, same_turn)
+    after_row_follows run = grind
+        (arith, common_steps, seek_eol, unless_over, turn_extends, unless_over_keeps, false≢true, same_turn)
 
     after_line_follows : (run : Progress) (line other : Line) → Agrees line other → Adds run.rows (after_line leniently run other)
         → Follows SameRun Precedes rest (after_line strictly run line) (after_line leniently run other)

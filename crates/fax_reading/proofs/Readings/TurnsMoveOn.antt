@@ -1,17 +1,90 @@
--- Each line of a run moves the offset on.
-use Rattle.fax_reading.proofs.Names.{common_steps, ◌≡◌, ℕ, suc, ◌-◌, ◌%◌, ◌<◌, ◌≤◌, Bool, true, false, cond, not, ◌&&◌, ◌||◌, eqb}
-use Rattle.fax_reading.proofs.Names.{[], ◌∷◌, ◌++◌, length, replicate, Option, Some, None, refl, sym, subst, ◌∙◌, arith}
-use Rattle.fax_reading.proofs.Names.{◌⊎◌, inl, inr, length-drop, not-false, or_parts, le-leb, lt-leb, eqb-false}
-use Rattle.fax_reading.proofs.Names.{DecodeSettings, Bits, Turn, Row, EncodingMode, Group4, Group3_1D, Group3_2D, Line, after_eol}
-use Rattle.fax_reading.proofs.Names.{next_eol, is_end_of_block, is_over, misses_eol, Progress, aligned}
-use Rattle.fax_reading.proofs.Names.{limit_met, at_end, line_by, eols_by, eols_here, after_line, move_on}
-use Rattle.fax_reading.proofs.DrawingLines.ReadLines.{TookBits, line_1d_took_bits, line_2d_took_bits}
-use Rattle.fax_reading.proofs.Readings.RowsAndGaps.{missed_sought, unless_over, seek_from, after_row, after_whole-is}
-use Rattle.fax_reading.proofs.Readings.RowsAndGaps.{after_damage-is}
-use Rattle.fax_bits.proofs.BitReading.ConsecutiveEols.{Counted, all_counted, cond_le, count_moves, count_shorter, count_some}
-use Rattle.fax_bits.proofs.BitReading.ConsecutiveEols.{counts_plain, counts_tagged, eols-some, last_tag_count, next_eol_found}
-use Rattle.fax_bits.proofs.BitReading.ConsecutiveEols.{one_more-count, tagged_eols_counted}
-use Rattle.fax_bits.proofs.{CodeWords.ReadRuns.chosen, Repetition.Repeated.Shrinks, Repetition.Repeated.not_next}
+-- Each line of a run moves the offset on, and a run only adds rows.
+use Rattle.fax_reading.proofs.Names.{is_end_of_block, DecodeSettings, EncodingMode, append_assoc, common_steps, length-drop, Bits}
+use Rattle.fax_reading.proofs.Names.{after_line, append-nil, misses_eol, row_before, Group3_1D, Group3_2D, after_eol, ends_with}
+use Rattle.fax_reading.proofs.Names.{eols_here, eqb-false, first_gap, limit_met, line_here, not-false, replicate, IsPrefix, arith}
+use Rattle.fax_reading.proofs.Names.{Progress, next_eol, or_parts, repeated, aligned, eols_by, is_over, line_by, move_on, Ending}
+use Rattle.fax_reading.proofs.Names.{Group4, Option, at_end, le-leb, length, lt-leb, false, subst, Bool, Line, List, Move, None}
+use Rattle.fax_reading.proofs.Names.{Some, Turn, cond, refl, true, ◌&&◌, ◌++◌, ◌||◌, Err, Row, inl, inr, not, suc, sym, ◌%◌, ◌-◌}
+use Rattle.fax_reading.proofs.Names.{◌<◌, ◌∙◌, ◌∷◌, ◌≡◌, ◌≤◌, [], ap, ℕ}
+use Rattle.fax_bits.proofs.BitReading.ConsecutiveEols.{tagged_eols_counted, last_tag_count, next_eol_found, one_more-count}
+use Rattle.fax_bits.proofs.BitReading.ConsecutiveEols.{count_shorter, counts_tagged, counts_plain, all_counted, count_moves}
+use Rattle.fax_bits.proofs.BitReading.ConsecutiveEols.{count_some, eols-some, Counted, cond_le}
+use Rattle.fax_bits.proofs.Repetition.Repeated.{repeated_induct, after_turn, not_next, Shrinks}
+use Rattle.fax_reading.proofs.DrawingLines.ReadLines.{line_1d_took_bits, line_2d_took_bits, TookBits}
+use Rattle.fax_reading.proofs.Readings.RowsAndGaps.{after_damage-is, after_whole-is, missed_sought, pass_gap-is, unless_over}
+use Rattle.fax_reading.proofs.Readings.RowsAndGaps.{after_row, row_added, seek_from, seek_eol}
+use Rattle.fax_bits.proofs.CodeWords.ReadRuns.{chosen}
+
+-- a turn that leaves the rows as they are
+abbrev pub Keeps : List Row → Move → Type 0
+Keeps rows (Turn.next t) = t.rows ≡ rows
+Keeps rows (Turn.done e) = e.rows ≡ rows
+
+-- either of two turns has what both have
+either_has : (P : Move → Type 0) (b : Bool) (x y : Move) → P x → P y → P (cond b x y)
+either_has P b x y p q = grind arith
+
+-- the rows so far don't change
+pub unless_over_keeps : (settings : DecodeSettings) (run : Progress) (found : ℕ × Bits)
+    → Keeps run.rows (unless_over settings run found)
+unless_over_keeps settings run (count, rest) = grind (arith, common_steps, either_has)
+
+-- and where an EOL is looked for
+pub seek_from_keeps : (settings : DecodeSettings) (run : Progress) (o : Option Bits) → Keeps run.rows (seek_from settings run o)
+seek_from_keeps settings run o = grind (arith, unless_over_keeps)
+
+-- and after a row
+pub after_row_keeps : (settings : DecodeSettings) (run : Progress) → Keeps run.rows (after_row settings run)
+after_row_keeps settings run = either_has (Keeps run.rows) (misses_eol settings (length run.rows) run.has_eols run.rest)
+    (seek_eol settings run) (unless_over settings run (eols_here settings run.rest))
+    (grind (arith, common_steps, either_has, seek_from_keeps)) (unless_over_keeps settings run (eols_here settings run.rest))
+
+-- the first gap leaves no rows
+pub first_gap_keeps : (settings : DecodeSettings) (encoding : EncodingMode) (bits : Bits)
+    → Keeps [] (first_gap encoding settings bits)
+first_gap_keeps settings encoding bits = grind (arith, pass_gap-is, after_row_keeps)
+
+-- a turn that adds rows, or none
+abbrev pub Adds : List Row → Move → Type 0
+Adds rows (Turn.next t) = IsPrefix rows t.rows
+Adds rows (Turn.done e) = IsPrefix rows e.rows
+
+pub keeps_adds : (rows more : List Row) (m : Move) → Keeps (rows ++ more) m → Adds rows m
+keeps_adds rows more m k = grind arith
+
+after_line_adds : (settings : DecodeSettings) (run : Progress) (line : Line) → Adds run.rows (after_line settings run line)
+after_line_adds settings run (Line.whole row rest) = subst (Adds run.rows) (sym (after_whole-is settings run row rest))
+    (keeps_adds run.rows (row ∷ []) _ (after_row_keeps settings (record run
+    { rows = run.rows ++ row ∷ []; rest = cond (settings.rows_are_byte_aligned && not run.has_eols) (aligned rest) rest })))
+after_line_adds settings run (Line.broken front fault) =
+    let row : Row = front ++ replicate (settings.columns - length front) false in
+    subst (Adds run.rows) (sym (after_damage-is settings run front fault))
+    (either_has (Adds run.rows) (settings.strict || not run.has_eols) (ends_with run (Err fault)) (row_added settings run row
+    run.rest) ([], sym (append-nil run.rows)) (keeps_adds run.rows (row ∷ []) _ (after_row_keeps settings (record run {
+      rows = run.rows ++ row ∷ [];
+      rest = cond (settings.rows_are_byte_aligned && not run.has_eols) (aligned run.rest) run.rest;
+    }))))
+
+-- a turn adds a row, or ends
+pub move_adds : (settings : DecodeSettings) (run : Progress) → Adds run.rows (move_on settings run)
+move_adds settings run = after_line_adds settings run (line_here settings (row_before settings.columns run.rows) run.rest)
+
+-- a prefix of a prefix is a prefix
+pub prefix_trans : {A : Type 0} (a b c : List A) → IsPrefix a b → IsPrefix b c → IsPrefix a c
+prefix_trans a b c f g = (f.0 ++ g.0, g.1 ∙ ap (λ (x : List _). x ++ g.0) f.1 ∙ append_assoc a f.0 g.0)
+
+-- the rows of a state are a prefix of the result's
+pub repeated_adds : (move : Progress → Move) (late : Ending) (size : Progress → ℕ) → Shrinks move size → ((run : Progress)
+    → Adds run.rows (move run)) → (n : ℕ) (run : Progress) → size run < n → IsPrefix run.rows (repeated move late n run).rows
+repeated_adds move late size shrinks adds n run lt =
+    repeated_induct move late size shrinks (λ run end. IsPrefix run.rows end.rows) (λ run end e. subst (Adds run.rows) e
+    (adds run)) (λ run t end e more. prefix_trans run.rows t.rows end.rows (subst (Adds run.rows) e (adds run)) more) n run lt
+
+-- a turn that keeps the rows extends them, if what follows it does
+pub turn_extends : (rest : Progress → Ending) → ((t : Progress) → IsPrefix t.rows (rest t).rows) → (rows : List Row) (m : Move)
+    → Keeps rows m → IsPrefix rows (after_turn rest m).rows
+turn_extends rest extends rows (Turn.next t) k = subst (λ (x : List Row). IsPrefix x (rest t).rows) k (extends t)
+turn_extends rest extends rows (Turn.done e) k = ([], k ∙ sym (append-nil rows))
 
 -- that many EOLs consumed bits
 pub eols_here_counted : (settings : DecodeSettings) (here : Bits) → Counted here (eols_here settings here)
@@ -53,17 +126,8 @@ seek_left : (settings : DecodeSettings) (run t : Progress) (o : Option Bits) →
 seek_left settings run t None h e k = grind (arith, common_steps)
 seek_left settings run t (Some found) h e k = grind (arith, next_eol_found, eols_here_counted, unless_over_next, eols_here_some)
 
-pub at_end_length : (rest : Bits) → at_end rest ≡ false → 0 < length rest
-at_end_length rest e = grind (arith, common_steps)
-
 took_more : (line : Line) (n : ℕ) → TookBits n line → TookBits (suc n) line
 took_more line n took = grind arith
-
--- if a run continues without seeking an EOL, one came or none are sought
-went_on : (settings : DecodeSettings) (run : Progress) (found : ℕ × Bits) → Counted run.rest found
-    → limit_met settings (length run.rows) ≡ false → at_end found.1 ≡ false → (((eqb found.0 0 && run.has_eols)
-    && not (limit_met settings (length run.rows))) && not (at_end run.rest)) ≡ false → (0 < found.0) ⊎ (run.has_eols ≡ false)
-went_on settings run found counted open_limit open_end e = grind (arith, common_steps, at_end_length, eqb-false)
 
 -- the EOLs after a row leave less than there was before its line: it consumed bits, or EOLs are sought
 pub after_row_next : (settings : DecodeSettings) (run t : Progress) (n : ℕ) → after_row settings run ≡ Turn.next t
@@ -73,7 +137,7 @@ after_row_next settings run t n e small = elim (chosen (misses_eol settings (len
   | inr a ↦ let open_run = unless_over_open settings run t (eols_here settings run.rest) a.1 in
       let counted = eols_here_counted settings run.rest in
       subst (λ (r : Progress). left_to_read r < n) (unless_over_next settings run t (eols_here settings run.rest) a.1)
-      (grind (arith, common_steps, went_on, either))
+      (grind (arith, common_steps, eqb-false, either))
 ]
   where
     either : (b : Bool) (k : ℕ) → suc k < n → cond b (suc k) k < n

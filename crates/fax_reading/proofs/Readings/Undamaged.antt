@@ -2,17 +2,17 @@
 use Rattle.fax_reading.proofs.Names.{DecodeSettings, missed_by_turn, missed_behind, sum_by-append, ending_behind, length-append}
 use Rattle.fax_reading.proofs.Names.{EncodingMode, cuts_by_line, DecodeError, InvalidCode, AreSettings, repaired_in, cut_by_turn}
 use Rattle.fax_reading.proofs.Names.{PicturesAreUndamaged, StrictIsUndamaged, repaired_by_turn, IsLimitedPicture, damaged_by_turn}
-use Rattle.fax_reading.proofs.Names.{Reading, move_on, Damaged, length, sum_by, Ending, at_gap, arith, plain, false, zero, Bool}
-use Rattle.fax_reading.proofs.Names.{flat_map, cuts_run, Progress, with_row, pass_gap, turns_of, repeated, gathered, add_row, ◌≡◌}
+use Rattle.fax_reading.proofs.Names.{Reading, move_on, Damaged, length, sum_by, Ending, arith, plain, false, zero, Bool}
+use Rattle.fax_reading.proofs.Names.{flat_map, cuts_run, Progress, turns_of, repeated, gathered, add_row, ◌≡◌}
 use Rattle.fax_reading.proofs.Names.{flat_map-cons, UnexpectedEof, AreWholeBytes, line_of_turn, turns_behind, common_steps, subst}
 use Rattle.fax_reading.proofs.Names.{repairs_by_line, IsClosedPicture, misses_by_line, gap_behind_row, sum_by-take-le, false≢true}
-use Rattle.fax_reading.proofs.Names.{row_before, after_line, misses_eol, behind_row, cond-false, cond-true, damage_of, first_gap}
-use Rattle.fax_reading.proofs.Names.{sym, not, ◌∙◌, Gap, map, Row, ◌+◌, ◌-◌, ◌⊎◌, inl, [], ap, ℕ}
+use Rattle.fax_reading.proofs.Names.{row_before, after_line, misses_eol, cond-false, cond-true, damage_of, first_gap}
+use Rattle.fax_reading.proofs.Names.{sym, not, ◌∙◌, Gap, map, Row, ◌-◌, ◌⊎◌, inl, [], ap, ℕ}
 use Rattle.fax_reading.proofs.Names.{true, cond, ◌&&◌, List, ◌++◌, take, refl, IsOk, Bits, Line, Move, Turn, inr, suc, ◌∷◌, Err}
 use Rattle.fax_bits.proofs.Repetition.{Gathered.gathered_after, Repeated.after_turn}
 use Rattle.fax_reading.proofs.EncodedPictures.PicturesOfEachKind.{limited_pictures, closed_pictures}
 use Rattle.fax_reading.proofs.Readings.Strictness.{line_by_agrees, strict_first, ok_outcome, Agrees}
-use Rattle.fax_reading.proofs.{DamagedLines.SoughtTurns.sought, DamagedLines.EolsAlike.counted, Readings.RowsAndGaps.unmissed}
+use Rattle.fax_reading.proofs.{DamagedLines.PastEol.sought, DamagedLines.EolsAlike.counted, Readings.RowsAndGaps.unmissed}
 
 -- ---- Turns that give nothing
 
@@ -95,12 +95,7 @@ module _ (settings : DecodeSettings) (bits : Bits) where
       by_line_of_turn : (line : Line) → line_of_turn strictly s ≡ line → Agrees line (line_of_turn leniently s)
           → Fails (move_on strictly s) ⊎ ((damaged_by_turn leniently bits s ≡ []) × (move_on strictly s ≡ move_on leniently s))
       by_line_of_turn (Line.broken front fault) e agrees = inl (fault, _, ap (after_line strictly s) e, refl)
-      by_line_of_turn (Line.whole row rest) e agrees =
-          let next : Progress = with_row s row (behind_row settings s.has_eols rest) in
-          let one : move_on strictly s ≡ pass_gap strictly next = ap (after_line strictly s) e in
-          let more : length next.rows ≡ length s.rows + 1 = length-append s.rows (row ∷ []) in
-          elim (gap_sound (length next.rows) s.has_eols next.rest)
-          [ inl fails ↦ inl (InvalidCode, _, one ∙ ap (at_gap next) fails, refl) | inr (none, same) ↦ grind arith ]
+      by_line_of_turn (Line.whole row rest) e agrees = grind (arith, common_steps, length-append, gap_sound)
 
   -- ---- All turns
 
@@ -136,11 +131,6 @@ module _ (settings : DecodeSettings) (bits : Bits) where
 
   -- ---- A lenient reading that passes no damage
 
-  -- a lenient gap that misses no EOL is the strict one
-  gap_same : (taken : ℕ) (has_eols : Bool) (rest : Bits) → misses_eol leniently taken has_eols rest ≡ false
-      → gap_behind_row strictly taken has_eols rest ≡ gap_behind_row leniently taken has_eols rest
-  gap_same taken has_eols rest none = grind (arith, common_steps, cond-false)
-
   -- a lenient turn without damage fails, or it is the strict one
   turn_same : (s : Progress) → damaged_by_turn leniently bits s ≡ []
       → Fails (move_on leniently s) ⊎ (move_on strictly s ≡ move_on leniently s)
@@ -164,7 +154,7 @@ module _ (settings : DecodeSettings) (bits : Bits) where
       by_lines (Line.whole row rest) (Line.broken front fault) e f agrees repaired cut missed =
           grind (arith, common_steps, cond-true)
       by_lines (Line.whole row rest) (Line.whole other behind) e f agrees repaired cut missed =
-          grind (arith, length-append, unmissed_by, gap_same)
+          grind (arith, length-append, unmissed_by, cond-false)
         where
           unmissed_by : (b : Bool) (x : Damaged) → cond {A = List Damaged} (b && true) (x ∷ []) [] ≡ [] → b ≡ false
           unmissed_by b x is = grind arith
@@ -194,7 +184,7 @@ module _ (settings : DecodeSettings) (bits : Bits) where
 
   strict_ok : IsOk (plain leniently bits).outcome → AreEmpty (passed (turns_of leniently bits))
       → IsOk (plain strictly bits).outcome
-  strict_ok = grind (arith, common_steps, ok_outcome, same_behind, gap_same, unmissed)
+  strict_ok = grind (arith, common_steps, ok_outcome, same_behind, cond-false, unmissed)
 
   -- ---- Strict readings pass no damage
 
@@ -206,19 +196,14 @@ module _ (settings : DecodeSettings) (bits : Bits) where
 
       by_line : (line : Line) → repaired_in strictly s.has_eols (length s.rows) (length bits - length s.rest) line
           ++ (cut_of s (cuts_run line line) ++ missed_behind strictly bits s line) ≡ []
-      by_line (Line.broken front fault) = refl
-      by_line (Line.whole row rest) = grind (arith, common_steps)
+      by_line v0 = grind (arith, common_steps)
 
 -- ---- The laws
 
 -- what is so of the strict settings and of the lenient ones is so of the settings
 either_way : (P : DecodeSettings → Type 0) (settings : DecodeSettings) → P (record settings { strict = true })
     → P (record settings { strict = false }) → P settings
-either_way P settings strict lenient = by_strict settings.strict refl
-  where
-    by_strict : (b : Bool) → settings.strict ≡ b → P settings
-    by_strict true is = subst P (ap (λ (b : Bool). record settings { strict = b }) (sym is)) strict
-    by_strict false is = subst P (ap (λ (b : Bool). record settings { strict = b }) (sym is)) lenient
+either_way P settings strict lenient = grind (arith, common_steps)
 
 -- a reading whose strict one is Ok passes no damage
 undamaged_turns : (settings : DecodeSettings) (bits : Bits) → IsOk (plain (record settings { strict = true }) bits).outcome
@@ -250,28 +235,22 @@ pub no_damage : (settings : DecodeSettings) (bits : Bits) → IsOk (plain (recor
     → damage_of settings bits ≡ []
 no_damage settings bits ok = grind (arith, common_steps, joined_empty, undamaged_turns)
 
--- and no row that is repaired
-pub no_row_repaired : (settings : DecodeSettings) (bits : Bits) (taken : ℕ) → IsOk
-    (plain (record settings { strict = true }) bits).outcome → sum_by length (take taken (repairs_by_line settings bits)) ≡ 0
-no_row_repaired settings bits taken ok = let are = each_empty (damaged_by_turn settings bits) (repaired_by_turn settings bits) (λ
-    s none. front_empty (repaired_by_turn settings bits s) _ none) (turns_of settings bits) (undamaged_turns settings bits ok) in
-    omega (arith, sum_by-take-le length (repairs_by_line settings bits) taken, sum_empty (repairs_by_line settings bits) are)
-
--- nor one in which a run is cut
-pub no_cuts : (settings : DecodeSettings) (bits : Bits) (taken : ℕ) → IsOk
-    (plain (record settings { strict = true }) bits).outcome → sum_by length (take taken (cuts_by_line settings bits)) ≡ 0
-no_cuts settings bits taken ok = let are = each_empty (damaged_by_turn settings bits) (cut_by_turn settings bits)
-    (λ s none. front_empty (cut_by_turn settings bits s) _ (back_empty (repaired_by_turn settings bits s) _ none))
-    (turns_of settings bits) (undamaged_turns settings bits ok) in
-    omega (arith, sum_by-take-le length (cuts_by_line settings bits) taken, sum_empty (cuts_by_line settings bits) are)
-
--- nor EOL that is missed
-pub no_misses : (settings : DecodeSettings) (bits : Bits) (taken : ℕ) → IsOk
-    (plain (record settings { strict = true }) bits).outcome → sum_by length (take taken (misses_by_line settings bits)) ≡ 0
-no_misses settings bits taken ok = let are = each_empty (damaged_by_turn settings bits) (missed_by_turn settings bits)
-    (λ s none. back_empty (cut_by_turn settings bits s) _ (back_empty (repaired_by_turn settings bits s) _ none))
-    (turns_of settings bits) (undamaged_turns settings bits ok) in
-    omega (arith, sum_by-take-le length (misses_by_line settings bits) taken, sum_empty (misses_by_line settings bits) are)
+-- so no row is repaired, in none a run is cut, and no EOL is missed
+pub none_damaged : (settings : DecodeSettings) (bits : Bits) (taken : ℕ)
+    → IsOk (plain (record settings { strict = true }) bits).outcome
+    → (sum_by length (take taken (repairs_by_line settings bits)) ≡ 0)
+    × (sum_by length (take taken (cuts_by_line settings bits)) ≡ 0)
+    × (sum_by length (take taken (misses_by_line settings bits)) ≡ 0)
+none_damaged settings bits taken ok = (
+  none (repaired_by_turn settings bits) (λ s e. front_empty (repaired_by_turn settings bits s) _ e),
+  none (cut_by_turn settings bits) (λ s e. grind (arith, front_empty, back_empty)),
+  none (missed_by_turn settings bits) (λ s e. grind (arith, back_empty)),
+)
+  where
+    none : (given : Progress → List Damaged) → ((s : Progress) → damaged_by_turn settings bits s ≡ [] → given s ≡ [])
+        → sum_by length (take taken (map given (turns_of settings bits))) ≡ 0
+    none given empty = let are = each_empty (damaged_by_turn settings bits) given empty _ (undamaged_turns settings bits ok) in
+        omega (arith, sum_by-take-le length (map given (turns_of settings bits)) taken, sum_empty _ are)
 
 -- the law
 pub strict_is_undamaged : StrictIsUndamaged

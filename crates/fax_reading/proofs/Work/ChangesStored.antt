@@ -1,11 +1,11 @@
 -- A row has no more changes than its line found words, and a repaired one no more than one besides.
-use Rattle.fax_reading.proofs.Names.{common_steps, ◌≡◌, ℕ, zero, suc, ◌+◌, ◌-◌, ◌<◌, ◌≤◌, Bool, false, cond, leb, List, [], ◌∷◌}
-use Rattle.fax_reading.proofs.Names.{◌++◌, length, replicate, Result, Ok, Err, refl, ap, ◌∙◌, arith, append-nil, pos, ◌+ℤ◌, Color}
+use Rattle.fax_reading.proofs.Names.{common_steps, ◌≡◌, ℕ, zero, suc, ◌+◌, ◌<◌, ◌≤◌, Bool, false, cond, leb, List, []}
+use Rattle.fax_reading.proofs.Names.{◌++◌, length, replicate, Result, Ok, Err, refl, ap, ◌∙◌, arith, append-nil, Color}
 use Rattle.fax_reading.proofs.Names.{length-append, Mode, Pass, Horizontal, Vertical, DecodeError, UnexpectedEof, EncodingMode}
 use Rattle.fax_reading.proofs.Names.{Step, front_of, Bits, mode_codes, read_code, Line, Pen, Drawing, start, turn_behind, draw_1d}
-use Rattle.fax_reading.proofs.Names.{words_behind, unless_fault, mode_here, place_from, draw_run, draw_mode, draw_2d, line_1d, b1}
+use Rattle.fax_reading.proofs.Names.{words_behind, unless_fault, mode_here, draw_run, draw_mode, draw_2d, line_1d}
 use Rattle.fax_reading.proofs.Names.{line_2d, found_1d, found_2d, line_found, ◌>>=◌, line_by, Turn, repeated, gathered, Row}
-use Rattle.fax_reading.proofs.Names.{changes, opposite, right_of, paint, repaired, white_row, run_from, word_found, run_found}
+use Rattle.fax_reading.proofs.Names.{changes, opposite, paint, repaired, white_row, run_from, word_found, run_found}
 use Rattle.fax_reading.proofs.PixelRows.ChangesAndPixels.{changes-recursive}
 use Rattle.fax_reading.proofs.PixelRows.RowChanges.{changes_from, changes_from-append, changes_from-same}
 use Rattle.fax_reading.proofs.{DrawingLines.CountedLines.words_run, DrawingLines.Drawings.try, CodeWords.WordsFound.run_stands}
@@ -15,12 +15,9 @@ use Rattle.fax_bits.proofs.CodeWords.{RunWords.one_word, ReadRuns.chosen, ReadRu
 abbrev count : Row → ℕ
 count row = length (changes_from 0 false row)
 
-one_at_most : (same : Bool) (place : ℕ) (none : List ℕ) → none ≡ [] → length (cond same none (place ∷ none)) ≤ 1
-one_at_most same place none is = grind arith
-
 -- painting adds one change at most
 count_painted : (front : Row) (n : ℕ) (color : Bool) → count (front ++ replicate n color) ≤ suc (count front)
-count_painted front n color = grind (arith, append-nil, changes_from-append, length-append, one_at_most, changes_from-same)
+count_painted front n color = grind (arith, append-nil, changes_from-append, length-append, changes_from-same)
 
 count_paint : (strict : Bool) (columns : ℕ) (front : Row) (color : Color) (n : ℕ) (new : Row)
     → paint strict columns front color n ≡ Ok new → count new ≤ suc (count front)
@@ -37,11 +34,6 @@ StepCount n (Turn.done line) = LineCount n line
 
 step_more : (n m : ℕ) (step : Step) → n ≤ m → StepCount n step → StepCount m step
 step_more n m step le few = grind arith
-
--- a run that is found has a word
-run_has_word : (color : Color) (here : Bits) (n : ℕ) (rest : Bits) → run_from color (0, here) ≡ Ok (n, rest)
-    → 0 < length (run_found color (0, here))
-run_has_word color here n rest e = grind (arith, common_steps, run_stands color 0 here, run_shorter color 0 here n rest e)
 
 -- a run
 run_count : (strict : Bool) (columns : ℕ) (pen : Pen)
@@ -65,7 +57,8 @@ run_count strict columns pen = step_more (count pen.front + length found)
     by_run_from : (r : Result (ℕ × Bits) DecodeError) → run_from pen.color (0, pen.rest) ≡ r
         → StepCount (count pen.front + length found) (try pen.front r after)
     by_run_from (Ok run) e =
-        painted run (run_has_word pen.color pen.rest run.0 run.1 e) (paint strict columns pen.front pen.color run.0) refl
+        painted run (grind (arith, common_steps, run_stands pen.color 0 pen.rest, run_shorter pen.color 0 pen.rest run.0 run.1 e))
+        (paint strict columns pen.front pen.color run.0) refl
     by_run_from (Err fault) e = omega arith
 
 -- what is tried adds at most what it yields
@@ -89,14 +82,7 @@ mode_count strict columns reference pen Pass = grind (arith, step_more, try_coun
 mode_count strict columns reference pen Horizontal = step_more (count pen.front + length (draw_mode strict columns reference pen
     Horizontal).words) _ (draw_mode strict columns reference pen Horizontal).turn (omega arith) (behind_run_count strict columns
     (count pen.front) (draw_run strict columns pen).words (draw_run strict columns pen).turn (run_count strict columns pen))
-mode_count strict columns reference pen (Vertical k) =
-    let paints : ℕ → Step = λ place. try pen.front (paint strict columns pen.front pen.color (place - length pen.front))
-    (λ front. Turn.next (record { front = front; color = opposite pen.color; rest = pen.rest })) in
-    step_more (count pen.front + 1) _ (draw_mode strict columns reference pen (Vertical k)).turn (omega arith) (try_count
-    (count pen.front + 1) pen.front (place_from (length pen.front) (pos (b1 reference (right_of pen.front) pen.color) +ℤ k))
-    paints (omega arith) (λ place h. try_count (count pen.front + 1) pen.front (paint strict columns pen.front pen.color
-    (place - length pen.front)) (λ front. Turn.next (record { front = front; color = opposite pen.color; rest = pen.rest }))
-    (omega arith) (λ front e. omega (arith, count_paint strict columns pen.front pen.color (place - length pen.front) front e))))
+mode_count strict columns reference pen (Vertical k) = grind (arith, common_steps, try, step_more, try_count, count_paint)
 
 -- a mode that is read and drawn
 read_mode_count : (strict : Bool) (columns : ℕ) (reference : Row) (pen : Pen) → StepCount (count pen.front
@@ -119,11 +105,6 @@ unless_full_count : (full : Bool) (pen : Pen) (draw : Pen → Drawing Pen)
     (turn_behind (cond full (Turn.done (Line.whole pen.front pen.rest)) (Turn.next pen)) (λ p. (draw p).turn))
 unless_full_count full pen draw few = grind arith
 
-step_1d_count : (strict : Bool) (columns : ℕ) (pen : Pen)
-    → StepCount (count pen.front + length (draw_1d strict columns pen).words) (draw_1d strict columns pen).turn
-step_1d_count strict columns pen =
-    unless_full_count (leb columns (length pen.front)) pen (draw_run strict columns) (run_count strict columns pen)
-
 step_2d_count : (strict : Bool) (columns : ℕ) (reference : Row) (pen : Pen) → StepCount
     (count pen.front + length (draw_2d strict columns reference pen).words) (draw_2d strict columns reference pen).turn
 step_2d_count strict columns reference pen =
@@ -142,17 +123,14 @@ line_1d_count : (strict : Bool) (columns : ℕ) (here : Bits)
     → LineCount (length (found_1d strict columns here)) (line_1d strict columns here)
 line_1d_count strict columns here = omega (
   arith,
-  pen_count (λ pen. (draw_1d strict columns pen).turn) (λ pen. (draw_1d strict columns pen).words) (step_1d_count strict columns)
+  pen_count (λ pen. (draw_1d strict columns pen).turn) (λ pen. (draw_1d strict columns pen).words) (λ pen. unless_full_count
+      (leb columns (length pen.front)) pen (draw_run strict columns) (run_count strict columns pen))
       (suc (length here)) (start here),
 )
 
 line_2d_count : (strict : Bool) (columns : ℕ) (reference : Row) (here : Bits)
     → LineCount (length (found_2d strict columns reference here)) (line_2d strict columns reference here)
-line_2d_count strict columns reference here = omega (
-  arith,
-  pen_count (λ pen. (draw_2d strict columns reference pen).turn) (λ pen. (draw_2d strict columns reference pen).words)
-      (step_2d_count strict columns reference) (suc (length here)) (start here),
-)
+line_2d_count strict columns reference here = grind (arith, common_steps, pen_count, step_2d_count)
 
 -- the row of a line, or the front of a broken one, has no more changes than the line finds words
 pub changes_found : (encoding : EncodingMode) (strict : Bool) (columns : ℕ) (reference : Row) (here : Bits) → length (changes

@@ -1,13 +1,13 @@
 -- The EOLs that are consumed before a line, and the bits that are examined ahead of it.
 use Rattle.fax_reading.proofs.Names.{length-replicate, DecodeSettings, gap_behind_row, length-append, from_next_eol, EncodingMode}
 use Rattle.fax_reading.proofs.Names.{looked_ahead, common_steps, DecodeError, InvalidCode, behind_eols, false≢true, misses_eol, ℕ}
-use Rattle.fax_reading.proofs.Names.{next_eol, is_over, length, Option, Result, Group4, at_end, looked, OnErr, false, Bool, true}
+use Rattle.fax_reading.proofs.Names.{next_eol, length, Option, Result, Group4, at_end, looked, OnErr, false, Bool, true}
 use Rattle.fax_reading.proofs.Names.{replicate, Group3_1D, Group3_2D, after_eol, limit_met, eols_here, tag_tests, gap_said, arith}
-use Rattle.fax_reading.proofs.Names.{◌++◌, drop, Some, None, refl, Bits, IfOk, ◌<◌, ◌≡◌, ◌+◌, ◌*◌, ◌≤◌, ◌∷◌, Err, sym, ◌∙◌, ◌⊎◌}
+use Rattle.fax_reading.proofs.Names.{◌++◌, drop, Some, None, refl, Bits, IfOk, ◌<◌, ◌≡◌, ◌+◌, ◌*◌, ◌≤◌, ◌∷◌, Err, sym, ◌⊎◌}
 use Rattle.fax_bits.proofs.{BitReading.ConsecutiveEols.next_eol_found, BitReading.ZeroRuns.looked_eol, CodeWords.ReadRuns.chosen}
 use Rattle.fax_reading.proofs.DamagedLines.{LineTails.zeros_of_eol, PastEol.eols_here-none, EolsAlike.eols_past}
 use Rattle.fax_reading.proofs.Readings.TurnsMoveOn.{eols_here_counted, eols_here_some, none_met}
-use Rattle.fax_reading.proofs.{Readings.RowsAndGaps.missed_sought, Names.inl, Names.inr, Names.Gap, Names.[], Names.Ok, Names.ap}
+use Rattle.fax_reading.proofs.{Readings.RowsAndGaps.missed_sought, Names.inl, Names.inr, Names.Gap, Names.[], Names.ap}
 
 -- ---- An EOL here or further on
 
@@ -61,8 +61,7 @@ over_no_line outcome h rest e = cc
 -- a line follows EOLs neither at the limit nor at the end
 behind_line : (settings : DecodeSettings) (taken : ℕ) (h k : Bool) (found : ℕ × Bits) (rest : Bits) → behind_eols settings taken h
     found ≡ Gap.line_at k rest → (h ≡ k) × (found.1 ≡ rest) × (limit_met settings taken ≡ false) × (at_end found.1 ≡ false)
-behind_line settings taken h k (count, here) rest e = elim (chosen (is_over settings taken (count, here)) _ _ _ e)
-    [ inl a ↦ absurd (over_no_line (Ok here) k rest a.1) | inr a ↦ grind (arith, lines_same, none_met) ]
+behind_line settings taken h k (count, here) rest e = grind (arith, common_steps, chosen, over_no_line, lines_same, none_met)
 
 -- The line follows the EOLs here.
 record AfterEols (settings : DecodeSettings) (taken : ℕ) (h k : Bool) (here rest : Bits) : Type 0 where
@@ -144,10 +143,8 @@ line_without_eols settings taken k here rest e = (
 pub unsought_after : (settings : DecodeSettings) (taken : ℕ) (before has_eols : Bool) (here rest : Bits)
     (answer : Result Bool DecodeError) → before ≡ false → gap_behind_row settings taken before here ≡ gap_said answer has_eols
     rest → IfOk answer (λ over. over ≡ true → has_eols ≡ before) → OnErr answer (has_eols ≡ before) → has_eols ≡ false
-unsought_after settings taken before has_eols here rest (Ok true) unsought said given_up same = given_up refl ∙ unsought
-unsought_after settings taken before has_eols here rest (Ok false) unsought said given_up same = (line_without_eols
-    settings taken has_eols here rest (ap (λ (b : Bool). gap_behind_row settings taken b here) (sym unsought) ∙ said)).0
-unsought_after settings taken before has_eols here rest (Err e) unsought said given_up same = same ∙ unsought
+unsought_after settings taken before has_eols here rest answer unsought said given_up same = grind
+    (arith, common_steps, line_without_eols)
 
 -- if there is a line, bits are left
 pub line_has_bits : (settings : DecodeSettings) (taken : ℕ) (k : Bool) (here rest : Bits)
@@ -164,14 +161,12 @@ few_tag_tests encoding = grind arith
 -- no more than the bits here are examined
 pub looked_most : (here : Bits) → looked here ≤ length here
 looked_most [] = omega arith
-looked_most (false ∷ here) = omega (arith, looked_most here)
-looked_most (true ∷ here) = omega arith
+looked_most (bit ∷ here) = grind (arith, common_steps, looked_most here)
 
 -- no bit after a one is examined
 looked_to_one : (before after : Bits) → looked (before ++ true ∷ after) + length after ≤ length (before ++ true ∷ after)
 looked_to_one [] after = omega arith
-looked_to_one (false ∷ before) after = omega (arith, looked_to_one before after)
-looked_to_one (true ∷ before) after = omega (arith, length-append before (true ∷ after))
+looked_to_one (bit ∷ before) after = grind (arith, common_steps, length-append, looked_to_one before after)
 
 -- no more than the bits here are examined ahead
 pub looked_ahead_most : (encoding : EncodingMode) (here : Bits) → looked_ahead encoding here ≤ length here

@@ -1,12 +1,13 @@
 -- What a turn counts is paid by the bits that it consumes, or by ceasing to seek EOLs, which happens once.
-use Rattle.fax_reading.proofs.Names.{common_steps, ◌≡◌, ◌≢◌, ℕ, ◌+◌, ◌*◌, ◌<◌, ◌≤◌, Bool, true, false, not, ◌&&◌, cond, [], ◌∷◌}
+use Rattle.fax_reading.proofs.Names.{length-drop}
+use Rattle.fax_reading.proofs.Names.{common_steps, ◌≡◌, ◌≢◌, ℕ, ◌+◌, ◌*◌, ◌<◌, ◌≤◌, Bool, true, false, cond, [], ◌∷◌}
 use Rattle.fax_reading.proofs.Names.{length, Result, Ok, Err, refl, ap, arith, false≢true, DecodeError, DecodeSettings}
 use Rattle.fax_reading.proofs.Names.{EncodingMode, Group4, Group3_1D, Group3_2D, Bits, Line, line_found, Gap, behind_row}
 use Rattle.fax_reading.proofs.Names.{gap_behind_row, line_by, line_here, row_of_line, Row, looked_ahead, IsPaidUpTo, found_here}
 use Rattle.fax_reading.proofs.Readings.RowsAndGaps.{behind_with_eols}
 use Rattle.fax_reading.proofs.Work.EolsPassed.{length-within, line_past_eol, line_given_up, line_behind_shorter}
 use Rattle.fax_reading.proofs.Work.EolsPassed.{line_without_eols, looked_ahead_most, looked_ahead_to_eol}
-use Rattle.fax_reading.proofs.Work.WordsPay.{line_1d_paid, line_2d_paid, either_shorter, found_within, found_before_eol}
+use Rattle.fax_reading.proofs.Work.WordsPay.{line_1d_paid, line_2d_paid, found_within, found_before_eol}
 
 -- ---- What a line and its row pay
 
@@ -40,7 +41,7 @@ rest_of_row (Ok x) = x.1
 rest_of_row (Err fault) = []
 
 pub behind_shorter : (settings : DecodeSettings) (h : Bool) (rest : Bits) → length (behind_row settings h rest) ≤ length rest
-behind_shorter settings h rest = either_shorter (settings.rows_are_byte_aligned && not h) rest
+behind_shorter settings h rest = grind (arith, length-drop)
 
 -- a broken line is repaired only in lenient data with EOLs, and the reader is then at its start
 pub broken_row : (settings : DecodeSettings) (h : Bool) (here rest : Bits) (front row : Row) (fault : DecodeError)

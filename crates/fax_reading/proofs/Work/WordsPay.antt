@@ -1,7 +1,7 @@
 -- What the words that a line finds say of the bits that it consumed: they pay for what it counts.
-use Rattle.fax_reading.proofs.Names.{length-append, common_steps, append_assoc, EncodingMode, length-drop, false≢true, line_found}
-use Rattle.fax_reading.proofs.Names.{looked, tag_at, false, arith, cond, Bool, true, List, ◌++◌, Bits, Line, ◌≡◌, ◌+◌, ◌<◌, ◌≤◌}
-use Rattle.fax_reading.proofs.Names.{replicate, cases_lt, AreWords, found_1d, found_2d, line_1d, line_2d, aligned, length, joined}
+use Rattle.fax_reading.proofs.Names.{length-append, common_steps, append_assoc, EncodingMode, false≢true, line_found}
+use Rattle.fax_reading.proofs.Names.{looked, tag_at, false, arith, Bool, true, List, ◌++◌, Bits, Line, ◌≡◌, ◌+◌, ◌<◌, ◌≤◌}
+use Rattle.fax_reading.proofs.Names.{replicate, cases_lt, AreWords, found_1d, found_2d, line_1d, line_2d, length, joined}
 use Rattle.fax_reading.proofs.Names.{◌∷◌, Row, [], ap, ℕ}
 use Rattle.fax_bits.proofs.BitReading.ZerosInWords.{prefix_of_prefix, no_eleven_in, holds_a_one, word_one}
 use Rattle.fax_reading.proofs.CodeWords.WordsFound.{words_synchronised, line_1d_stands, line_2d_stands, WordsStand, LineEnds}
@@ -47,10 +47,6 @@ pub record LineIsPaid (here rest : Bits) (found : List Bits) : Type 0 where
   pub some : 0 < length found
   pub words : length found + length rest ≤ length here
   pub zeros : looked here + length rest ≤ length here
-
--- a whole byte is further on
-pub either_shorter : (aligns : Bool) (rest : Bits) → length (cond aligns (aligned rest) rest) ≤ length rest
-either_shorter aligns rest = grind (arith, length-drop)
 
 paid_by : (here rest : Bits) (found : List Bits) → WordsStand here found rest → length rest < length here
     → LineIsPaid here rest found

@@ -18,7 +18,7 @@ use Rattle.hayro_ccitt.specs.declared.gap_look.GapStage.TheVariants.{Start, Dama
 use Rattle.fax_bits.proofs.BitReading.ConsecutiveEols.{all_eols-some, all_tagged, all_tagged-some, after_eol_shorter, count_same}
 use Rattle.fax_bits.proofs.BitReading.ConsecutiveEols.{counts_tagged, eols-none, eols-some, eols_with_tags-none}
 use Rattle.fax_bits.proofs.BitReading.ConsecutiveEols.{eols_with_tags-some, last_tag_shorter, next_eol_found, past_tag_shorter}
-use Rattle.fax_reading.proofs.GapsContinued.ContinuedTags.{behind_first_tag, behind_one, last_tag_tested}
+use Rattle.fax_reading.proofs.GapsContinued.ContinuedEols.{behind_first_tag, behind_one, last_tag_tested}
 use Rattle.hayro_ccitt.proofs.Readings.GapsSeen.{after_found, behind_more, behind_next, behind_one_shorter, eol_counts}
 use Rattle.hayro_ccitt.proofs.Readings.GapsSeen.{next_is_found, none_here, none_past, none_settled, one_here, one_is_left}
 use Rattle.hayro_ccitt.proofs.Readings.GapsSeen.{rules_of, some_past}

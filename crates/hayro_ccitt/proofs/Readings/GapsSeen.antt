@@ -19,7 +19,7 @@ use Rattle.fax_bits.proofs.BitReading.ConsecutiveEols.{all_eols-none, all_eols-s
 use Rattle.fax_bits.proofs.BitReading.ConsecutiveEols.{after_eol_shorter, count_same, counts_tagged, eols-none, eols-some}
 use Rattle.fax_bits.proofs.BitReading.ConsecutiveEols.{last_tag_count, eols_with_tags-none, eols_with_tags-some}
 use Rattle.fax_bits.proofs.BitReading.ConsecutiveEols.{next_eol_found, past_tag_shorter}
-use Rattle.fax_reading.proofs.GapsContinued.ContinuedTags.{behind_first_tag, behind_one, last_tag_tested}
+use Rattle.fax_reading.proofs.GapsContinued.ContinuedEols.{behind_first_tag, behind_one, last_tag_tested}
 
 -- ---- Bits that follow each other
 

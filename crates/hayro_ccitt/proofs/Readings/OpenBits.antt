@@ -18,7 +18,7 @@ use Rattle.hayro_ccitt.proofs.Readings.GapsNear.{gap_near, left_by_eols, one_mor
 use Rattle.hayro_ccitt.proofs.Readings.GapsSeen.{gap_seen, only_settled, settled_stays, stage_behind-append}
 use Rattle.hayro_ccitt.proofs.Readings.RowsDrawn.{eol_among, prefix_more}
 use Rattle.fax_reading.proofs.Continuations.ShortLines.{zeros_end_line}
-use Rattle.fax_reading.proofs.KeptRows.LinesAgain.{line_again}
+use Rattle.fax_reading.proofs.KeptRows.EqualFronts.{line_again}
 
 -- ---- Of a line
 

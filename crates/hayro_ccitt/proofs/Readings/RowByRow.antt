@@ -33,8 +33,8 @@ use Rattle.hayro_ccitt.proofs.Readings.PlainAnswers.{some_columns, bytes_before-
 use Rattle.hayro_ccitt.proofs.Readings.RowsAndGaps.{unmissed}
 use Rattle.hayro_ccitt.proofs.Readings.RunsOverRows.{row_of_turn, row_adds, turn_is, Comes}
 use Rattle.hayro_ccitt.proofs.Readings.RunsOverRows.{context_at-more, comes_done, comes_more, get_or-behind}
-use Rattle.hayro_ccitt.proofs.Readings.RunsReach.{none_first, comes, given_there, given_is, given_at, given_more, given_whole}
-use Rattle.hayro_ccitt.proofs.Readings.RunsReach.{none_given}
+use Rattle.hayro_ccitt.proofs.Readings.RunsOverRows.{none_first, comes, given_there, given_is, given_at, given_more, given_whole}
+use Rattle.hayro_ccitt.proofs.Readings.RunsOverRows.{none_given}
 use Rattle.hayro_ccitt.proofs.Readings.TurnsMoveOn.{left_below}
 
 pub has_columns : (settings : DecodeSettings) → 0 < settings.columns → eqb settings.columns 0 ≡ false

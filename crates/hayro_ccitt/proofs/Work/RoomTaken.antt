@@ -7,7 +7,7 @@ use Rattle.hayro_ccitt.proofs.Names.{here, line_from_1d, line_from_2d, pen_of, m
 use Rattle.hayro_ccitt.proofs.Names.{found_here, line_1d, Group3_1D}
 use Rattle.hayro_ccitt.proofs.DrawingLines.Drawings.{drawn_by, step_1d, step_2d}
 use Rattle.hayro_ccitt.proofs.DrawingLines.DrawnLines.{IsDrawnSoFar, drawn_1d_keeps, drawn_2d_keeps}
-use Rattle.hayro_ccitt.proofs.DrawingLines.LineWidths.{line_by_within}
+use Rattle.hayro_ccitt.proofs.DrawingLines.FullRows.{line_by_within}
 use Rattle.hayro_ccitt.proofs.PixelRows.{ChangesAndPixels.changes-recursive, RowChanges.changes_from}
 use Rattle.hayro_ccitt.proofs.PixelRows.{RowChanges.changes_from-append}
 use Rattle.hayro_ccitt.proofs.{Work.CallsPaid.at_line_paid, Work.ChangesStored.changes_found, Work.WordsPay.found_within}

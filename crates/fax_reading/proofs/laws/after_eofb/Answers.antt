@@ -1,5 +1,5 @@
 use Rattle.fax_reading.proofs.EncodedPictures.PicturesT6.{pictures_come_to_eofb}
-use Rattle.fax_reading.proofs.EncodedPictures.AfterEofb.{after_eofb as the_lemma}
+use Rattle.fax_reading.proofs.EncodedPictures.PicturesT6.{after_eofb as the_lemma}
 use Rattle.fax_reading.proofs.laws.after_eofb.Goals as goal
 
 pub returns-clause-law : goal.returns-clause-law

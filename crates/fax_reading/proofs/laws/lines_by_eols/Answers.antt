@@ -1,4 +1,4 @@
-use Rattle.fax_reading.proofs.DamagedLines.LineStarts.{starts_are}
+use Rattle.fax_reading.proofs.DamagedLines.LinesByEols.{starts_are}
 use Rattle.fax_reading.proofs.DamagedLines.LinesByEols.{lines_by_eols as the_lemma}
 use Rattle.fax_reading.proofs.laws.lines_by_eols.Goals as goal
 

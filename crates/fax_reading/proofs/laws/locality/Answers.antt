@@ -1,4 +1,4 @@
-use Rattle.fax_reading.proofs.DamagedLines.LocalByTests.{local_by_tests}
+use Rattle.fax_reading.proofs.DamagedLines.BodyTests.{local_by_tests}
 use Rattle.fax_reading.proofs.DamagedLines.Damage.{locality as the_lemma}
 use Rattle.fax_reading.proofs.laws.locality.Goals as goal
 

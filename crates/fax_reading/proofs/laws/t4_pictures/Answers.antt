@@ -1,4 +1,4 @@
-use Rattle.fax_reading.proofs.EncodedPictures.Bodies.{limited_rows_t4}
+use Rattle.fax_reading.proofs.EncodedPictures.PicturesT4.{limited_rows_t4}
 use Rattle.fax_reading.proofs.EncodedPictures.PicturesT4.{closed_picture_t4, limited_picture_t4}
 use Rattle.fax_reading.proofs.laws.t4_pictures.Goals as goal
 

@@ -2,7 +2,7 @@ use Rattle.hayro_ccitt.proofs.Names.{◌≡◌, ◌+◌, ◌-◌, ◌*◌, ◌�
 use Rattle.hayro_ccitt.proofs.Names.{IfOk-weaker, DecodeSettings, bits_of, IsLocal, EndsBefore, looked, common_steps}
 use Rattle.hayro_ccitt.proofs.{BitReading.BitLists.length-bits_of, DamagedLines.BodyWork.tests_looked}
 use Rattle.hayro_ccitt.proofs.DamagedLines.BodyTests.{local_by_end}
-use Rattle.hayro_ccitt.proofs.DamagedLines.LocalByTests.{to_tests}
+use Rattle.hayro_ccitt.proofs.DamagedLines.BodyTests.{to_tests}
 use Rattle.hayro_ccitt.proofs.locality.body_is_local.Goals.{After-is_behind_eol, After-holds_one, After-end_of_eol}
 use Rattle.hayro_ccitt.proofs.locality.body_is_local.Goals.{After-holds_eol, then-not-is_lenient_1d-via-then-not-is_lenient_1d}
 use Rattle.hayro_ccitt.proofs.locality.body_is_local.Goals as goal
