@@ -831,7 +831,7 @@ impl RowFeed {
             if let Err(refused) = push_white_rows(
                 repeats,
                 &lines,
-                1,
+                true,
                 self.dropped,
                 &mut self.rows,
                 &mut self.ctx,
