@@ -1,5 +1,5 @@
 -- Data that conform are an encoding of the rows that are read from them.
-use Rattle.hayro_ccitt.proofs.Names.{◌≡◌, List, sym, subst, inl, inr, Bits, Row, DecodeSettings}
+use Rattle.hayro_ccitt.proofs.Names.{List, sym, subst, inl, inr, Bits, Row, DecodeSettings}
 use Rattle.hayro_ccitt.proofs.Names.{IsClosedPicture, IsLimitedPicture}
 use Rattle.hayro_ccitt.proofs.EncodedPictures.PicturesOfEachKind.{closed_pictures, limited_pictures}
 use Rattle.hayro_ccitt.specs.Bits.{AreWholeBytes}

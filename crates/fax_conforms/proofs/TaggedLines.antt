@@ -1,7 +1,7 @@
 -- Lines of each kind: those of two-dimensional Group 3 behind their tags.
-use Rattle.hayro_ccitt.proofs.Names.{◌≡◌, ℕ, Bool, true, false, ◌∷◌, ◌++◌, inl, inr, refl, ap, sym, ◌∙◌, Bits, Row, Group4}
+use Rattle.hayro_ccitt.proofs.Names.{◌≡◌, ℕ, Bool, true, false, [], ◌∷◌, ◌++◌, inl, inr, refl, ap, sym, ◌∙◌, Bits, Row, Group4}
 use Rattle.hayro_ccitt.proofs.Names.{Group3_1D, Group3_2D}
-use Rattle.fax_conforms.specs.Standing.{LineStands, Leads}
+use Rattle.fax_conforms.specs.Standing.{LineStands, Leads, Never}
 
 abbrev pub StandsIn2D : Row → Bits → Row → Bits → Type 0
 StandsIn2D reference here row rest = LineStands Group3_2D reference row here rest
@@ -34,3 +34,10 @@ tagged_1d columns reference here behind tag row rest len = (to, back)
 
     back : LineStands Group3_1D reference row behind rest → StandsIn2D reference here row rest
     back (line, runs, is) = (true ∷ line, (line, inl (refl, runs)), tag ∙ ap (λ (x : Bits). true ∷ x) is)
+
+-- no line stands where there is no tag
+pub untagged : (columns : ℕ) (reference : Row) (here : Bits) → here ≡ [] → Never columns (StandsIn2D reference here)
+untagged columns reference here none row rest len (bits, (line, inl (bits_are, runs)), is) =
+    absurd (let e : [] ≡ true ∷ (line ++ rest) = sym none ∙ is ∙ ap (λ (x : Bits). x ++ rest) bits_are in cc)
+untagged columns reference here none row rest len (bits, (line, inr (bits_are, steps)), is) =
+    absurd (let e : [] ≡ false ∷ (line ++ rest) = sym none ∙ is ∙ ap (λ (x : Bits). x ++ rest) bits_are in cc)

@@ -1,5 +1,5 @@
 -- Why a check ends early.
-use Rattle.std.specs.Prelude.{◌≡◌, ◌⊎◌, ◌≤◌, ◌<◌, ◌++◌, ℕ, ℤ, [], length, drop, Result, Ok, Err}
+use Rattle.std.specs.Prelude.{◌≡◌, ◌⊎◌, ◌≤◌, ◌<◌, ◌++◌, ℕ, ℤ, List, [], length, drop, Result, Ok, Err, IfErr, OnOk}
 use Rattle.hayro_ccitt.specs.Bits.{Bits}
 use Rattle.hayro_ccitt.specs.CodeLists.{mode_codes}
 use Rattle.hayro_ccitt.specs.CodeReading.{read_code}
@@ -7,8 +7,10 @@ use Rattle.hayro_ccitt.specs.Color.{Color}
 use Rattle.hayro_ccitt.specs.Encodings.{padding}
 use Rattle.hayro_ccitt.specs.Mode.{Mode}
 use Rattle.hayro_ccitt.specs.Mode.TheVariants.{Pass, Vertical}
+use Rattle.hayro_ccitt.specs.Rows.{Row, AreChanges, pixels}
 use Rattle.hayro_ccitt.specs.Runs.{read_run}
 use Rattle.fax_conforms.specs.Conforming.{EolStands}
+use Rattle.fax_conforms.specs.Standing.{Leads, Never, IsOnly}
 use Rattle.fax_conforms.specs.declared.stops.Rule.{Rule}
 use Rattle.fax_conforms.specs.declared.stops.Rule.TheVariants as rule
 use Rattle.fax_conforms.specs.declared.stops.Violation as at
@@ -64,3 +66,14 @@ IsViolationOf whole found = (found.place ≤ length whole) × Breaks found.rule 
 abbrev pub EndsAt : Bits → Stop → Type 0
 EndsAt whole (Violation found) = IsViolationOf whole found
 EndsAt whole OutOfMemory = Unit {0}
+
+-- ---- A line that is read
+
+-- Of the rows and the bits after them for which a line stands (T.4, 4.1 and 4.2; T.6, 2.2), there are only the row of these changes
+-- and these bits. If it ends early, and not because an allocation failed, there are none, and a rule is broken there.
+pub record ReadsLine (columns : ℕ) (line : Row → Bits → Type 0) (changes : List ℕ) (rest whole : Bits)
+    (answer : Result (Unit {0}) Stop) : Type 0 where
+  pub row : OnOk answer (Leads columns line (IsOnly (pixels columns changes) rest))
+  pub lawful : OnOk answer (AreChanges columns changes)
+  pub none : IfErr answer (λ e. IsBroken e → Never columns line)
+  pub at : IfErr answer (EndsAt whole)

@@ -8,7 +8,7 @@ ghost use Rattle.hayro_ccitt.specs.Rows.{Row, AreChanges, pixels, b1, b2, is_bla
 ghost use Rattle.fax_conforms.specs.Standing.{LineStands, Leads, Never, IsOnly, LineFrom, ModeFrom, RunsFrom, spot_of};
 ghost use Rattle.fax_conforms.specs.Standing.{from_of, IsDrawn, IsAbove, IsPainted, DrawsOn};
 ghost use Rattle.fax_conforms.specs.Standing.{NextRun, PaintsRun};
-ghost use Rattle.fax_conforms.specs.Stops.{EndsAt, IsBroken, ModeIsHere};
+ghost use Rattle.fax_conforms.specs.Stops.{EndsAt, IsBroken, ModeIsHere, ReadsLine};
 
 use crate::stops::{Rule, Stop, broken};
 use crate::words::Words;
@@ -315,13 +315,9 @@ pub fn draw_line_2d(
 ) -> Result<(), Stop>
     requires wide { 0 < columns }
     requires reference { AreChanges columns reference.now }
-    ensures row { OnOk result (Leads columns (λ row rest. LineStands Group4 (pixels columns reference.now) row
-        (here reader.old) rest)
-        (IsOnly (pixels columns coding.new.items) (here reader.new))) }
-    ensures lawful { OnOk result (AreChanges columns coding.new.items) }
-    ensures none { IfErr result (λ e. IsBroken e
-        → Never columns (λ row rest. LineStands Group4 (pixels columns reference.now) row (here reader.old) rest)) }
-    ensures at { IfErr result (EndsAt reader.old.bits) }
+    ensures reads { ReadsLine columns
+        (λ row rest. LineStands Group4 (pixels columns reference.now) row (here reader.old) rest)
+        coding.new.items (here reader.new) reader.old.bits result }
     ensures same_bits { reader.new.bits ≡ reader.old.bits }
 {
     coding.clear();

@@ -10,8 +10,8 @@ ghost use Rattle.hayro_ccitt.specs.Rows.{AreChanges, pixels, white_row};
 ghost use Rattle.fax_conforms.specs.Conforming.{EofbStands, SeeksEofb, TwoEolsStand, BodyStands, FilledStands, fill_at};
 ghost use Rattle.fax_conforms.specs.Conforming.{EolStands, TaggedEolStands, EolsStand, RtcStands};
 ghost use Rattle.fax_conforms.specs.Conforming.{EolLineStands, LinesStand};
-ghost use Rattle.fax_conforms.specs.Standing.{LineStands, Leads, Never, IsOnly};
-ghost use Rattle.fax_conforms.specs.Stops.{EndsAt, IsBroken};
+ghost use Rattle.fax_conforms.specs.Standing.{LineStands};
+ghost use Rattle.fax_conforms.specs.Stops.{EndsAt, IsBroken, ReadsLine};
 
 use crate::lines::{draw_line_1d, draw_line_2d};
 use crate::stops::{Rule, Stop, broken};
@@ -31,13 +31,9 @@ fn draw_tagged_line(
 ) -> Result<(), Stop>
     requires wide { 0 < columns }
     requires reference { AreChanges columns reference.now }
-    ensures row { OnOk result (Leads columns
+    ensures reads { ReadsLine columns
         (λ row rest. LineStands Group3_2D (pixels columns reference.now) row (here reader.old) rest)
-        (IsOnly (pixels columns coding.new.items) (here reader.new))) }
-    ensures lawful { OnOk result (AreChanges columns coding.new.items) }
-    ensures none { IfErr result (λ e. IsBroken e
-        → Never columns (λ row rest. LineStands Group3_2D (pixels columns reference.now) row (here reader.old) rest)) }
-    ensures at { IfErr result (EndsAt reader.old.bits) }
+        coding.new.items (here reader.new) reader.old.bits result }
     ensures same_bits { reader.new.bits ≡ reader.old.bits }
 {
     let place = reader.bit_pos();
@@ -58,13 +54,9 @@ fn draw_line(
 ) -> Result<(), Stop>
     requires wide { 0 < settings.columns }
     requires reference { AreChanges settings.columns reference.now }
-    ensures row { OnOk result (Leads settings.columns
+    ensures reads { ReadsLine settings.columns
         (λ row rest. LineStands settings.encoding (pixels settings.columns reference.now) row (here reader.old) rest)
-        (IsOnly (pixels settings.columns coding.new.items) (here reader.new))) }
-    ensures lawful { OnOk result (AreChanges settings.columns coding.new.items) }
-    ensures none { IfErr result (λ e. IsBroken e → Never settings.columns
-        (λ row rest. LineStands settings.encoding (pixels settings.columns reference.now) row (here reader.old) rest)) }
-    ensures at { IfErr result (EndsAt reader.old.bits) }
+        coding.new.items (here reader.new) reader.old.bits result }
     ensures same_bits { reader.new.bits ≡ reader.old.bits }
 {
     let columns = settings.columns;
@@ -176,16 +168,12 @@ fn draw_filled_line(
     requires wide { 0 < settings.columns }
     requires reference { AreChanges settings.columns reference.now }
     requires whole { settings.rows_are_byte_aligned ≡ true → reader.old.place % 8 ≡ 0 }
-    ensures row { OnOk result (Leads settings.columns
+    ensures reads { ReadsLine settings.columns
         (λ row rest. FilledStands settings (pixels settings.columns reference.now) row (here reader.old) rest)
-        (IsOnly (pixels settings.columns coding.new.items) (here reader.new))) }
-    ensures lawful { OnOk result (AreChanges settings.columns coding.new.items) }
+        coding.new.items (here reader.new) reader.old.bits result }
     ensures whole { OnOk result (settings.rows_are_byte_aligned ≡ true → reader.new.place % 8 ≡ 0) }
     ensures shorter { OnOk result (length (here reader.new) < length (here reader.old)) }
     ensures fit { length reader.old.bits + 64 < 2 ^ 64 }
-    ensures none { IfErr result (λ e. IsBroken e → Never settings.columns
-        (λ row rest. FilledStands settings (pixels settings.columns reference.now) row (here reader.old) rest)) }
-    ensures at { IfErr result (EndsAt reader.old.bits) }
     ensures same_bits { reader.new.bits ≡ reader.old.bits }
 {
     // The range of a number is known once it is read.
@@ -323,15 +311,11 @@ fn draw_line_behind_eol(
 ) -> Result<(), Stop>
     requires wide { 0 < settings.columns }
     requires reference { AreChanges settings.columns reference.now }
-    ensures row { OnOk result (Leads settings.columns
+    ensures reads { ReadsLine settings.columns
         (λ row rest. EolLineStands settings (pixels settings.columns reference.now) row (here reader.old) rest)
-        (IsOnly (pixels settings.columns coding.new.items) (here reader.new))) }
-    ensures lawful { OnOk result (AreChanges settings.columns coding.new.items) }
+        coding.new.items (here reader.new) reader.old.bits result }
     ensures shorter { OnOk result (length (here reader.new) < length (here reader.old)) }
     ensures fit { length reader.old.bits + 64 < 2 ^ 64 }
-    ensures none { IfErr result (λ e. IsBroken e → Never settings.columns
-        (λ row rest. EolLineStands settings (pixels settings.columns reference.now) row (here reader.old) rest)) }
-    ensures at { IfErr result (EndsAt reader.old.bits) }
     ensures same_bits { reader.new.bits ≡ reader.old.bits }
 {
     // The range of a number is known once it is read.

@@ -3,7 +3,7 @@ pub use Rattle.fax_encode.specs.Chosen.{Place, bits_at, chosen_from, chosen_line
 pub use Rattle.fax_encode.specs.Chosen.{chosen_lines_2d, chosen_mode, chosen_rest, chosen_run, chosen_runs, chosen_t4, chosen_t6}
 pub use Rattle.fax_encode.specs.Chosen.{filled_up, is_coded, is_near, next_place, place_after, return_to_control, rows_of}
 pub use Rattle.fax_encode.specs.Chosen.{runs_of_mode, vertical_mode, word_of, word_of_length, word_of_mode}
-pub use Rattle.fax_encode.specs.Coding.{AreAllLeft, AreLeft, IsNear, color_after, place_of}
+pub use Rattle.fax_encode.specs.Coding.{AreAllLeft, AreLeft, IsAbove, IsNear, color_after, place_of}
 pub use Rattle.fax_encode.specs.Laws.{BitmapRoundTripT4, BitmapRoundTripT6, ChangesAtMost, ChosenBySettings, ChosenComesBack}
 pub use Rattle.fax_encode.specs.Laws.{ChosenIsAnEncoding, ChosenIsRead, ChosenLinesEncode, DamageReachesKRows, DamagedLine}
 pub use Rattle.fax_encode.specs.Laws.{GivesAll, NeverLonger, NoLineIsShorter, NoRunsAreShorter, NoneIsShorter, PackedIsShown}

@@ -1,8 +1,10 @@
 -- How far an encoder has come in a line.
-use Rattle.std.specs.Prelude.{ℕ, ◌+◌, ◌%◌, ◌==◌, ◌<◌, ◌≤◌, List, length, get_or, if◌then◌else◌}
+use Rattle.std.specs.Prelude.{◌≡◌, ℕ, ◌+◌, ◌%◌, ◌==◌, ◌<◌, ◌≤◌, List, length, get_or, if◌then◌else◌}
 use Rattle.hayro_ccitt.specs.Color.{Color}
 use Rattle.hayro_ccitt.specs.Color.TheVariants.{White, Black}
+use Rattle.hayro_ccitt.specs.Rows.{AreChanges, pixels, b1, b2}
 use Rattle.hayro_ccitt.specs.UsualModes.{TurnsFrom}
+use Rattle.fax_encode.specs.declared.group4.Above.{Above}
 use Rattle.fax_encode.specs.declared.group4.Coding.{Coding}
 use Rattle.fax_encode.specs.Chosen.{Place}
 
@@ -29,3 +31,31 @@ place_of at = record { from = at.from; color = color_after at.next }
 pub record IsNear (columns : ℕ) (places : List ℕ) (at : Place) (index : ℕ) : Type 0 where
   pub turns : TurnsFrom index at.color
   pub left : (k : ℕ) → k + 2 ≤ index → get_or places k columns < at.from
+
+-- b1 of a position (T.4, 4.2.1.1) and its index among the changes of a reference row, after which b2 is
+pub record IsAbove (columns : ℕ) (places : List ℕ) (at : Place) (above : Above) : Type 0 where
+  pub b2 : b2 (pixels columns places) at.from at.color ≡ get_or places (above.index + 1) columns
+  pub b1 : b1 (pixels columns places) at.from at.color ≡ above.b1
+  pub first : above.b1 ≡ get_or places above.index columns
+  pub within : above.index ≤ length places + 1
+
+-- A row is coded below another up to a position that isn't past its end: the changes left of it are counted, and b1 is found from
+-- an index on.
+pub record IsCodedTo (columns : ℕ) (above row : List ℕ) (at : Coding) (index : ℕ) : Type 0 where
+  pub reference : AreChanges columns above
+  pub changes : AreChanges columns row
+  pub inside : at.from ≤ columns
+  pub next : AreAllLeft row at.from at.next
+  pub near : IsNear columns above (place_of at) index
+
+-- this many changes of a row, from an index on, are where those of the reference row from another index on are
+pub record AreBelow (above : List ℕ) (index : ℕ) (row : List ℕ) (next count : ℕ) : Type 0 where
+  pub within : next + count ≤ length row
+  pub reaches : index + count ≤ length above
+  pub same : (k : ℕ) → k < count → get_or row (next + k) 0 ≡ get_or above (index + k) 0
+
+-- the index of a change that isn't left of a position, and that turns the row from the colour after `next` changes
+pub record IsNotLeft (columns : ℕ) (places : List ℕ) (from next index : ℕ) : Type 0 where
+  pub few : index ≤ length places + 2
+  pub turns : index % 2 ≡ next % 2
+  pub right : from ≤ get_or places index columns

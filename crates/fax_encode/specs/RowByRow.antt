@@ -1,5 +1,5 @@
 -- A picture that is encoded row by row (T.4, 4.1 and 4.2; T.6, 2.2).
-use Rattle.std.specs.Prelude.{ℕ, ◌+◌, ◌-◌, ◌^◌, min, Bool, false, List, [], ◌∷◌, ◌++◌, length}
+use Rattle.std.specs.Prelude.{◌≡◌, ℕ, ◌+◌, ◌-◌, ◌^◌, min, Bool, false, List, [], ◌∷◌, ◌++◌, length}
 use Rattle.hayro_ccitt.specs.Bits.{Bits}
 use Rattle.hayro_ccitt.specs.Rows.{Row, white_row}
 use Rattle.fax_encode.specs.declared.settings.EncodeSettings.{EncodeSettings}
@@ -15,6 +15,11 @@ pub record RowsEncoded : Type 0 where
   pub last : Row
   pub left : ℕ
   pub wants_memory : Bool
+
+-- the settings and the width stay, whatever is added
+pub record KeepsSettings (old new : RowsEncoded) : Type 0 where
+  pub settings : new.settings ≡ old.settings
+  pub columns : new.columns ≡ old.columns
 
 -- none: above the first row is a white one (T.4, 4.2.1.1)
 abbrev pub no_rows : EncodeSettings → ℕ → RowsEncoded

@@ -6,12 +6,13 @@ use Rattle.hayro_ccitt.specs.Color.TheVariants.{White}
 use Rattle.hayro_ccitt.specs.Mode.{Mode}
 use Rattle.hayro_ccitt.specs.Mode.TheVariants.{Pass, Horizontal}
 use Rattle.hayro_ccitt.specs.Bits.{Bits}
-use Rattle.hayro_ccitt.specs.Rows.{Row, opposite, pixels, a1, b1, b2}
+use Rattle.hayro_ccitt.specs.Rows.{AreChanges, Row, opposite, pixels, a1, b1, b2}
+use Rattle.fax_encode.specs.declared.group4.Coding.{Coding}
 use Rattle.fax_encode.specs.declared.shortest_lines.Ahead.{Ahead}
 use Rattle.fax_encode.specs.declared.shortest_lines.Way.{Way}
 use Rattle.fax_encode.specs.declared.words.Word.{Word}
 use Rattle.fax_encode.specs.Chosen.{Place, word_of_mode, vertical_mode, is_near, place_after}
-use Rattle.fax_encode.specs.Coding.{color_after}
+use Rattle.fax_encode.specs.Coding.{IsNear, color_after, place_of}
 use Rattle.fax_encode.specs.Shortest.{shortest_run, shortest_from, shortest_runs_of_mode, shortest_of}
 use Rattle.fax_encode.specs.Writing.{IsWord}
 
@@ -102,6 +103,14 @@ pub record IsShortest (reference row : Row) (at : Place) (way : Way) : Type 0 wh
 unfoldable pub right_of_changes : ℕ → List ℕ → ℕ → Place
 right_of_changes columns changes zero = record { from = 0; color = White }
 right_of_changes columns changes (suc n) = record { from = suc (get_or changes n columns); color = color_after (suc n) }
+
+-- a row's coding below another stands right of a number of changes, and b1 is found from its index on
+pub record StandsRight (columns : ℕ) (above row : List ℕ) (at : Coding) : Type 0 where
+  pub reference : AreChanges columns above
+  pub changes : AreChanges columns row
+  pub inside : at.next ≤ length row
+  pub right : place_of at ≡ right_of_changes columns row at.next
+  pub near : IsNear columns above (place_of at) at.above
 
 -- the fewest bits of what is right of a number of changes
 unfoldable pub bits_right_of : ℕ → List ℕ → List ℕ → ℕ → ℕ

@@ -5,7 +5,7 @@ ghost use Rattle.hayro_ccitt.specs.Bits.{bits_in, bits_of};
 ghost use Rattle.hayro_ccitt.specs.Rows.{AreChanges, pixels, white_row};
 ghost use Rattle.fax_encode.specs.Chosen.{filled_up};
 ghost use Rattle.fax_encode.specs.Packed.{bytes_of_row, in_black};
-ghost use Rattle.fax_encode.specs.RowByRow.{no_rows, with_row};
+ghost use Rattle.fax_encode.specs.RowByRow.{KeepsSettings, no_rows, with_row};
 ghost use Rattle.fax_encode.specs.Settings.{names_encoding, needs_row, with_end};
 
 use crate::bit_order::bytes_in_order;
@@ -127,8 +127,7 @@ impl Encoder {
         requires memory { self.old.wants_memory ≡ false }
         ensures taken { OnOk result (self.new ≡ with_row self.old (white_row self.old.columns)) }
         ensures wanted { OnErr result (self.new.wants_memory ≡ true) }
-        ensures settings { self.new.settings ≡ self.old.settings }
-        ensures columns { self.new.columns ≡ self.old.columns }
+        ensures same { KeepsSettings self.old self.new }
     {
         self.wants_memory = true;
         if self.lines.is_none() {
@@ -154,8 +153,7 @@ impl Encoder {
         requires memory { self.old.wants_memory ≡ false }
         ensures taken { OnOk result (self.new ≡ with_row self.old (pixels self.old.columns changes.now)) }
         ensures wanted { OnErr result (self.new.wants_memory ≡ true) }
-        ensures settings { self.new.settings ≡ self.old.settings }
-        ensures columns { self.new.columns ≡ self.old.columns }
+        ensures same { KeepsSettings self.old self.new }
     {
         if self.reference.is_empty() && changes.is_empty() {
             return self.add_white();
@@ -194,8 +192,7 @@ impl Encoder {
         ensures others { (result ≢ Err EncodeError.NoEncoding) × (result ≢ Err EncodeError.NoColumns) × (result ≢ Err EncodeError.NoRows) }
         ensures wanted { self.old.wants_memory ≡ true → result ≡ Err EncodeError.OutOfMemory }
         ensures wants { result ≡ Err EncodeError.OutOfMemory → self.new.wants_memory ≡ true }
-        ensures settings { self.new.settings ≡ self.old.settings }
-        ensures columns { self.new.columns ≡ self.old.columns }
+        ensures same { KeepsSettings self.old self.new }
     {
         if self.wants_memory {
             return Err(EncodeError::OutOfMemory);
@@ -216,8 +213,7 @@ impl Encoder {
         ensures taken { OnOk result (self.new
             ≡ with_row self.old (in_black black_is_0 (take self.old.columns (bits_of bitmap.now)))) }
         ensures wanted { OnErr result (self.new.wants_memory ≡ true) }
-        ensures settings { self.new.settings ≡ self.old.settings }
-        ensures columns { self.new.columns ≡ self.old.columns }
+        ensures same { KeepsSettings self.old self.new }
     {
         let width = (self.columns as usize).div_ceil(8);
         if !black_is_0 && self.reference.is_empty() && zero_bytes(&bitmap[..width]) == width {
@@ -249,8 +245,7 @@ impl Encoder {
         ensures taken { OnOk result (self.new
             ≡ with_row self.old (in_black true (take self.old.columns (bits_of bitmap.now)))) }
         ensures wanted { OnErr result (self.new.wants_memory ≡ true) }
-        ensures settings { self.new.settings ≡ self.old.settings }
-        ensures columns { self.new.columns ≡ self.old.columns }
+        ensures same { KeepsSettings self.old self.new }
     {
         self.add_packed(bitmap, true)
     }
@@ -272,8 +267,7 @@ impl Encoder {
         ensures others { (result ≢ Err EncodeError.NoEncoding) × (result ≢ Err EncodeError.NoColumns) × (result ≢ Err EncodeError.NoRows) }
         ensures wanted { self.old.wants_memory ≡ true → result ≡ Err EncodeError.OutOfMemory }
         ensures wants { result ≡ Err EncodeError.OutOfMemory → self.new.wants_memory ≡ true }
-        ensures settings { self.new.settings ≡ self.old.settings }
-        ensures columns { self.new.columns ≡ self.old.columns }
+        ensures same { KeepsSettings self.old self.new }
     {
         if self.wants_memory {
             return Err(EncodeError::OutOfMemory);
@@ -304,7 +298,7 @@ impl Encoder {
         ensures others { (result ≢ Err EncodeError.NoEncoding) × (result ≢ Err EncodeError.NoColumns) × (result ≢ Err EncodeError.NoRows) }
         ensures wanted { self.old.wants_memory ≡ true → result ≡ Err EncodeError.OutOfMemory }
         ensures wants { result ≡ Err EncodeError.OutOfMemory → self.new.wants_memory ≡ true }
-        ensures same { (self.new.settings ≡ self.old.settings) × (self.new.columns ≡ self.old.columns) }
+        ensures same { KeepsSettings self.old self.new }
     {
         if !black_is_0 {
             return self.push_packed_row(row);

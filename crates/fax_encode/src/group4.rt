@@ -1,7 +1,7 @@
 //! Group 4 (T.6): two-dimensional lines (T.4, 4.2).
 
 ghost use Rattle.std.specs.Prelude.{◌≡◌, ◌≢◌, ◌+◌, ◌<◌, ◌≤◌, ◌++◌, [], length};
-ghost use Rattle.std.specs.Prelude.{ℕ, get_or, IfOk, OnOk, MatchOption, if◌then◌else◌, true};
+ghost use Rattle.std.specs.Prelude.{get_or, IfOk, OnOk, MatchOption, if◌then◌else◌, true};
 ghost use Rattle.std.specs.Prelude.{false};
 ghost use Rattle.hayro_ccitt.specs.Mode.TheVariants.{Horizontal};
 ghost use Rattle.hayro_ccitt.specs.Rows.{AreChanges, pixels, opposite, b1, b2};
@@ -9,7 +9,7 @@ ghost use Rattle.hayro_ccitt.specs.Encodings.{padding};
 ghost use Rattle.fax_encode.specs.Chosen.{bits_at, chosen_from, place_after, chosen_mode};
 ghost use Rattle.fax_encode.specs.Chosen.{chosen_run, word_of_mode, chosen_line_2d, is_near};
 ghost use Rattle.fax_encode.specs.Chosen.{vertical_mode};
-ghost use Rattle.fax_encode.specs.Coding.{AreAllLeft, place_of, IsNear, color_after};
+ghost use Rattle.fax_encode.specs.Coding.{AreAllLeft, AreBelow, IsAbove, IsCodedTo, IsNear, place_of, color_after};
 ghost use Rattle.fax_encode.specs.Writing.{all_bits};
 
 use crate::bit_writer::BitWriter;
@@ -55,11 +55,8 @@ pub fn find_above(columns: u32, reference: &[u32], at: Coding) -> Above
     requires lawful { AreChanges columns reference.now }
     requires inside { at.from ≤ columns }
     requires near { IsNear columns reference.now (place_of at) at.above }
-    ensures b1 { b1 (pixels columns reference.now) at.from (color_after at.next) ≡ result.b1 }
-    ensures b2 { b2 (pixels columns reference.now) at.from (color_after at.next) ≡ get_or reference.now (result.index + 1) columns }
-    ensures first { result.b1 ≡ get_or reference.now result.index columns }
+    ensures found { IsAbove columns reference.now (place_of at) result }
     ensures near { IsNear columns reference.now (place_of at) result.index }
-    ensures within { result.index ≤ length reference.now + 1 }
     ensures onward { at.above ≤ result.index }
 {
     let from = at.from as u32;
@@ -201,15 +198,8 @@ fn put_mode(
     at: Coding,
     above: Above,
 ) -> Result<Coding, AllocError>
-    requires reference { AreChanges columns reference.now }
-    requires changes { AreChanges columns changes.now }
-    requires inside { at.from ≤ columns }
-    requires next { AreAllLeft changes.now at.from at.next }
-    requires b1 { (b1 (pixels columns reference.now) at.from (color_after at.next) ≡ above.b1)
-        × (above.b1 ≡ get_or reference.now above.index columns) }
-    requires b2 { b2 (pixels columns reference.now) at.from (color_after at.next) ≡ get_or reference.now (above.index + 1) columns }
-    requires near { IsNear columns reference.now (place_of at) above.index }
-    requires within { above.index ≤ length reference.now + 1 }
+    requires coded { IsCodedTo columns reference.now changes.now at above.index }
+    requires above { IsAbove columns reference.now (place_of at) above }
     ensures written { OnOk result (all_bits writer.new ≡ all_bits writer.old
         ++ bits_at (pixels columns reference.now) (pixels columns changes.now) (place_of at)) }
     ensures place { IfOk result (λ after. place_of after
@@ -267,9 +257,7 @@ fn count_below(reference: &[u32], index: usize, changes: &[u32], next: usize) ->
     requires first { get_or changes.now next 0 ≡ get_or reference.now index 0 }
     ensures some { 0 < result }
     ensures few { result ≤ 63 }
-    ensures within { next + result ≤ length changes.now }
-    ensures reaches { index + result ≤ length reference.now }
-    ensures same { (k : ℕ) → k < result → get_or changes.now (next + k) 0 ≡ get_or reference.now (index + k) 0 }
+    ensures below { AreBelow reference.now index changes.now next result }
     ensures all { result < 63 → next + result < length changes.now → index + result < length reference.now
         → get_or changes.now (next + result) 0 ≢ get_or reference.now (index + result) 0 }
 {
@@ -291,20 +279,14 @@ fn put_all_below(
     at: Coding,
     above: Above,
 ) -> Result<Coding, AllocError>
-    requires reference { AreChanges _columns reference.now }
-    requires changes { AreChanges _columns changes.now }
-    requires inside { at.from ≤ _columns }
-    requires near { IsNear _columns reference.now (place_of at) above.index }
-    requires next { AreAllLeft changes.now at.from at.next }
+    requires coded { IsCodedTo _columns reference.now changes.now at above.index }
     requires some { at.next < length changes.now }
     requires within { above.index < length reference.now }
     requires below { get_or changes.now at.next 0 ≡ get_or reference.now above.index 0 }
     ensures written { IfOk result (λ after. all_bits writer.new
         ++ chosen_from (pixels _columns reference.now) (pixels _columns changes.now) (place_of after) ≡ all_bits writer.old
         ++ chosen_from (pixels _columns reference.now) (pixels _columns changes.now) (place_of at)) }
-    ensures near { IfOk result (λ after. IsNear _columns reference.now (place_of after) after.above) }
-    ensures next { IfOk result (λ after. AreAllLeft changes.now after.from after.next) }
-    ensures inside { IfOk result (λ after. after.from ≤ _columns) }
+    ensures coded { IfOk result (λ after. IsCodedTo _columns reference.now changes.now after after.above) }
     ensures onward { IfOk result (λ after. at.from < after.from) }
 {
     let count = count_below(reference, above.index, changes, at.next);

@@ -1,14 +1,14 @@
 //! The shortest two-dimensional lines (T.4, 4.2.1.3; T.6, 2.2): the modes with the fewest bits are found from the
 //! right to the left, and written from the left to the right.
 
-ghost use Rattle.std.specs.Prelude.{◌≡◌, ℕ, ◌+◌, ◌-◌, ◌*◌, ◌%◌, ◌^◌, ◌<◌, ◌≤◌, ◌++◌, ◌&&◌, length, get_or, nat_le, IfOk, OnOk};
+ghost use Rattle.std.specs.Prelude.{◌≡◌, ℕ, ◌+◌, ◌-◌, ◌*◌, ◌%◌, ◌^◌, ◌<◌, ◌≤◌, ◌++◌, ◌&&◌, length, nat_le, IfOk, OnOk};
 ghost use Rattle.std.specs.Prelude.{if◌then◌else◌, true, false};
 ghost use Rattle.hayro_ccitt.specs.Mode.TheVariants.{Horizontal};
 ghost use Rattle.hayro_ccitt.specs.Rows.{AreChanges, b1, b2, pixels, opposite};
 ghost use Rattle.fax_encode.specs.Chosen.{word_of_mode, vertical_mode, is_near};
-ghost use Rattle.fax_encode.specs.Coding.{place_of, IsNear, color_after};
+ghost use Rattle.fax_encode.specs.Coding.{place_of, IsAbove, IsNear, IsNotLeft, color_after};
 ghost use Rattle.fax_encode.specs.Shortest.{shortest_run, shortest_line_2d};
-ghost use Rattle.fax_encode.specs.Ways.{right_of_changes, bits_right_of, IsFound, IsShortest, AreWays, IsAhead};
+ghost use Rattle.fax_encode.specs.Ways.{right_of_changes, bits_right_of, IsFound, IsShortest, AreWays, IsAhead, StandsRight};
 ghost use Rattle.fax_encode.specs.Ways.{mode_word, bits_in_vertical, bits_in_horizontal, words_of_passes};
 ghost use Rattle.fax_encode.specs.Ways.{shortest_rest, way_bits};
 ghost use Rattle.fax_encode.specs.Writing.{all_bits, IsWord};
@@ -155,11 +155,7 @@ fn search_passes(
     ahead: Ahead,
     without: Way,
 ) -> Way
-    requires reference { AreChanges columns reference.now }
-    requires changes { AreChanges columns _changes.now }
-    requires inside { at.next ≤ length _changes.now }
-    requires right { place_of at ≡ right_of_changes columns _changes.now at.next }
-    requires near { IsNear columns reference.now (place_of at) at.above }
+    requires stands { StandsRight columns reference.now _changes.now at }
     requires ahead { IsAhead columns reference.now _changes.now at.next ahead }
     requires few { (ahead.after_a1 < 2 ^ 40) × (ahead.after_a2 < 2 ^ 40) }
     requires found { IsFound (pixels columns reference.now) (pixels columns _changes.now) (place_of at) 0 without }
@@ -200,11 +196,7 @@ fn search_copies(
     ahead: Ahead,
     without: Way,
 ) -> Way
-    requires reference { AreChanges columns reference.now }
-    requires changes { AreChanges columns _changes.now }
-    requires inside { at.next ≤ length _changes.now }
-    requires right { place_of at ≡ right_of_changes columns _changes.now at.next }
-    requires near { IsNear columns reference.now (place_of at) at.above }
+    requires stands { StandsRight columns reference.now _changes.now at }
     requires ahead { IsAhead columns reference.now _changes.now at.next ahead }
     requires few { (ahead.after_a1 < 2 ^ 40) × (ahead.after_a2 < 2 ^ 40) }
     requires found { IsFound (pixels columns reference.now) (pixels columns _changes.now) (place_of at) 0 without }
@@ -258,15 +250,8 @@ fn find_way(
     above: Above,
     ahead: Ahead,
 ) -> Way
-    requires reference { AreChanges columns reference.now }
-    requires changes { AreChanges columns _changes.now }
-    requires inside { at.next ≤ length _changes.now }
-    requires right { place_of at ≡ right_of_changes columns _changes.now at.next }
-    requires near { IsNear columns reference.now (place_of at) at.above }
-    requires within { above.index ≤ length reference.now + 1 }
-    requires first { above.b1 ≡ get_or reference.now above.index columns }
-    requires b1 { b1 (pixels columns reference.now) at.from (color_after at.next) ≡ above.b1 }
-    requires b2 { b2 (pixels columns reference.now) at.from (color_after at.next) ≡ get_or reference.now (above.index + 1) columns }
+    requires stands { StandsRight columns reference.now _changes.now at }
+    requires above { IsAbove columns reference.now (place_of at) above }
     requires ahead { IsAhead columns reference.now _changes.now at.next ahead }
     requires few { (ahead.after_a1 < 2 ^ 40) × (ahead.after_a2 < 2 ^ 40) }
     ensures { IsShortest (pixels columns reference.now) (pixels columns _changes.now) (place_of at) result }
@@ -287,16 +272,10 @@ fn find_way(
 fn step_back(columns: u32, reference: &[u32], from: u64, _next: usize, index: usize) -> Above
     requires lawful { AreChanges columns reference.now }
     requires inside { from ≤ columns }
-    requires few { index ≤ length reference.now + 2 }
-    requires turns { index % 2 ≡ _next % 2 }
-    requires right { from ≤ get_or reference.now index columns }
-    ensures b1 { b1 (pixels columns reference.now) from (color_after _next) ≡ result.b1 }
-    ensures b2 { b2 (pixels columns reference.now) from (color_after _next) ≡ get_or reference.now (result.index + 1) columns }
-    ensures first { result.b1 ≡ get_or reference.now result.index columns }
+    requires right { IsNotLeft columns reference.now from _next index }
+    ensures found { IsAbove columns reference.now (record { from = from; color = color_after _next }) result }
     ensures near { IsNear columns reference.now (record { from = from; color = color_after _next }) result.index }
-    ensures within { result.index ≤ length reference.now + 1 }
-    ensures turns { result.index % 2 ≡ _next % 2 }
-    ensures right { from ≤ result.b1 }
+    ensures right { IsNotLeft columns reference.now from _next result.index }
 {
     let mut above = index;
     let mut b1 = change_or_end(reference, above, columns);

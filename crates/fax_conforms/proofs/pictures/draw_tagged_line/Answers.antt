@@ -1,7 +1,9 @@
-use Rattle.hayro_ccitt.proofs.Names.{◌≡◌, ◌∷◌, true, false, arith, pixels, here}
+use Rattle.hayro_ccitt.proofs.Names.{◌≡◌, ◌∷◌, ◌≤◌, [], true, false, length, arith, pixels, here, Row, BitsAt, ap}
 use Rattle.fax_conforms.proofs.LinesEnd.{leads_on, leads_never}
-use Rattle.fax_conforms.proofs.Stopped.{if_done, if_broken}
-use Rattle.fax_conforms.proofs.TaggedLines.{tagged_1d, tagged_2d}
+use Rattle.fax_conforms.proofs.Stopped.{if_done, if_broken, if_err, ends_here, ends_in}
+use Rattle.fax_conforms.proofs.TaggedLines.{tagged_1d, tagged_2d, untagged}
+use Rattle.fax_conforms.specs.declared.stops.Rule.TheVariants.{Tag}
+use Rattle.std.proofs.Common.{drop_of_length-le, refl}
 use Rattle.fax_conforms.proofs.pictures.draw_tagged_line.Goals as goal
 use Rattle.fax_conforms.proofs.pictures.draw_tagged_line.Goals.{After-draw_line_1d, After-draw_line_2d}
 
@@ -13,21 +15,41 @@ one c =
     let e : c.in-Ok.field-0 ≡ 1 = omega (arith, c.in-Ok.ensures.bit.0, c.in-Ok.field-0-test.1) in
     rw e at c.in-Ok.ensures.front
 
-pub returns-in-Ok-eq0-clause-row : goal.returns-in-Ok-eq0-clause-row
-returns-in-Ok-eq0-clause-row c = if_done c.draw_line_2d.result _ _ c.draw_line_2d.ensures.row (λ on. leads_on c.args.columns
-    (tagged_2d c.args.columns (pixels c.args.columns c.args.reference.now) _ (here c.read_bit.new.self) (zero c)) on)
+pub returns-in-Ok-eq0-clause-reads : goal.returns-in-Ok-eq0-clause-reads
+returns-in-Ok-eq0-clause-reads c =
+    let reads = c.draw_line_2d.ensures.reads in
+    let tagged = tagged_2d c.args.columns (pixels c.args.columns c.args.reference.now) _ (here c.read_bit.new.self) (zero c) in
+    record {
+      row = if_done c.draw_line_2d.result _ _ reads.row (λ on. leads_on c.args.columns tagged on);
+      lawful = reads.lawful;
+      none = if_broken c.draw_line_2d.result _ _ reads.none (λ none. leads_never c.args.columns tagged none);
+      at = ends_in c.draw_line_2d.result c.args.reader.now.bits c.read_bit.new.self.bits
+          (ap (λ (r : BitsAt). r.bits) c.in-Ok-eq0.ensures.next) reads.at;
+    }
 
-pub returns-in-Ok-eq0-clause-none : goal.returns-in-Ok-eq0-clause-none
-returns-in-Ok-eq0-clause-none c = if_broken c.draw_line_2d.result _ _ c.draw_line_2d.ensures.none
-    (λ none. leads_never c.args.columns
-    (tagged_2d c.args.columns (pixels c.args.columns c.args.reference.now) _ (here c.read_bit.new.self) (zero c)) none)
+pub returns-in-Ok-clause-reads : goal.returns-in-Ok-clause-reads
+returns-in-Ok-clause-reads c =
+    let reference : Row = pixels c.args.columns c.args.reference.now in
+    let drawn = c.draw_line_1d.ensures in
+    let tagged = tagged_1d c.args.columns reference _ (here c.read_bit.new.self) (one c) in
+    record {
+      row = if_done c.draw_line_1d.result _ _ drawn.row (λ on. leads_on c.args.columns tagged (on reference));
+      lawful = drawn.lawful;
+      none = if_broken c.draw_line_1d.result _ _ drawn.none (λ none. leads_never c.args.columns tagged (none reference));
+      at = ends_in c.draw_line_1d.result c.args.reader.now.bits c.read_bit.new.self.bits
+          (ap (λ (r : BitsAt). r.bits) c.in-Ok.ensures.next) drawn.at;
+    }
 
-pub returns-in-Ok-clause-row : goal.returns-in-Ok-clause-row
-returns-in-Ok-clause-row c = if_done c.draw_line_1d.result _ _ c.draw_line_1d.ensures.row (λ on. leads_on c.args.columns
-    (tagged_1d c.args.columns (pixels c.args.columns c.args.reference.now) _ (here c.read_bit.new.self) (one c))
-    (on (pixels c.args.columns c.args.reference.now)))
-
-pub returns-in-Ok-clause-none : goal.returns-in-Ok-clause-none
-returns-in-Ok-clause-none c = if_broken c.draw_line_1d.result _ _ c.draw_line_1d.ensures.none (λ none. leads_never c.args.columns
-    (tagged_1d c.args.columns (pixels c.args.columns c.args.reference.now) _ (here c.read_bit.new.self) (one c))
-    (none (pixels c.args.columns c.args.reference.now)))
+-- there is no tag
+pub returns-in-Err-clause-reads : goal.returns-in-Err-clause-reads
+returns-in-Err-clause-reads c =
+    let start = c.args.reader.now in
+    let over : length start.bits ≤ start.place = c.read_bit.ensures.end.0 (rw c.in-Err.is refl) in
+    let none : here start ≡ [] = drop_of_length-le start.bits {i = start.place} over in
+    record {
+      row = rw c.broken.ensures.exact tt;
+      lawful = rw c.broken.ensures.exact tt;
+      none = if_err c.broken.result _ (untagged c.args.columns (pixels c.args.columns c.args.reference.now) (here start) none);
+      at = ends_here c.broken.result start c.bit_pos-place.result Tag c.broken.ensures.exact c.bit_pos-place.ensures.place
+          c.bit_pos-place.ensures.within none;
+    }

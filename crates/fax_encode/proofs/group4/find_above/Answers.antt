@@ -10,15 +10,15 @@ twos-preserved c = record {
   here = c.change_or_end-b1-in-twos.ensures;
 }
 
-pub returns-clause-b1 : goal.returns-clause-b1
-returns-clause-b1 c = b1_reached c.args.columns c.args.reference.now c.requires.lawful (place_of c.args.at) c.twos.index
-    c.twos.invariant.near c.requires.inside (omega (arith, c.twos-test.false, c.twos.invariant.here)) ∙ sym c.twos.invariant.here
-
-pub returns-clause-b2 : goal.returns-clause-b2
-returns-clause-b2 c = b2_after_b1 c.args.columns c.args.reference.now c.args.at.from c.twos.index (color_after c.args.at.next)
-    c.requires.lawful (b1_reached c.args.columns c.args.reference.now c.requires.lawful (place_of c.args.at) c.twos.index
-    c.twos.invariant.near c.requires.inside (omega (arith, c.twos-test.false, c.twos.invariant.here)))
-
-pub returns-clause-within : goal.returns-clause-within
-returns-clause-within c = near_within c.args.columns c.args.reference.now c.requires.lawful
-    (place_of c.args.at) c.twos.index c.twos.invariant.near c.requires.inside
+pub returns-clause-found : goal.returns-clause-found
+returns-clause-found c =
+    let b1 = b1_reached c.args.columns c.args.reference.now c.requires.lawful (place_of c.args.at) c.twos.index
+    c.twos.invariant.near c.requires.inside (omega (arith, c.twos-test.false, c.twos.invariant.here)) in
+    record {
+      b2 = b2_after_b1 c.args.columns c.args.reference.now c.args.at.from c.twos.index (color_after c.args.at.next)
+          c.requires.lawful b1;
+      b1 = b1 ∙ sym c.twos.invariant.here;
+      first = c.twos.invariant.here;
+      within = near_within c.args.columns c.args.reference.now c.requires.lawful
+          (place_of c.args.at) c.twos.index c.twos.invariant.near c.requires.inside;
+    }

@@ -7,21 +7,23 @@ use Rattle.fax_encode.proofs.ModesBelow.{IsBelow, all_below, ones_bits}
 use Rattle.fax_encode.proofs.group4.put_all_below.Goals.{After-from}
 use Rattle.fax_encode.proofs.group4.put_all_below.Goals as goal
 
-below : (c : After-from) → IsBelow c.args._columns c.args.reference.now c.args.changes.now c.requires.reference c.requires.changes
+below : (c : After-from) → IsBelow c.args._columns c.args.reference.now c.args.changes.now c.requires.coded.reference
+    c.requires.coded.changes
     (c.count_below-count.result - 1) c.args.at.from c.args.at.next (c.args.at.next + c.count_below-count.result - 1)
     (c.args.at.next + c.count_below-count.result) (c.args.above.index + c.count_below-count.result)
 below c =
     let count : ℕ = c.count_below-count.result in
-    all_below c.args._columns c.args.reference.now c.args.changes.now c.requires.reference c.requires.changes (count - 1)
+    all_below c.args._columns c.args.reference.now c.args.changes.now c.requires.coded.reference c.requires.coded.changes (count -
+    1)
     c.args.at.from c.args.at.next c.args.above.index (c.args.at.next + count - 1) (c.args.at.next + count)
     (c.args.above.index + count)
     (omega (arith, c.count_below-count.ensures.some)) (omega (arith, c.count_below-count.ensures.some))
-    (omega (arith, c.count_below-count.ensures.some)) c.requires.inside c.requires.near c.requires.next
-    c.count_below-count.ensures.within c.count_below-count.ensures.reaches
-    (λ k lt. c.count_below-count.ensures.same k (omega (arith, lt, c.count_below-count.ensures.some)))
+    (omega (arith, c.count_below-count.ensures.some)) c.requires.coded.inside c.requires.coded.near c.requires.coded.next
+    c.count_below-count.ensures.below.within c.count_below-count.ensures.below.reaches
+    (λ k lt. c.count_below-count.ensures.below.same k (omega (arith, lt, c.count_below-count.ensures.some)))
 
 in_list : (c : After-from) → c.args.at.next + c.count_below-count.result - 1 < length c.args.changes.now
-in_list c = omega (arith, c.count_below-count.ensures.some, c.count_below-count.ensures.within)
+in_list c = omega (arith, c.count_below-count.ensures.some, c.count_below-count.ensures.below.within)
 
 -- the last of them
 last : (c : After-from) → c.from.result
@@ -48,24 +50,23 @@ returns-clause-written c =
     ∙ ap (λ (m : ℕ). (old ++ replicate m true) ++ behind place) more
     ∙ append_assoc old (replicate (suc (count - 1)) true) (behind place) ∙ ap (λ (b : Bits). old ++ b) (sym (below d).bits)
 
-pub returns-clause-near : goal.returns-clause-near
-returns-clause-near c =
-    let d = (goal.at.returns-clause-near c).After-from in
-    subst (λ (n : ℕ). IsNear c.args._columns c.args.reference.now
-    (record { from = n + 1; color = color_after (c.args.at.next + c.count_below-count.result) })
-    (c.args.above.index + c.count_below-count.result)) (sym (last d)) (below d).near
-
-pub returns-clause-next : goal.returns-clause-next
-returns-clause-next c =
-    let d = (goal.at.returns-clause-next c).After-from in
-    subst (λ (n : ℕ). AreAllLeft c.args.changes.now (n + 1) (c.args.at.next + c.count_below-count.result)) (sym (last d))
-    (below d).left
-
-pub returns-clause-inside : goal.returns-clause-inside
-returns-clause-inside c =
-    let d = (goal.at.returns-clause-inside c).After-from in
-    let place : ℕ = c.args.at.next + c.count_below-count.result - 1 in
-    omega (arith, last d, left_of_end 0 c.args._columns c.args.changes.now place c.requires.changes (in_list d))
+pub returns-clause-coded : goal.returns-clause-coded
+returns-clause-coded c =
+    let d = (goal.at.returns-clause-coded c).After-from in
+    let count : ℕ = c.count_below-count.result in
+    record {
+      reference = c.requires.coded.reference;
+      changes = c.requires.coded.changes;
+      inside = omega (
+        arith,
+        last d,
+        left_of_end 0 c.args._columns c.args.changes.now (c.args.at.next + count - 1) c.requires.coded.changes (in_list d),
+      );
+      next = subst (λ (n : ℕ). AreAllLeft c.args.changes.now (n + 1) (c.args.at.next + count)) (sym (last d)) (below d).left;
+      near = subst (λ (n : ℕ). IsNear c.args._columns c.args.reference.now
+          (record { from = n + 1; color = color_after (c.args.at.next + count) }) (c.args.above.index + count)) (sym (last d))
+          (below d).near;
+    }
 
 pub returns-clause-onward : goal.returns-clause-onward
 returns-clause-onward c =
@@ -74,5 +75,5 @@ returns-clause-onward c =
       arith,
       last d,
       (below d).left.left.left c.args.at.next (omega (arith, c.count_below-count.ensures.some)),
-      c.requires.next.right c.requires.some,
+      c.requires.coded.next.right c.requires.some,
     )

@@ -61,22 +61,45 @@ pub returns : goal.returns
 returns c = no_more c.args.columns c.args.reference.now c.args.changes.now c.requires.reference c.requires.changes (place_of
     c.modes.at) (all_bits c.modes.writer) _ (omega (arith, c.from.ensures, c.modes-test.false)) c.modes.invariant.written
 
-pub put_mode-requires-clause-next : goal.put_mode-requires-clause-next
-put_mode-requires-clause-next c = c.changes.invariant.next (c.changes.invariant.inside c.changes-test.true)
+pub put_mode-requires-clause-coded : goal.put_mode-requires-clause-coded
+put_mode-requires-clause-coded c = record {
+  reference = c.requires.reference;
+  changes = c.requires.changes;
+  inside = c.changes.invariant.inside c.changes-test.true;
+  next = c.changes.invariant.next (c.changes.invariant.inside c.changes-test.true);
+  near = c.find_above-above.ensures.near;
+}
 
-pub put_mode-requires-in-modes-clause-next : goal.put_mode-requires-in-modes-clause-next
-put_mode-requires-in-modes-clause-next c = c.modes.invariant.next (omega (arith, c.from.ensures, c.modes-test.true))
+pub put_mode-requires-in-modes-clause-coded : goal.put_mode-requires-in-modes-clause-coded
+put_mode-requires-in-modes-clause-coded c =
+    let inside : c.modes.at.from ≤ c.args.columns = omega (arith, c.from.ensures, c.modes-test.true) in
+    record {
+      reference = c.requires.reference;
+      changes = c.requires.changes;
+      inside = inside;
+      next = c.modes.invariant.next inside;
+      near = c.find_above-above-in-modes.ensures.near;
+    }
 
 -- ---- changes below b1
+pub put_all_below-requires-clause-coded : goal.put_all_below-requires-clause-coded
+put_all_below-requires-clause-coded c = record {
+  reference = c.requires.reference;
+  changes = c.requires.changes;
+  inside = c.changes.invariant.inside c.changes-test.true;
+  next = c.changes.invariant.next (c.changes.invariant.inside c.changes-test.true);
+  near = c.find_above-above.ensures.near;
+}
+
 pub put_all_below-requires-clause-within : goal.put_all_below-requires-clause-within
 put_all_below-requires-clause-within c = below_in_list c.args.columns c.args.reference.now c.args.changes.now
     c.requires.reference c.requires.changes c.changes.at.next c.find_above-above.result.index c.find_above-above.result.b1
-    c.changes-test.true c.if-changes-at.true c.find_above-above.ensures.first
+    c.changes-test.true c.if-changes-at.true c.find_above-above.ensures.found.first
 
 pub put_all_below-requires-clause-below : goal.put_all_below-requires-clause-below
 put_all_below-requires-clause-below c =
     let within = below_in_list c.args.columns c.args.reference.now c.args.changes.now c.requires.reference c.requires.changes
     c.changes.at.next c.find_above-above.result.index c.find_above-above.result.b1 c.changes-test.true c.if-changes-at.true
-    c.find_above-above.ensures.first in
-    c.if-changes-at.true ∙ c.find_above-above.ensures.first
+    c.find_above-above.ensures.found.first in
+    c.if-changes-at.true ∙ c.find_above-above.ensures.found.first
     ∙ same_change c.args.reference.now c.find_above-above.result.index c.args.columns 0 within

@@ -10,16 +10,17 @@ use Rattle.fax_encode.proofs.group4.put_mode.Goals.{After-change_or_end-a1}
 use Rattle.fax_encode.proofs.group4.put_mode.Goals as goal
 
 inside : (c : After-change_or_end-a1) → c.args.at.from ≤ length (pixels c.args.columns c.args.changes.now)
-inside c = omega (arith, c.requires.inside, length-pixels c.args.columns c.args.changes.now c.requires.changes)
+inside c = omega (arith, c.requires.coded.inside, length-pixels c.args.columns c.args.changes.now c.requires.coded.changes)
 
 -- a1 as it was found
 a1_is : (c : After-change_or_end-a1) → c.change_or_end-a1.result ≡ a1 (pixels c.args.columns c.args.changes.now) c.args.at.from
 a1_is c = c.change_or_end-a1.ensures
-    ∙ sym (a1_found c.args.columns c.args.changes.now c.requires.changes c.args.at.from c.args.at.next c.requires.next)
+    ∙ sym (a1_found c.args.columns c.args.changes.now c.requires.coded.changes c.args.at.from c.args.at.next
+    c.requires.coded.next)
 
 a2_is : (c : After-change_or_end-a1)
     → a2 (pixels c.args.columns c.args.changes.now) c.args.at.from ≡ get_or c.args.changes.now (c.args.at.next + 1) c.args.columns
-a2_is c = a2_found c.args.columns c.args.changes.now c.requires.changes c.args.at.from c.args.at.next c.requires.next
+a2_is c = a2_found c.args.columns c.args.changes.now c.requires.coded.changes c.args.at.from c.args.at.next c.requires.coded.next
 
 -- it is right of a0
 a1_right : (c : After-change_or_end-a1) → c.args.at.from ≤ c.change_or_end-a1.result
@@ -31,7 +32,7 @@ returns-in-Some-clause-written c =
     let reference : Row = pixels c.args.columns c.args.reference.now in
     let row : Row = pixels c.args.columns c.args.changes.now in
     let left : b2 reference c.args.at.from (color_after c.args.at.next) < a1 row c.args.at.from =
-    omega (arith, c.in-Some.ensures.0, c.in-Some.ensures.1, c.requires.b2, a1_is d) in
+    omega (arith, c.in-Some.ensures.0, c.in-Some.ensures.1, c.requires.above.b2, a1_is d) in
     c.in_ok-put_code_word.ensures ∙ ap (λ (b : Bits). all_bits c.args.writer.now ++ b)
     (c.pass_word.ensures.spells ∙ sym (pass_bits reference row (place_of c.args.at) (inside d) left))
 
@@ -41,24 +42,25 @@ returns-in-Some-clause-place c =
     let reference : Row = pixels c.args.columns c.args.reference.now in
     let row : Row = pixels c.args.columns c.args.changes.now in
     let left : b2 reference c.args.at.from (color_after c.args.at.next) < a1 row c.args.at.from =
-    omega (arith, c.in-Some.ensures.0, c.in-Some.ensures.1, c.requires.b2, a1_is d) in
+    omega (arith, c.in-Some.ensures.0, c.in-Some.ensures.1, c.requires.above.b2, a1_is d) in
     let to : ℕ → Place = λ n. record { from = n; color = (color_after c.args.at.next) } in
     let from : c.from-in-Some.result + 1 ≡ suc (b2 reference c.args.at.from (color_after c.args.at.next)) =
-    omega (arith, c.from-in-Some.ensures, c.in-Some.ensures.0, c.requires.b2) in
+    omega (arith, c.from-in-Some.ensures, c.in-Some.ensures.0, c.requires.above.b2) in
     ap to from ∙ sym (pass_place reference row (place_of c.args.at) (inside d) left)
 
 pub returns-in-Some-clause-near : goal.returns-in-Some-clause-near
 returns-in-Some-clause-near c = subst (λ (n : ℕ). IsNear c.args.columns c.args.reference.now
     (record { from = n + 1; color = (color_after c.args.at.next) }) (c.args.above.index + 2))
-    (sym c.from-in-Some.ensures) (near_pass c.args.columns c.args.reference.now c.requires.reference
-    (place_of c.args.at) c.args.above.index c.requires.near c.in-Some.b2 c.in-Some.ensures.0)
+    (sym c.from-in-Some.ensures) (near_pass c.args.columns c.args.reference.now c.requires.coded.reference
+    (place_of c.args.at) c.args.above.index c.requires.coded.near c.in-Some.b2 c.in-Some.ensures.0)
 
 pub returns-in-Some-clause-next : goal.returns-in-Some-clause-next
 returns-in-Some-clause-next c = λ le.
-    let right = step_right c.args.columns c.args.reference.now c.args.changes.now c.requires.reference c.requires.changes
-    (place_of c.args.at) _ c.requires.inside (returns-in-Some-clause-place c) in
+    let right = step_right c.args.columns c.args.reference.now c.args.changes.now c.requires.coded.reference
+    c.requires.coded.changes
+    (place_of c.args.at) _ c.requires.coded.inside (returns-in-Some-clause-place c) in
     still_left c.args.columns c.args.changes.now c.args.at.from (c.from-in-Some.result + 1) c.args.at.next
-    (omega (arith, right.0)) c.requires.next
+    (omega (arith, right.0)) c.requires.coded.next
     (omega (arith, c.from-in-Some.ensures, c.in-Some.ensures.1, c.change_or_end-a1.ensures))
 
 -- ---- after V0
@@ -72,9 +74,9 @@ below_right c same =
       arith,
       same,
       a1_is c,
-      c.requires.b1.1,
-      c.requires.b2,
-      next_is_right 0 c.args.columns c.args.reference.now index (index + 1) refl c.requires.reference,
+      c.requires.above.first,
+      c.requires.above.b2,
+      next_is_right 0 c.args.columns c.args.reference.now index (index + 1) refl c.requires.coded.reference,
     )
 
 pub returns-then-a1-above-clause-written : goal.returns-then-a1-above-clause-written
@@ -84,7 +86,7 @@ returns-then-a1-above-clause-written c =
     let row : Row = pixels c.args.columns c.args.changes.now in
     let first : ℕ = b1 reference c.args.at.from (color_after c.args.at.next) in
     let a : c.change_or_end-a1.result ≡ a1 row c.args.at.from = a1_is d in
-    let b : c.args.above.b1 ≡ first = sym c.requires.b1.0 in
+    let b : c.args.above.b1 ≡ first = sym c.requires.above.b1 in
     let near = near_same _ _ _ _ true b a c.put_below.ensures.near in
     let same = ap (λ (n : ℕ). word_of_mode (vertical_mode n c.change_or_end-a1.result)) b
     ∙ ap (λ (n : ℕ). word_of_mode (vertical_mode first n)) a in
@@ -99,7 +101,7 @@ returns-then-a1-above-clause-place c =
     let row : Row = pixels c.args.columns c.args.changes.now in
     let a : c.change_or_end-a1.result ≡ a1 row c.args.at.from = a1_is d in
     let b : c.args.above.b1 ≡ b1 reference c.args.at.from (color_after c.args.at.next) =
-    sym c.requires.b1.0 in
+    sym c.requires.above.b1 in
     let near = near_same _ _ _ _ true b a c.put_below.ensures.near in
     let to : ℕ → Place = λ n. record { from = n; color = color_after (c.args.at.next + 1) } in
     let turned : Color → Place = λ k. record { from = suc (a1 row c.args.at.from); color = k } in
@@ -112,15 +114,16 @@ returns-then-a1-above-clause-near c =
     let after : ℕ → Color → Type 0 =
     λ n k. IsNear c.args.columns c.args.reference.now (record { from = n; color = k }) (c.args.above.index + 1) in
     let from : c.change_or_end-a1.result + 1 ≡ c.from.result + 1 = omega (arith, c.from.ensures) in
-    let next = near_next c.args.columns c.args.reference.now c.requires.reference
-    (place_of c.args.at) c.args.above.index c.requires.near c.change_or_end-a1.result
-    (omega (arith, c.if-a1-above.true, c.requires.b1.1)) in
+    let next = near_next c.args.columns c.args.reference.now c.requires.coded.reference
+    (place_of c.args.at) c.args.above.index c.requires.coded.near c.change_or_end-a1.result
+    (omega (arith, c.if-a1-above.true, c.requires.above.first)) in
     subst (λ (n : ℕ). after n (color_after (c.args.at.next + 1))) from
     (subst (λ (k : Color). after (c.change_or_end-a1.result + 1) k) (sym (color_next c.args.at.next)) next)
 
 pub returns-then-a1-above-clause-next : goal.returns-then-a1-above-clause-next
 returns-then-a1-above-clause-next c = λ le.
-    left_of_next 0 c.args.columns c.args.changes.now c.args.at.next (c.args.at.next + 1) c.from.result refl c.requires.changes
+    left_of_next 0 c.args.columns c.args.changes.now c.args.at.next (c.args.at.next + 1) c.from.result refl
+    c.requires.coded.changes
     (c.from.ensures ∙ c.change_or_end-a1.ensures) (omega arith)
 
 -- ---- after a vertical mode
@@ -135,9 +138,9 @@ returns-then-is_vertical-clause-written c =
     let row : Row = pixels c.args.columns c.args.changes.now in
     let first : ℕ = b1 reference c.args.at.from (color_after c.args.at.next) in
     let a : c.change_or_end-a1.result ≡ a1 row c.args.at.from = a1_is d in
-    let b : c.args.above.b1 ≡ first = sym c.requires.b1.0 in
+    let b : c.args.above.b1 ≡ first = sym c.requires.above.b1 in
     let right : a1 row c.args.at.from ≤ b2 reference c.args.at.from (color_after c.args.at.next) =
-    omega (arith, c.in_default.ensures, a, c.requires.b2) in
+    omega (arith, c.in_default.ensures, a, c.requires.above.b2) in
     let near = near_same _ _ _ _ true b a (sym c.in_ok-is_vertical.ensures.near ∙ c.if-is_vertical.true) in
     let word : Bits = word_of_mode (vertical_mode c.args.above.b1 c.change_or_end-a1.result) in
     let same : word ≡ word_of_mode (vertical_mode first (a1 row c.args.at.from)) = ap (λ (n : ℕ).
@@ -153,9 +156,9 @@ returns-then-is_vertical-clause-place c =
     let row : Row = pixels c.args.columns c.args.changes.now in
     let a : c.change_or_end-a1.result ≡ a1 row c.args.at.from = a1_is d in
     let b : c.args.above.b1 ≡ b1 reference c.args.at.from (color_after c.args.at.next) =
-    sym c.requires.b1.0 in
+    sym c.requires.above.b1 in
     let right : a1 row c.args.at.from ≤ b2 reference c.args.at.from (color_after c.args.at.next) =
-    omega (arith, c.in_default.ensures, a, c.requires.b2) in
+    omega (arith, c.in_default.ensures, a, c.requires.above.b2) in
     let near = near_same _ _ _ _ true b a (sym c.in_ok-is_vertical.ensures.near ∙ c.if-is_vertical.true) in
     let to : ℕ → Place = λ n. record { from = n; color = color_after (c.args.at.next + 1) } in
     let turned : Color → Place = λ k. record { from = suc (a1 row c.args.at.from); color = k } in
@@ -167,7 +170,7 @@ returns-then-is_vertical-clause-place c =
 pub returns-then-is_vertical-clause-next : goal.returns-then-is_vertical-clause-next
 returns-then-is_vertical-clause-next c = λ le.
     left_of_next 0 c.args.columns c.args.changes.now c.args.at.next (c.args.at.next + 1) c.from-then-is_vertical.result refl
-    c.requires.changes (c.from-then-is_vertical.ensures ∙ c.change_or_end-a1.ensures) (omega arith)
+    c.requires.coded.changes (c.from-then-is_vertical.ensures ∙ c.change_or_end-a1.ensures) (omega arith)
 
 pub overflow_sub-a1 : goal.overflow_sub-a1
 overflow_sub-a1 c =
@@ -207,9 +210,9 @@ returns-clause-written c =
     let row : Row = pixels c.args.columns c.args.changes.now in
     let a : c.change_or_end-a1.result ≡ a1 row c.args.at.from = a1_is d in
     let b : c.args.above.b1 ≡ b1 reference c.args.at.from (color_after c.args.at.next) =
-    sym c.requires.b1.0 in
+    sym c.requires.above.b1 in
     let right : a1 row c.args.at.from ≤ b2 reference c.args.at.from (color_after c.args.at.next) =
-    omega (arith, c.in_default.ensures, a, c.requires.b2) in
+    omega (arith, c.in_default.ensures, a, c.requires.above.b2) in
     let near = near_same _ _ _ _ false b a (sym c.in_ok-is_vertical.ensures.near ∙ c.if-is_vertical.false) in
     let first : c.change_or_end-a1.result - c.saturating_sub.result ≡ a1 row c.args.at.from - (c.args.at.from - 1) =
     omega (arith, c.saturating_sub.ensures, a) in
@@ -236,9 +239,9 @@ returns-clause-place c =
     let row : Row = pixels c.args.columns c.args.changes.now in
     let a : c.change_or_end-a1.result ≡ a1 row c.args.at.from = a1_is d in
     let b : c.args.above.b1 ≡ b1 reference c.args.at.from (color_after c.args.at.next) =
-    sym c.requires.b1.0 in
+    sym c.requires.above.b1 in
     let right : a1 row c.args.at.from ≤ b2 reference c.args.at.from (color_after c.args.at.next) =
-    omega (arith, c.in_default.ensures, a, c.requires.b2) in
+    omega (arith, c.in_default.ensures, a, c.requires.above.b2) in
     let near = near_same _ _ _ _ false b a (sym c.in_ok-is_vertical.ensures.near ∙ c.if-is_vertical.false) in
     let to : ℕ → Place = λ n. record { from = n; color = (color_after c.args.at.next) } in
     let from : c.from-2.result + 1 ≡ suc (a2 row c.args.at.from) =
@@ -261,14 +264,15 @@ returns-clause-near c =
     ) in
     subst (λ (k : Color).
     IsNear c.args.columns c.args.reference.now (record { from = c.from-2.result + 1; color = k }) c.args.above.index)
-    (sym (color_second c.args.at.next)) (near_right c.args.columns c.args.reference.now c.requires.reference
-    (place_of c.args.at) c.args.above.index c.requires.near (c.from-2.result + 1) le)
+    (sym (color_second c.args.at.next)) (near_right c.args.columns c.args.reference.now c.requires.coded.reference
+    (place_of c.args.at) c.args.above.index c.requires.coded.near (c.from-2.result + 1) le)
 
 pub returns-clause-next : goal.returns-clause-next
 returns-clause-next c = λ le.
     let two : c.args.at.next + 2 ≡ c.args.at.next + 1 + 1 = omega arith in
     left_of_next 0 c.args.columns c.args.changes.now (c.args.at.next + 1)
-    (c.args.at.next + 2) c.from-2.result two c.requires.changes (c.from-2.ensures ∙ c.change_or_end-a2.ensures) (omega arith)
+    (c.args.at.next + 2) c.from-2.result two c.requires.coded.changes (c.from-2.ensures ∙ c.change_or_end-a2.ensures) (omega
+    arith)
 
 -- ---- the row's end
 pub returns-then-a1-above-clause-inside : goal.returns-then-a1-above-clause-inside
@@ -276,7 +280,7 @@ returns-then-a1-above-clause-inside c = λ lt. omega (
   arith,
   c.from.ensures,
   c.change_or_end-a1.ensures,
-  left_of_end 0 c.args.columns c.args.changes.now c.args.at.next c.requires.changes (omega (arith, lt)),
+  left_of_end 0 c.args.columns c.args.changes.now c.args.at.next c.requires.coded.changes (omega (arith, lt)),
 )
 
 pub returns-in-Some-clause-inside : goal.returns-in-Some-clause-inside
@@ -285,7 +289,7 @@ returns-in-Some-clause-inside c = λ lt. omega (
   c.from-in-Some.ensures,
   c.in-Some.ensures.1,
   c.change_or_end-a1.ensures,
-  left_of_end 0 c.args.columns c.args.changes.now c.args.at.next c.requires.changes (omega (arith, lt)),
+  left_of_end 0 c.args.columns c.args.changes.now c.args.at.next c.requires.coded.changes (omega (arith, lt)),
 )
 
 pub returns-then-is_vertical-clause-inside : goal.returns-then-is_vertical-clause-inside
@@ -293,7 +297,7 @@ returns-then-is_vertical-clause-inside c = λ lt. omega (
   arith,
   c.from-then-is_vertical.ensures,
   c.change_or_end-a1.ensures,
-  left_of_end 0 c.args.columns c.args.changes.now c.args.at.next c.requires.changes (omega (arith, lt)),
+  left_of_end 0 c.args.columns c.args.changes.now c.args.at.next c.requires.coded.changes (omega (arith, lt)),
 )
 
 pub returns-clause-inside : goal.returns-clause-inside
@@ -301,5 +305,5 @@ returns-clause-inside c = λ lt. omega (
   arith,
   c.from-2.ensures,
   c.change_or_end-a2.ensures,
-  left_of_end 0 c.args.columns c.args.changes.now (c.args.at.next + 1) c.requires.changes (omega (arith, lt)),
+  left_of_end 0 c.args.columns c.args.changes.now (c.args.at.next + 1) c.requires.coded.changes (omega (arith, lt)),
 )

@@ -49,12 +49,21 @@ step_back-above-requires-clause-inside c =
     omega (arith, stands.inside, c.place_right_of-from.ensures)
 
 pub step_back-above-requires-clause-right : goal.step_back-above-requires-clause-right
-step_back-above-requires-clause-right c =
-    omega (arith, c.changes.invariant.right (omega (arith, c.changes-test.true)), c.place_right_of-from.ensures)
+step_back-above-requires-clause-right c = record {
+  few = omega (arith, c.changes.invariant.few);
+  turns = omega (arith, c.changes.invariant.turns, c.changes-test.true);
+  right = omega (arith, c.changes.invariant.right (omega (arith, c.changes-test.true)), c.place_right_of-from.ensures);
+}
 
-pub find_way-way-requires-clause-right : goal.find_way-way-requires-clause-right
-find_way-way-requires-clause-right c =
-    right_from c.args.columns c.args.changes.now (c.changes.next - 1) c.place_right_of-from.result c.place_right_of-from.ensures
+pub find_way-way-requires-clause-stands : goal.find_way-way-requires-clause-stands
+find_way-way-requires-clause-stands c = record {
+  reference = c.requires.reference;
+  changes = c.requires.changes;
+  inside = omega (arith, c.changes.invariant.within, c.changes-test.true);
+  right = right_from c.args.columns c.args.changes.now (c.changes.next - 1) c.place_right_of-from.result
+      c.place_right_of-from.ensures;
+  near = c.step_back-above.ensures.near;
+}
 
 -- a position right of changes is further right than that of one less
 further : (columns : ℕ) (changes : List ℕ) → AreChanges columns changes → (n : ℕ) → n ≤ length changes → 0 < n
@@ -127,14 +136,13 @@ changes-preserved c =
     let next : c.changes.next ≡ n + 1 = omega (arith, c.changes-test.true) in
     record {
       within = omega (arith, c.changes.invariant.within);
-      few = c.step_back-above.ensures.within;
-      turns = c.step_back-above.ensures.turns;
+      few = c.step_back-above.ensures.found.within;
+      turns = c.step_back-above.ensures.right.turns;
       right = λ some. omega (
         arith,
         further columns changes c.requires.changes n (omega (arith, c.changes.invariant.within, c.changes-test.true)) some,
         c.place_right_of-from.ensures,
-        c.step_back-above.ensures.right,
-        c.step_back-above.ensures.first,
+        c.step_back-above.ensures.right.right,
         next_is_right 0 columns above c.step_back-above.result.index (c.step_back-above.result.index + 1) refl
             c.requires.reference,
       );

@@ -13,8 +13,8 @@ use Rattle.fax_encode.proofs.shortest_lines.search_passes.Goals as goal
 
 pub find_above-above-requires-clause-inside : goal.find_above-above-requires-clause-inside
 find_above-above-requires-clause-inside c =
-    (stands_at c.args.columns c.args._changes.now c.requires.changes c.args.at.next
-    (place_of c.args.at) c.requires.inside c.requires.right).inside
+    (stands_at c.args.columns c.args._changes.now c.requires.stands.changes c.args.at.next
+    (place_of c.args.at) c.requires.stands.inside c.requires.stands.right).inside
 
 pub passes-init : goal.passes-init
 unfolding passed_by
@@ -23,26 +23,28 @@ passes-init c =
     let R : Row = pixels columns c.args.reference.now in
     let C : Row = pixels columns c.args._changes.now in
     let at : Place = place_of c.args.at in
-    let stands = stands_at columns c.args._changes.now c.requires.changes c.args.at.next at c.requires.inside c.requires.right in
+    let stands = stands_at columns c.args._changes.now c.requires.stands.changes c.args.at.next at c.requires.stands.inside
+    c.requires.stands.right in
     record {
       near = c.find_above-above.ensures.near;
-      within = c.find_above-above.ensures.within;
-      b2_is = c.find_above-above.ensures.b2 ∙ sym c.change_or_end-b2.ensures;
+      within = c.find_above-above.ensures.found.within;
+      b2_is = c.find_above-above.ensures.found.b2 ∙ sym c.change_or_end-b2.ensures;
       b2_at = c.change_or_end-b2.ensures;
       count = omega arith;
       searched = first_searched R C
-          (one_width columns c.args.reference.now c.args._changes.now c.requires.reference c.requires.changes)
-          at c.args.without (in_row columns c.args._changes.now c.requires.changes c.args.at.next at stands) c.requires.found;
+          (one_width columns c.args.reference.now c.args._changes.now c.requires.stands.reference c.requires.stands.changes)
+          at c.args.without (in_row columns c.args._changes.now c.requires.stands.changes c.args.at.next at stands)
+          c.requires.found;
     }
 
 pub find_above-above-requires-in-passes-clause-inside : goal.find_above-above-requires-in-passes-clause-inside
 find_above-above-requires-in-passes-clause-inside c =
-    let stands = stands_at c.args.columns c.args._changes.now c.requires.changes c.args.at.next
-    (place_of c.args.at) c.requires.inside
-    c.requires.right in
+    let stands = stands_at c.args.columns c.args._changes.now c.requires.stands.changes c.args.at.next
+    (place_of c.args.at) c.requires.stands.inside
+    c.requires.stands.right in
     omega (
       arith,
-      change_within c.args.columns c.args._changes.now c.requires.changes c.args.at.next (place_of c.args.at) stands,
+      change_within c.args.columns c.args._changes.now c.requires.stands.changes c.args.at.next (place_of c.args.at) stands,
       c.requires.ahead.a1,
       c.passes-test.true,
       c.from.ensures,
@@ -53,11 +55,14 @@ find_above-above-requires-in-passes-clause-near c =
     let columns : ℕ = c.args.columns in
     let R : Row = pixels columns c.args.reference.now in
     let at : Place = place_of c.args.at in
-    let stands = stands_at columns c.args._changes.now c.requires.changes c.args.at.next at c.requires.inside c.requires.right in
-    let here = stands_by columns c.args._changes.now c.requires.changes R
-    (one_width columns c.args.reference.now c.args._changes.now c.requires.reference c.requires.changes) c.args.at.next at stands
+    let stands = stands_at columns c.args._changes.now c.requires.stands.changes c.args.at.next at c.requires.stands.inside
+    c.requires.stands.right in
+    let here = stands_by columns c.args._changes.now c.requires.stands.changes R
+    (one_width columns c.args.reference.now c.args._changes.now c.requires.stands.reference c.requires.stands.changes)
+    c.args.at.next at stands
     c.passes.passes c.passes.invariant.searched.passes in
-    let next = near_pass columns c.args.reference.now c.requires.reference (passed_by R at c.passes.passes) c.passes.above.index
+    let next = near_pass columns c.args.reference.now c.requires.stands.reference (passed_by R at c.passes.passes)
+    c.passes.above.index
     c.passes.invariant.near c.passes.b2 c.passes.invariant.b2_at in
     subst (λ (n : ℕ). IsNear columns c.args.reference.now (record { from = n + 1; color = color_after c.args.at.next })
     (c.passes.above.index + 2)) (sym c.from.ensures)
@@ -69,7 +74,7 @@ way_without_pass-way-requires-clause-order c = omega (
   arith,
   c.requires.ahead.a1,
   c.requires.ahead.a2,
-  next_is_right 0 c.args.columns c.args._changes.now c.args.at.next (c.args.at.next + 1) refl c.requires.changes,
+  next_is_right 0 c.args.columns c.args._changes.now c.args.at.next (c.args.at.next + 1) refl c.requires.stands.changes,
 )
 
 pub way_without_pass-way-requires-clause-few : goal.way_without_pass-way-requires-clause-few
@@ -79,7 +84,7 @@ way_without_pass-way-requires-clause-few c = (
     c.passes.invariant.count,
     c.passes.invariant.within,
     c.ranges.columns.fits,
-    no_more_changes 0 c.args.columns c.args.reference.now c.requires.reference (omega arith),
+    no_more_changes 0 c.args.columns c.args.reference.now c.requires.stands.reference (omega arith),
   ),
   c.requires.few.0,
   c.requires.few.1,
@@ -91,7 +96,7 @@ overflow_add-passes c = omega (
   c.passes.invariant.count,
   c.passes.invariant.within,
   c.ranges.columns.fits,
-  no_more_changes 0 c.args.columns c.args.reference.now c.requires.reference (omega arith),
+  no_more_changes 0 c.args.columns c.args.reference.now c.requires.stands.reference (omega arith),
 )
 
 pub passes-preserved : goal.passes-preserved
@@ -105,11 +110,11 @@ passes-preserved c =
     let n : ℕ = c.args.at.next in
     let k : ℕ = c.passes.passes in
     let here : Place = passed_by R at k in
-    let same = one_width columns above changes c.requires.reference c.requires.changes in
-    let stands = stands_at columns changes c.requires.changes n at c.requires.inside c.requires.right in
+    let same = one_width columns above changes c.requires.stands.reference c.requires.stands.changes in
+    let stands = stands_at columns changes c.requires.stands.changes n at c.requires.stands.inside c.requires.stands.right in
     let before = c.passes.invariant.searched.passes in
-    let standing = stands_by columns changes c.requires.changes R same n at stands k before in
-    let may : MayPass R C here = may_pass columns changes c.requires.changes R same n at stands k
+    let standing = stands_by columns changes c.requires.stands.changes R same n at stands k before in
+    let may : MayPass R C here = may_pass columns changes c.requires.stands.changes R same n at stands k
     (omega (arith, c.passes-test.true, c.passes.invariant.b2_is, c.requires.ahead.a1)) before in
     let all : (i : ℕ) → i < suc k → MayPass R C (passed_by R at i) = all_before R C at k before may in
     let now : Place = record { from = c.from.result + 1; color = color_after n } in
@@ -118,13 +123,13 @@ passes-preserved c =
     ∙ passed_next R at here k (k + 1) (c.from.result + 1) refl refl
     (omega (arith, c.from.ensures, c.passes.invariant.b2_is)) in
     let one : suc k ≡ k + 1 = omega arith in
-    let standing_on = stands_by columns changes c.requires.changes R same n at stands (suc k) all in
+    let standing_on = stands_by columns changes c.requires.stands.changes R same n at stands (suc k) all in
     let way : Way = c.way_without_pass-way.result in
     let found : IsFound R C at (k + 1) way =
-    found_ahead columns above changes c.requires.changes n (k + 1) at now way c.args.ahead
+    found_ahead columns above changes c.requires.stands.changes n (k + 1) at now way c.args.ahead
     c.find_above-above-in-passes.result.b1 c.color_after-color.result
     (subst (λ (m : ℕ). Stands columns changes n (passed_by R at m)) one standing_on) place c.requires.ahead
-    c.find_above-above-in-passes.ensures.b1 c.color_after-color.ensures (record {
+    c.find_above-above-in-passes.ensures.found.b1 c.color_after-color.ensures (record {
       passes = c.way_without_pass-way.ensures.passes;
       vertical = c.way_without_pass-way.ensures.vertical;
       bits = c.way_without_pass-way.ensures.bits;
@@ -134,14 +139,14 @@ passes-preserved c =
     record {
       near = subst (λ (p : Place). IsNear columns above p c.find_above-above-in-passes.result.index) place
           c.find_above-above-in-passes.ensures.near;
-      within = c.find_above-above-in-passes.ensures.within;
-      b2_is = ap (λ (p : Place). b2 R p.from p.color) (sym place) ∙ c.find_above-above-in-passes.ensures.b2
+      within = c.find_above-above-in-passes.ensures.found.within;
+      b2_is = ap (λ (p : Place). b2 R p.from p.color) (sym place) ∙ c.find_above-above-in-passes.ensures.found.b2
           ∙ sym c.change_or_end-b2-in-passes.ensures;
       b2_at = c.change_or_end-b2-in-passes.ensures;
       count = omega (arith, c.passes.invariant.count, c.find_above-above-in-passes.ensures.onward);
       searched = subst (λ (m : ℕ). IsSearched R C at m c.shorter_way-best.result) one
           (next_searched R C same at k c.passes.best way c.passes.invariant.searched may
-          (in_row columns changes c.requires.changes n (passed_by R at (suc k)) standing_on)
+          (in_row columns changes c.requires.stands.changes n (passed_by R at (suc k)) standing_on)
           (subst (λ (m : ℕ). IsFound R C at m way) (sym one) found) c.shorter_way-best.result c.shorter_way-best.ensures);
     }
 
@@ -156,13 +161,15 @@ returns-then-best-passes c =
     let at : Place = place_of c.args.at in
     let n : ℕ = c.args.at.next in
     let k : ℕ = c.passes.passes in
-    let same = one_width columns above changes c.requires.reference c.requires.changes in
-    let stands = stands_at columns changes c.requires.changes n at c.requires.inside c.requires.right in
+    let same = one_width columns above changes c.requires.stands.reference c.requires.stands.changes in
+    let stands = stands_at columns changes c.requires.stands.changes n at c.requires.stands.inside c.requires.stands.right in
     let before = c.passes.invariant.searched.passes in
-    let may : MayPass R C (passed_by R at k) = may_pass columns changes c.requires.changes R same n at stands k
+    let may : MayPass R C (passed_by R at k) = may_pass columns changes c.requires.stands.changes R same n at stands k
     (omega (arith, c.passes-test.true, c.passes.invariant.b2_is, c.requires.ahead.a1)) before in
-    let standing = stands_by columns changes c.requires.changes R same n at stands (suc k) (all_before R C at k before may) in
-    let least = least_of_rest columns above changes c.requires.reference c.requires.changes n c.least_ahead-least.result
+    let standing = stands_by columns changes c.requires.stands.changes R same n at stands (suc k) (all_before R C at k before may)
+    in
+    let least = least_of_rest columns above changes c.requires.stands.reference c.requires.stands.changes n
+    c.least_ahead-least.result
     (omega (arith, c.least_ahead-least.ensures.vertical, c.requires.ahead.after_a1))
     (omega (arith, c.least_ahead-least.ensures.horizontal, c.requires.ahead.after_a2)) (suc columns) (passed_by R at (suc k))
     standing (omega arith) in
@@ -174,8 +181,9 @@ returns c =
     let R : Row = pixels columns c.args.reference.now in
     let C : Row = pixels columns c.args._changes.now in
     let at : Place = place_of c.args.at in
-    let same = one_width columns c.args.reference.now c.args._changes.now c.requires.reference c.requires.changes in
-    let stands = stands_at columns c.args._changes.now c.requires.changes c.args.at.next at c.requires.inside c.requires.right in
+    let same = one_width columns c.args.reference.now c.args._changes.now c.requires.stands.reference c.requires.stands.changes in
+    let stands = stands_at columns c.args._changes.now c.requires.stands.changes c.args.at.next at c.requires.stands.inside
+    c.requires.stands.right in
     searched_to_end R C same at c.passes.passes c.passes.best c.passes.invariant.searched
-    (may_not_pass columns c.args._changes.now c.requires.changes R same c.args.at.next at stands c.passes.passes
+    (may_not_pass columns c.args._changes.now c.requires.stands.changes R same c.args.at.next at stands c.passes.passes
     (omega (arith, c.passes-test.false, c.passes.invariant.b2_is, c.requires.ahead.a1)) c.passes.invariant.searched.passes)

@@ -1,5 +1,6 @@
-use Rattle.fax_encode.proofs.Names.{◌≡◌, ℕ, ◌-◌, ◌%◌, ◌<◌, List, inl, inr, sym, ◌∙◌, arith, rising, TurnsFrom, color_after}
-use Rattle.fax_encode.proofs.Names.{Color, subst, get_or, AreChanges, IsNear, b2_after_b1}
+use Rattle.fax_encode.proofs.Names.{◌≡◌, ℕ, ◌-◌, ◌%◌, ◌<◌, ◌≤◌, List, inl, inr, sym, ◌∙◌, arith, rising, TurnsFrom, color_after}
+use Rattle.fax_encode.proofs.Names.{Color, subst, get_or, AreChanges, IsAbove, IsNear, Place, b2_after_b1}
+use Rattle.fax_encode.specs.declared.group4.Above.{Above}
 use Rattle.fax_encode.proofs.StepsToB1.{even_or_odd, white_after, black_after, b1_reached, near_within}
 use Rattle.fax_encode.proofs.shortest_lines.step_back.Goals as goal
 
@@ -32,33 +33,31 @@ pub returns-clause-near : goal.returns-clause-near
 returns-clause-near c = near_start c.args.columns c.args.reference.now c.args.from c.args._next c.back.above
     c.back.invariant.turns (omega (arith, c.back-test.false))
 
-pub returns-clause-b1 : goal.returns-clause-b1
-returns-clause-b1 c = b1_reached c.args.columns c.args.reference.now c.requires.lawful
-    (record { from = c.args.from; color = color_after c.args._next }) c.back.above (returns-clause-near c) c.requires.inside
-    (omega (arith, c.back.invariant.right, c.back.invariant.here)) ∙ sym c.back.invariant.here
-
-pub returns-clause-b2 : goal.returns-clause-b2
-returns-clause-b2 c = b2_after_b1 c.args.columns c.args.reference.now c.args.from c.back.above (color_after c.args._next)
-    c.requires.lawful (returns-clause-b1 c ∙ c.back.invariant.here)
-
-pub returns-clause-within : goal.returns-clause-within
-returns-clause-within c = near_within c.args.columns c.args.reference.now c.requires.lawful
-    (record { from = c.args.from; color = color_after c.args._next }) c.back.above (returns-clause-near c) c.requires.inside
-
 pub returns-then-from-clause-near : goal.returns-then-from-clause-near
 returns-then-from-clause-near c = near_before c.args.columns c.args.reference.now c.requires.lawful c.args.from c.args._next
     c.back.above c.back.invariant.turns (omega (arith, c.if-from.true, c.from.ensures, c.change_or_end-before.ensures))
 
-pub returns-then-from-clause-b1 : goal.returns-then-from-clause-b1
-returns-then-from-clause-b1 c = b1_reached c.args.columns c.args.reference.now c.requires.lawful
-    (record { from = c.args.from; color = color_after c.args._next }) c.back.above (returns-then-from-clause-near c)
-    c.requires.inside (omega (arith, c.back.invariant.right, c.back.invariant.here)) ∙ sym c.back.invariant.here
+-- b1 is found from an index that isn't left of the position
+found_near : (columns : ℕ) (places : List ℕ) → AreChanges columns places → (from n : ℕ) (above : Above) → from ≤ columns
+    → above.b1 ≡ get_or places above.index columns → from ≤ above.b1
+    → IsNear columns places (record { from = from; color = color_after n }) above.index
+    → IsAbove columns places (record { from = from; color = color_after n }) above
+found_near columns places lawful from n above inside here right near =
+    let at : Place = record { from = from; color = color_after n } in
+    let b1 = b1_reached columns places lawful at above.index near inside (omega (arith, right, here)) in
+    record {
+      b2 = b2_after_b1 columns places from above.index (color_after n) lawful b1;
+      b1 = b1 ∙ sym here;
+      first = here;
+      within = near_within columns places lawful at above.index near inside;
+    }
 
-pub returns-then-from-clause-b2 : goal.returns-then-from-clause-b2
-returns-then-from-clause-b2 c = b2_after_b1 c.args.columns c.args.reference.now c.args.from c.back.above
-    (color_after c.args._next) c.requires.lawful (returns-then-from-clause-b1 c ∙ c.back.invariant.here)
+pub returns-clause-found : goal.returns-clause-found
+returns-clause-found c = found_near c.args.columns c.args.reference.now c.requires.lawful c.args.from c.args._next
+    (record { index = c.back.above; b1 = c.back.b1 }) c.requires.inside c.back.invariant.here c.back.invariant.right
+    (returns-clause-near c)
 
-pub returns-then-from-clause-within : goal.returns-then-from-clause-within
-returns-then-from-clause-within c = near_within c.args.columns c.args.reference.now c.requires.lawful
-    (record { from = c.args.from; color = color_after c.args._next }) c.back.above (returns-then-from-clause-near c)
-    c.requires.inside
+pub returns-then-from-clause-found : goal.returns-then-from-clause-found
+returns-then-from-clause-found c = found_near c.args.columns c.args.reference.now c.requires.lawful c.args.from c.args._next
+    (record { index = c.back.above; b1 = c.back.b1 }) c.requires.inside c.back.invariant.here c.back.invariant.right
+    (returns-then-from-clause-near c)
