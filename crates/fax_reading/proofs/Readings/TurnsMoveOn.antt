@@ -111,15 +111,10 @@ pub unless_over_next : (settings : DecodeSettings) (run t : Progress) (found : �
     → unless_over settings run found ≡ Turn.next t → ◌≡◌ {A = Progress} (record run { rest = found.1 }) t
 unless_over_next settings run t (count, rest) e = grind (arith, common_steps)
 
--- if a reading isn't over, its limit isn't met, and bits are left
-pub none_met : (settings : DecodeSettings) (taken : ℕ) (found : ℕ × Bits) → is_over settings taken found ≡ false
-    → (limit_met settings taken ≡ false) × (at_end found.1 ≡ false)
-none_met settings taken (count, rest) e = grind (arith, common_steps, or_parts)
-
 -- a run continues neither at its limit nor at the end
 pub unless_over_open : (settings : DecodeSettings) (run t : Progress) (found : ℕ × Bits)
     → unless_over settings run found ≡ Turn.next t → (limit_met settings (length run.rows) ≡ false) × (at_end found.1 ≡ false)
-unless_over_open settings run t (count, rest) e = grind (arith, common_steps, chosen, not_next, none_met)
+unless_over_open settings run t (count, rest) e = grind (arith, common_steps, chosen, not_next, or_parts)
 
 seek_left : (settings : DecodeSettings) (run t : Progress) (o : Option Bits) → run.has_eols ≡ true → next_eol run.rest ≡ o
     → seek_from settings run o ≡ Turn.next t → left_to_read t ≤ length run.rest
