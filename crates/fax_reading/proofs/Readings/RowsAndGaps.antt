@@ -1,8 +1,8 @@
 -- The turns of the plain reading with the rows so far: what is between rows, over a state and not over numbers.
 use Rattle.fax_reading.proofs.Names.{arith, common_steps, ◌≡◌, ℕ, Bool, true, false, cond, not, ◌||◌, length, Option, Some, None}
-use Rattle.fax_reading.proofs.Names.{Ok, ◌&&◌, Err, refl, and_parts, cases_Bool, false≢true, aligned, InvalidCode}
+use Rattle.fax_reading.proofs.Names.{Ok, Err, refl, and_parts, cases_Bool, false≢true, InvalidCode}
 use Rattle.fax_reading.proofs.Names.{DecodeSettings, DecodeError, Bits, Row, repaired, Line, next_eol, Turn, is_over, misses_eol}
-use Rattle.fax_reading.proofs.Names.{Progress, Gap, with_row, behind_row, add_row, after_line, Move, eols_here, behind_eols}
+use Rattle.fax_reading.proofs.Names.{Progress, Gap, with_row, behind_row, add_row, after_line, Move, eols_here}
 use Rattle.fax_reading.proofs.Names.{from_next_eol, ends_with, at_gap, pass_gap}
 
 -- EOLs were counted after the rows so far

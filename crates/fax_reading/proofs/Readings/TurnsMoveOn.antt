@@ -3,7 +3,7 @@ use Rattle.fax_reading.proofs.Names.{length-replicate, is_end_of_block, DecodeSe
 use Rattle.fax_reading.proofs.Names.{length-append, EncodingMode, append_assoc, common_steps, after_line, append-nil, behind_row}
 use Rattle.fax_reading.proofs.Names.{misses_eol, row_before, Group3_1D, Group3_2D, HaveWidth, after_eol, ends_with, eols_here, []}
 use Rattle.fax_reading.proofs.Names.{eqb-false, first_gap, limit_met, line_here, not-false, replicate, IsPrefix, Progress, Ending}
-use Rattle.fax_reading.proofs.Names.{front_of, next_eol, or_parts, repeated, with_row, All-nil, aligned, eols_by, is_over, Group4}
+use Rattle.fax_reading.proofs.Names.{front_of, next_eol, or_parts, repeated, with_row, All-nil, aligned, eols_by, Group4}
 use Rattle.fax_reading.proofs.Names.{line_by, move_on, Option, at_end, le-leb, length, lt-leb, arith, false, plain, subst, Bits}
 use Rattle.fax_reading.proofs.Names.{Bool, Line, List, Move, None, Some, Turn, cond, refl, true, ◌&&◌, ◌++◌, ◌||◌, Err, Row, inl}
 use Rattle.fax_reading.proofs.Names.{inr, not, suc, sym, ◌%◌, ◌-◌, ◌<◌, ◌∙◌, ◌∷◌, ◌≡◌, ◌≤◌, ap, ℕ}
