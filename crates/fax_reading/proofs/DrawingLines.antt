@@ -6,5 +6,4 @@ pub mod FullRows
 pub mod KeptInLines
 pub mod LinesLeaveBits
 pub mod ReadLines
-pub mod UnreadRows
 pub mod WhatFollows

@@ -2,7 +2,6 @@ pub mod DamageCounted
 pub mod GapsAndRows
 pub mod Limits
 pub mod PlainAnswers
-pub mod RowWidths
 pub mod RowsAndGaps
 pub mod RunsOverRows
 pub mod Strictness

@@ -8,7 +8,7 @@ use Rattle.hayro_ccitt.proofs.Names.{DamageStaysInRow, DamageEndsAt1D}
 use Rattle.hayro_ccitt.proofs.Names.{repairs_by_line, misses_by_line, SinkState, TakesRows, StopsShort, CountsDamage, Line, plain}
 use Rattle.hayro_ccitt.proofs.Names.{lines_of, failed_at, Row, AreSettings, CountsWork, RowsBeforeStay, RowsBehindStay}
 use Rattle.hayro_ccitt.proofs.{DamagedLines.Damage.damage_stays_in_row, Readings.PlainAnswers.LeavesRows}
-use Rattle.hayro_ccitt.proofs.Readings.RowWidths.{plain_width}
+use Rattle.hayro_ccitt.proofs.Readings.TurnsMoveOn.{plain_width}
 use Rattle.hayro_ccitt.proofs.DamagedLines.DamageByK.{damage_ends}
 use Rattle.hayro_ccitt.proofs.DrawingLines.CountedLines.{on_answer_weaker}
 use Rattle.hayro_ccitt.proofs.EncodedPictures.PicturesOfEachKind.{closed_pictures, limited_pictures}

@@ -16,5 +16,4 @@ pub use Rattle.fax_reading.proofs.DrawingLines.DrawnLines
 pub use Rattle.fax_reading.proofs.DrawingLines.FullRows
 pub use Rattle.fax_reading.proofs.DrawingLines.LinesLeaveBits
 pub use Rattle.fax_reading.proofs.DrawingLines.ReadLines
-pub use Rattle.fax_reading.proofs.DrawingLines.UnreadRows
 pub use Rattle.fax_reading.proofs.DrawingLines.WhatFollows

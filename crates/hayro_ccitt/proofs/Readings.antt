@@ -33,7 +33,6 @@ pub use Rattle.fax_reading.proofs.Readings.DamageCounted
 pub use Rattle.fax_reading.proofs.Readings.GapsAndRows
 pub use Rattle.fax_reading.proofs.Readings.Limits
 pub use Rattle.fax_reading.proofs.Readings.PlainAnswers
-pub use Rattle.fax_reading.proofs.Readings.RowWidths
 pub use Rattle.fax_reading.proofs.Readings.RowsAndGaps
 pub use Rattle.fax_reading.proofs.Readings.RunsOverRows
 pub use Rattle.fax_reading.proofs.Readings.Strictness

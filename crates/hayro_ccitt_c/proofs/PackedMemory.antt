@@ -17,7 +17,7 @@ use Rattle.hayro_ccitt.specs.PlainReading.{plain}
 use Rattle.hayro_ccitt.specs.Rows.{Row, HaveWidth, pixels, changes}
 use Rattle.hayro_ccitt.proofs.BitReading.BitLists.{length-bits_of}
 use Rattle.hayro_ccitt.proofs.PixelRows.ChangesAndPixels.{pixels-changes}
-use Rattle.hayro_ccitt.proofs.Readings.RowWidths.{plain_width}
+use Rattle.hayro_ccitt.proofs.Readings.TurnsMoveOn.{plain_width}
 use Rattle.hayro_ccitt.specs.Encodings.{padding}
 use Rattle.fax_encode.specs.Chosen.{filled_up}
 use Rattle.fax_encode.proofs.BytesOfBits.{same_bytes}

@@ -6,7 +6,7 @@ use Rattle.fax_reading.proofs.Names.{cases_lt, next_eol, one_more, line_1d, line
 use Rattle.fax_reading.proofs.Names.{length, lt-leb, ne_eqb, row_at, row_of, arith, false, Bits, Bool, Line, List, None, Some, []}
 use Rattle.fax_reading.proofs.Names.{cond, refl, true, ◌++◌, leb, suc, sym, ◌+◌, ◌<◌, ◌∙◌, ◌∷◌, ◌≡◌, ◌≤◌, ap, ℕ}
 use Rattle.fax_bits.proofs.BitReading.ConsecutiveEols.{all_tagged-none, all_tagged-some, all_eols-none, all_eols-some, eols-none}
-use Rattle.fax_reading.proofs.Readings.RowsAndGaps.{behind_with_eols, after_damage-is, after_whole-is, unless_over, after_row}
+use Rattle.fax_reading.proofs.Readings.RowsAndGaps.{after_damage-is, after_whole-is, unless_over, after_row}
 use Rattle.fax_bits.proofs.BitReading.ConsecutiveEols.{eols-some}
 use Rattle.fax_reading.proofs.{DrawingLines.LinesLeaveBits.LeavesBits, Readings.TurnsMoveOn.eols_here_some}
 use Rattle.fax_reading.proofs.Readings.RowsAndGaps.{row_added}
@@ -153,7 +153,7 @@ module _ (settings : DecodeSettings) where
       where
         unaligned : (row : Row) (rest : Bits) → row_added settings (sought rows here) row rest
             ≡ after_row settings (sought (rows ++ row ∷ []) rest)
-        unaligned row rest = grind (arith, common_steps, behind_with_eols)
+        unaligned row rest = grind (arith, common_steps)
 
         by_line : (line : Line) → after_line settings (sought rows here) line ≡ after_row settings
             (sought (rows ++ row_of settings.columns line ∷ []) (rest_of line here))

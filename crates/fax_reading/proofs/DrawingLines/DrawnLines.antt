@@ -1,18 +1,20 @@
--- What a step of a line paints, and what that says of the finished line.
-use Rattle.fax_reading.proofs.Names.{Contains-append_right, Contains-append_left, too_many_pixels, DecodeSettings, length-append}
-use Rattle.fax_reading.proofs.Names.{DecodeError, OutOfMemory, front_after, step_of_run, turn_behind, Horizontal, mode_codes, ◌≡◌}
-use Rattle.fax_reading.proofs.Names.{HasBlack, is_black, opposite, right_of, run_from, cases_lt, Vertical, nat_abs, kind_of, Bool}
-use Rattle.fax_reading.proofs.Names.{IsFault, Context, redrawn, Option, Result, IsTrue, le-leb, lt-leb, length, pen_of, BitsAt, ℤ}
-use Rattle.fax_reading.proofs.Names.{StopsAtChange, common_steps, append_assoc, FitsUnsigned, StoresChange, step_of_mode, SomeIff}
-use Rattle.fax_reading.proofs.Names.{false, subst, arith, IfErr, OnErr, Color, start, paint, true, ◌++◌, Some, refl, OnOk, ◌+ℤ◌}
-use Rattle.fax_reading.proofs.Names.{ints, Mode, Step, Bits, here, Held, Line, Turn, Pass, ◌≢◌, ◌-◌, ◌<◌, ◌≤◌, ◌∷◌, w32, Err, Row}
-use Rattle.fax_reading.proofs.Names.{place_from, last_pixel, false≢true, replicate, DrawsLine, DrawsStep, read_code, front_of, b2}
-use Rattle.fax_reading.proofs.Names.{sym, ◌∙◌, ◌⊎◌, inl, inr, ◌↔◌, pos, Pen, [], ap, Ok, b1, ℕ}
+-- What a step of a line paints, what that says of the finished line, and that a line that isn't read is no row.
+use Rattle.fax_reading.proofs.Names.{Contains-append_right, Contains-append_left, RepairStoresChange, too_many_pixels, Horizontal}
+use Rattle.fax_reading.proofs.Names.{DecodeSettings, StopsAtChange, length-append, not_from_true, FitsUnsigned, IsRepairable, Err}
+use Rattle.fax_reading.proofs.Names.{StoresChange, append_assoc, common_steps, step_of_mode, DecodeError, OutOfMemory, false≢true}
+use Rattle.fax_reading.proofs.Names.{TakesOneRow, front_after, row_of_line, step_of_run, turn_behind, last_pixel, mode_codes, Pen}
+use Rattle.fax_reading.proofs.Names.{place_from, DrawsLine, DrawsStep, cond-true, not-false, read_code, replicate, HasBlack, Bits}
+use Rattle.fax_reading.proofs.Names.{Vertical, cases_lt, front_of, is_black, opposite, or_parts, right_of, run_from, Context, Row}
+use Rattle.fax_reading.proofs.Names.{IsFault, SomeIff, kind_of, nat_abs, or_from, redrawn, BitsAt, IsTrue, Option, Result, le-leb}
+use Rattle.fax_reading.proofs.Names.{length, lt-leb, pen_of, Color, IfErr, OnErr, arith, false, paint, start, subst, Bool, Held}
+use Rattle.fax_reading.proofs.Names.{Line, Mode, OnOk, Pass, Some, Step, Turn, here, ints, refl, true, ◌++◌, ◌+ℤ◌, ◌||◌, inl, inr}
+use Rattle.fax_reading.proofs.Names.{not, pos, sym, w32, ◌-◌, ◌<◌, ◌↔◌, ◌∙◌, ◌∷◌, ◌≡◌, ◌≢◌, ◌≤◌, ◌⊎◌, Ok, [], ap, b1, b2, ℕ, ℤ}
 use Rattle.fax_bits.proofs.CodeWords.ReadRuns.{read_code_shorter, some_where, chosen}
-use Rattle.fax_bits.proofs.{ErrorKinds.of_fault_kind, ErrorKinds.kind_weaker, Repetition.Repeated.after_turn}
-use Rattle.fax_reading.proofs.DrawingLines.Drawings.{step_1d_is, step_2d_is, mode_step, run_then, drawn_by, step_1d, step_2d, try}
+use Rattle.fax_bits.proofs.ErrorKinds.{at_fault_kind, of_fault_kind, kind_weaker, by_kind}
+use Rattle.fax_reading.proofs.DrawingLines.Drawings.{step_1d_is, step_2d_is, mode_step, drawn_by, run_then, step_1d, step_2d, try}
 use Rattle.fax_reading.proofs.DrawingLines.KeptInLines.{line_1d_keeps, line_2d_keeps, fronts_kept, run_keeps, AreKept, Yields}
 use Rattle.fax_reading.proofs.DrawingLines.ReadLines.{modes_not_empty, draw_mode_next, drawn1, drawn2}
+use Rattle.fax_bits.proofs.Repetition.Repeated.{after_turn}
 
 -- ---- What painting yields.
 
@@ -259,3 +261,72 @@ pub record IsDrawnSoFar (step : Pen → Step) (before now : Context) (begun at :
   pub held : now.held ≡ redrawn before.held now.held.front now.held.color
   pub same_bits : at.bits ≡ begun.bits
   pub counts : before.ticks ≤ now.ticks
+
+module _ (line strict : Line) (row : Result (Row × Bits) DecodeError) (old new : Held)
+    (held : new ≡ redrawn old new.front new.color) (rest : Bits) where
+  -- an allocation fails only if the line, or what is repaired of it, paints a black pixel
+  wants_rest : HasBlack (front_of line) → TakesOneRow line strict row old new (Err OutOfMemory) rest
+  wants_rest black = record { taken = tt; fault = λ f. absurd f; held = held; memory = λ k. black; not_refused = λ k. cc }
+
+  pub unread_row_wants_memory : DrawsLine line (Err OutOfMemory) new.front rest
+      → TakesOneRow line strict row old new (Err OutOfMemory) rest
+  unread_row_wants_memory draws = wants_rest (memory_has_black line new.front rest draws)
+
+  -- a line that isn't read, and whose fault is the row's
+  pub is_unread : (e : DecodeError) → ((fault : DecodeError) → line ≡ Line.broken new.front fault → row ≡ Err fault)
+      → DrawsLine line (Err e) new.front rest → TakesOneRow line strict row old new (Err e) rest
+  is_unread e fails = grind (arith, common_steps, by_kind, unread_row_wants_memory)
+
+-- ---- A line of Group 3 that isn't repaired
+
+module _ (line strict : Line) (start : Bits) (old new : Held) (held : new ≡ redrawn old new.front new.color) (rest : Bits) where
+  abbrev row : Result (Row × Bits) DecodeError
+  row = row_of_line old.settings old.has_eols start line
+
+  -- the result of a repair that failed with an error
+  pub isnt_repaired : (e answer : DecodeError) → DrawsLine line (Err e) new.front rest → (IsRepairable new e
+      → answer ≡ OutOfMemory) → (IsRepairable new e → ◌≡◌ {A = Result (Unit {0}) DecodeError} (Err answer) (Err OutOfMemory)
+      → RepairStoresChange new) → ((IsRepairable new e → ⊥) → ◌≡◌ {A = Result (Unit {0}) DecodeError} (Err answer) (Err e))
+      → TakesOneRow line strict row old new (Err answer) rest
+  isnt_repaired e answer draws only_memory memory otherwise = by_strict (old.settings.strict || not old.has_eols) refl
+    where
+      same_eols : new.has_eols ≡ old.has_eols
+      same_eols = ap (λ (h : Held). h.has_eols) held
+
+      itself : (e : DecodeError) → DrawsLine line (Err e) new.front rest
+          → ((fault : DecodeError) → line ≡ Line.broken new.front fault → row ≡ Err fault) → ◌≡◌
+          {A = Result (Unit {0}) DecodeError} (Err answer) (Err e) → TakesOneRow line strict row old new (Err answer) rest
+      itself e draws fails is = grind (arith, common_steps, is_unread line strict row old new held rest e fails draws)
+
+      stores : line ≡ Line.broken new.front e → IsRepairable new e → TakesOneRow line strict row old new (Err answer) rest
+      stores is repairable = grind (arith, common_steps, last_black, wants_rest)
+
+      repairs : (e : DecodeError) → IsFault e → (old.settings.strict || not old.has_eols) ≡ false → IsRepairable new e
+      repairs e fault is = grind (arith, common_steps, or_parts, same_eols, not-false)
+
+      broken : (e : DecodeError) → DrawsLine line (Err e) new.front rest → IsFault e → line ≡ Line.broken new.front e
+      broken e draws fault = at_fault_kind (kind_of e) _ _ _ fault draws
+
+      lenient : (e : DecodeError) → DrawsLine line (Err e) new.front rest → (old.settings.strict || not old.has_eols) ≡ false
+          → (IsRepairable new e → TakesOneRow line strict row old new (Err answer) rest) → ((IsRepairable new e → ⊥)
+          → ◌≡◌ {A = Result (Unit {0}) DecodeError} (Err answer) (Err e)) → TakesOneRow line strict row old new (Err answer) rest
+      lenient e draws is one two = by_kind (λ e. DrawsLine line (Err e) new.front rest → (IsRepairable new e → TakesOneRow line
+          strict row old new (Err answer) rest) → ((IsRepairable new e → ⊥) → ◌≡◌ {A = Result (Unit {0}) DecodeError} (Err answer)
+          (Err e)) → TakesOneRow line strict row old new (Err answer) rest) (λ e fault draws one two. one (repairs e fault is))
+          (λ draws one two. subst (λ (r : Result (Unit {0}) DecodeError). TakesOneRow line strict row old new r rest)
+          (sym (two (λ r. r.fault))) (unread_row_wants_memory line strict row old new held rest draws))
+          (λ draws one two. absurd draws) e draws one two
+
+      by_strict : (b : Bool) → (old.settings.strict || not old.has_eols) ≡ b
+          → TakesOneRow line strict row old new (Err answer) rest
+      by_strict v0 is = grind (arith, common_steps, cond-true, or_from, not_from_true, same_eols, itself, stores, broken, lenient)
+
+-- a line that isn't read says nothing of the bits that are left
+pub draws_anywhere : (line : Line) (e : DecodeError) (front : Row) (rest other : Bits) → DrawsLine line (Err e) front rest
+    → DrawsLine line (Err e) front other
+draws_anywhere line e front rest other draws = draws
+
+-- a fault of the data breaks the line, with the front that is left
+pub line_breaks : (line : Line) (e : DecodeError) (front : Row) (rest : Bits) → IsFault e → DrawsLine line (Err e) front rest
+    → line ≡ Line.broken front e
+line_breaks line e front rest fault draws = at_fault_kind (kind_of e) _ _ _ fault draws

@@ -1,8 +1,8 @@
 -- The turns of the plain reading with the rows so far: what is between rows, over a state and not over numbers.
 use Rattle.fax_reading.proofs.Names.{arith, common_steps, ◌≡◌, ℕ, Bool, true, false, cond, not, ◌||◌, length, Option, Some, None}
-use Rattle.fax_reading.proofs.Names.{Ok, ◌&&◌, Err, refl, and_parts, cases_Bool, false≢true, aligned, InvalidCode}
+use Rattle.fax_reading.proofs.Names.{Ok, Err, refl, and_parts, cases_Bool, false≢true, InvalidCode}
 use Rattle.fax_reading.proofs.Names.{DecodeSettings, DecodeError, Bits, Row, repaired, Line, next_eol, Turn, is_over, misses_eol}
-use Rattle.fax_reading.proofs.Names.{Progress, Gap, with_row, behind_row, add_row, after_line, Move, eols_here, behind_eols}
+use Rattle.fax_reading.proofs.Names.{Progress, Gap, with_row, behind_row, add_row, after_line, Move, eols_here}
 use Rattle.fax_reading.proofs.Names.{from_next_eol, ends_with, at_gap, pass_gap}
 
 -- EOLs were counted after the rows so far
@@ -39,15 +39,10 @@ at_gap-cond so_far b x y = grind arith
 cond-same : {A : Type 0} (b : Bool) (x y z w : A) → (b ≡ true → x ≡ z) → (b ≡ false → y ≡ w) → cond b x y ≡ cond b z w
 cond-same b x y z w one two = grind arith
 
--- after EOLs
-behind_eols-is : (settings : DecodeSettings) (so_far : Progress) (has_eols : Bool) (found : ℕ × Bits) → so_far.has_eols ≡ has_eols
-    → at_gap so_far (behind_eols settings (length so_far.rows) has_eols found) ≡ unless_over settings so_far found
-behind_eols-is settings so_far has_eols (count, rest) is = grind (arith, common_steps, at_gap-cond, cond-same)
-
 -- from the next EOL on
 from_eol : (settings : DecodeSettings) (so_far : Progress) (next : Option Bits) → so_far.has_eols ≡ true
     → at_gap so_far (from_next_eol settings (length so_far.rows) so_far.rest next) ≡ seek_from settings so_far next
-from_eol settings so_far next is = grind (arith, behind_eols-is)
+from_eol settings so_far next is = grind (arith, at_gap-cond, cond-same)
 
 -- an EOL is missed only where EOLs are sought
 pub missed_sought : (settings : DecodeSettings) (taken : ℕ) (h : Bool) (here : Bits) → misses_eol settings taken h here ≡ true
@@ -59,11 +54,7 @@ unmissed settings taken here = grind (arith, common_steps, cases_Bool, false≢t
 
 -- what follows the rows
 pub pass_gap-is : (settings : DecodeSettings) (so_far : Progress) → pass_gap settings so_far ≡ after_row settings so_far
-pass_gap-is settings so_far = grind (arith, common_steps, at_gap-cond, cond-same, missed_sought, from_eol, behind_eols-is)
-
--- data with EOLs are not aligned
-pub behind_with_eols : (aligns : Bool) (rest : Bits) → cond (aligns && not true) (aligned rest) rest ≡ rest
-behind_with_eols aligns rest = grind arith
+pass_gap-is settings so_far = grind (arith, common_steps, at_gap-cond, cond-same, missed_sought, from_eol)
 
 -- a whole line adds its row
 pub after_whole-is : (settings : DecodeSettings) (so_far : Progress) (row : Row) (rest : Bits)

@@ -170,11 +170,8 @@ module _ (settings : DecodeSettings) (wide : 0 < settings.columns) (bits : Bits)
 
       -- where its turn is the last, it is the last
       module _ {end : Ending} (ends : move_on settings so_far ≡ Turn.done end) where
-        given_last : drop (length so_far.rows) given ≡ gives so_far ∷ []
-        given_last = grind (arith, common_steps, given_on)
-
         pub none_given : (other : A) → get_or given (length so_far.rows + 1) other ≡ other
-        none_given other = grind (arith, common_steps, get_or-drop (length so_far.rows) given 1 other, given_last)
+        none_given other = grind (arith, common_steps, get_or-drop (length so_far.rows) given 1 other, given_on)
 
     -- what is told of each turn, and counted of them, with that of its turn
     module _ {A : Type 0} (gives : Progress → List A) {rows : ℕ} (taken : rows ≡ length so_far.rows) where
@@ -193,4 +190,4 @@ module _ (settings : DecodeSettings) (wide : 0 < settings.columns) (bits : Bits)
       -- that is all of it, where its turn is the last
       pub given_whole : {end : Ending} → move_on settings so_far ≡ Turn.done end
           → sum_by length (given gives) ≡ sum_by length (take rows (given gives)) + length (gives so_far)
-      given_whole ends = grind (arith, common_steps, sum_by-take-drop length (given gives) rows, given_last gives ends)
+      given_whole ends = grind (arith, common_steps, sum_by-take-drop length (given gives) rows, given_on)

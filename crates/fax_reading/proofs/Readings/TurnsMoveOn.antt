@@ -1,15 +1,17 @@
--- Each line of a run moves the offset on, and a run only adds rows.
-use Rattle.fax_reading.proofs.Names.{is_end_of_block, DecodeSettings, EncodingMode, append_assoc, common_steps, length-drop, Bits}
-use Rattle.fax_reading.proofs.Names.{after_line, append-nil, misses_eol, row_before, Group3_1D, Group3_2D, after_eol, ends_with}
-use Rattle.fax_reading.proofs.Names.{eols_here, eqb-false, first_gap, limit_met, line_here, not-false, replicate, IsPrefix, arith}
-use Rattle.fax_reading.proofs.Names.{Progress, next_eol, or_parts, repeated, aligned, eols_by, is_over, line_by, move_on, Ending}
-use Rattle.fax_reading.proofs.Names.{Group4, Option, at_end, le-leb, length, lt-leb, false, subst, Bool, Line, List, Move, None}
-use Rattle.fax_reading.proofs.Names.{Some, Turn, cond, refl, true, ◌&&◌, ◌++◌, ◌||◌, Err, Row, inl, inr, not, suc, sym, ◌%◌, ◌-◌}
-use Rattle.fax_reading.proofs.Names.{◌<◌, ◌∙◌, ◌∷◌, ◌≡◌, ◌≤◌, [], ap, ℕ}
+-- Each line of a run moves the offset on; a run only adds rows, and each row has the width of its columns.
+use Rattle.fax_reading.proofs.Names.{length-replicate, is_end_of_block, DecodeSettings, UnexpectedEof, ending_behind, length-drop}
+use Rattle.fax_reading.proofs.Names.{length-append, EncodingMode, append_assoc, common_steps, after_line, append-nil, behind_row}
+use Rattle.fax_reading.proofs.Names.{misses_eol, row_before, Group3_1D, Group3_2D, HaveWidth, after_eol, ends_with, eols_here, []}
+use Rattle.fax_reading.proofs.Names.{eqb-false, first_gap, limit_met, line_here, not-false, replicate, IsPrefix, Progress, Ending}
+use Rattle.fax_reading.proofs.Names.{front_of, next_eol, or_parts, repeated, with_row, All-nil, aligned, eols_by, Group4}
+use Rattle.fax_reading.proofs.Names.{line_by, move_on, Option, at_end, le-leb, length, lt-leb, arith, false, plain, subst, Bits}
+use Rattle.fax_reading.proofs.Names.{Bool, Line, List, Move, None, Some, Turn, cond, refl, true, ◌&&◌, ◌++◌, ◌||◌, Err, Row, inl}
+use Rattle.fax_reading.proofs.Names.{inr, not, suc, sym, ◌%◌, ◌-◌, ◌<◌, ◌∙◌, ◌∷◌, ◌≡◌, ◌≤◌, ap, ℕ}
 use Rattle.fax_bits.proofs.BitReading.ConsecutiveEols.{tagged_eols_counted, last_tag_count, next_eol_found, one_more-count}
 use Rattle.fax_bits.proofs.BitReading.ConsecutiveEols.{count_shorter, counts_tagged, counts_plain, all_counted, count_moves}
 use Rattle.fax_bits.proofs.BitReading.ConsecutiveEols.{count_some, eols-some, Counted, cond_le}
-use Rattle.fax_bits.proofs.Repetition.Repeated.{repeated_induct, after_turn, not_next, Shrinks}
+use Rattle.fax_bits.proofs.Repetition.Repeated.{repeated_induct, repeated_keeps, after_turn, not_next, Shrinks}
+use Rattle.fax_reading.proofs.DrawingLines.FullRows.{line_by_within, line_by_full, IsFull}
 use Rattle.fax_reading.proofs.DrawingLines.ReadLines.{line_1d_took_bits, line_2d_took_bits, TookBits}
 use Rattle.fax_reading.proofs.Readings.RowsAndGaps.{after_damage-is, after_whole-is, missed_sought, pass_gap-is, unless_over}
 use Rattle.fax_reading.proofs.Readings.RowsAndGaps.{after_row, row_added, seek_from, seek_eol}
@@ -111,15 +113,10 @@ pub unless_over_next : (settings : DecodeSettings) (run t : Progress) (found : �
     → unless_over settings run found ≡ Turn.next t → ◌≡◌ {A = Progress} (record run { rest = found.1 }) t
 unless_over_next settings run t (count, rest) e = grind (arith, common_steps)
 
--- if a reading isn't over, its limit isn't met, and bits are left
-pub none_met : (settings : DecodeSettings) (taken : ℕ) (found : ℕ × Bits) → is_over settings taken found ≡ false
-    → (limit_met settings taken ≡ false) × (at_end found.1 ≡ false)
-none_met settings taken (count, rest) e = grind (arith, common_steps, or_parts)
-
 -- a run continues neither at its limit nor at the end
 pub unless_over_open : (settings : DecodeSettings) (run t : Progress) (found : ℕ × Bits)
     → unless_over settings run found ≡ Turn.next t → (limit_met settings (length run.rows) ≡ false) × (at_end found.1 ≡ false)
-unless_over_open settings run t (count, rest) e = grind (arith, common_steps, chosen, not_next, none_met)
+unless_over_open settings run t (count, rest) e = grind (arith, common_steps, chosen, not_next, or_parts)
 
 seek_left : (settings : DecodeSettings) (run t : Progress) (o : Option Bits) → run.has_eols ≡ true → next_eol run.rest ≡ o
     → seek_from settings run o ≡ Turn.next t → left_to_read t ≤ length run.rest
@@ -189,3 +186,42 @@ pub eols_end : (settings : DecodeSettings) (count : ℕ) → (count < 2 → is_e
     × (settings.end_of_block ≡ true → 6 ≤ count → is_end_of_block settings count ≡ true)
     × (settings.end_of_block ≡ true → settings.encoding ≡ Group4 → 2 ≤ count → is_end_of_block settings count ≡ true)
 eols_end settings count = grind (arith, common_steps, le-leb, lt-leb)
+
+-- the rows that a turn leaves have a width
+abbrev pub LeavesWidth : ℕ → Move → Type 0
+LeavesWidth columns (Turn.next so_far) = HaveWidth columns so_far.rows
+LeavesWidth columns (Turn.done end) = HaveWidth columns end.rows
+
+keeps_width : (columns : ℕ) (rows : List Row) (move : Move) → Keeps rows move → HaveWidth columns rows → LeavesWidth columns move
+keeps_width columns rows move same have = grind arith
+
+module _ (settings : DecodeSettings) where
+  -- a row is added
+  row_added_width : (so_far : Progress) (row : Row) (rest : Bits) → HaveWidth settings.columns so_far.rows
+      → length row ≡ settings.columns → LeavesWidth settings.columns (row_added settings so_far row rest)
+  row_added_width so_far row rest have width = keeps_width settings.columns (so_far.rows ++ row ∷ [])
+      _ (after_row_keeps settings (with_row so_far row (behind_row settings so_far.has_eols rest))) (grind (arith, common_steps))
+
+  after_line_width : (so_far : Progress) (line : Line) → HaveWidth settings.columns so_far.rows → length (front_of line)
+      ≤ settings.columns → IsFull settings.columns line → LeavesWidth settings.columns (after_line settings so_far line)
+  after_line_width so_far line have within full =
+      grind (arith, after_whole-is, row_added_width, after_damage-is, length-append, length-replicate)
+
+  move_width : (so_far : Progress) → HaveWidth settings.columns so_far.rows
+      → LeavesWidth settings.columns (move_on settings so_far)
+  move_width so_far have = grind (arith, common_steps, after_line_width, line_by_within, line_by_full)
+
+  none : HaveWidth settings.columns []
+  none = All-nil (λ row. length row ≡ settings.columns)
+
+  behind_width : (gap : Move) → Keeps [] gap → HaveWidth settings.columns (ending_behind settings gap).rows
+  behind_width (Turn.next so_far) keeps = repeated_keeps (move_on settings)
+      (record { rows = so_far.rows; has_eols = so_far.has_eols; outcome = Err UnexpectedEof }) (λ s. HaveWidth settings.columns
+      s.rows) (λ end. HaveWidth settings.columns end.rows) (subst (HaveWidth settings.columns) (sym keeps) none) (λ s t p e. subst
+      (LeavesWidth settings.columns) e (move_width s p)) (λ s end p e. subst (LeavesWidth settings.columns) e (move_width s p))
+      (suc (suc (length so_far.rest))) so_far (subst (HaveWidth settings.columns) (sym keeps) none)
+  behind_width (Turn.done end) keeps = subst (HaveWidth settings.columns) (sym keeps) none
+
+  -- each row has the width
+  pub plain_width : (input : Bits) → HaveWidth settings.columns (plain settings input).rows
+  plain_width input = grind (arith, common_steps, behind_width, first_gap_keeps)

@@ -1,12 +1,12 @@
 -- The EOLs that are consumed before a line, and the bits that are examined ahead of it.
 use Rattle.fax_reading.proofs.Names.{length-replicate, DecodeSettings, gap_behind_row, length-append, from_next_eol, EncodingMode}
 use Rattle.fax_reading.proofs.Names.{looked_ahead, common_steps, DecodeError, InvalidCode, behind_eols, false≢true, misses_eol, ℕ}
-use Rattle.fax_reading.proofs.Names.{next_eol, length, Option, Result, Group4, at_end, looked, OnErr, false, Bool, true}
+use Rattle.fax_reading.proofs.Names.{next_eol, length, Option, Result, Group4, at_end, looked, OnErr, false, Bool, true, or_parts}
 use Rattle.fax_reading.proofs.Names.{replicate, Group3_1D, Group3_2D, after_eol, limit_met, eols_here, tag_tests, gap_said, arith}
 use Rattle.fax_reading.proofs.Names.{◌++◌, drop, Some, None, refl, Bits, IfOk, ◌<◌, ◌≡◌, ◌+◌, ◌*◌, ◌≤◌, ◌∷◌, Err, sym, ◌⊎◌}
 use Rattle.fax_bits.proofs.{BitReading.ConsecutiveEols.next_eol_found, BitReading.ZeroRuns.looked_eol, CodeWords.ReadRuns.chosen}
 use Rattle.fax_reading.proofs.DamagedLines.{LineTails.zeros_of_eol, PastEol.eols_here-none, EolsAlike.eols_past}
-use Rattle.fax_reading.proofs.Readings.TurnsMoveOn.{eols_here_counted, eols_here_some, none_met}
+use Rattle.fax_reading.proofs.Readings.TurnsMoveOn.{eols_here_counted, eols_here_some}
 use Rattle.fax_reading.proofs.{Readings.RowsAndGaps.missed_sought, Names.inl, Names.inr, Names.Gap, Names.[], Names.ap}
 
 -- ---- An EOL here or further on
@@ -61,7 +61,7 @@ over_no_line outcome h rest e = cc
 -- a line follows EOLs neither at the limit nor at the end
 behind_line : (settings : DecodeSettings) (taken : ℕ) (h k : Bool) (found : ℕ × Bits) (rest : Bits) → behind_eols settings taken h
     found ≡ Gap.line_at k rest → (h ≡ k) × (found.1 ≡ rest) × (limit_met settings taken ≡ false) × (at_end found.1 ≡ false)
-behind_line settings taken h k (count, here) rest e = grind (arith, common_steps, chosen, over_no_line, lines_same, none_met)
+behind_line settings taken h k (count, here) rest e = grind (arith, common_steps, chosen, over_no_line, lines_same, or_parts)
 
 -- The line follows the EOLs here.
 record AfterEols (settings : DecodeSettings) (taken : ℕ) (h k : Bool) (here rest : Bits) : Type 0 where

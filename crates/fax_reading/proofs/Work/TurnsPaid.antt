@@ -4,7 +4,6 @@ use Rattle.fax_reading.proofs.Names.{common_steps, ◌≡◌, ◌≢◌, ℕ, �
 use Rattle.fax_reading.proofs.Names.{length, Result, Ok, Err, refl, ap, arith, false≢true, DecodeError, DecodeSettings}
 use Rattle.fax_reading.proofs.Names.{EncodingMode, Group4, Group3_1D, Group3_2D, Bits, Line, line_found, Gap, behind_row}
 use Rattle.fax_reading.proofs.Names.{gap_behind_row, line_by, line_here, row_of_line, Row, looked_ahead, IsPaidUpTo, found_here}
-use Rattle.fax_reading.proofs.Readings.RowsAndGaps.{behind_with_eols}
 use Rattle.fax_reading.proofs.Work.EolsPassed.{length-within, line_past_eol, line_given_up, line_behind_shorter}
 use Rattle.fax_reading.proofs.Work.EolsPassed.{line_without_eols, looked_ahead_most, looked_ahead_to_eol}
 use Rattle.fax_reading.proofs.Work.WordsPay.{line_1d_paid, line_2d_paid, found_within, found_before_eol}
@@ -46,7 +45,7 @@ behind_shorter settings h rest = grind (arith, length-drop)
 -- a broken line is repaired only in lenient data with EOLs, and the reader is then at its start
 pub broken_row : (settings : DecodeSettings) (h : Bool) (here rest : Bits) (front row : Row) (fault : DecodeError)
     → row_of_line settings h here (Line.broken front fault) ≡ Ok (row, rest) → (h ≡ true) × (rest ≡ here)
-broken_row settings h here rest front row fault is = grind (arith, behind_with_eols)
+broken_row settings h here rest front row fault is = grind (arith)
 
 -- a row ends no sooner than its line begins
 pub row_shorter : (settings : DecodeSettings) (h : Bool) (reference : Row) (here rest : Bits) (row : Row) → 0 < settings.columns

@@ -3,7 +3,7 @@ use Rattle.hayro_ccitt.proofs.Names.{rules, ◌≤◌, ◌+◌, length, ap, subs
 use Rattle.hayro_ccitt.proofs.Names.{Line, changes}
 use Rattle.hayro_ccitt.proofs.Names.{true, DrawsLine}
 use Rattle.hayro_ccitt.proofs.Names.{found_here, here, Context, line_here, Result, DecodeError}
-use Rattle.hayro_ccitt.proofs.DrawingLines.UnreadRows.{draws_anywhere, isnt_repaired, line_breaks}
+use Rattle.hayro_ccitt.proofs.DrawingLines.DrawnLines.{draws_anywhere, isnt_repaired, line_breaks}
 use Rattle.hayro_ccitt.proofs.Work.ChangesStored.{changes_found, changes_repaired}
 use Rattle.hayro_ccitt.proofs.Work.RoomTaken.{grown_again}
 use Rattle.hayro_ccitt.proofs.rows.settle_row.Goals as goal
