@@ -977,8 +977,16 @@ impl DecoderContext {
         }
     }
 
-    /// Draws a white row below a white one from the reader's own window, and returns whether there is one here; otherwise nothing
-    /// changes.
+    /// Returns whether a white row here is drawn before others are looked for: below a white row, or below one of a few changes that
+    /// has too many for plain calls.
+    #[inline(always)]
+    fn tries_white_row(&self) -> bool {
+        let above = self.ref_changes.len();
+        above < 7 && (above == 0 || above > 3)
+    }
+
+    /// Draws a white row from the reader's own window, if it is below such a row, and returns whether there is one here; otherwise
+    /// nothing changes.
     #[inline(always)]
     fn draw_white_row(&mut self, reader: &mut BitReader<'_>) -> bool
         requires begins { self.old.held.front ≡ [] }
@@ -986,7 +994,7 @@ impl DecoderContext {
         ensures draws { DrawsUsualRuns self.old self.new reader.old reader.new }
         ensures unchanged { result ≡ false → (self.new ≡ self.old) × (reader.new ≡ reader.old) }
     {
-        if !is_white_row(&self.ref_changes) {
+        if !self.tries_white_row() {
             return false;
         }
         let columns = self.settings.columns;
@@ -1049,7 +1057,7 @@ impl DecoderContext {
 
     /// Returns whether plain calls are likely to draw a wide row at less cost: one that seems to have runs of three words or more in
     /// its first two modes, or runs of two below a row of few changes, as longer ones are likely to follow.
-    #[inline(never)]
+    #[inline(always)]
     fn has_long_runs(&self, reader: &BitReader<'_>) -> bool {
         let skip = horizontal_ends(reader);
         if skip == 0 {
@@ -1428,7 +1436,7 @@ impl DecoderContext {
     }
 
     /// Draws a mode, the runs of a horizontal one by a call.
-    #[inline(never)]
+    #[inline(always)]
     fn draw_other_mode(&mut self, mode: Mode, reader: &mut BitReader<'_>) -> Result<()>
         ensures step { DrawsStep (step_of_mode self.old.held (here reader.old) mode)
             result (pen_of self.new.held (here reader.new)) }
@@ -1451,6 +1459,30 @@ impl DecoderContext {
         }
     }
 
+    /// The same where the row has no room for a change.
+    #[cold]
+    #[inline(never)]
+    fn draw_mode_without_room(&mut self, mode: Mode, reader: &mut BitReader<'_>) -> Result<()>
+        ensures step { DrawsStep (step_of_mode self.old.held (here reader.old) mode)
+            result (pen_of self.new.held (here reader.new)) }
+        ensures leaves { DrawsOneMode mode self.old self.new result reader.old reader.new }
+    {
+        self.draw_other_mode(mode, reader)
+    }
+
+    /// The same by a call, which calls nothing if the row has room for a change.
+    #[inline(never)]
+    fn draw_mode_by_call(&mut self, mode: Mode, reader: &mut BitReader<'_>) -> Result<()>
+        ensures step { DrawsStep (step_of_mode self.old.held (here reader.old) mode)
+            result (pen_of self.new.held (here reader.new)) }
+        ensures leaves { DrawsOneMode mode self.old self.new result reader.old reader.new }
+    {
+        if self.coding_changes.len() >= self.coding_changes.capacity() {
+            return self.draw_mode_without_room(mode, reader);
+        }
+        self.draw_other_mode(mode, reader)
+    }
+
     /// Notes that plain calls draw a mode that isn't horizontal.
     #[inline(always)]
     fn note_other_mode(&mut self)
@@ -1470,7 +1502,7 @@ impl DecoderContext {
             Mode::Horizontal => self.draw_both_runs(reader),
             other => {
                 self.note_other_mode();
-                self.draw_other_mode(other, reader)
+                self.draw_mode_by_call(other, reader)
             }
         }
     }
