@@ -419,6 +419,32 @@ impl DecoderContext {
         ensures space { self.new.space ≤ max self.old.space (room_for (length (changes self.old.held.front))) }
     {
         let painted = self.pixels_decoded;
+        if count > self.settings.columns - painted {
+            return self.push_and_cut(count);
+        }
+        append_pixels(&mut self.coding_changes, painted, self.color, count)?;
+        self.pixels_decoded = painted + count;
+        Ok(())
+    }
+
+    /// The same by a call, for more pixels than the row has room for: that is rare.
+    #[cold]
+    #[inline(never)]
+    fn push_and_cut(&mut self, count: u32) -> Result<()>
+        ensures painted { OnOk result (painted_front self.old.held count ≡ Ok self.new.held.front) }
+        ensures frame { OnOk result (self.new ≡ record self.old {
+          held = redrawn self.old.held self.new.held.front self.old.held.color;
+          cut = self.old.cut || exceeds self.old.held count;
+          space = self.new.space;
+        }) }
+        ensures too_many { (result ≡ Err too_many_pixels) ↔ (painted_front self.old.held count ≡ Err too_many_pixels) }
+        ensures memory { result ≡ Err DecodeError.OutOfMemory → StoresChange self.old.held count }
+        ensures only { IfErr result (λ e. (e ≡ too_many_pixels) ⊎ (e ≡ DecodeError.OutOfMemory)) }
+        ensures unchanged { OnErr result (self.new ≡ self.old) }
+        ensures few { length (changes self.new.held.front) ≤ suc (length (changes self.old.held.front)) }
+        ensures space { self.new.space ≤ max self.old.space (room_for (length (changes self.old.held.front))) }
+    {
+        let painted = self.pixels_decoded;
         let room = self.settings.columns - painted;
         let fitting = count.min(room);
         if fitting < count && self.settings.strict {
@@ -977,16 +1003,8 @@ impl DecoderContext {
         }
     }
 
-    /// Returns whether a white row here is drawn before others are looked for: below a white row, or below one of a few changes that
-    /// has too many for plain calls.
-    #[inline(always)]
-    fn tries_white_row(&self) -> bool {
-        let above = self.ref_changes.len();
-        above < 7 && (above == 0 || above > 3)
-    }
-
-    /// Draws a white row from the reader's own window, if it is below such a row, and returns whether there is one here; otherwise
-    /// nothing changes.
+    /// Draws a white row below a white one from the reader's own window, and returns whether there is one here; otherwise nothing
+    /// changes.
     #[inline(always)]
     fn draw_white_row(&mut self, reader: &mut BitReader<'_>) -> bool
         requires begins { self.old.held.front ≡ [] }
@@ -994,7 +1012,7 @@ impl DecoderContext {
         ensures draws { DrawsUsualRuns self.old self.new reader.old reader.new }
         ensures unchanged { result ≡ false → (self.new ≡ self.old) × (reader.new ≡ reader.old) }
     {
-        if !self.tries_white_row() {
+        if !is_white_row(&self.ref_changes) {
             return false;
         }
         let columns = self.settings.columns;
