@@ -35,10 +35,9 @@ use fax_bits::bit_reader::{
     window_at_hand,
 };
 use fax_bits::codes::{
-    Color, Mode, Ticks, has_makeup_behind_modes, horizontal_ends, is_long_behind_modes,
-    is_long_pair, pass_v0, tick_times,
+    Color, Mode, Ticks, horizontal_ends, is_long_behind_modes, is_long_pair, pass_v0, tick_times,
 };
-use fax_bits::tables::Tables;
+use fax_bits::tables::{LOOKUP_INVALID, Tables};
 use fax_bits::{DecodeSettings, EncodingMode};
 use std::alloc::Global;
 use std::marker::Model;
@@ -895,15 +894,49 @@ impl DecoderContext {
             && self.coding_changes.len() < 5
     }
 
-    /// Returns whether plain calls are likely to draw the next runs of this row at less cost: it has few more, or the next ones
-    /// may have three words or more.
+    /// Returns the entry of the word of a colour that may be after the next `skip` bits: it is, as far as the next 32 bits reach.
+    #[inline(always)]
+    fn entry_ahead(&self, reader: &BitReader<'_>, skip: u32, color: Color) -> u16 {
+        let bits = reader.peek_u32() << (skip % 32);
+        let index = match color {
+            Color::White => bits >> 20,
+            Color::Black => bits >> 19,
+        };
+        let entries = self.tables.lookup(color);
+        entries.get(index as usize).copied().unwrap_or(0)
+    }
+
+    /// Returns whether this row seems to be white: its next word, if it is one of white, is as long as that of a white row.
+    #[inline(always)]
+    fn seems_white(&self, reader: &BitReader<'_>) -> bool {
+        let entry = self.entry_ahead(reader, 0, Color::White);
+        u32::from(entry & LOOKUP_INVALID) + 63 >= self.settings.columns
+    }
+
+    /// Returns whether one of the two runs after the next `skip` bits, the first of this colour, is likely to begin with a make-up
+    /// word.
+    #[inline(always)]
+    fn has_makeup_behind(&self, reader: &BitReader<'_>, skip: u8, color: Color) -> bool {
+        let first = self.entry_ahead(reader, u32::from(skip), color);
+        if first & LOOKUP_INVALID >= 64 {
+            return true;
+        }
+        let behind = u32::from(skip) + u32::from(first >> 12);
+        let second = self.entry_ahead(reader, behind, color.opposite());
+        second & LOOKUP_INVALID >= 64
+    }
+
+    /// Returns whether plain calls are likely to draw the next runs of this row at less cost: it has few more, or is white, or the
+    /// next ones may have three words or more.
     #[inline(always)]
     fn suits_plain_calls(&self, reader: &BitReader<'_>) -> bool {
         if self.settings.columns <= 64 {
             return false;
         }
-        if self.has_few_runs() {
-            return true;
+        if self.reference_row().len() < 7 {
+            if self.has_few_runs() || self.seems_white(reader) {
+                return true;
+            }
         }
         if self.settings.columns <= 2623 {
             return false;
@@ -1082,7 +1115,11 @@ impl DecoderContext {
             return false;
         }
         if self.ref_changes.len() < 4 {
-            return has_makeup_behind_modes(reader, skip, &self.tables);
+            return if skip % 2 == 0 {
+                self.has_makeup_behind(reader, skip, Color::Black)
+            } else {
+                self.has_makeup_behind(reader, skip, Color::White)
+            };
         }
         is_long_behind_modes(reader, skip, &self.tables)
     }
