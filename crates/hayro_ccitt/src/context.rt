@@ -906,11 +906,12 @@ impl DecoderContext {
         entries.get(index as usize).copied().unwrap_or(0)
     }
 
-    /// Returns whether this row seems to be white: its next word, if it is one of white, is as long as that of a white row.
+    /// Returns whether this row, wider than 64 pixels, seems to be white: its next word, if it is one of white, is a make-up word as
+    /// long as that of a white row.
     #[inline(always)]
     fn seems_white(&self, reader: &BitReader<'_>) -> bool {
-        let entry = self.entry_ahead(reader, 0, Color::White);
-        u32::from(entry & LOOKUP_INVALID) + 63 >= self.settings.columns
+        let run = u32::from(self.entry_ahead(reader, 0, Color::White) & LOOKUP_INVALID);
+        run >= 64 && run + 63 >= self.settings.columns
     }
 
     /// Returns whether one of the two runs after the next `skip` bits, the first of this colour, is likely to begin with a make-up
