@@ -36,10 +36,9 @@ use fax_bits::bit_reader::{
     window_at_hand,
 };
 use fax_bits::codes::{
-    Color, Mode, Ticks, has_makeup_behind_modes, horizontal_ends, is_long_behind_modes,
-    is_long_pair, pass_v0, tick_times,
+    Color, Mode, Ticks, horizontal_ends, is_long_behind_modes, is_long_pair, pass_v0, tick_times,
 };
-use fax_bits::tables::Tables;
+use fax_bits::tables::{LOOKUP_INVALID, Tables};
 use fax_bits::{DecodeSettings, EncodingMode};
 use std::alloc::Global;
 use std::marker::Model;
@@ -404,6 +403,32 @@ impl DecoderContext {
     /// stored, so only if the last pixel has another colour. After an error nothing has changed.
     #[inline(always)]
     pub fn push_pixels(&mut self, count: u32) -> Result<()>
+        ensures painted { OnOk result (painted_front self.old.held count ≡ Ok self.new.held.front) }
+        ensures frame { OnOk result (self.new ≡ record self.old {
+          held = redrawn self.old.held self.new.held.front self.old.held.color;
+          cut = self.old.cut || exceeds self.old.held count;
+          space = self.new.space;
+        }) }
+        ensures too_many { (result ≡ Err too_many_pixels) ↔ (painted_front self.old.held count ≡ Err too_many_pixels) }
+        ensures memory { result ≡ Err DecodeError.OutOfMemory → StoresChange self.old.held count }
+        ensures only { IfErr result (λ e. (e ≡ too_many_pixels) ⊎ (e ≡ DecodeError.OutOfMemory)) }
+        ensures unchanged { OnErr result (self.new ≡ self.old) }
+        ensures few { length (changes self.new.held.front) ≤ suc (length (changes self.old.held.front)) }
+        ensures space { self.new.space ≤ max self.old.space (room_for (length (changes self.old.held.front))) }
+    {
+        let painted = self.pixels_decoded;
+        if count > self.settings.columns - painted {
+            return self.push_and_cut(count);
+        }
+        append_pixels(&mut self.coding_changes, painted, self.color, count)?;
+        self.pixels_decoded = painted + count;
+        Ok(())
+    }
+
+    /// The same by a call, for more pixels than the row has room for: that is rare.
+    #[cold]
+    #[inline(never)]
+    fn push_and_cut(&mut self, count: u32) -> Result<()>
         ensures painted { OnOk result (painted_front self.old.held count ≡ Ok self.new.held.front) }
         ensures frame { OnOk result (self.new ≡ record self.old {
           held = redrawn self.old.held self.new.held.front self.old.held.color;
@@ -856,15 +881,50 @@ impl DecoderContext {
             && self.coding_changes.len() < 5
     }
 
-    /// Returns whether plain calls are likely to draw the next runs of this row at less cost: it has few more, or the next ones
-    /// may have three words or more.
+    /// Returns the entry of the word of a colour that may be after the next `skip` bits: it is, as far as the next 32 bits reach.
+    #[inline(always)]
+    fn entry_ahead(&self, reader: &BitReader<'_>, skip: u32, color: Color) -> u16 {
+        let bits = reader.peek_u32() << (skip % 32);
+        let index = match color {
+            Color::White => bits >> 20,
+            Color::Black => bits >> 19,
+        };
+        let entries = self.tables.lookup(color);
+        entries.get(index as usize).copied().unwrap_or(0)
+    }
+
+    /// Returns whether this row, wider than 64 pixels, seems to be white: its next word, if it is one of white, is a make-up word as
+    /// long as that of a white row.
+    #[inline(always)]
+    fn seems_white(&self, reader: &BitReader<'_>) -> bool {
+        let run = u32::from(self.entry_ahead(reader, 0, Color::White) & LOOKUP_INVALID);
+        run >= 64 && run + 63 >= self.settings.columns
+    }
+
+    /// Returns whether one of the two runs after the next `skip` bits, the first of this colour, is likely to begin with a make-up
+    /// word.
+    #[inline(always)]
+    fn has_makeup_behind(&self, reader: &BitReader<'_>, skip: u8, color: Color) -> bool {
+        let first = self.entry_ahead(reader, u32::from(skip), color);
+        if first & LOOKUP_INVALID >= 64 {
+            return true;
+        }
+        let behind = u32::from(skip) + u32::from(first >> 12);
+        let second = self.entry_ahead(reader, behind, color.opposite());
+        second & LOOKUP_INVALID >= 64
+    }
+
+    /// Returns whether plain calls are likely to draw the next runs of this row at less cost: it has few more, or is white, or the
+    /// next ones may have three words or more.
     #[inline(always)]
     fn suits_plain_calls(&self, reader: &BitReader<'_>) -> bool {
         if self.settings.columns <= 64 {
             return false;
         }
-        if self.has_few_runs() {
-            return true;
+        if self.reference_row().len() < 7 {
+            if self.has_few_runs() || self.seems_white(reader) {
+                return true;
+            }
         }
         if self.settings.columns <= 2623 {
             return false;
@@ -1034,14 +1094,18 @@ impl DecoderContext {
 
     /// Returns whether plain calls are likely to draw a wide row at less cost: one that seems to have runs of three words or more in
     /// its first two modes, or runs of two below a row of few changes, as longer ones are likely to follow.
-    #[inline(never)]
+    #[inline(always)]
     fn has_long_runs(&self, reader: &BitReader<'_>) -> bool {
         let skip = horizontal_ends(reader);
         if skip == 0 {
             return false;
         }
         if self.ref_changes.len() < 4 {
-            return has_makeup_behind_modes(reader, skip, &self.tables);
+            return if skip % 2 == 0 {
+                self.has_makeup_behind(reader, skip, Color::Black)
+            } else {
+                self.has_makeup_behind(reader, skip, Color::White)
+            };
         }
         is_long_behind_modes(reader, skip, &self.tables)
     }
@@ -1336,7 +1400,7 @@ impl DecoderContext {
     }
 
     /// Draws a mode, the runs of a horizontal one by a call.
-    #[inline(never)]
+    #[inline(always)]
     fn draw_other_mode(&mut self, mode: Mode, reader: &mut BitReader<'_>) -> Result<()>
         ensures step { DrawsStep (step_of_mode self.old.held (here reader.old) mode)
             result (pen_of self.new.held (here reader.new)) }
@@ -1359,6 +1423,30 @@ impl DecoderContext {
         }
     }
 
+    /// The same where the row has no room for a change.
+    #[cold]
+    #[inline(never)]
+    fn draw_mode_without_room(&mut self, mode: Mode, reader: &mut BitReader<'_>) -> Result<()>
+        ensures step { DrawsStep (step_of_mode self.old.held (here reader.old) mode)
+            result (pen_of self.new.held (here reader.new)) }
+        ensures leaves { DrawsOneMode mode self.old self.new result reader.old reader.new }
+    {
+        self.draw_other_mode(mode, reader)
+    }
+
+    /// The same by a call, which calls nothing if the row has room for a change.
+    #[inline(never)]
+    fn draw_mode_by_call(&mut self, mode: Mode, reader: &mut BitReader<'_>) -> Result<()>
+        ensures step { DrawsStep (step_of_mode self.old.held (here reader.old) mode)
+            result (pen_of self.new.held (here reader.new)) }
+        ensures leaves { DrawsOneMode mode self.old self.new result reader.old reader.new }
+    {
+        if self.coding_changes.len() >= self.coding_changes.capacity() {
+            return self.draw_mode_without_room(mode, reader);
+        }
+        self.draw_other_mode(mode, reader)
+    }
+
     /// Notes that plain calls draw a mode that isn't horizontal.
     #[inline(always)]
     fn note_other_mode(&mut self)
@@ -1378,7 +1466,7 @@ impl DecoderContext {
             Mode::Horizontal => self.draw_both_runs(reader),
             other => {
                 self.note_other_mode();
-                self.draw_other_mode(other, reader)
+                self.draw_mode_by_call(other, reader)
             }
         }
     }
