@@ -120,7 +120,7 @@ pub(crate) fn pack_row(row: &mut [u8], columns: u32, changes: &[u32], black_is_0
 
 /// Packs a row that isn't best cleared first.
 #[inline(always)]
-fn pack_over(row: &mut [u8], columns: u32, changes: &[u32], black_is_0: bool)
+fn pack_uncleared(row: &mut [u8], columns: u32, changes: &[u32], black_is_0: bool)
     requires changes { AreChanges columns changes.now }
     requires room { length row.old ≡ (columns + 7) / 8 }
     ensures packed { bits_of row.new ≡ packed_row black_is_0 (pixels columns changes.now) }
@@ -300,7 +300,7 @@ impl<'a> PackedRows<'a> {
     {
         self.write_white();
         let end = self.start + self.bytes;
-        pack_over(
+        pack_uncleared(
             &mut self.bitmap[self.start..end],
             self.columns,
             changes,
