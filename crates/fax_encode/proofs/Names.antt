@@ -11,7 +11,7 @@ pub use Rattle.fax_encode.specs.Laws.{EncodesInKinds, EncodesInKindsWithEols, En
 pub use Rattle.fax_encode.specs.Laws.{RoundTripT4, RoundTripT6, RowsAreChosen}
 pub use Rattle.fax_encode.specs.Laws.{RowsArePacked, lenient_settings_for, line_end, tag_after}
 pub use Rattle.fax_encode.specs.Packed.{Bitmap, bytes_of_row, in_black, packed, rows_shown, shown, with_packed_row}
-pub use Rattle.fax_encode.specs.Painting.{StandsAt, plain_pixels, then_white, under}
+pub use Rattle.fax_encode.specs.Painting.{StandsAt, TurnsBlack, plain_pixels, then_white, under}
 unfoldable pub use Rattle.fax_encode.specs.Painting.{joined_pixels, turned_after, turned_at_all, turned_from}
 pub use Rattle.fax_encode.specs.Refusals.{AreRows}
 pub use Rattle.fax_encode.specs.RowByRow.{RowsEncoded, no_rows, with_row, with_rows}

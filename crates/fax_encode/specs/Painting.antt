@@ -26,6 +26,12 @@ pub record MovesTo (brush at : Brush) (place : ℕ) (row row' : List ℕ) : Type
 abbrev pub then_white : Bits → ℕ → Bits
 then_white front bytes = front ++ replicate (8 * bytes - length front) false
 
+-- what painting a black run does to a row that is white from its first pixel on
+abbrev pub TurnsBlack : ℕ → ℕ → List ℕ → List ℕ → Type 0
+TurnsBlack from to row row' =
+    (front : Bits) → length front ≡ from → bits_of row ≡ then_white front (length row)
+    → bits_of row' ≡ then_white (front ++ replicate (to - from) true) (length row)
+
 -- pixels that are turned from a position on
 unfoldable pub turned_from : ℕ → Bits → Bits
 turned_from zero bits = map not bits

@@ -108,7 +108,7 @@ pub fn fill_bytes(bytes: &mut [u8], byte: u8)
     ensures { bytes.new ≡ replicate (length bytes.old) byte }
 {
     let mut at = 0;
-    'bytes: while at < bytes.len() {
+    'bytes: while at != bytes.len() {
         bytes[at] = byte;
         at += 1;
     }
