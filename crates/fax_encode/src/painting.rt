@@ -9,7 +9,7 @@ ghost use Rattle.fax_encode.specs.Painting.{under, MovesTo, StandsAt};
 
 use crate::black_runs::{paint_apart, paint_cleared};
 use crate::pixel_words::{
-    MOST_FILLED, fill_all, fill_bytes, ones_from, plain_byte, plain_word, put_pixels,
+    MOST_FILLED, fill_apart, fill_bytes, ones_from, plain_byte, plain_word, put_pixels,
 };
 use crate::turned_words::{MOST_TURNED, paint_by_words};
 
@@ -80,7 +80,7 @@ fn move_by_filling(row: &mut [u8], brush: Brush, place: u32) -> Brush
         return brush;
     }
     put_pixels(row, brush.start, brush.word);
-    fill_all(&mut row[brush.start + 8..start], plain_byte(brush.is_black));
+    fill_apart(&mut row[brush.start + 8..start], plain_byte(brush.is_black));
     Brush {
         start,
         word: plain_word(brush.is_black),
@@ -290,7 +290,7 @@ pub fn paint_over(row: &mut [u8], columns: u32, changes: &[u32])
     if row.len() < 8 {
         paint_narrow(row, columns, changes);
     } else if changes.is_empty() {
-        fill_all(row, 0);
+        fill_apart(row, 0);
     } else if row.len() + row.len() / 2 <= changes.len() {
         paint_changes(row, columns, changes);
     } else if row.len() <= MOST_TURNED {

@@ -15,8 +15,8 @@ returns c =
     let there : length (take count (drop (start + 8) one)) ≡ count =
     length-take-le count (drop (start + 8) one)
     (omega (arith, length-drop (start + 8) one, c.put_pixels.ensures.length, within)) in
-    let filled : c.fill_all.new.bytes ≡ replicate count c.plain_byte.result =
-    c.fill_all.ensures ∙ ap (λ (n : ℕ). replicate n c.plain_byte.result) there in
+    let filled : c.fill_apart.new.bytes ≡ replicate count c.plain_byte.result =
+    c.fill_apart.ensures ∙ ap (λ (n : ℕ). replicate n c.plain_byte.result) there in
     let done =
     words_filled start count c.plain_byte.result c.args.brush.word c.plain_word.result c.args.row.now one _ c.args.brush.is_black
     within c.put_pixels.ensures.length c.put_pixels.ensures.written (ap (put_mid (start + 8) count one) filled)
@@ -26,6 +26,6 @@ returns c =
       right = omega (arith, further);
       color = refl;
       painted = rw end at done;
-      long = length-put_mid (start + 8) count one c.fill_all.new.bytes (omega (arith, within, c.put_pixels.ensures.length))
+      long = length-put_mid (start + 8) count one c.fill_apart.new.bytes (omega (arith, within, c.put_pixels.ensures.length))
           (omega (arith, ap length filled, length-replicate count c.plain_byte.result)) ∙ c.put_pixels.ensures.length;
     }
