@@ -333,10 +333,11 @@ one_of_each part count places bits within lt =
     one_of_part places (3 * part) count (turned_from c (turned_from b (turned_from a three))) (omega arith)
     ∙ ap (turned_from d) (turned_last fourth c (turned_from b (turned_from a three)) ∙ ap (turned_from c)
     (turned_last fourth b (turned_from a three) ∙ ap (turned_from b) (turned_last fourth a three))) in
-    ap (λ (b : Bits). turned_at_all (part_of places (3 * part) (count + 1)) (turned_at_all (part_of places (2 * part) (count + 1))
-    (turned_at_all (part_of places part (count + 1)) b))) first_more
-    ∙ ap (λ (b : Bits). turned_at_all (part_of places (3 * part) (count + 1)) (turned_at_all (part_of places (2 * part) (count + 1))
-    b)) second_more ∙ ap (turned_at_all (part_of places (3 * part) (count + 1))) third_more ∙ fourth_more
+    ap (λ (b : Bits). turned_at_all (part_of places (3 * part) (count + 1))
+    (turned_at_all (part_of places (2 * part) (count + 1)) (turned_at_all (part_of places part (count + 1)) b))) first_more
+    ∙ ap (λ (b : Bits). turned_at_all (part_of places (3 * part) (count + 1))
+    (turned_at_all (part_of places (2 * part) (count + 1)) b)) second_more
+    ∙ ap (turned_at_all (part_of places (3 * part) (count + 1))) third_more ∙ fourth_more
 
 -- as many positions, and then those of a part
 part_more : (places : List ℕ) (from count to : ℕ) (bits : Bits) → from + count ≡ to

@@ -6,7 +6,7 @@ ghost use Rattle.hayro_ccitt.specs.Rows.{AreChanges, pixels};
 ghost use Rattle.fax_encode.specs.Chosen.{filled_up};
 ghost use Rattle.fax_encode.specs.Painting.{TurnsBlack, then_white};
 
-use crate::pixel_words::{fill_apart, fill_bytes, first_pixels, ones_before, put_pixels};
+use crate::pixel_words::{fill_all, fill_bytes, first_pixels, ones_before, put_pixels};
 
 /// Returns a word whose pixels between two offsets are black.
 #[inline(always)]
@@ -163,6 +163,6 @@ pub fn paint_apart(row: &mut [u8], columns: u32, changes: &[u32])
     requires long { 8 ≤ length row.old }
     ensures painted { bits_of row.new ≡ filled_up (pixels columns changes.now) }
 {
-    fill_apart(row, 0);
+    fill_all(row, 0);
     paint_runs(row, columns, changes);
 }

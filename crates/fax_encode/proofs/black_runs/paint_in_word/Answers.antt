@@ -10,7 +10,8 @@ returns-clause-painted c = λ front long white.
     let word : ℕ = c.first_pixels-word.result in
     let rest : take (length row - start) (drop start row) ≡ drop start row =
     take_all (length row - start) (drop start row) (omega (arith, length-drop start row)) in
-    word_painted start c.args.from c.args.to row _ word _ front c.requires.within (omega (arith, c.requires.ascend)) c.requires.below long white
+    word_painted start c.args.from c.args.to row _ word _ front c.requires.within
+    (omega (arith, c.requires.ascend)) c.requires.below long white
     (c.first_pixels-word.ensures ∙ ap (λ (l : List ℕ). take 64 (bits_of l ++ replicate 64 false)) rest)
     (ap (bit_xor word) c.black_between.ensures ∙ turned_between word c.args.from c.args.to (omega (arith, c.requires.ascend)))
     c.put_pixels.ensures.written

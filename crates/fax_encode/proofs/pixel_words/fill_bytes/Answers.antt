@@ -1,5 +1,5 @@
-use Rattle.fax_encode.proofs.Names.{◌≡◌, ◌<◌, ℕ, List, [], ◌∷◌, ◌++◌, ap, sym, ◌∙◌, arith, length, replicate, take_all, length-set}
-use Rattle.fax_encode.proofs.Names.{replicate-append-replicate}
+use Rattle.fax_encode.proofs.Names.{◌≡◌, ◌<◌, ℕ, List, [], ◌∷◌, ◌++◌, ap, sym, ◌∙◌, arith, length, replicate, take_all}
+use Rattle.fax_encode.proofs.Names.{length-set, replicate-append-replicate}
 use Rattle.std.proofs.lemmas.List.{take_more_set}
 use Rattle.fax_encode.proofs.pixel_words.fill_bytes.Goals as goal
 

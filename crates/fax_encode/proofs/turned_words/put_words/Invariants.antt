@@ -1,4 +1,5 @@
-use Rattle.fax_encode.proofs.Names.{◌≡◌, ◌≤◌, ◌-◌, ◌*◌, ◌++◌, bit_of, bits_of, drop, false, joined_pixels, length, plain_pixels, take}
+use Rattle.fax_encode.proofs.Names.{◌≡◌, ◌≤◌, ◌-◌, ◌*◌, ◌++◌, bit_of, bits_of, drop, false, joined_pixels, length, take}
+use Rattle.fax_encode.proofs.Names.{plain_pixels}
 use Rattle.fax_encode.proofs.turned_words.put_words.Given as goal
 
 -- what is written, and the words that are left

@@ -1,5 +1,5 @@
-use Rattle.fax_encode.proofs.Names.{◌≡◌, ◌+◌, ◌*◌, ◌/◌, ◌≤◌, ◌<◌, ℕ, List, Bits, get_or, length, drop, ap, refl, sym, ◌∙◌, arith, false}
-use Rattle.fax_encode.proofs.Names.{joined_pixels, turned_at_all, turned_from}
+use Rattle.fax_encode.proofs.Names.{◌≡◌, ◌+◌, ◌*◌, ◌/◌, ◌≤◌, ◌<◌, ℕ, List, Bits, get_or, length, drop, ap, refl, sym, ◌∙◌, arith}
+use Rattle.fax_encode.proofs.Names.{false, joined_pixels, turned_at_all, turned_from}
 use Rattle.fax_encode.proofs.TurnedWords.{all_quarters, change_below, no_quarters, one_of_each, quarters_turned}
 use Rattle.fax_encode.proofs.turned_words.turn_quarters.Goals as goal
 
