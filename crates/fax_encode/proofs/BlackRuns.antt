@@ -7,7 +7,9 @@ use Rattle.fax_encode.proofs.Names.{drop-append-add, drop-drop}
 use Rattle.fax_encode.proofs.Names.{take-append-le, drop-append-le, take-append-drop, put_mid, HighestFirst, Bits}
 use Rattle.fax_encode.proofs.Names.{bits_of}
 use Rattle.fax_encode.proofs.Names.{AreChanges, bits_of_byte, filled_up, length-pixels, low_bits, AscendFrom, pixels, pixels_from}
-use Rattle.fax_encode.proofs.Names.{then_white, White}
+use Rattle.fax_encode.proofs.Names.{TurnsBlack, then_white, White, agree_below_at, eqb, eqb-true, Bool}
+use Rattle.std.proofs.lemmas.Nat.Bits.{ones_xor_high_mask}
+use lib.Bits.{xor_assoc, xor_self, xor_zero_l}
 use Rattle.fax_encode.proofs.PaintedRows.{bits_of_plain}
 use Rattle.fax_encode.proofs.ScannedRows.{bits_of-parts}
 use Rattle.std.proofs.lemmas.List.{drop_at, take_at}
@@ -16,6 +18,35 @@ use Rattle.std.proofs.Common.{inl, inr}
 use Rattle.fax_encode.proofs.Names.{◌%◌}
 use Rattle.fax_encode.proofs.PaintedWords.{bits_of-take, bits_of-drop, turned_behind}
 use Rattle.fax_encode.proofs.RunsWritten.{next_is, next_right, next_within, next_ascends, one_part}
+
+-- ---- the black pixels of a word
+-- whether a number of ones are left of a word's end, and then so many zeros left of them: one test for each pair
+is_black_part : ℕ → Bool
+is_black_part k =
+    eqb ((2 ^ 64 - 1) * 2 ^ (63 - k % 64) % 2 ^ 64 / 2 ^ (k / 64)) (2 ^ (64 - k / 64) - 2 ^ (64 - (k / 64 + (k % 64 + 1))))
+
+-- ones that are moved to the left and to the right
+pub moved_ones : (from to : ℕ) → from < to → to ≤ 64
+    → (2 ^ 64 - 1) * 2 ^ (64 - (to - from)) % 2 ^ 64 / 2 ^ from ≡ 2 ^ (64 - from) - 2 ^ (64 - to)
+unfolding is_black_part
+moved_ones from to lt le =
+    let k : ℕ = 64 * from + (to - from - 1) in
+    let row : k / 64 ≡ from = omega arith in
+    let column : k % 64 ≡ to - from - 1 = omega arith in
+    let left : 63 - (to - from - 1) ≡ 64 - (to - from) = omega arith in
+    let right : 64 - (from + (to - from - 1 + 1)) ≡ 64 - to = omega arith in
+    let all = eqb-true _ _ (agree_below_at is_black_part (λ n. true) 4096 k refl (omega arith)) in
+    rw (← left, ← right) (rw (row, column) at all)
+
+-- they turn the pixels from the one offset on, and back those from the other on
+pub turned_between : (word from to : ℕ) → from ≤ to
+    → bit_xor word (2 ^ (64 - from) - 2 ^ (64 - to)) ≡ bit_xor (bit_xor word (2 ^ (64 - from) - 1)) (2 ^ (64 - to) - 1)
+turned_between word from to le =
+    let ones : ℕ = 2 ^ (64 - from) - 1 in
+    let black : ℕ = 2 ^ (64 - from) - 2 ^ (64 - to) in
+    sym (ap (bit_xor (bit_xor word ones)) (sym (ones_xor_high_mask (64 - from) (64 - to) (omega arith)))
+    ∙ xor_assoc word ones (bit_xor ones black) ∙ ap (bit_xor word) (sym (xor_assoc ones ones black)
+    ∙ ap (λ (n : ℕ). bit_xor n black) (xor_self ones) ∙ xor_zero_l black))
 
 -- ---- a part of the row is painted
 -- the bits of a row with a part written
@@ -247,12 +278,6 @@ white_more front n bytes within =
     let sum : n + rest ≡ 8 * bytes - length front = omega arith in
     sym (append_assoc front (replicate n false) (replicate rest false) ∙ ap (λ (b : Bits). front ++ b)
     (replicate-append-replicate n rest false ∙ ap (λ (k : ℕ). replicate k false) sum))
-
--- what painting a black run does to a row that is white from its first pixel on
-abbrev pub TurnsBlack : ℕ → ℕ → List ℕ → List ℕ → Type 0
-TurnsBlack from to row row' =
-    (front : Bits) → length front ≡ from → bits_of row ≡ then_white front (length row)
-    → bits_of row' ≡ then_white (front ++ replicate (to - from) true) (length row)
 
 module _ (columns : ℕ) (changes : List ℕ) (done : ℕ) (row row' : List ℕ) (lt : done < length changes)
     (room : columns ≤ 8 * length row) (is : AreBlack columns changes done row) where

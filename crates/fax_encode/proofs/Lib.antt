@@ -9,7 +9,6 @@ pub mod ClosedPictures
 pub mod CutBits
 pub mod DamageReachesKRows
 pub mod Elements
-pub mod FilledBytes
 pub mod FilledEols
 pub mod LinesByK
 pub mod LinesOfPictures

@@ -11,7 +11,7 @@ pub use Rattle.fax_encode.specs.Laws.{EncodesInKinds, EncodesInKindsWithEols, En
 pub use Rattle.fax_encode.specs.Laws.{RoundTripT4, RoundTripT6, RowsAreChosen}
 pub use Rattle.fax_encode.specs.Laws.{RowsArePacked, lenient_settings_for, line_end, tag_after}
 pub use Rattle.fax_encode.specs.Packed.{Bitmap, bytes_of_row, in_black, packed, rows_shown, shown, with_packed_row}
-pub use Rattle.fax_encode.specs.Painting.{StandsAt, then_white, under}
+pub use Rattle.fax_encode.specs.Painting.{StandsAt, TurnsBlack, plain_pixels, then_white, under}
 unfoldable pub use Rattle.fax_encode.specs.Painting.{joined_pixels, turned_after, turned_at_all, turned_from}
 pub use Rattle.fax_encode.specs.Refusals.{AreRows}
 pub use Rattle.fax_encode.specs.RowByRow.{RowsEncoded, no_rows, with_row, with_rows}
@@ -104,7 +104,7 @@ pub use Rattle.std.proofs.lemmas.Bool.{le-ltb, leb-true, lt-ltb, ltb-true}
 pub use Rattle.std.proofs.lemmas.Grind.{flat_map-append, get_or_default_zero}
 pub use Rattle.std.proofs.lemmas.Int.{ints}
 pub use Rattle.std.proofs.lemmas.List.{append-nil, drop-drop, drop_all, drop_more, get_or-map, get_or-set_other}
-pub use Rattle.std.proofs.lemmas.List.{get_or-set_same}
+pub use Rattle.std.proofs.lemmas.List.{get_or-drop, get_or-set_same}
 pub use Rattle.std.proofs.lemmas.List.{get_or_default, get_or_past, length-append, length-drop, length-map, length-replicate}
 pub use Rattle.std.proofs.lemmas.List.{length-set, length-take, map-append, nil_from_length, replicate-append-replicate}
 pub use Rattle.std.proofs.lemmas.List.{drop-append-le, drop-replicate, length-take-le}

@@ -12,7 +12,7 @@ use Rattle.fax_encode.proofs.RunsWritten.{next_is, next_right, next_within, next
 
 -- ---- moving to another word
 -- what is written over a part leaves the length
-length-put_mid : (start count : ℕ) (row part : List ℕ) → start + count ≤ length row → length part ≡ count
+pub length-put_mid : (start count : ℕ) (row part : List ℕ) → start + count ≤ length row → length part ≡ count
     → length (put_mid start count row part) ≡ length row
 length-put_mid start count row part within long =
     omega (

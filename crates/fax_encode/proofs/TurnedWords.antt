@@ -1,4 +1,6 @@
 -- Words of pixels that are turned apart, and joined at last.
+use lib.Bits.{xor_zero_r}
+use Rattle.fax_encode.proofs.Names.{cases_lt, inl, inr, ◌/◌, ◌==◌}
 use Rattle.fax_encode.proofs.Names.{◌≡◌, ℕ, zero, suc, ◌+◌, ◌-◌, ◌*◌, ◌%◌, ◌^◌, ◌<◌, ◌≤◌, Bool, true, false, not, List, []}
 use Rattle.fax_encode.proofs.Names.{◌∷◌, ◌++◌, length, get_or, map, set, replicate, refl, sym, ap, ◌∙◌, arith, append_assoc}
 use Rattle.fax_encode.proofs.Names.{bit_xor, Bits, bit_of, low_bits, length-append, length-low_bits, length-replicate, map-append}
@@ -7,6 +9,7 @@ use Rattle.fax_encode.proofs.Names.{drop, drop_all, drop_more, joined_pixels, tu
 use Rattle.fax_encode.proofs.Names.{ONES_BEFORE, ONES_FROM, agree_below_at, eqb, eqb-true}
 use Rattle.fax_encode.proofs.Names.{append-nil, bits_of, length-bits_of, length-drop, length-take, put_mid, take, take-append-add}
 use Rattle.fax_encode.proofs.Names.{take-append-le, take-append_seam}
+use Rattle.fax_encode.proofs.Names.{get_or-drop, plain_pixels, take-add, take-append-drop}
 use Rattle.fax_encode.proofs.BlackRuns.{bits_of-put_mid}
 use Rattle.fax_encode.proofs.PaintedWords.{bits_of-take, kept_at, turned_at}
 
@@ -113,6 +116,39 @@ turned_low_bits (suc p) n (suc total) le =
     ∙ ap (λ (b : Bool). b ∷ low_bits total (bit_xor n (2 ^ (total - p) - 1))) (kept_at (total - p) n total (omega arith))
     ∙ ap (λ (b : Bits). bit_of n total ∷ b) (turned_low_bits p n total (omega arith))
 
+-- a word of one colour turns a word after that colour
+pub pixels_after : (black : Bool) (color word : ℕ) → color ≡ plain_pixels black
+    → (low_bits 64 (bit_xor word color) ≡ map (turned_after black) (low_bits 64 word))
+    × (bit_of (bit_xor word color) 0 ≡ turned_after black (bit_of word 0))
+pixels_after true color word is = (
+  ap (λ (m : ℕ). low_bits 64 (bit_xor word m)) is ∙ all_low_bits 64 64 word (omega arith)
+      ∙ sym (all_after_black (low_bits 64 word)),
+  ap (λ (m : ℕ). bit_of (bit_xor word m) 0) is ∙ turned_at 64 word 0 (omega arith) ∙ sym (after_black (bit_of word 0)),
+)
+pixels_after false color word is =
+    let same : bit_xor word color ≡ word = ap (bit_xor word) is ∙ xor_zero_r word in (
+      ap (low_bits 64) same ∙ sym (all_after_white (low_bits 64 word)),
+      ap (λ (m : ℕ). bit_of m 0) same ∙ sym (after_white (bit_of word 0)),
+    )
+
+-- the colour of a word's last pixel
+pub color_of_last : (word color : ℕ) → color ≡ word % 2 * (2 ^ 64 - 1)
+    → (color ≡ plain_pixels (bit_of color 0)) × (bit_of color 0 ≡ bit_of word 0)
+color_of_last word color is = elim (cases_lt 0 (word % 2)) [
+  | inl odd ↦
+      let one : word % 2 ≡ 1 = omega arith in
+      let all : color ≡ 2 ^ 64 - 1 = is ∙ ap (λ (n : ℕ). n * (2 ^ 64 - 1)) one in
+      let last : bit_of color 0 ≡ true = ap (λ (n : ℕ). bit_of n 0) all in
+      let word_last : bit_of word 0 ≡ true = ap (λ (n : ℕ). n == 1) (let e : word / 2 ^ 0 % 2 ≡ 1 = omega arith in e) in
+      (all ∙ ap plain_pixels (sym last), last ∙ sym word_last)
+  | inr even ↦
+      let none : word % 2 ≡ 0 = omega arith in
+      let all : color ≡ 0 = is ∙ ap (λ (n : ℕ). n * (2 ^ 64 - 1)) none in
+      let last : bit_of color 0 ≡ false = ap (λ (n : ℕ). bit_of n 0) all in
+      let word_last : bit_of word 0 ≡ false = ap (λ (n : ℕ). n == 1) (let e : word / 2 ^ 0 % 2 ≡ 0 = omega arith in e) in
+      (all ∙ ap plain_pixels (sym last), last ∙ sym word_last)
+]
+
 -- ---- joined words
 joined_after_turned : (color : Bool) (words : List ℕ) → joined_pixels (not color) words ≡ map not (joined_pixels color words)
 unfolding joined_pixels
@@ -211,6 +247,117 @@ one_turned places i bits lt = ap (λ (l : List ℕ). turned_at_all l bits) (drop
 pub all_places_turned : (places : List ℕ) (i : ℕ) (bits : Bits) → length places ≤ i → turned_at_all (drop i places) bits ≡ bits
 unfolding turned_at_all
 all_places_turned places i bits all = ap (λ (l : List ℕ). turned_at_all l bits) (drop_all i places all)
+
+-- ---- the order of the positions
+-- from two positions on, pixels are turned in either order
+turned_twice : (p q : ℕ) (bits : Bits) → turned_from p (turned_from q bits) ≡ turned_from q (turned_from p bits)
+unfolding turned_from
+turned_twice zero zero bits = refl
+turned_twice zero (suc q) [] = refl
+turned_twice zero (suc q) (bit ∷ bits) = ap (λ (b : Bits). not bit ∷ b) (turned_twice zero q bits)
+turned_twice (suc p) zero [] = refl
+turned_twice (suc p) zero (bit ∷ bits) = ap (λ (b : Bits). not bit ∷ b) (turned_twice p zero bits)
+turned_twice (suc p) (suc q) [] = refl
+turned_twice (suc p) (suc q) (bit ∷ bits) = ap (λ (b : Bits). bit ∷ b) (turned_twice p q bits)
+
+-- a position that is first may be last
+turned_last : (places : List ℕ) (p : ℕ) (bits : Bits)
+    → turned_at_all places (turned_from p bits) ≡ turned_from p (turned_at_all places bits)
+unfolding turned_at_all
+turned_last [] p bits = refl
+turned_last (q ∷ places) p bits = ap (turned_at_all places) (turned_twice q p bits) ∙ turned_last places p (turned_from q bits)
+
+-- positions, and then others
+turned_in_turn : (places more : List ℕ) (bits : Bits)
+    → turned_at_all (places ++ more) bits ≡ turned_at_all more (turned_at_all places bits)
+unfolding turned_at_all
+turned_in_turn [] more bits = refl
+turned_in_turn (p ∷ places) more bits = turned_in_turn places more (turned_from p bits)
+
+-- the positions from one on, as many
+abbrev part_of : List ℕ → ℕ → ℕ → List ℕ
+part_of places from count = take count (drop from places)
+
+-- one position more of them
+one_of_part : (places : List ℕ) (from count : ℕ) (bits : Bits) → from + count < length places
+    → turned_at_all (part_of places from (count + 1)) bits
+    ≡ turned_from (get_or places (from + count) 0) (turned_at_all (part_of places from count) bits)
+unfolding turned_at_all
+one_of_part places from count bits lt =
+    let rest : List ℕ = drop from places in
+    let place : ℕ = get_or places (from + count) 0 in
+    let there : count < length rest = omega (arith, length-drop from places) in
+    let next : drop count rest ≡ place ∷ drop (count + 1) rest =
+    drop_more rest count 0 there ∙ ap (λ (n : ℕ). n ∷ drop (count + 1) rest) (get_or-drop from places count 0) in
+    ap (λ (l : List ℕ). turned_at_all l bits) (take-add count 1 rest ∙ ap (λ (l : List ℕ). take count rest ++ take 1 l) next)
+    ∙ turned_in_turn (take count rest) (place ∷ []) bits
+
+-- the pixels of words of which as many of each quarter are turned
+abbrev pub quarters_turned : ℕ → ℕ → List ℕ → Bits → Bits
+quarters_turned part count places bits =
+    turned_at_all (part_of places (3 * part) count) (turned_at_all (part_of places (2 * part) count)
+    (turned_at_all (part_of places part count) (turned_at_all (part_of places 0 count) bits)))
+
+-- none so far
+pub no_quarters : (part : ℕ) (places : List ℕ) (bits : Bits) → quarters_turned part 0 places bits ≡ bits
+unfolding turned_at_all
+no_quarters part places bits = refl
+
+-- one more of each quarter
+pub one_of_each : (part count : ℕ) (places : List ℕ) (bits : Bits) → 4 * part ≤ length places → count < part
+    → quarters_turned part (count + 1) places bits
+    ≡ turned_from (get_or places (3 * part + count) 0) (turned_from (get_or places (2 * part + count) 0)
+    (turned_from (get_or places (part + count) 0) (turned_from (get_or places count 0) (quarters_turned part count places bits))))
+one_of_each part count places bits within lt =
+    let a : ℕ = get_or places count 0 in
+    let b : ℕ = get_or places (part + count) 0 in
+    let c : ℕ = get_or places (2 * part + count) 0 in
+    let d : ℕ = get_or places (3 * part + count) 0 in
+    let second : List ℕ = part_of places part count in
+    let third : List ℕ = part_of places (2 * part) count in
+    let fourth : List ℕ = part_of places (3 * part) count in
+    let one : Bits = turned_at_all (part_of places 0 count) bits in
+    let two : Bits = turned_at_all second one in
+    let three : Bits = turned_at_all third two in
+    let first_more : turned_at_all (part_of places 0 (count + 1)) bits ≡ turned_from a one =
+    one_of_part places 0 count bits (omega arith)
+    ∙ ap (λ (n : ℕ). turned_from (get_or places n 0) one) (let same : 0 + count ≡ count = omega arith in same) in
+    let second_more : turned_at_all (part_of places part (count + 1)) (turned_from a one) ≡ turned_from b (turned_from a two) =
+    one_of_part places part count (turned_from a one) (omega arith) ∙ ap (turned_from b) (turned_last second a one) in
+    let third_more : turned_at_all (part_of places (2 * part) (count + 1)) (turned_from b (turned_from a two))
+    ≡ turned_from c (turned_from b (turned_from a three)) =
+    one_of_part places (2 * part) count (turned_from b (turned_from a two)) (omega arith)
+    ∙ ap (turned_from c) (turned_last third b (turned_from a two) ∙ ap (turned_from b) (turned_last third a two)) in
+    let fourth_more : turned_at_all (part_of places (3 * part) (count + 1)) (turned_from c (turned_from b (turned_from a three)))
+    ≡ turned_from d (turned_from c (turned_from b (turned_from a (turned_at_all fourth three)))) =
+    one_of_part places (3 * part) count (turned_from c (turned_from b (turned_from a three))) (omega arith)
+    ∙ ap (turned_from d) (turned_last fourth c (turned_from b (turned_from a three)) ∙ ap (turned_from c)
+    (turned_last fourth b (turned_from a three) ∙ ap (turned_from b) (turned_last fourth a three))) in
+    ap (λ (b : Bits). turned_at_all (part_of places (3 * part) (count + 1))
+    (turned_at_all (part_of places (2 * part) (count + 1)) (turned_at_all (part_of places part (count + 1)) b))) first_more
+    ∙ ap (λ (b : Bits). turned_at_all (part_of places (3 * part) (count + 1))
+    (turned_at_all (part_of places (2 * part) (count + 1)) b)) second_more
+    ∙ ap (turned_at_all (part_of places (3 * part) (count + 1))) third_more ∙ fourth_more
+
+-- as many positions, and then those of a part
+part_more : (places : List ℕ) (from count to : ℕ) (bits : Bits) → from + count ≡ to
+    → turned_at_all (part_of places from count) (turned_at_all (take from places) bits) ≡ turned_at_all (take to places) bits
+part_more places from count to bits sum =
+    sym (turned_in_turn (take from places) (part_of places from count) bits)
+    ∙ ap (λ (l : List ℕ). turned_at_all l bits) (sym (take-add from count places) ∙ ap (λ (n : ℕ). take n places) sum)
+
+-- all of each quarter, and then the rest
+pub all_quarters : (part : ℕ) (places : List ℕ) (bits : Bits)
+    → turned_at_all (drop (4 * part) places) (quarters_turned part part places bits) ≡ turned_at_all places bits
+all_quarters part places bits =
+    let rest : List ℕ = drop (4 * part) places in
+    ap (λ (b : Bits). turned_at_all rest (turned_at_all (part_of places (3 * part) part)
+    (turned_at_all (part_of places (2 * part) part) b))) (part_more places part part (2 * part) bits (omega arith))
+    ∙ ap (λ (b : Bits). turned_at_all rest (turned_at_all (part_of places (3 * part) part) b))
+    (part_more places (2 * part) part (3 * part) bits (omega arith))
+    ∙ ap (turned_at_all rest) (part_more places (3 * part) part (4 * part) bits (omega arith))
+    ∙ sym (turned_in_turn (take (4 * part) places) rest bits)
+    ∙ ap (λ (l : List ℕ). turned_at_all l bits) (take-append-drop (4 * part) places)
 
 -- a change is below the width
 pub change_below : (columns from : ℕ) (places : List ℕ) (i : ℕ) → i < length places → AscendFrom from columns places

@@ -1,5 +1,5 @@
 -- A row that is being painted.
-use Rattle.std.specs.Prelude.{◌≡◌, ◌+◌, ◌-◌, ◌*◌, ◌%◌, ◌<◌, ◌≤◌, ℕ, zero, suc, List, [], ◌∷◌, ◌++◌, Bool, true, false, not}
+use Rattle.std.specs.Prelude.{◌≡◌, ◌+◌, ◌-◌, ◌*◌, ◌%◌, ◌^◌, ◌<◌, ◌≤◌, ℕ, zero, suc, List, [], ◌∷◌, ◌++◌, Bool, true, false, not}
 use Rattle.std.specs.Prelude.{length, map, take, replicate}
 use Rattle.hayro_ccitt.specs.Bits.{Bits, bit_of, bits_of, low_bits}
 use Rattle.fax_encode.specs.declared.painting.Brush.{Brush}
@@ -14,9 +14,23 @@ pub record StandsAt (brush : Brush) (place : ℕ) : Type 0 where
   pub from : 8 * brush.start ≤ place
   pub below : place < 8 * brush.start + 64
 
+-- what moving to the word of a position does: all before that word is painted
+pub record MovesTo (brush at : Brush) (place : ℕ) (row row' : List ℕ) : Type 0 where
+  pub stands : StandsAt at place
+  pub right : brush.start ≤ at.start
+  pub color : at.is_black ≡ brush.is_black
+  pub painted : under at row' ≡ under brush row ++ replicate (8 * (at.start - brush.start)) brush.is_black
+  pub long : length row' ≡ length row
+
 -- the pixels up to a position, and white ones from there on, of a row of so many bytes
 abbrev pub then_white : Bits → ℕ → Bits
 then_white front bytes = front ++ replicate (8 * bytes - length front) false
+
+-- what painting a black run does to a row that is white from its first pixel on
+abbrev pub TurnsBlack : ℕ → ℕ → List ℕ → List ℕ → Type 0
+TurnsBlack from to row row' =
+    (front : Bits) → length front ≡ from → bits_of row ≡ then_white front (length row)
+    → bits_of row' ≡ then_white (front ++ replicate (to - from) true) (length row)
 
 -- pixels that are turned from a position on
 unfoldable pub turned_from : ℕ → Bits → Bits
@@ -33,6 +47,11 @@ turned_at_all (place ∷ places) bits = turned_at_all places (turned_from place 
 unfoldable pub turned_after : Bool → Bool → Bool
 turned_after true pixel = not pixel
 turned_after false pixel = pixel
+
+-- a word of pixels of one colour
+abbrev pub plain_pixels : Bool → ℕ
+plain_pixels true = 2 ^ 64 - 1
+plain_pixels false = 0
 
 -- the pixels of words, of which each is turned if the one before it ends black
 unfoldable pub joined_pixels : Bool → List ℕ → Bits

@@ -4,31 +4,32 @@ ghost use Rattle.std.specs.Prelude.{◌≡◌, ◌+◌, ◌-◌, ◌*◌, ◌/�
 ghost use Rattle.hayro_ccitt.specs.Bits.{Bits, bits_of};
 ghost use Rattle.hayro_ccitt.specs.Rows.{AreChanges, pixels};
 ghost use Rattle.fax_encode.specs.Chosen.{filled_up};
-ghost use Rattle.fax_encode.specs.Painting.{then_white};
+ghost use Rattle.fax_encode.specs.Painting.{TurnsBlack, then_white};
 
 use crate::pixel_words::{fill_all, fill_bytes, first_pixels, ones_before, put_pixels};
 
-/// Returns a word whose bits are zeros left of an offset, and ones from there on.
+/// Returns a word whose pixels between two offsets are black.
 #[inline(always)]
-fn ones_behind(offset: usize) -> u64
-    requires { offset ≤ 64 }
-    ensures { result ≡ 2 ^ (64 - offset) - 1 }
+fn black_between(from: usize, to: usize) -> u64
+    requires ascend { from < to }
+    requires below { to ≤ 64 }
+    ensures { result ≡ 2 ^ (64 - from) - 2 ^ (64 - to) }
 {
-    if offset < 64 { u64::MAX >> offset } else { 0 }
+    u64::MAX << (64 - (to - from)) >> from
 }
 
 /// Paints the pixels between two offsets of the word that begins at a byte.
 #[inline(always)]
 fn paint_in_word(row: &mut [u8], start: usize, from: usize, to: usize)
     requires within { start + 8 ≤ length row.old }
-    requires ascend { from ≤ to }
+    requires ascend { from < to }
     requires below { to ≤ 64 }
     ensures painted { (front : Bits) → length front ≡ 8 * start + from → bits_of row.old ≡ then_white front (length row.old)
         → bits_of row.new ≡ then_white (front ++ replicate (to - from) true) (length row.old) }
     ensures length { length row.new ≡ length row.old }
 {
     let word = first_pixels(&row[start..]);
-    put_pixels(row, start, word ^ ones_behind(from) ^ ones_behind(to));
+    put_pixels(row, start, word ^ black_between(from, to));
 }
 
 /// Paints the bytes between two positions, if the second is behind the first.
@@ -48,11 +49,10 @@ fn paint_bytes(row: &mut [u8], from: usize, to: usize)
 #[inline(always)]
 fn paint_short_run(row: &mut [u8], from: usize, to: usize)
     requires long { 8 ≤ length row.old }
-    requires ascend { from ≤ to }
+    requires ascend { from < to }
     requires short { to ≤ from / 8 * 8 + 64 }
     requires within { to ≤ 8 * length row.old }
-    ensures painted { (front : Bits) → length front ≡ from → bits_of row.old ≡ then_white front (length row.old)
-        → bits_of row.new ≡ then_white (front ++ replicate (to - from) true) (length row.old) }
+    ensures painted { TurnsBlack from to row.old row.new }
     ensures length { length row.new ≡ length row.old }
 {
     let start = (from / 8).min(row.len() - 8);
@@ -65,8 +65,7 @@ fn paint_short_run(row: &mut [u8], from: usize, to: usize)
 fn paint_long_run(row: &mut [u8], from: usize, to: u32)
     requires long { from / 8 * 8 + 64 < to }
     requires within { to ≤ 8 * length row.old }
-    ensures painted { (front : Bits) → length front ≡ from → bits_of row.old ≡ then_white front (length row.old)
-        → bits_of row.new ≡ then_white (front ++ replicate (to - from) true) (length row.old) }
+    ensures painted { TurnsBlack from to row.old row.new }
     ensures length { length row.new ≡ length row.old }
 {
     let first = from / 8;
@@ -80,10 +79,9 @@ fn paint_long_run(row: &mut [u8], from: usize, to: u32)
 #[inline(always)]
 fn paint_black(row: &mut [u8], from: u32, to: u32)
     requires long { 8 ≤ length row.old }
-    requires ascend { from ≤ to }
+    requires ascend { from < to }
     requires within { to ≤ 8 * length row.old }
-    ensures painted { (front : Bits) → length front ≡ from → bits_of row.old ≡ then_white front (length row.old)
-        → bits_of row.new ≡ then_white (front ++ replicate (to - from) true) (length row.old) }
+    ensures painted { TurnsBlack from to row.old row.new }
     ensures length { length row.new ≡ length row.old }
 {
     let start = from as usize;

@@ -34,6 +34,6 @@ pub use encoder::Encoder;
 pub use encoding::names_encoding;
 pub use error::EncodeError;
 pub use painting::{most_cleared_first, paint_over, paint_row};
-pub use pixel_words::{fill_all, fill_bytes};
+pub use pixel_words::{fill_all, fill_apart, fill_bytes};
 pub use round_trip::{bitmap_by_group3, bitmap_by_group4};
 pub use settings::{Effort, EncodeSettings};

@@ -5,11 +5,11 @@ ghost use Rattle.hayro_ccitt.specs.BitOrder.TheVariants.{HighestFirst};
 ghost use Rattle.hayro_ccitt.specs.Bits.{Bits, bits_of, bits_of_byte, low_bits};
 ghost use Rattle.hayro_ccitt.specs.Rows.{AreChanges, pixels};
 ghost use Rattle.fax_encode.specs.Chosen.{filled_up};
-ghost use Rattle.fax_encode.specs.Painting.{under, StandsAt};
+ghost use Rattle.fax_encode.specs.Painting.{under, MovesTo, StandsAt};
 
 use crate::black_runs::{paint_apart, paint_cleared};
 use crate::pixel_words::{
-    MOST_FILLED, fill_all, fill_bytes, ones_from, plain_byte, plain_word, put_pixels,
+    MOST_FILLED, fill_apart, fill_bytes, ones_from, plain_byte, plain_word, put_pixels,
 };
 use crate::turned_words::{MOST_TURNED, paint_by_words};
 
@@ -57,12 +57,7 @@ fn move_by_words(row: &mut [u8], brush: Brush, place: u32) -> Brush
     requires begun { brush.start % 8 ≡ 0 }
     requires right { 8 * brush.start ≤ place }
     requires within { place ≤ 8 * length row.old }
-    ensures stands { StandsAt result place }
-    ensures right { brush.start ≤ result.start }
-    ensures color { result.is_black ≡ brush.is_black }
-    ensures painted { under result row.new
-        ≡ under brush row.old ++ replicate (8 * (result.start - brush.start)) brush.is_black }
-    ensures length { length row.new ≡ length row.old }
+    ensures { MovesTo brush result place row.old row.new }
 {
     let start = place as usize / 64 * 8;
     let mut at = brush;
@@ -78,19 +73,14 @@ fn move_by_filling(row: &mut [u8], brush: Brush, place: u32) -> Brush
     requires begun { brush.start % 8 ≡ 0 }
     requires right { 8 * brush.start ≤ place }
     requires within { place ≤ 8 * length row.old }
-    ensures stands { StandsAt result place }
-    ensures right { brush.start ≤ result.start }
-    ensures color { result.is_black ≡ brush.is_black }
-    ensures painted { under result row.new
-        ≡ under brush row.old ++ replicate (8 * (result.start - brush.start)) brush.is_black }
-    ensures length { length row.new ≡ length row.old }
+    ensures { MovesTo brush result place row.old row.new }
 {
     let start = place as usize / 64 * 8;
     if start <= brush.start {
         return brush;
     }
     put_pixels(row, brush.start, brush.word);
-    fill_all(&mut row[brush.start + 8..start], plain_byte(brush.is_black));
+    fill_apart(&mut row[brush.start + 8..start], plain_byte(brush.is_black));
     Brush {
         start,
         word: plain_word(brush.is_black),
@@ -104,12 +94,7 @@ fn move_to(row: &mut [u8], brush: Brush, place: u32, is_far: bool) -> Brush
     requires begun { brush.start % 8 ≡ 0 }
     requires right { 8 * brush.start ≤ place }
     requires within { place ≤ 8 * length row.old }
-    ensures stands { StandsAt result place }
-    ensures right { brush.start ≤ result.start }
-    ensures color { result.is_black ≡ brush.is_black }
-    ensures painted { under result row.new
-        ≡ under brush row.old ++ replicate (8 * (result.start - brush.start)) brush.is_black }
-    ensures length { length row.new ≡ length row.old }
+    ensures { MovesTo brush result place row.old row.new }
 {
     if is_far {
         move_by_filling(row, brush, place)
@@ -305,7 +290,7 @@ pub fn paint_over(row: &mut [u8], columns: u32, changes: &[u32])
     if row.len() < 8 {
         paint_narrow(row, columns, changes);
     } else if changes.is_empty() {
-        fill_all(row, 0);
+        fill_apart(row, 0);
     } else if row.len() + row.len() / 2 <= changes.len() {
         paint_changes(row, columns, changes);
     } else if row.len() <= MOST_TURNED {

@@ -108,34 +108,36 @@ pub fn fill_bytes(bytes: &mut [u8], byte: u8)
     ensures { bytes.new ≡ replicate (length bytes.old) byte }
 {
     let mut at = 0;
-    'bytes: while at < bytes.len() {
+    'bytes: while at != bytes.len() {
         bytes[at] = byte;
         at += 1;
     }
 }
 
-/// Fills a piece by a call of its own: inlined into a loop, all its calls would become one.
+/// Fills all bytes by one call of its own: inlined into a loop, all its calls would become one. It is how a row is filled.
 #[inline(never)]
-fn fill_apart(bytes: &mut [u8], byte: u8)
+pub fn fill_apart(bytes: &mut [u8], byte: u8)
     ensures { bytes.new ≡ replicate (length bytes.old) byte }
 {
     fill_bytes(bytes, byte);
 }
 
-/// Fills all bytes, as many at a time as are filled fast.
+/// Fills all bytes, as many at a time as are filled fast, the last ones first: of those that were written before, they are the
+/// likeliest to be in the cache still, and those after them come to be read first.
 #[inline(never)]
 fn fill_by_pieces(bytes: &mut [u8], byte: u8)
     ensures { bytes.new ≡ replicate (length bytes.old) byte }
 {
-    let mut from = 0;
-    'pieces: while bytes.len() - from > MOST_FILLED {
-        fill_apart(&mut bytes[from..from + MOST_FILLED], byte);
-        from += MOST_FILLED;
+    let mut left = bytes.len();
+    'pieces: while left > MOST_FILLED {
+        let from = left - MOST_FILLED;
+        fill_apart(&mut bytes[from..left], byte);
+        left = from;
     }
-    fill_apart(&mut bytes[from..], byte);
+    fill_apart(&mut bytes[..left], byte);
 }
 
-/// Fills all bytes: many by pieces, and few by one call.
+/// Fills all bytes of rows: many by pieces, and few by one call.
 #[inline(always)]
 pub fn fill_all(bytes: &mut [u8], byte: u8)
     ensures { bytes.new ≡ replicate (length bytes.old) byte }

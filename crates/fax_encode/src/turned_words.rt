@@ -2,11 +2,11 @@
 //! last all of a word turns if the one before it ends black. No branch depends on where the changes are. That is fast where they
 //! are neither few nor dense.
 
-ghost use Rattle.std.specs.Prelude.{◌≡◌, ◌+◌, ◌-◌, ◌*◌, ◌/◌, ◌%◌, ◌<◌, ◌≤◌, ◌++◌, false, length, map, replicate, take};
+ghost use Rattle.std.specs.Prelude.{◌≡◌, ◌+◌, ◌-◌, ◌*◌, ◌/◌, ◌%◌, ◌<◌, ◌≤◌, ◌++◌, false, drop, length, map, replicate, take};
 ghost use Rattle.hayro_ccitt.specs.Bits.{bit_of, bits_of, low_bits};
 ghost use Rattle.hayro_ccitt.specs.Rows.{AreChanges, pixels};
 ghost use Rattle.fax_encode.specs.Chosen.{filled_up};
-ghost use Rattle.fax_encode.specs.Painting.{joined_pixels, turned_after, turned_from};
+ghost use Rattle.fax_encode.specs.Painting.{joined_pixels, plain_pixels, turned_after, turned_at_all, turned_from};
 
 use crate::painting::put_first;
 use crate::pixel_words::{ones_from, put_pixels};
@@ -27,6 +27,27 @@ fn turn_behind(words: &mut [u64], place: usize)
     words[place / 64] ^= ones_from(place % 64);
 }
 
+/// Turns the colour at the changes of four parts in turn, so that seldom a word is turned right after it was. Up to three of the last
+/// changes are left.
+#[inline(always)]
+fn turn_quarters(words: &mut [u64], _columns: u32, changes: &[u32])
+    requires changes { AreChanges _columns changes.now }
+    requires room { _columns < 64 * length words.old }
+    ensures turned { turned_at_all (drop (4 * (length changes.now / 4)) changes.now) (joined_pixels false words.new)
+        ≡ turned_at_all changes.now (joined_pixels false words.old) }
+    ensures length { length words.new ≡ length words.old }
+{
+    let part = changes.len() / 4;
+    let mut done = 0;
+    'quarters: while done < part {
+        turn_behind(words, changes[done] as usize);
+        turn_behind(words, changes[part + done] as usize);
+        turn_behind(words, changes[2 * part + done] as usize);
+        turn_behind(words, changes[3 * part + done] as usize);
+        done += 1;
+    }
+}
+
 /// Turns the colour of white words at each change, and at the row's end if it would be black there.
 #[inline(always)]
 fn turn_at_changes(words: &mut [u64], columns: u32, changes: &[u32])
@@ -37,7 +58,8 @@ fn turn_at_changes(words: &mut [u64], columns: u32, changes: &[u32])
         ≡ pixels columns changes.now ++ replicate (64 * length words.old - columns) false }
     ensures length { length words.new ≡ length words.old }
 {
-    let mut done = 0;
+    turn_quarters(words, columns, changes);
+    let mut done = 4 * (changes.len() / 4);
     'changes: while done < changes.len() {
         turn_behind(words, changes[done] as usize);
         done += 1;
@@ -47,21 +69,23 @@ fn turn_at_changes(words: &mut [u64], columns: u32, changes: &[u32])
     }
 }
 
-/// Turns all pixels of a word after black.
+/// Turns all pixels of a word after a black one. Takes a word of the colour of the pixel before it.
 #[inline(always)]
-fn after(is_black: bool, word: u64) -> u64
-    ensures pixels { low_bits 64 result ≡ map (turned_after is_black) (low_bits 64 word) }
-    ensures last { bit_of result 0 ≡ turned_after is_black (bit_of word 0) }
+fn after(color: u64, word: u64) -> u64
+    requires { color ≡ plain_pixels (bit_of color 0) }
+    ensures pixels { low_bits 64 result ≡ map (turned_after (bit_of color 0)) (low_bits 64 word) }
+    ensures last { bit_of result 0 ≡ turned_after (bit_of color 0) (bit_of word 0) }
 {
-    if is_black { word ^ u64::MAX } else { word }
+    word ^ color
 }
 
-/// Returns whether the last pixel of a word is black.
+/// Returns a word of the colour of a word's last pixel.
 #[inline(always)]
-fn ends_black(word: u64) -> bool
-    ensures { result ≡ bit_of word 0 }
+fn color_behind(word: u64) -> u64
+    ensures plain { result ≡ plain_pixels (bit_of result 0) }
+    ensures same { bit_of result 0 ≡ bit_of word 0 }
 {
-    word % 2 == 1
+    word % 2 * u64::MAX
 }
 
 /// Writes the words, each turned if the one before it ends black.
@@ -70,16 +94,16 @@ fn put_words(row: &mut [u8], words: &[u64])
     requires { length row.old < 8 * length words.now }
     ensures { bits_of row.new ≡ take (8 * length row.old) (joined_pixels false words.now) }
 {
-    let mut is_black = false;
+    let mut color = 0;
     let mut at = 0;
     'words: while 8 * at + 8 <= row.len() {
-        let word = after(is_black, words[at]);
+        let word = after(color, words[at]);
         put_pixels(row, 8 * at, word);
-        is_black = ends_black(word);
+        color = color_behind(word);
         at += 1;
     }
     let start = 8 * at;
-    put_first(&mut row[start..], after(is_black, words[at]));
+    put_first(&mut row[start..], after(color, words[at]));
 }
 
 /// Paints a row of less than 512 bytes by words that are turned apart.

@@ -1,13 +1,15 @@
 //! A sink that packs rows into the caller's memory.
 
-ghost use Rattle.std.specs.Prelude.{◌≡◌, ◌+◌, ◌/◌, ◌<◌, ◌≤◌, false, true, length, map, not};
+ghost use Rattle.std.specs.Prelude.{◌≡◌, ◌+◌, ◌/◌, ◌<◌, ◌≤◌, false, true, length, map, not, replicate};
 ghost use Rattle.hayro_ccitt.specs.BitOrder.TheVariants.{HighestFirst};
 ghost use Rattle.hayro_ccitt.specs.Bits.{bits_of, bits_of_byte};
 ghost use Rattle.hayro_ccitt.specs.Rows.{AreChanges, pixels};
 ghost use Rattle.hayro_ccitt_c.specs.Packing.{packed_row, packing_up_to, spaced, white_byte};
 
 use crate::change_count::counted;
-use fax_encode::{fill_all, fill_bytes, most_cleared_first, paint_cleared, paint_over, paint_row};
+use fax_encode::{
+    fill_all, fill_apart, fill_bytes, most_cleared_first, paint_cleared, paint_over, paint_row,
+};
 use hayro_ccitt::{DecodeError, Decoder};
 
 /// A white row of fewer bytes is written at once.
@@ -82,7 +84,7 @@ fn pack_black_as_0(row: &mut [u8], columns: u32, changes: &[u32])
     ensures packed { bits_of row.new ≡ packed_row true (pixels columns changes.now) }
 {
     if changes.is_empty() {
-        fill_all(row, white_byte(true));
+        fill_apart(row, white_byte(true));
     } else {
         pack_inverted(row, columns, changes);
     }
@@ -120,7 +122,7 @@ pub(crate) fn pack_row(row: &mut [u8], columns: u32, changes: &[u32], black_is_0
 
 /// Packs a row that isn't best cleared first.
 #[inline(always)]
-fn pack_over(row: &mut [u8], columns: u32, changes: &[u32], black_is_0: bool)
+fn pack_uncleared(row: &mut [u8], columns: u32, changes: &[u32], black_is_0: bool)
     requires changes { AreChanges columns changes.now }
     requires room { length row.old ≡ (columns + 7) / 8 }
     ensures packed { bits_of row.new ≡ packed_row black_is_0 (pixels columns changes.now) }
@@ -142,6 +144,18 @@ fn most_cleared(bytes: usize, black_is_0: bool) -> usize
         0
     } else {
         most_cleared_first(bytes)
+    }
+}
+
+/// Fills rows of so many bytes: wide ones by one call, as a single one.
+#[inline(always)]
+fn fill_rows(rows: &mut [u8], byte: u8, bytes: usize)
+    ensures { rows.new ≡ replicate (length rows.old) byte }
+{
+    if bytes > MOST_TOGETHER {
+        fill_apart(rows, byte);
+    } else {
+        fill_all(rows, byte);
     }
 }
 
@@ -244,9 +258,10 @@ impl<'a> PackedRows<'a> {
     {
         let from = self.written;
         self.written = self.start;
-        fill_all(
+        fill_rows(
             &mut self.bitmap[from..self.start],
             white_byte(self.layout.black_is_0),
+            self.bytes,
         );
     }
 
@@ -300,7 +315,7 @@ impl<'a> PackedRows<'a> {
     {
         self.write_white();
         let end = self.start + self.bytes;
-        pack_over(
+        pack_uncleared(
             &mut self.bitmap[self.start..end],
             self.columns,
             changes,
@@ -368,7 +383,7 @@ impl<'a> PackedRows<'a> {
         self.write_white();
         let end = self.start + self.bytes;
         let white = white_byte(self.layout.black_is_0);
-        fill_all(&mut self.bitmap[self.start..end], white);
+        fill_apart(&mut self.bitmap[self.start..end], white);
         self.go_on(&[]);
         Ok(())
     }

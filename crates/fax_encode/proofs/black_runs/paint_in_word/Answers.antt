@@ -1,6 +1,6 @@
 use Rattle.fax_encode.proofs.Names.{◌≡◌, ◌-◌, ◌^◌, ◌++◌, ℕ, List, false, length, take, drop, replicate, ap, ◌∙◌, arith, bit_xor}
 use Rattle.fax_encode.proofs.Names.{bits_of, length-drop, take_all}
-use Rattle.fax_encode.proofs.BlackRuns.{word_painted}
+use Rattle.fax_encode.proofs.BlackRuns.{turned_between, word_painted}
 use Rattle.fax_encode.proofs.black_runs.paint_in_word.Goals as goal
 
 pub returns-clause-painted : goal.returns-clause-painted
@@ -10,8 +10,8 @@ returns-clause-painted c = λ front long white.
     let word : ℕ = c.first_pixels-word.result in
     let rest : take (length row - start) (drop start row) ≡ drop start row =
     take_all (length row - start) (drop start row) (omega (arith, length-drop start row)) in
-    word_painted start c.args.from c.args.to row _ word _ front c.requires.within c.requires.ascend c.requires.below long white
+    word_painted start c.args.from c.args.to row _ word _ front c.requires.within
+    (omega (arith, c.requires.ascend)) c.requires.below long white
     (c.first_pixels-word.ensures ∙ ap (λ (l : List ℕ). take 64 (bits_of l ++ replicate 64 false)) rest)
-    (ap (λ (n : ℕ). bit_xor (bit_xor word n) c.ones_behind-2.result) c.ones_behind.ensures
-    ∙ ap (λ (n : ℕ). bit_xor (bit_xor word (2 ^ (64 - c.args.from) - 1)) n) c.ones_behind-2.ensures)
+    (ap (bit_xor word) c.black_between.ensures ∙ turned_between word c.args.from c.args.to (omega (arith, c.requires.ascend)))
     c.put_pixels.ensures.written

@@ -1,10 +1,10 @@
 use Rattle.fax_encode.proofs.Names.{◌≡◌, ◌+◌, ◌-◌, ◌*◌, ◌/◌, ◌≤◌, ℕ, List, length, take, drop, replicate, ap, ◌∙◌, arith}
-use Rattle.fax_encode.proofs.Names.{length-drop, length-take-le, put_mid}
-use Rattle.fax_encode.proofs.PaintedRows.{words_filled}
+use Rattle.fax_encode.proofs.Names.{length-drop, length-replicate, length-take-le, put_mid, refl}
+use Rattle.fax_encode.proofs.PaintedRows.{length-put_mid, words_filled}
 use Rattle.fax_encode.proofs.painting.move_by_filling.Goals as goal
 
-pub returns-clause-painted : goal.returns-clause-painted
-returns-clause-painted c =
+pub returns : goal.returns
+returns c =
     let start : ℕ = c.args.brush.start in
     let to : ℕ = c.args.place / 64 * 8 in
     let count : ℕ = to - (start + 8) in
@@ -15,10 +15,17 @@ returns-clause-painted c =
     let there : length (take count (drop (start + 8) one)) ≡ count =
     length-take-le count (drop (start + 8) one)
     (omega (arith, length-drop (start + 8) one, c.put_pixels.ensures.length, within)) in
-    let filled : c.fill_all.new.bytes ≡ replicate count c.plain_byte.result =
-    c.fill_all.ensures ∙ ap (λ (n : ℕ). replicate n c.plain_byte.result) there in
+    let filled : c.fill_apart.new.bytes ≡ replicate count c.plain_byte.result =
+    c.fill_apart.ensures ∙ ap (λ (n : ℕ). replicate n c.plain_byte.result) there in
     let done =
     words_filled start count c.plain_byte.result c.args.brush.word c.plain_word.result c.args.row.now one _ c.args.brush.is_black
     within c.put_pixels.ensures.length c.put_pixels.ensures.written (ap (put_mid (start + 8) count one) filled)
     c.plain_byte.ensures c.plain_word.ensures in
-    rw end at done
+    record {
+      stands = record { begun = omega arith; from = omega arith; below = omega arith };
+      right = omega (arith, further);
+      color = refl;
+      painted = rw end at done;
+      long = length-put_mid (start + 8) count one c.fill_apart.new.bytes (omega (arith, within, c.put_pixels.ensures.length))
+          (omega (arith, ap length filled, length-replicate count c.plain_byte.result)) ∙ c.put_pixels.ensures.length;
+    }

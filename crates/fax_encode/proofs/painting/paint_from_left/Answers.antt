@@ -14,13 +14,13 @@ word-init c =
     let room : columns ≤ 8 * length c.runs.row = omega (arith, is.room, c.requires.room) in
     let at = c.move_to.ensures in
     let turned = c.turned-brush.ensures in
-    let wide : columns ≤ 8 * length c.move_to.new.row = omega (arith, at.length, room) in
+    let wide : columns ≤ 8 * length c.move_to.new.row = omega (arith, at.long, room) in
     let one = one_change columns changes done c.runs.brush c.move_to.result c.turned-brush.result c.runs.row c.move_to.new.row
     (omega (arith, c.runs-test.true)) wide is.painted at.stands at.right at.color at.painted turned.start turned.color
     turned.word in
     let at' = c.move_to-in-runs.ensures in
     let turned' = c.turned-brush-in-runs.ensures in
-    let wide' : columns ≤ 8 * length c.move_to-in-runs.new.row = omega (arith, at'.length, wide) in
+    let wide' : columns ≤ 8 * length c.move_to-in-runs.new.row = omega (arith, at'.long, wide) in
     let two = one_change columns changes (done + 1) c.turned-brush.result c.move_to-in-runs.result c.turned-brush-in-runs.result
     c.move_to.new.row c.move_to-in-runs.new.row c.runs-test.true wide' one at'.stands at'.right at'.color at'.painted
     turned'.start turned'.color turned'.word in
@@ -29,7 +29,7 @@ word-init c =
       painted = rw sum at two;
       within = omega (arith, c.runs-test.true);
       further = omega arith;
-      room = at'.length ∙ at.length ∙ is.room;
+      room = at'.long ∙ at.long ∙ is.room;
     }
 
 pub word-preserved : goal.word-preserved
@@ -70,7 +70,7 @@ returns c =
     let last = c.move_to-at.ensures in
     let row : List ℕ = c.move_to-at.new.row in
     let before : length c.if-done-changes.row ≡ length c.runs.row = c.if-done-changes.auto.row in
-    let bytes : length row ≡ (columns + 7) / 8 = last.length ∙ before ∙ is.room ∙ c.requires.room in
+    let bytes : length row ≡ (columns + 7) / 8 = last.long ∙ before ∙ is.room ∙ c.requires.room in
     let wide : columns ≤ 8 * length row = omega arith in
     let n : ℕ = 8 * c.move_to-at.result.start + 64 - columns in
     let painted : under c.move_to-at.result row ≡ pixels columns changes ++ replicate n c.move_to-at.result.is_black =
@@ -78,7 +78,7 @@ returns c =
       | then-done-changes w ↦
           let at = w.move_to-then-done-changes.ensures in
           let turned = w.turned-brush-then-done-changes.ensures in
-          let wide' : columns ≤ 8 * length w.move_to-then-done-changes.new.row = omega (arith, at.length, room) in
+          let wide' : columns ≤ 8 * length w.move_to-then-done-changes.new.row = omega (arith, at.long, room) in
           let one = one_change columns changes done c.runs.brush w.move_to-then-done-changes.result
           w.turned-brush-then-done-changes.result c.runs.row w.move_to-then-done-changes.new.row w.if-done-changes.true wide'
           is.painted at.stands at.right at.color at.painted turned.start turned.color turned.word in

@@ -1,10 +1,10 @@
-use Rattle.std.proofs.Common.{◌≡◌, ◌≤◌, ◌-◌, length, replicate, take}
+use Rattle.std.proofs.Common.{◌≡◌, ◌≤◌, ◌-◌, length, replicate, drop}
 use Rattle.fax_encode.proofs.pixel_words.fill_by_pieces.Given as goal
 
--- the bytes so far are filled
+-- the bytes behind those that are left are filled
 abbrev pub invariant-pieces : goal.invariant-pieces
-invariant-pieces l = (length l.bytes ≡ length l.fn.bytes) × (l.from ≤ length l.bytes)
-    × (take l.from l.bytes ≡ replicate l.from l.fn.byte)
+invariant-pieces l = (length l.bytes ≡ length l.fn.bytes) × (l.left ≤ length l.bytes)
+    × (drop l.left l.bytes ≡ replicate (length l.bytes - l.left) l.fn.byte)
 
 abbrev pub decreases-pieces : goal.decreases-pieces
-decreases-pieces l = length l.bytes - l.from
+decreases-pieces l = l.left

@@ -1,15 +1,16 @@
-use Rattle.fax_encode.proofs.Names.{◌≡◌, ℕ, List, [], ◌∷◌, ◌++◌, ap, sym, ◌∙◌, arith, length, replicate, take_all, length-set}
-use Rattle.fax_encode.proofs.Names.{replicate-append-replicate}
+use Rattle.fax_encode.proofs.Names.{◌≡◌, ◌<◌, ℕ, List, [], ◌∷◌, ◌++◌, ap, sym, ◌∙◌, arith, length, replicate, take_all}
+use Rattle.fax_encode.proofs.Names.{length-set, replicate-append-replicate}
 use Rattle.std.proofs.lemmas.List.{take_more_set}
 use Rattle.fax_encode.proofs.pixel_words.fill_bytes.Goals as goal
 
 pub bytes-preserved : goal.bytes-preserved
 bytes-preserved c =
     let at = c.bytes.at in
-    let is = c.bytes.invariant in (
+    let is = c.bytes.invariant in
+    let more : at < length c.bytes.bytes = omega (arith, is.1, c.bytes-test.true) in (
       length-set c.bytes.bytes at c.args.byte ∙ is.0,
-      omega (arith, length-set c.bytes.bytes at c.args.byte, c.bytes-test.true),
-      take_more_set c.bytes.bytes at c.args.byte c.bytes-test.true ∙ ap (λ (l : List ℕ). l ++ c.args.byte ∷ []) is.2
+      omega (arith, length-set c.bytes.bytes at c.args.byte, more),
+      take_more_set c.bytes.bytes at c.args.byte more ∙ ap (λ (l : List ℕ). l ++ c.args.byte ∷ []) is.2
           ∙ replicate-append-replicate at 1 c.args.byte,
     )
 

@@ -1,4 +1,4 @@
-use Rattle.fax_encode.proofs.Names.{◌+◌, ◌*◌, ◌≤◌, ℕ, length, take, ap, ◌∙◌, arith, false, joined_pixels}
+use Rattle.fax_encode.proofs.Names.{◌+◌, ◌*◌, ◌≤◌, ℕ, length, take, ap, ◌∙◌, arith, bit_of, false, joined_pixels}
 use Rattle.fax_encode.proofs.TurnedWords.{last_joined, word_joined}
 use Rattle.fax_encode.proofs.turned_words.put_words.Goals as goal
 
@@ -8,10 +8,11 @@ words-preserved c =
     let put = c.put_pixels.ensures in
     let more : 8 * c.words.at + 8 ≤ length c.words.row = omega (arith, c.words-test.true) in
     record {
-      written = word_joined c.words.at c.after-word.result c.words.is_black c.ends_black-is_black.result c.words.row
-          c.put_pixels.new.bytes c.args.words.now (joined_pixels false c.args.words.now) more
+      written = word_joined c.words.at c.after-word.result (bit_of c.words.color 0) (bit_of c.color_behind-color.result 0)
+          c.words.row c.put_pixels.new.bytes c.args.words.now (joined_pixels false c.args.words.now) more
           (omega (arith, more, is.room, c.requires)) c.after-word.ensures.pixels c.after-word.ensures.last
-          c.ends_black-is_black.ensures put.written is.written;
+          c.color_behind-color.ensures.same put.written is.written;
+      plain = c.color_behind-color.ensures.plain;
       within = omega (arith, more, put.length);
       room = put.length ∙ is.room;
     }
@@ -19,7 +20,7 @@ words-preserved c =
 pub returns : goal.returns
 returns c =
     let is = c.words.invariant in
-    last_joined c.words.at c.after.result c.words.is_black c.words.row c.put_first.new.row c.args.words.now
+    last_joined c.words.at c.after.result (bit_of c.words.color 0) c.words.row c.put_first.new.row c.args.words.now
     (joined_pixels false c.args.words.now) is.within (omega (arith, c.words-test.false))
     (omega (arith, is.within, is.room, c.requires)) c.after.ensures.pixels c.after.ensures.last c.put_first.ensures is.written
     ∙ ap (λ (n : ℕ). take (8 * n) (joined_pixels false c.args.words.now)) is.room

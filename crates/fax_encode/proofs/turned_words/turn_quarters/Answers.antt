@@ -1,0 +1,85 @@
+use Rattle.fax_encode.proofs.Names.{◌≡◌, ◌+◌, ◌*◌, ◌/◌, ◌≤◌, ◌<◌, ℕ, List, Bits, get_or, length, drop, ap, refl, sym, ◌∙◌, arith}
+use Rattle.fax_encode.proofs.Names.{false, joined_pixels, turned_at_all, turned_from}
+use Rattle.fax_encode.proofs.TurnedWords.{all_quarters, change_below, no_quarters, one_of_each, quarters_turned}
+use Rattle.fax_encode.proofs.turned_words.turn_quarters.Goals as goal
+
+pub quarters-init : goal.quarters-init
+quarters-init c = record {
+  turned = sym (no_quarters (length c.args.changes.now / 4) c.args.changes.now (joined_pixels false c.args.words.now));
+  within = omega arith;
+  room = refl;
+}
+
+pub turn_behind-requires : goal.turn_behind-requires
+turn_behind-requires c =
+    omega (
+      arith,
+      change_below c.args._columns 0 c.args.changes.now c.quarters.done (omega (arith, c.quarters-test.true)) c.requires.changes,
+      c.requires.room,
+      c.quarters.invariant.room,
+    )
+
+pub turn_behind-requires-in-quarters : goal.turn_behind-requires-in-quarters
+turn_behind-requires-in-quarters c =
+    let place : ℕ = length c.args.changes.now / 4 + c.quarters.done in
+    omega (
+      arith,
+      change_below c.args._columns 0 c.args.changes.now place (omega (arith, c.quarters-test.true)) c.requires.changes,
+      c.requires.room,
+      c.turn_behind.ensures.length,
+      c.quarters.invariant.room,
+    )
+
+pub turn_behind-requires-in-quarters-2 : goal.turn_behind-requires-in-quarters-2
+turn_behind-requires-in-quarters-2 c =
+    let place : ℕ = 2 * (length c.args.changes.now / 4) + c.quarters.done in
+    omega (
+      arith,
+      change_below c.args._columns 0 c.args.changes.now place (omega (arith, c.quarters-test.true)) c.requires.changes,
+      c.requires.room,
+      c.turn_behind-in-quarters.ensures.length,
+      c.turn_behind.ensures.length,
+      c.quarters.invariant.room,
+    )
+
+pub turn_behind-requires-in-quarters-3 : goal.turn_behind-requires-in-quarters-3
+turn_behind-requires-in-quarters-3 c =
+    let place : ℕ = 3 * (length c.args.changes.now / 4) + c.quarters.done in
+    omega (
+      arith,
+      change_below c.args._columns 0 c.args.changes.now place (omega (arith, c.quarters-test.true)) c.requires.changes,
+      c.requires.room,
+      c.turn_behind-in-quarters-2.ensures.length,
+      c.turn_behind-in-quarters.ensures.length,
+      c.turn_behind.ensures.length,
+      c.quarters.invariant.room,
+    )
+
+pub quarters-preserved : goal.quarters-preserved
+quarters-preserved c =
+    let changes : List ℕ = c.args.changes.now in
+    let part : ℕ = length changes / 4 in
+    let done : ℕ = c.quarters.done in
+    let is = c.quarters.invariant in
+    let one = c.turn_behind.ensures in
+    let two = c.turn_behind-in-quarters.ensures in
+    let three = c.turn_behind-in-quarters-2.ensures in
+    let four = c.turn_behind-in-quarters-3.ensures in
+    record {
+      turned = four.turned ∙ ap (turned_from (get_or changes (3 * part + done) 0)) (three.turned
+          ∙ ap (turned_from (get_or changes (2 * part + done) 0)) (two.turned
+          ∙ ap (turned_from (get_or changes (part + done) 0)) (one.turned ∙ ap (turned_from (get_or changes done 0)) is.turned)))
+          ∙ sym (one_of_each part done changes (joined_pixels false c.args.words.now) (omega arith) c.quarters-test.true);
+      within = omega (arith, c.quarters-test.true);
+      room = four.length ∙ three.length ∙ two.length ∙ one.length ∙ is.room;
+    }
+
+pub returns-clause-turned : goal.returns-clause-turned
+returns-clause-turned c =
+    let changes : List ℕ = c.args.changes.now in
+    let part : ℕ = length changes / 4 in
+    let before : Bits = joined_pixels false c.args.words.now in
+    let is = c.quarters.invariant in
+    let all : c.quarters.done ≡ part = omega (arith, c.quarters-test.false, is.within) in
+    ap (turned_at_all (drop (4 * part) changes)) (is.turned ∙ ap (λ (n : ℕ). quarters_turned part n changes before) all)
+    ∙ all_quarters part changes before
