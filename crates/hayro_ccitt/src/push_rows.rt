@@ -50,35 +50,83 @@ fn push_white_words<D: Decoder>(
 {
     let placed = placed_lines(lines, &words);
     let most = rows_left(lines.limit, ctx.decoded_rows());
-    let mut left = most;
+    let mut count = 0;
     let mut start = words.passed();
-    'many: while left > 0 {
+    'many: while count < most {
         let place = words.passed();
         if !pass_placed_line(&placed, &mut words) {
             break 'many;
         }
         start = place;
-        left -= 1;
+        count += 1;
         if let Err(refusal) = decoder.push_row(&[]) {
-            rows.take_white_rows(most - left, dropped + start + lines.gap, ctx);
+            rows.take_white_rows(count, dropped + start + lines.gap, ctx);
             go_on_at(reader, &words);
             return Err(refusal);
         }
     }
-    if left < most {
-        rows.take_white_rows(most - left, dropped + start + lines.gap, ctx);
+    if count > 0 {
+        rows.take_white_rows(count, dropped + start + lines.gap, ctx);
         go_on_at(reader, &words);
     }
     Ok(())
 }
 
-/// If a white row repeats whose line has so many bits at least, reads lines and passes their rows as `push_white_words` does. Some
-/// bits of the data come before these.
+/// Reads lines and passes their rows as `push_white_words` does, in either order of bits.
+#[inline(always)]
+fn push_white_in_order<D: Decoder>(
+    lines: &WhiteLines,
+    dropped: usize,
+    rows: &mut RowState,
+    ctx: &mut DecoderContext,
+    reader: &mut BitReader<'_>,
+    decoder: &mut D,
+) -> Result<()>
+    requires follow { MayFollow ctx.old.held.settings ctx.old.held.has_eols ctx.old.held.reference lines.now }
+    requires fits { dropped + length reader.old.bits + 64 < 2 ^ 64 }
+    ensures width { D.width decoder.new ≡ D.width decoder.old }
+    ensures pushes { PushesWhite (D.step (D.width decoder.old)) lines.now dropped
+        (record { meaning = D.meaning decoder.old; refused = D.has_refused decoder.old; refuses = D.refuses decoder.old })
+        (record { meaning = D.meaning decoder.new; refused = D.has_refused decoder.new; refuses = D.refuses decoder.new })
+        rows.old rows.new ctx.old ctx.new reader.old reader.new result }
+{
+    if let Some(words) = words_ahead(reader, BitOrder::HighestFirst) {
+        return push_white_words(words, lines, dropped, rows, ctx, reader, decoder);
+    }
+    if let Some(words) = words_ahead(reader, BitOrder::LowestFirst) {
+        return push_white_words(words, lines, dropped, rows, ctx, reader, decoder);
+    }
+    Ok(())
+}
+
+/// The same by a call, so that registers hold what each row needs.
+#[inline(never)]
+fn push_white_by_call<D: Decoder>(
+    lines: &WhiteLines,
+    dropped: usize,
+    rows: &mut RowState,
+    ctx: &mut DecoderContext,
+    reader: &mut BitReader<'_>,
+    decoder: &mut D,
+) -> Result<()>
+    requires follow { MayFollow ctx.old.held.settings ctx.old.held.has_eols ctx.old.held.reference lines.now }
+    requires fits { dropped + length reader.old.bits + 64 < 2 ^ 64 }
+    ensures width { D.width decoder.new ≡ D.width decoder.old }
+    ensures pushes { PushesWhite (D.step (D.width decoder.old)) lines.now dropped
+        (record { meaning = D.meaning decoder.old; refused = D.has_refused decoder.old; refuses = D.refuses decoder.old })
+        (record { meaning = D.meaning decoder.new; refused = D.has_refused decoder.new; refuses = D.refuses decoder.new })
+        rows.old rows.new ctx.old ctx.new reader.old reader.new result }
+{
+    push_white_in_order(lines, dropped, rows, ctx, reader, decoder)
+}
+
+/// If a white row repeats whose line isn't short, reads lines and passes their rows as `push_white_words` does; of data in pieces
+/// also short lines. Some bits of the data come before these.
 #[inline(always)]
 pub(crate) fn push_white_rows<D: Decoder>(
     repeats: bool,
     lines: &WhiteLines,
-    least: usize,
+    in_pieces: bool,
     dropped: usize,
     rows: &mut RowState,
     ctx: &mut DecoderContext,
@@ -97,16 +145,14 @@ pub(crate) fn push_white_rows<D: Decoder>(
     if !repeats {
         return Ok(());
     }
+    let least = if in_pieces { 0 } else { LEAST_BITS };
     if !may_follow(lines, reader, least) {
         return Ok(());
     }
-    if let Some(words) = words_ahead(reader, BitOrder::HighestFirst) {
-        return push_white_words(words, lines, dropped, rows, ctx, reader, decoder);
+    if in_pieces {
+        return push_white_by_call(lines, dropped, rows, ctx, reader, decoder);
     }
-    if let Some(words) = words_ahead(reader, BitOrder::LowestFirst) {
-        return push_white_words(words, lines, dropped, rows, ctx, reader, decoder);
-    }
-    Ok(())
+    push_white_in_order(lines, dropped, rows, ctx, reader, decoder)
 }
 
 /// Reads the rows of an image and passes each to the sink, in every encoding, until EOFB or RTC (with `end_of_block`), the row
@@ -150,7 +196,7 @@ pub(crate) fn push_rows<D: Decoder>(
         // The number of bits is known to be small once it is read.
         let _length = bit_len(reader);
         if let Err(refusal) = push_white_rows(
-            repeats, &lines, LEAST_BITS, 0, &mut rows, ctx, reader, decoder,
+            repeats, &lines, false, 0, &mut rows, ctx, reader, decoder,
         ) {
             let repaired = ctx.damaged_rows();
             let cut = ctx.cut_rows();

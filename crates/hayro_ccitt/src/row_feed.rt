@@ -867,7 +867,7 @@ impl RowFeed {
             if let Err(refused) = push_white_rows(
                 repeats,
                 &lines,
-                1,
+                true,
                 self.dropped,
                 &mut self.rows,
                 &mut self.ctx,

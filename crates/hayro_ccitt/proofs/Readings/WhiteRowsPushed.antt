@@ -1,6 +1,6 @@
 -- White rows that are read one after another, and passed to a sink.
 use Rattle.hayro_ccitt.proofs.Names.{common_steps}
-use Rattle.hayro_ccitt.proofs.Names.{◌≡◌, ◌+◌, ◌-◌, ◌<◌, ◌∙◌, ℕ, zero, suc, List, [], Ok, Err, ap, arith, refl, subst, sym}
+use Rattle.hayro_ccitt.proofs.Names.{◌≡◌, ◌+◌, ◌-◌, ◌<◌, ◌≤◌, ◌∙◌, ℕ, zero, suc, List, [], Ok, Err, ap, arith, refl, subst, sym}
 use Rattle.hayro_ccitt.proofs.Names.{BitsAt, BehindRow, Context, DecodeError, None, Refused, SinkState, false, true}
 use Rattle.hayro_ccitt.proofs.Readings.RowsAgain.{not_at_limit}
 use Rattle.hayro_ccitt.specs.RowFeeds.{TakesWhite}
@@ -30,12 +30,13 @@ first_meaning : {M : Type 0} (step : M → List ℕ → M) (lines : WhiteLines) 
 first_meaning {M} step lines dropped old new zero none pass = ap (λ (p : Pushed M). p.meaning) pass
 first_meaning step lines dropped old new (suc count) none pass = absurd (omega (arith, none))
 
--- so many rows were read and passed, and as many are left before the row limit
-pub record HasPushedWhite {M : Type 0} (step : M → List ℕ → M) (lines : WhiteLines) (dropped most left start : ℕ)
+-- so many rows were read and passed, and no more than there may be before the row limit
+pub record HasPushedWhite {M : Type 0} (step : M → List ℕ → M) (lines : WhiteLines) (dropped most counted start : ℕ)
     (rows : RowState)
     (ctx : Context) (at next : BitsAt) (before after : M) : Type 0 where
   pub count : ℕ
-  pub count_is : count + left ≡ most
+  pub count_is : count ≡ counted
+  pub within : counted ≤ most
   pub pass : PassWhite step lines dropped count (record { rows = rows; ctx = ctx; at = at; meaning = before }) (record {
     rows = rows_behind count (dropped + start + lines.gap) rows;
     ctx = ctx_behind count ctx;
@@ -45,12 +46,12 @@ pub record HasPushedWhite {M : Type 0} (step : M → List ℕ → M) (lines : Wh
 
 pub none_pushed : {M : Type 0} {step : M → List ℕ → M} {lines : WhiteLines} {dropped most start : ℕ} {rows : RowState}
     {ctx : Context} {at next : BitsAt} {meaning : M} → next ≡ at
-    → HasPushedWhite step lines dropped most most start rows ctx at next meaning meaning
+    → HasPushedWhite step lines dropped most 0 start rows ctx at next meaning meaning
 none_pushed {rows = rows} {ctx} {at} {next} {meaning} same = grind (arith, common_steps)
 
-module _ {M : Type 0} {step : M → List ℕ → M} {lines : WhiteLines} {dropped most left start : ℕ} {rows : RowState} {ctx : Context}
+module _ {M : Type 0} {step : M → List ℕ → M} {lines : WhiteLines} {dropped most counted start : ℕ} {rows : RowState} {ctx : Context}
     {at next : BitsAt} {before after : M}
-    (pushed : HasPushedWhite step lines dropped most left start rows ctx at next before after) where
+    (pushed : HasPushedWhite step lines dropped most counted start rows ctx at next before after) where
   abbrev count : ℕ
   count = pushed.count
 
@@ -64,7 +65,7 @@ module _ {M : Type 0} {step : M → List ℕ → M} {lines : WhiteLines} {droppe
 
   -- one more is read
   module _ (follow : MayFollow ctx.held.settings ctx.held.has_eols ctx.held.reference lines)
-      (limit : most ≡ lines.limit - ctx.held.taken) (more : 0 < left) {then : BitsAt} (passes : PassesLine lines next then) where
+      (limit : most ≡ lines.limit - ctx.held.taken) (more : counted < most) {then : BitsAt} (passes : PassesLine lines next then) where
     abbrev start_then : ℕ
     start_then = dropped + next.place + lines.gap
 
@@ -81,23 +82,23 @@ module _ {M : Type 0} {step : M → List ℕ → M} {lines : WhiteLines} {droppe
     reads_more = record { follow = follow; takes = takes_more }
 
     -- and passed
-    pub one_pushed : (now : ℕ) {after_it : M} → now + 1 ≡ left → after_it ≡ step after []
-        → HasPushedWhite step lines dropped most now next.place rows ctx at then before after_it
-    one_pushed now less means = record {
+    pub one_pushed : {after_it : M} → after_it ≡ step after []
+        → HasPushedWhite step lines dropped most (counted + 1) next.place rows ctx at then before after_it
+    one_pushed means = record {
       count = suc count;
-      count_is = omega (arith, less, pushed.count_is);
+      count_is = omega (arith, pushed.count_is);
+      within = omega (arith, more);
       pass = (so_far, pushed.pass, record { reads = reads_more; meaning = means });
     }
 
     -- or the sink refuses its row
-    pub one_refused : {kept : RowState} {new : Context} {last : BitsAt} (now counted : ℕ) {first end : SinkState M}
-        {error : DecodeError} → now + 1 ≡ left → counted ≡ most - now
+    pub one_refused : {kept : RowState} {new : Context} {last : BitsAt} {first end : SinkState M} {error : DecodeError}
         → kept ≡ record { started_at = start_then; damage = None; cut = false; missed = None; stand = BehindRow }
-        → new ≡ ctx_behind counted ctx → last ≡ then → first.meaning ≡ before → end.meaning ≡ after → error ≡ Refused
+        → new ≡ ctx_behind (counted + 1) ctx → last ≡ then → first.meaning ≡ before → end.meaning ≡ after → error ≡ Refused
         → end.refused ≡ true → end.refuses []
         → PushesWhite step lines dropped first end rows kept ctx new at last (Err error)
-    one_refused {kept} {new} {last} now counted {first} {end} less many kept_is new_is last_is start_is means is flag row =
-        let all : counted ≡ suc count = omega (arith, less, many, pushed.count_is) in
+    one_refused {kept} {new} {last} {first} {end} kept_is new_is last_is start_is means is flag row =
+        let all : counted + 1 ≡ suc count = omega (arith, pushed.count_is) in
         let new_then : new ≡ ctx_behind (suc count) ctx = new_is ∙ ap (λ (n : ℕ). ctx_behind n ctx) all in
         record {
           count = count;
@@ -119,12 +120,12 @@ module _ {M : Type 0} {step : M → List ℕ → M} {lines : WhiteLines} {droppe
       ends = grind (arith, common_steps, so_far);
     }
 
-    pub some_pushed : (counted : ℕ) → counted ≡ most - left → left < most
+    pub some_pushed : 0 < counted
         → kept ≡ record { started_at = dropped + start + lines.gap; damage = None; cut = false; missed = None; stand = BehindRow }
         → new ≡ ctx_behind counted ctx → last ≡ next → PushesWhite step lines dropped first end rows kept ctx new at last (Ok tt)
-    some_pushed counted many some kept_is new_is last_is = grind (arith, common_steps, all_pushed, some_behind)
+    some_pushed some kept_is new_is last_is = grind (arith, common_steps, all_pushed, some_behind)
 
-    pub no_row_left : most - left ≡ 0 → kept ≡ rows → new ≡ ctx → last ≡ at
+    pub no_row_left : counted ≡ 0 → kept ≡ rows → new ≡ ctx → last ≡ at
         → PushesWhite step lines dropped first end rows kept ctx new at last (Ok tt)
     no_row_left none kept_is new_is last_is =
         let unmoved : after ≡ before = first_meaning step lines dropped _ so_far count

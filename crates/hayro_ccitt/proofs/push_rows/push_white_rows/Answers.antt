@@ -6,6 +6,3 @@ returns-then-not-repeats-clause-pushes g c = no_white_read
 
 pub returns-then-not-may_follow-clause-pushes : goal.returns-then-not-may_follow-clause-pushes
 returns-then-not-may_follow-clause-pushes g c = no_white_read
-
-pub returns-clause-pushes : goal.returns-clause-pushes
-returns-clause-pushes g c = no_white_read

@@ -27,28 +27,27 @@ pub returns-in-Err-clause-pushes : goal.returns-in-Err-clause-pushes
 returns-in-Err-clause-pushes g c =
     let here = (goal.at.returns-in-Err-clause-pushes g c).After-push_row in
     let inv = c.many.invariant in
-    let counted = c.rows_left-most.result - (c.many.left - 1) in
     one_refused inv.pushed c.requires.follow
     (c.rows_left-most.ensures ∙ ap (λ (n : ℕ). c.args.lines.now.limit - n) c.decoded_rows.ensures)
     c.many-test.true (passes g here)
-    (c.many.left - 1) counted (omega (arith, c.many-test.true)) refl
     (c.take_white_rows.ensures.kept ∙ ap (λ (n : ℕ). record {
       started_at = c.args.dropped + n + c.args.lines.now.gap;
       damage = None;
       cut = false;
       missed = None;
       stand = BehindRow;
-    }) c.passed-place.ensures.place) (c.take_white_rows.ensures.frame ∙ ap (ctx_behind counted) inv.ctx) c.go_on_at.ensures refl
+    }) c.passed-place.ensures.place) (c.take_white_rows.ensures.frame
+    ∙ ap (ctx_behind (c.many.count + 1)) inv.ctx) c.go_on_at.ensures refl
     c.in-Err.ensures.kept c.in-Err.ensures.only_refused c.in-Err.ensures.refused c.in-Err.ensures.refused_row
 
 pub many-preserved : goal.many-preserved
 many-preserved g c = grind (arith, common_steps, one_pushed, passes g ((goal.at.many-preserved g c).After-push_row))
 
-pub take_white_rows-requires-then-left-most : goal.take_white_rows-requires-then-left-most
-take_white_rows-requires-then-left-most g c = grind (arith, common_steps)
+pub take_white_rows-requires-then-count-gt0 : goal.take_white_rows-requires-then-count-gt0
+take_white_rows-requires-then-count-gt0 g c = grind (arith, common_steps)
 
-pub go_on_at-requires-then-left-most : goal.go_on_at-requires-then-left-most
-go_on_at-requires-then-left-most g c =
+pub go_on_at-requires-then-count-gt0 : goal.go_on_at-requires-then-count-gt0
+go_on_at-requires-then-count-gt0 g c =
     let stopped : c.many-test.words ≡ c.many.words = elim c.many-test.branch [
       | else-many-test w ↦ w.words-is
       | then-many-test+then-not-pass_placed_line w ↦
@@ -56,20 +55,19 @@ go_on_at-requires-then-left-most g c =
     ] in
     ap (λ (w : WordsAt). w.at.bits) stopped ∙ c.many.invariant.bits ∙ sym (ap (λ (b : BitsAt). b.bits) c.many.invariant.reader)
 
-pub returns-then-left-most-clause-pushes : goal.returns-then-left-most-clause-pushes
-returns-then-left-most-clause-pushes g c =
+pub returns-then-count-gt0-clause-pushes : goal.returns-then-count-gt0-clause-pushes
+returns-then-count-gt0-clause-pushes g c =
     let inv = c.many.invariant in
-    let counted = c.rows_left-most.result - c.many.left in
     let stopped : c.many-test.words ≡ c.many.words = elim c.many-test.branch [
       | else-many-test w ↦ w.words-is
       | then-many-test+then-not-pass_placed_line w ↦
           w.words-is ∙ w.pass_placed_line.ensures.unchanged w.if-not-pass_placed_line.true
     ] in
-    some_pushed inv.pushed refl refl inv.unrefused counted refl c.if-left-most.true c.take_white_rows-then-left-most.ensures.kept
-    (c.take_white_rows-then-left-most.ensures.frame ∙ ap (ctx_behind counted) inv.ctx)
-    (c.go_on_at-then-left-most.ensures ∙ ap (λ (w : WordsAt). w.at) stopped)
+    some_pushed inv.pushed refl refl inv.unrefused c.if-count-gt0.true c.take_white_rows-then-count-gt0.ensures.kept
+    (c.take_white_rows-then-count-gt0.ensures.frame ∙ ap (ctx_behind c.many.count) inv.ctx)
+    (c.go_on_at-then-count-gt0.ensures ∙ ap (λ (w : WordsAt). w.at) stopped)
 
-pub returns-else-left-most-clause-pushes : goal.returns-else-left-most-clause-pushes
-returns-else-left-most-clause-pushes g c =
+pub returns-else-count-gt0-clause-pushes : goal.returns-else-count-gt0-clause-pushes
+returns-else-count-gt0-clause-pushes g c =
     let inv = c.many.invariant in
-    no_row_left inv.pushed refl refl inv.unrefused (omega (arith, c.if-left-most.false)) inv.rows inv.ctx inv.reader
+    no_row_left inv.pushed refl refl inv.unrefused (omega (arith, c.if-count-gt0.false)) inv.rows inv.ctx inv.reader

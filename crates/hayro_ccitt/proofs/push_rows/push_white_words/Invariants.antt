@@ -1,4 +1,4 @@
-use Rattle.hayro_ccitt.proofs.Names.{◌≡◌, ◌≤◌, length}
+use Rattle.hayro_ccitt.proofs.Names.{◌≡◌, ◌≤◌, ◌-◌, length}
 use Rattle.hayro_ccitt.proofs.Readings.WhiteRowsPushed.{HasPushedWhite}
 use Rattle.hayro_ccitt.specs.WhiteRows.{ArePlacedLines}
 use Rattle.hayro_ccitt.proofs.push_rows.push_white_words.Given as goal
@@ -7,7 +7,7 @@ use Rattle.hayro_ccitt.proofs.push_rows.push_white_words.Given as goal
 abbrev pub invariant-many : goal.invariant-many
 invariant-many g l = record {
   pushed : HasPushedWhite (g.D.Decoder.step (g.D.Decoder.width l.fn.decoder))
-      l.fn.lines l.fn.dropped l.most l.left l.start l.fn.rows
+      l.fn.lines l.fn.dropped l.most l.count l.start l.fn.rows
       l.fn.ctx l.fn.reader l.words.at (g.D.Decoder.meaning l.fn.decoder) (g.D.Decoder.meaning l.decoder);
   rows : l.rows ≡ l.fn.rows;
   ctx : l.ctx ≡ l.fn.ctx;
@@ -21,4 +21,4 @@ invariant-many g l = record {
 
 -- the rows that are left
 abbrev pub decreases-many : goal.decreases-many
-decreases-many g l = l.left
+decreases-many g l = l.most - l.count
