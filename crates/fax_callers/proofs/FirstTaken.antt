@@ -1,14 +1,15 @@
 -- What a sink of the first rows means after some rows.
-use Rattle.std.proofs.Common.{◌≡◌, ℕ, ◌+◌, List, [], ◌∷◌, length, take, sym, ap, ◌∙◌, arith}
-use Rattle.std.specs.Prelude.{Result}
+use Rattle.std.proofs.Common.{◌≡◌, ℕ, ◌+◌, List, [], ◌∷◌, length, take, refl, sym, ap, ◌∙◌, arith, Ok, Err}
+use Rattle.std.specs.Prelude.{Result, IfErr, IfOk}
 use Rattle.std.proofs.lemmas.List.{length-take}
 use Rattle.hayro_ccitt.specs.DecodeError.{DecodeError}
-use Rattle.hayro_ccitt.specs.Answers.{meaning_after}
+use Rattle.hayro_ccitt.specs.Answers.{IsFault, meaning_after}
 use Rattle.hayro_ccitt.specs.Context.{Held}
 use Rattle.hayro_ccitt.specs.Decoding.{SinkState, TakesRows}
 use Rattle.hayro_ccitt.specs.PlainReading.{Reading}
 use Rattle.hayro_ccitt.specs.Rows.{Row, changes}
 use Rattle.fax_callers.specs.FirstRows.{Firsts}
+use Rattle.fax_callers.specs.Readings.{EndsAs}
 
 -- the step of the sink
 abbrev pub takes : {M : Type 0} → (M → List ℕ → M) → Firsts M → List ℕ → Firsts M
@@ -47,3 +48,9 @@ is_first {M} step reading before after held answer begun left =
       rows = count;
       most = ap (λ (f : Firsts M). f.most) is;
     }
+
+-- a call ends as the reading does
+pub ends_as : (answer outcome : Result ℕ DecodeError) → IfOk answer (λ n. outcome ≡ Ok n)
+    → IfErr answer (λ e. IsFault e → outcome ≡ Err e) → EndsAs answer outcome
+ends_as (Ok n) outcome ok fault = rw ok refl
+ends_as (Err e) outcome ok fault = fault

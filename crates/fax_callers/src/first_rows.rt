@@ -1,11 +1,11 @@
 //! The first rows of an image.
 
-ghost use Rattle.std.specs.Prelude.{◌≡◌, ◌<◌, ◌≤◌, ◌≢◌, IfErr, IsOk, length, min, take, get_or, [], true, false};
-ghost use Rattle.hayro_ccitt.specs.Answers.{IsFault, OnAnswer, PaintsBlack, meaning_after};
+ghost use Rattle.std.specs.Prelude.{◌≡◌, ◌<◌, ◌≤◌, ◌≢◌, length, min, true, false};
+ghost use Rattle.hayro_ccitt.specs.Answers.{OnAnswer};
 ghost use Rattle.hayro_ccitt.specs.Bits.{BitsFit, bits_in};
-ghost use Rattle.hayro_ccitt.specs.PlainReading.{lines_of};
 ghost use Rattle.hayro_ccitt.specs.Rows.{changes};
-ghost use Rattle.fax_callers.specs.Readings.{reading_of, EndsAs};
+ghost use Rattle.fax_callers.specs.FirstRows.{AcceptsFirst, ReadsAll, RefusesNext, TellsIfEnough};
+ghost use Rattle.fax_callers.specs.Readings.{reading_of};
 
 use hayro_ccitt::bit_reader::BitOrder;
 use hayro_ccitt::{DecodeError, Decoder, DecoderContext, Result, decode_in};
@@ -79,18 +79,13 @@ fn take_first<D: Decoder>(
     requires fit { BitsFit «data».now }
     requires width { ctx.old.held.settings.columns ≤ D.width first.old.sink }
     requires begun { first.old.rows ≡ 0 }
-    ensures rows { D.meaning first.new.sink
-        ≡ meaning_after (D.step (D.width first.old.sink)) (D.meaning first.old.sink)
-        (take first.new.rows (reading_of ctx.old.held.settings order «data».now).rows) }
-    ensures taken { first.new.rows ≤ length (reading_of ctx.old.held.settings order «data».now).rows }
-    ensures all { OnAnswer result (first.new.rows ≡ length (reading_of ctx.old.held.settings order «data».now).rows) }
-    ensures ended { EndsAs result (reading_of ctx.old.held.settings order «data».now).outcome }
+    ensures accepts { AcceptsFirst ctx.old.held.settings (bits_in order «data».now) (D.step (D.width first.old.sink))
+        (D.meaning first.old.sink) (D.meaning first.new.sink) first.new.rows result }
+    ensures reads { ReadsAll (reading_of ctx.old.held.settings order «data».now) first.new.rows result }
     ensures most { first.new.most ≡ first.old.most }
-    ensures refused { result ≡ Err DecodeError.Refused → first.new.rows ≢ first.new.most → D.has_refused first.new.sink ≡ true }
-    ensures refused_row { result ≡ Err DecodeError.Refused → first.new.rows ≢ first.new.most → D.refuses first.new.sink
-        (changes (get_or (reading_of ctx.old.held.settings order «data».now).rows first.new.rows [])) }
-    ensures memory { result ≡ Err DecodeError.OutOfMemory
-        → PaintsBlack (lines_of ctx.old.held.settings (bits_in order «data».now)) first.new.rows }
+    ensures refused { result ≡ Err DecodeError.Refused → first.new.rows ≢ first.new.most
+        → RefusesNext (reading_of ctx.old.held.settings order «data».now).rows first.new.rows
+        (D.has_refused first.new.sink) (D.refuses first.new.sink) }
     ensures settings { ctx.new.held.settings ≡ ctx.old.held.settings }
 {
     decode_in(order, data, first, ctx)
@@ -117,24 +112,14 @@ pub fn decode_first_rows<D: Decoder>(
     requires fit { BitsFit «data».now }
     requires width { ctx.old.held.settings.columns ≤ D.width first.old.sink }
     requires begun { first.old.rows ≡ 0 }
-    ensures rows { D.meaning first.new.sink
-        ≡ meaning_after (D.step (D.width first.old.sink)) (D.meaning first.old.sink)
-        (take first.new.rows (reading_of ctx.old.held.settings order «data».now).rows) }
+    ensures accepts { AcceptsFirst ctx.old.held.settings (bits_in order «data».now) (D.step (D.width first.old.sink))
+        (D.meaning first.old.sink) (D.meaning first.new.sink) first.new.rows result }
     ensures count { OnAnswer result (first.new.rows
         ≡ min first.old.most (length (reading_of ctx.old.held.settings order «data».now).rows)) }
-    ensures as_many { result ≡ Ok true
-        → first.old.most ≤ length (reading_of ctx.old.held.settings order «data».now).rows }
-    ensures fewer { result ≡ Ok false
-        → (length (reading_of ctx.old.held.settings order «data».now).rows < first.old.most)
-        × IsOk (reading_of ctx.old.held.settings order «data».now).outcome }
-    ensures fault { IfErr result (λ e. IsFault e
-        → (length (reading_of ctx.old.held.settings order «data».now).rows < first.old.most)
-        × ((reading_of ctx.old.held.settings order «data».now).outcome ≡ Err e)) }
-    ensures refused { result ≡ Err DecodeError.Refused → D.has_refused first.new.sink ≡ true }
-    ensures refused_row { result ≡ Err DecodeError.Refused → D.refuses first.new.sink
-        (changes (get_or (reading_of ctx.old.held.settings order «data».now).rows first.new.rows [])) }
-    ensures memory { result ≡ Err DecodeError.OutOfMemory
-        → PaintsBlack (lines_of ctx.old.held.settings (bits_in order «data».now)) first.new.rows }
+    ensures tells { TellsIfEnough (reading_of ctx.old.held.settings order «data».now) first.old.most result }
+    ensures refused { result ≡ Err DecodeError.Refused
+        → RefusesNext (reading_of ctx.old.held.settings order «data».now).rows first.new.rows
+        (D.has_refused first.new.sink) (D.refuses first.new.sink) }
     ensures settings { ctx.new.held.settings ≡ ctx.old.held.settings }
 {
     let answer = take_first(order, data, first, ctx);

@@ -1,14 +1,11 @@
 //! Decoding with a context of its own.
 
-ghost use Rattle.std.specs.Prelude.{◌≡◌, ◌≢◌, ◌≤◌, ℕ, List, IfOk, IsOk, length, true};
-ghost use Rattle.hayro_ccitt.specs.Answers.{OnAnswer, meaning_after};
+ghost use Rattle.std.specs.Prelude.{◌≡◌, ◌≤◌, IfOk, length};
 ghost use Rattle.hayro_ccitt.specs.Bits.{BitsFit, bits_in};
-ghost use Rattle.hayro_ccitt.specs.Pictures.{IsClosedPicture, IsLimitedPicture};
-ghost use Rattle.hayro_ccitt.specs.Rows.{Row, HaveWidth};
-ghost use Rattle.fax_callers.specs.Readings.{reading_of, EndsAs, TakesFirst};
+ghost use Rattle.fax_callers.specs.Readings.{reading_of, EndsAs, FlagsRefusal, ReadsPictures, TakesFirst};
 
 use hayro_ccitt::bit_reader::BitOrder;
-use hayro_ccitt::{DecodeError, DecodeSettings, Decoder, DecoderContext, Result, decode_in};
+use hayro_ccitt::{DecodeSettings, Decoder, DecoderContext, Result, decode_in};
 use std::alloc::Global;
 
 /// Decodes one image whose bytes have their bits in this order, and returns the number of bytes consumed. It creates a context
@@ -36,21 +33,13 @@ pub fn decode_once<D: Decoder>(
     // The first rows of the plain reading are accepted, and all of them unless an allocation fails or a row is refused.
     ensures front { TakesFirst settings (bits_in order «data».now) (D.step (D.width sink.old)) (D.meaning sink.old)
         (D.meaning sink.new) (D.refuses sink.new) result }
-    ensures rows { OnAnswer result (D.meaning sink.new
-        ≡ meaning_after (D.step (D.width sink.old)) (D.meaning sink.old) (reading_of settings order «data».now).rows) }
-    ensures widths { OnAnswer result (HaveWidth settings.columns (reading_of settings order «data».now).rows) }
     ensures count { IfOk result (λ n. ((reading_of settings order «data».now).outcome ≡ Ok n) × (n ≤ length «data».now)) }
     ensures ended { EndsAs result (reading_of settings order «data».now).outcome }
-    ensures refused { result ≡ Err DecodeError.Refused → D.has_refused sink.new ≡ true }
-    ensures not_refused { result ≢ Err DecodeError.Refused → D.has_refused sink.new ≡ D.has_refused sink.old }
+    ensures flag { FlagsRefusal result (D.has_refused sink.old) (D.has_refused sink.new) }
 
-    // A closed picture is read as its rows, and the result is its number of bytes, whatever follows it.
-    ensures closed { (rows : List Row) (count : ℕ) → IsClosedPicture settings rows count (bits_in order «data».now)
-        → OnAnswer result ((result ≡ Ok count) × ((reading_of settings order «data».now).rows ≡ rows)) }
-
-    // So are as many lines as the row limit.
-    ensures limited { (rows : List Row) → IsLimitedPicture settings rows (bits_in order «data».now)
-        → OnAnswer result (IsOk result × ((reading_of settings order «data».now).rows ≡ rows)) }
+    // A closed picture is read as its rows, and the result is its number of bytes, whatever follows it. So are as many lines as
+    // the row limit.
+    ensures pictures { ReadsPictures settings (bits_in order «data».now) result }
 {
     let mut ctx = DecoderContext::new(alloc, settings)?;
     decode_in(order, data, sink, &mut ctx)

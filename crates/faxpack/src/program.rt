@@ -1,9 +1,7 @@
 //! A run of the program: reads all that a reader has, and writes it encoded.
 
-ghost use Rattle.std.specs.Prelude.{◌≡◌, ◌↔◌, ◌≢◌, ◌⊎◌, IfOk, IfErr, IfSome, true, false, map, string_bytes, None, Ok, Err};
-ghost use Rattle.std.specs.Io.KnownBytes.{IsAtEnd};
-ghost use Rattle.hayro_ccitt.specs.Bits.{BitsFit};
-ghost use Rattle.fax_program.specs.Devices.{WasRead};
+ghost use Rattle.std.specs.Prelude.{◌≡◌, ◌↔◌, ◌≢◌, ◌⊎◌, IfOk, IfErr, true, false, map, string_bytes, None, Ok, Err};
+ghost use Rattle.fax_program.specs.Devices.{ReadsInput};
 ghost use Rattle.faxpack.specs.Arguments.{arguments_of_words};
 ghost use Rattle.faxpack.specs.Runs.{IsAnswer, OnKnown};
 
@@ -35,13 +33,7 @@ pub fn run<R: Read, W: Write>(
     ensures answer { IfOk result (λ answer.
         OnKnown (arguments_of_words (map string_bytes words.now)) (R.remaining reader.old.0) (λ arguments input.
         IsAnswer arguments input answer (W.contents writer.old.0) (W.contents writer.new.0))) }
-    ensures drained { IfOk result (λ _. IsAtEnd (R.remaining reader.new.0)) }
-    ensures fit { IfOk result (λ _. IfSome (R.remaining reader.old.0) BitsFit) }
-    ensures fit_write { result ≡ Err RunFault.Write → IfSome (R.remaining reader.old.0) BitsFit }
-    ensures fit_so_far { result ≢ Err RunFault.TooLong
-        → WasRead (R.remaining reader.old.0) (R.remaining reader.new.0) BitsFit }
-    ensures too_long { result ≡ Err RunFault.TooLong
-        → IfSome (R.remaining reader.old.0) (λ input. ¬ (BitsFit input)) }
+    ensures input { ReadsInput (R.remaining reader.old.0) (R.remaining reader.new.0) result }
     ensures read { reader.old.1 ≡ false → ((result ≡ Err RunFault.Read) ↔ (reader.new.1 ≡ true)) }
     ensures write { writer.old.1 ≡ false → ((result ≡ Err RunFault.Write) ↔ (writer.new.1 ≡ true)) }
 {

@@ -1,5 +1,5 @@
 -- Packed rows in the caller's memory.
-use Rattle.std.specs.Prelude.{ℕ, zero, suc, ◌+◌, ◌-◌, ◌*◌, ◌/◌, ◌%◌, ◌==◌, ◌||◌, Bool, false, List, [], ◌∷◌, ◌++◌}
+use Rattle.std.specs.Prelude.{◌≡◌, ℕ, zero, suc, ◌+◌, ◌-◌, ◌*◌, ◌/◌, ◌%◌, ◌==◌, ◌||◌, Bool, false, List, [], ◌∷◌, ◌++◌}
 use Rattle.std.specs.Prelude.{length, map, take, drop, replicate, max, min, nat_le, nat_lt, if◌then◌else◌}
 use Rattle.hayro_ccitt.specs.Bits.{Bits, bits_of}
 use Rattle.hayro_ccitt.specs.Rows.{Row, pixels}
@@ -111,3 +111,16 @@ with_packed columns before row = record {
   changes = counted before.changes (length row);
   name = before.name;
 }
+
+-- ---- How a sink of packed rows goes on
+
+-- it has no rows: the next one begins at the first byte, and none before it is written
+pub record HasNoRows (start written changes : ℕ) : Type 0 where
+  pub start_is : start ≡ 0
+  pub written_is : written ≡ 0
+  pub changes_are : changes ≡ 0
+
+-- its layout and its width stay
+pub record HasSameShape (old_layout new_layout : Layout) (old_columns new_columns : ℕ) : Type 0 where
+  pub layout : new_layout ≡ old_layout
+  pub columns : new_columns ≡ old_columns

@@ -79,6 +79,12 @@ missed_taken settings bits taken = sum_by length (take taken (misses_by_line set
 abbrev pub cut_taken : DecodeSettings → Bits → ℕ → ℕ
 cut_taken settings bits taken = sum_by length (take taken (cuts_by_line settings bits))
 
+-- these three numbers, of the first rows (T.4, 4.1.1 and 4.1.2)
+pub record TellsDamage (settings : DecodeSettings) (bits : Bits) (rows damaged_rows missed_eols cut_rows : ℕ) : Type 0 where
+  pub damaged : damaged_rows ≡ damaged_taken settings bits rows
+  pub missed : missed_eols ≡ missed_taken settings bits rows
+  pub cut : cut_rows ≡ cut_taken settings bits rows
+
 -- what C gets
 abbrev pub outcome_of : ℕ → ℕ → ℕ → ℕ → ℕ → ℕ → ℕ → Outcome
 outcome_of rows changes bytes_read damaged_rows fault_start missed_eols cut_rows = record {

@@ -15,7 +15,7 @@ ghost use Rattle.hayro_ccitt_c.specs.Encoding.{asked, bits_asked, layout_asked, 
 ghost use Rattle.hayro_ccitt_c.specs.Encoding.{HaveNoRoom};
 ghost use Rattle.hayro_ccitt_c.specs.Owned.{OnReading, OnReadings, OnStrip, OnStrips};
 ghost use Rattle.hayro_ccitt_c.specs.Packing.{bytes_of_row, row_read, together};
-ghost use Rattle.hayro_ccitt_c.specs.Reports.{OnSettings, IsReport, changes_taken, cut_taken, damaged_taken, missed_taken};
+ghost use Rattle.hayro_ccitt_c.specs.Reports.{OnSettings, IsReport, TellsDamage, changes_taken};
 ghost use Rattle.hayro_ccitt_c.specs.Reports.{outcome_of};
 ghost use Rattle.hayro_ccitt_c.specs.Reports.{ArePacked, AreListed, AreTogether, numbers_taken};
 ghost use Rattle.hayro_ccitt_c.specs.RowsGiven.{GivesRow, IsListed, IsOpened, IsPacked, TellsOf, told_nothing};
@@ -82,12 +82,8 @@ pub extern "C" fn hayro_ccitt_measure(
         IsReport s bits result outcome.new.rows outcome.new.bytes_read outcome.new.fault_start) }
     ensures changes { OnSettings settings.now «data».now (λ s bits.
         outcome.new.changes ≡ changes_taken s bits outcome.new.rows) }
-    ensures damaged { OnSettings settings.now «data».now (λ s bits.
-        outcome.new.damaged_rows ≡ damaged_taken s bits outcome.new.rows) }
-    ensures missed { OnSettings settings.now «data».now (λ s bits.
-        outcome.new.missed_eols ≡ missed_taken s bits outcome.new.rows) }
-    ensures cut { OnSettings settings.now «data».now (λ s bits.
-        outcome.new.cut_rows ≡ cut_taken s bits outcome.new.rows) }
+    ensures damage { OnSettings settings.now «data».now (λ s bits.
+        TellsDamage s bits outcome.new.rows outcome.new.damaged_rows outcome.new.missed_eols outcome.new.cut_rows) }
     ensures never_refused { result ≢ REFUSED }
     ensures untaken { (settings_of settings.now ≡ None) ⊎ (¬ (BitsFit «data».now))
         → (result ≡ NOT_TAKEN) × (outcome.new ≡ outcome_of 0 0 0 0 0 0 0) }
@@ -120,12 +116,8 @@ pub extern "C" fn hayro_ccitt_decode_packed(
         IsReport s bits result outcome.new.rows outcome.new.bytes_read outcome.new.fault_start) }
     ensures changes { OnSettings settings.now «data».now (λ s bits.
         outcome.new.changes ≡ changes_taken s bits outcome.new.rows) }
-    ensures damaged { OnSettings settings.now «data».now (λ s bits.
-        outcome.new.damaged_rows ≡ damaged_taken s bits outcome.new.rows) }
-    ensures missed { OnSettings settings.now «data».now (λ s bits.
-        outcome.new.missed_eols ≡ missed_taken s bits outcome.new.rows) }
-    ensures cut { OnSettings settings.now «data».now (λ s bits.
-        outcome.new.cut_rows ≡ cut_taken s bits outcome.new.rows) }
+    ensures damage { OnSettings settings.now «data».now (λ s bits.
+        TellsDamage s bits outcome.new.rows outcome.new.damaged_rows outcome.new.missed_eols outcome.new.cut_rows) }
     ensures packed { OnSettings settings.now «data».now (λ s bits.
         ArePacked (layout_of settings.now) s bits outcome.new.rows bitmap.old bitmap.new) }
     ensures together { OnSettings settings.now «data».now (λ s bits. layout_of settings.now ≡ together s.columns
@@ -163,12 +155,8 @@ pub extern "C" fn hayro_ccitt_decode_changes(
         IsReport s bits result outcome.new.rows outcome.new.bytes_read outcome.new.fault_start) }
     ensures changes { OnSettings settings.now «data».now (λ s bits.
         outcome.new.changes ≡ changes_taken s bits outcome.new.rows) }
-    ensures damaged { OnSettings settings.now «data».now (λ s bits.
-        outcome.new.damaged_rows ≡ damaged_taken s bits outcome.new.rows) }
-    ensures missed { OnSettings settings.now «data».now (λ s bits.
-        outcome.new.missed_eols ≡ missed_taken s bits outcome.new.rows) }
-    ensures cut { OnSettings settings.now «data».now (λ s bits.
-        outcome.new.cut_rows ≡ cut_taken s bits outcome.new.rows) }
+    ensures damage { OnSettings settings.now «data».now (λ s bits.
+        TellsDamage s bits outcome.new.rows outcome.new.damaged_rows outcome.new.missed_eols outcome.new.cut_rows) }
     ensures listed { OnSettings settings.now «data».now (λ s bits.
         AreListed s bits outcome.new.rows lists.old lists.new) }
     ensures refused { result ≡ REFUSED → OnSettings settings.now «data».now (λ s bits.

@@ -196,7 +196,7 @@ pub(crate) struct PackedRows<'a> {
 impl<'a> PackedRows<'a> {
     ghost use Rattle.std.specs.Prelude.{◌≡◌, ◌<◌, ◌≤◌, ◌+◌, ◌-◌, ◌/◌, All, IsOkUnless, OnErr, OnOk, [], false, length, true};
     ghost use Rattle.hayro_ccitt.specs.Rows.{AreChanges};
-    ghost use Rattle.hayro_ccitt_c.specs.Packing.{counted, packing_up_to, with_packed};
+    ghost use Rattle.hayro_ccitt_c.specs.Packing.{HasNoRows, HasSameShape, counted, packing_up_to, with_packed};
 
     /// Creates a sink without rows.
     pub(crate) fn new(bitmap: &'a mut [u8], columns: u32, layout: Layout) -> PackedRows<'a>
@@ -205,9 +205,8 @@ impl<'a> PackedRows<'a> {
         ensures bytes { result.bitmap.now ≡ bitmap.old }
         ensures are_bytes { All (λ byte. byte < 256) bitmap.old }
         ensures layout { result.layout ≡ layout }
-        ensures starts { (result.start ≡ 0) × (result.written ≡ 0) }
+        ensures starts { HasNoRows result.start result.written result.changes }
         ensures columns { result.columns ≡ columns }
-        ensures changes { result.changes ≡ 0 }
         ensures has_refused { result.has_refused ≡ false }
     {
         let bytes = (columns as usize).div_ceil(8);
@@ -249,10 +248,9 @@ impl<'a> PackedRows<'a> {
             self.new.bitmap.ghost_name ≡ packing_up_to self.old.layout self.old.start self.old.written self.old.bitmap.now
             self.old.changes self.old.bitmap.ghost_name }
         ensures written { self.new.written ≡ self.new.start }
-        ensures layout { self.new.layout ≡ self.old.layout }
+        ensures shape { HasSameShape self.old.layout self.new.layout self.old.columns self.new.columns }
         ensures start { self.new.start ≡ self.old.start }
         ensures size { length self.new.bitmap.now ≡ length self.old.bitmap.now }
-        ensures columns { self.new.columns ≡ self.old.columns }
         ensures changes { self.new.changes ≡ self.old.changes }
         ensures has_refused { self.new.has_refused ≡ self.old.has_refused }
     {
@@ -272,10 +270,9 @@ impl<'a> PackedRows<'a> {
             self.new.bitmap.ghost_name ≡ packing_up_to self.old.layout self.old.start self.old.written self.old.bitmap.now
             self.old.changes self.old.bitmap.ghost_name }
         ensures written { self.new.written ≡ self.new.start }
-        ensures layout { self.new.layout ≡ self.old.layout }
+        ensures shape { HasSameShape self.old.layout self.new.layout self.old.columns self.new.columns }
         ensures start { self.new.start ≡ self.old.start }
         ensures size { length self.new.bitmap.now ≡ length self.old.bitmap.now }
-        ensures columns { self.new.columns ≡ self.old.columns }
         ensures changes { self.new.changes ≡ self.old.changes }
         ensures has_refused { self.new.has_refused ≡ self.old.has_refused }
     {
@@ -291,10 +288,9 @@ impl<'a> PackedRows<'a> {
         ensures start { self.new.start ≡ self.old.start + self.old.layout.stride }
         ensures written { self.new.written ≡ self.new.start }
         ensures changes { self.new.changes ≡ counted self.old.changes (length changes.now) }
-        ensures layout { self.new.layout ≡ self.old.layout }
+        ensures shape { HasSameShape self.old.layout self.new.layout self.old.columns self.new.columns }
         ensures memory { self.new.bitmap.now ≡ self.old.bitmap.now }
         ensures same_reference { self.new.bitmap.ghost_name ≡ self.old.bitmap.ghost_name }
-        ensures columns { self.new.columns ≡ self.old.columns }
         ensures has_refused { self.new.has_refused ≡ self.old.has_refused }
     {
         self.start += self.layout.stride as usize;
@@ -331,10 +327,9 @@ impl<'a> PackedRows<'a> {
         ensures meaning { packing_up_to self.new.layout self.new.start self.new.written self.new.bitmap.now self.new.changes
             self.new.bitmap.ghost_name ≡ packing_up_to self.old.layout self.old.start self.old.written self.old.bitmap.now
             self.old.changes self.old.bitmap.ghost_name }
-        ensures layout { self.new.layout ≡ self.old.layout }
+        ensures shape { HasSameShape self.old.layout self.new.layout self.old.columns self.new.columns }
         ensures start { self.new.start ≡ self.old.start }
         ensures size { length self.new.bitmap.now ≡ length self.old.bitmap.now }
-        ensures columns { self.new.columns ≡ self.old.columns }
         ensures has_refused { self.new.has_refused ≡ self.old.has_refused }
     {
         if self.start + self.bytes - self.written > MOST_TOGETHER {

@@ -5,7 +5,7 @@ ghost use Rattle.hayro_ccitt.specs.Rows.{changes};
 ghost use Rattle.hayro_ccitt.specs.Answers.{meaning_after};
 ghost use Rattle.hayro_ccitt.specs.Bits.{BitsFit, bits_in};
 ghost use Rattle.hayro_ccitt.specs.PlainReading.{plain};
-ghost use Rattle.hayro_ccitt_c.specs.Reports.{IsReport, cut_taken, damaged_taken, missed_taken, outcome_of, status_of};
+ghost use Rattle.hayro_ccitt_c.specs.Reports.{IsReport, TellsDamage, outcome_of, status_of};
 ghost use Rattle.hayro_ccitt_c.specs.Reports.{bytes_read_of};
 ghost use Rattle.hayro_ccitt_c.specs.declared.status.TheConstants.{REFUSED, NOT_TAKEN};
 
@@ -124,9 +124,8 @@ pub(crate) fn decoded<D: Decoder>(
     requires fit { BitsFit «data».now }
     requires width { settings.columns ≤ D.width sink.old }
     ensures report { IsReport settings (bits_in order «data».now) result.status result.rows result.bytes_read result.fault_start }
-    ensures damaged { result.damaged_rows ≡ damaged_taken settings (bits_in order «data».now) result.rows }
-    ensures missed { result.missed_eols ≡ missed_taken settings (bits_in order «data».now) result.rows }
-    ensures cut { result.cut_rows ≡ cut_taken settings (bits_in order «data».now) result.rows }
+    ensures damage { TellsDamage settings (bits_in order «data».now) result.rows result.damaged_rows result.missed_eols
+        result.cut_rows }
     ensures meaning { D.meaning sink.new ≡ meaning_after (D.step (D.width sink.old)) (D.meaning sink.old)
         (take result.rows (plain settings (bits_in order «data».now)).rows) }
     ensures width { D.width sink.new ≡ D.width sink.old }

@@ -49,10 +49,10 @@ module _ (c : After-told) where
       (take c.decoded-report.result.rows (plain c.in-Some.meant (bits_in c.order_of.result c.args.«data».now)).rows))
       (all_in_memory c.new-rows.result.layout c.new-rows.result.start c.new-rows.result.written c.new-rows.result.bitmap.now
       c.new-rows.result.changes c.new-rows.result.bitmap.ghost_name
-      (c.new-rows.ensures.starts.1 ∙ sym c.new-rows.ensures.starts.0)
+      (c.new-rows.ensures.starts.written_is ∙ sym c.new-rows.ensures.starts.start_is)
       ∙ same_meaning c.new-rows.result.layout layout c.new-rows.result.start 0 c.new-rows.result.bitmap.now c.args.bitmap.now
-      c.new-rows.result.changes 0 c.new-rows.result.bitmap.ghost_name same_layout c.new-rows.ensures.starts.0
-      c.new-rows.ensures.bytes c.new-rows.ensures.changes)
+      c.new-rows.result.changes 0 c.new-rows.result.bitmap.ghost_name same_layout c.new-rows.ensures.starts.start_is
+      c.new-rows.ensures.bytes c.new-rows.ensures.starts.changes_are)
 
   same : c.new-rows.result.bitmap.ghost_name ≡ c.write_white.new.self.bitmap.ghost_name
   same =
@@ -62,7 +62,7 @@ module _ (c : After-told) where
       meaning
 
   wide : c.write_white.new.self.columns ≡ c.new-rows.result.columns
-  wide = c.write_white.ensures.columns ∙ c.decoded-report.ensures.width
+  wide = c.write_white.ensures.shape.columns ∙ c.decoded-report.ensures.width
 
   reaches : bytes_of_row c.new-rows.result.columns ≤ layout.stride
   reaches = subst (λ (l : Layout). bytes_of_row c.new-rows.result.columns ≤ l.stride) same_layout c.new-rows.result.reaches

@@ -6,7 +6,7 @@ use Rattle.fax_callers.proofs.blank.is_blank.Goals as goal
 pub returns-in-Ok-clause-blank : goal.returns-in-Ok-clause-blank
 returns-in-Ok-clause-blank c = λ same.
     let rows = (reading_of c.args.settings c.args.order c.args.«data».now).rows in
-    taken_white rows (length rows) (omega arith) (rw (take_all (length rows) rows (omega arith)) c.in-Ok.ensures.rows)
+    taken_white rows (length rows) (omega arith) (rw (take_all (length rows) rows (omega arith)) c.in-Ok.ensures.front.all)
 
 pub returns-in-Err-Refused-clause-not_blank : goal.returns-in-Err-Refused-clause-not_blank
 returns-in-Err-Refused-clause-not_blank c = λ same.

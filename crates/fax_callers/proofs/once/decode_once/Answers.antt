@@ -2,7 +2,7 @@ use Rattle.std.proofs.Common.{ap}
 use Rattle.std.proofs.lemmas.Result.{err_from_is_err_and}
 use Rattle.hayro_ccitt.specs.Bits.{bits_in}
 use Rattle.hayro_ccitt.specs.Context.{Context}
-use Rattle.fax_callers.proofs.OnceTaken.{none_taken, first_taken, closed, limited}
+use Rattle.fax_callers.proofs.OnceTaken.{none_taken, first_taken, pictures}
 use Rattle.fax_callers.proofs.once.decode_once.Goals as goal
 
 pub returns-in_err-ctx-clause-front : goal.returns-in_err-ctx-clause-front
@@ -15,11 +15,6 @@ pub returns-clause-front : goal.returns-clause-front
 returns-clause-front g c = rw (← ap (λ (ctx : Context). ctx.held.settings) c.in_ok-ctx.ensures.made)
     (first_taken _ _ _ _ _ _ _ _ c.decode_in.ensures.decodes)
 
-pub returns-clause-closed : goal.returns-clause-closed
-returns-clause-closed g c =
-    rw (← ap (λ (ctx : Context). ctx.held.settings) c.in_ok-ctx.ensures.made) (closed _ _ _ _ _ _ _ _ c.decode_in.ensures.decodes)
-
-pub returns-clause-limited : goal.returns-clause-limited
-returns-clause-limited g c =
-    rw (← ap (λ (ctx : Context). ctx.held.settings) c.in_ok-ctx.ensures.made)
-    (limited _ _ _ _ _ _ _ _ c.decode_in.ensures.decodes)
+pub returns-clause-pictures : goal.returns-clause-pictures
+returns-clause-pictures g c = rw (← ap (λ (ctx : Context). ctx.held.settings) c.in_ok-ctx.ensures.made)
+    (pictures _ _ _ _ _ _ _ _ c.decode_in.ensures.decodes)

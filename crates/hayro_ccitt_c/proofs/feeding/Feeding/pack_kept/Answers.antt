@@ -43,10 +43,10 @@ module _ (c : After-write_white) where
       (with_packed c.new-sink.result.columns) before rows)
       (all_in_memory c.new-sink.result.layout c.new-sink.result.start c.new-sink.result.written c.new-sink.result.bitmap.now
       c.new-sink.result.changes c.new-sink.result.bitmap.ghost_name
-      (c.new-sink.ensures.starts.1 ∙ sym c.new-sink.ensures.starts.0)
+      (c.new-sink.ensures.starts.written_is ∙ sym c.new-sink.ensures.starts.start_is)
       ∙ same_meaning c.new-sink.result.layout layout c.new-sink.result.start 0 c.new-sink.result.bitmap.now c.args.bytes.now
-      c.new-sink.result.changes 0 c.new-sink.result.bitmap.ghost_name laid_out c.new-sink.ensures.starts.0
-      c.new-sink.ensures.bytes c.new-sink.ensures.changes)
+      c.new-sink.result.changes 0 c.new-sink.result.bitmap.ghost_name laid_out c.new-sink.ensures.starts.start_is
+      c.new-sink.ensures.bytes c.new-sink.ensures.starts.changes_are)
 
   same : c.new-sink.result.bitmap.ghost_name ≡ c.write_white.new.self.bitmap.ghost_name
   same = same_memory layout c.write_white.new.self.layout c.new-sink.result.columns c.write_white.new.self.start _ _
@@ -80,7 +80,7 @@ module _ (c : After-write_white) where
       ≤ length c.write_white.new.self.bitmap.now + c.write_white.new.self.layout.stride
   room = subst (λ (n : ℕ). c.write_white.new.self.start + bytes_of_row n
       ≤ length c.write_white.new.self.bitmap.now + c.write_white.new.self.layout.stride)
-      (c.write_white.ensures.columns ∙ c.push_all-answer.ensures.width)
+      (c.write_white.ensures.shape.columns ∙ c.push_all-answer.ensures.width)
       c.write_white.new.self.within
 
   written : All (λ byte. byte < 256) c.write_white.new.self.bitmap.now
@@ -94,7 +94,8 @@ module _ (c : After-write_white) where
       → length c.write_white.new.self.bitmap.now < room_of_packed c.push_all-answer.new.self rows
   few full =
       let width : c.write_white.new.self.columns ≡ columns_of c.push_all-answer.new.self =
-      c.write_white.ensures.columns ∙ c.push_all-answer.ensures.width ∙ columns ∙ sym c.push_all-answer.ensures.passes.columns in
+      c.write_white.ensures.shape.columns ∙ c.push_all-answer.ensures.width ∙ columns ∙ sym
+      c.push_all-answer.ensures.passes.columns in
       let place : c.write_white.new.self.start ≡ length rows * (spaced c.push_all-answer.new.self.layout).stride =
       start_is ∙ ap (λ (l : Layout). length rows * (spaced l).stride) (sym c.push_all-answer.ensures.passes.layout.0) in
       let bytes : (c.write_white.new.self.columns + 7) / 8 ≡ bytes_of_row (columns_of c.push_all-answer.new.self) =

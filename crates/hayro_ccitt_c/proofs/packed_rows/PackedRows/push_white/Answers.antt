@@ -14,13 +14,14 @@ returns-clause-taken c =
     let row : List ℕ = c.fill_apart.new.bytes in
     let bytes : s.bytes ≡ bytes_of_row s.columns = omega (arith, s.whole) in
     let room : s.start + s.bytes ≤ length s.bitmap.now =
-    omega (arith, c.if-self.false, c.args.self.now.whole, s.whole, same.columns, same.start, same.size) in
+    omega (arith, c.if-self.false, c.args.self.now.whole, s.whole, same.shape.columns, same.start, same.size) in
     let long : length old ≡ bytes_of_row s.columns =
     omega (arith, length-take (end - s.start) (drop s.start s.bitmap.now), length-drop s.start s.bitmap.now, bytes, room) in
-    same_up_to _ s.layout _ _ _ _ _ _ _ _ _ s.bitmap.ghost_name on.layout on.start (on.written ∙ on.start) on.memory on.changes
+    same_up_to _ s.layout _ _ _ _ _ _ _ _ _ s.bitmap.ghost_name on.shape.layout on.start (on.written ∙ on.start) on.memory
+    on.changes
     on.same_reference
     ∙ packed_behind s.layout s.columns s.start s.written s.bytes [] s.bitmap.now row s.changes _
     s.bitmap.ghost_name same.written bytes s.reaches (omega (arith, room)) (omega (arith, room)) c.fill_apart.auto.bytes
     (white_bytes s.layout.black_is_0 s.columns [] old row c.white_byte-white.result refl long c.white_byte-white.ensures
     c.fill_apart.ensures)
-    refl _ _ same.meaning same.columns
+    refl _ _ same.meaning same.shape.columns
