@@ -537,7 +537,7 @@ impl RowFeed {
     }
 
     /// Reads on from the part of the line here that is kept, mostly within a run of a one-dimensional line, and returns whether the
-    /// line is still short. It is part of its callers, since a call would save registers.
+    /// line is still short. Each call that it makes is its last step, so that mostly no registers are saved.
     #[inline(always)]
     fn read_on_1d(&mut self) -> LineState
         requires more { self.old.finished ≡ false }
@@ -563,30 +563,6 @@ impl RowFeed {
         LineState::Settled
     }
 
-    /// Reads on from the part of the line here that is kept, mostly within a line of two dimensions, by a call, and returns whether the
-    /// line is still short.
-    #[inline(never)]
-    fn read_on_2d(&mut self) -> LineState
-        requires more { self.old.finished ≡ false }
-        ensures { StaysShort self.old self.new (says_short result) }
-    {
-        let place = self.place + self.line_read;
-        let Some(mut reader) = scanner_near_end(&self.data, self.order, place) else {
-            return self.go_on_by_call();
-        };
-        let Some(part) = &mut self.part else {
-            return LineState::Settled;
-        };
-        let (is_short, reached) = continue_line(&mut self.ctx, &mut reader, part);
-        if is_short {
-            self.line_read = reached - self.place;
-            return LineState::Short;
-        }
-        self.line_read = 0;
-        self.part = None;
-        LineState::Settled
-    }
-
     /// Returns whether the line here is known to be short: whether it goes on from a part that was kept, and still is short.
     #[inline(always)]
     fn is_still_short(&mut self) -> bool
@@ -603,7 +579,21 @@ impl RowFeed {
         if self.is_within_1d_line() {
             return says_short(self.read_on_1d());
         }
-        says_short(self.read_on_2d())
+        let place = self.place + self.line_read;
+        let Some(mut reader) = scanner_near_end(&self.data, self.order, place) else {
+            return says_short(self.go_on_by_call());
+        };
+        let Some(part) = &mut self.part else {
+            return false;
+        };
+        let (is_short, reached) = continue_line(&mut self.ctx, &mut reader, part);
+        if is_short {
+            self.line_read = reached - self.place;
+            return true;
+        }
+        self.line_read = 0;
+        self.part = None;
+        false
     }
 
     /// Keeps the part from which the line here goes on, which is short, unless it was tried for the first time: mostly it is whole
