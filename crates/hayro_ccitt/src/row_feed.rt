@@ -537,11 +537,12 @@ impl RowFeed {
     }
 
     /// Reads on from the part of the line here that is kept, mostly within a run of a one-dimensional line, and returns whether the
-    /// line is still short. It is part of its callers, since a call would save registers.
+    /// line is still short. Each call that it makes is its last step, so that mostly no registers are saved.
     #[inline(always)]
-    fn read_on_1d(&mut self) -> LineState
+    fn read_on_1d(&mut self, order: BitOrder) -> LineState
         requires more { self.old.finished ≡ false }
         requires line { IsPartOf1d self.old.part }
+        requires order { self.old.order ≡ order }
         ensures { StaysShort self.old self.new (says_short result) }
     {
         let Some(part) = &mut self.part else {
@@ -551,7 +552,7 @@ impl RowFeed {
             return self.go_on_by_call();
         }
         let known = self.data.len() * 8 - self.place;
-        let Some(mut reader) = scanner_of_last(&self.data, self.order, known - self.line_read) else {
+        let Some(mut reader) = scanner_of_last(&self.data, order, known - self.line_read) else {
             return self.go_on_by_call();
         };
         if continue_runs(&mut self.ctx, &mut reader, part) {
@@ -563,28 +564,39 @@ impl RowFeed {
         LineState::Settled
     }
 
-    /// Reads on from the part of the line here that is kept, mostly within a line of two dimensions, by a call, and returns whether the
-    /// line is still short.
+    /// Reads on as `read_on_1d` does, where the highest bit of each byte comes first.
     #[inline(never)]
-    fn read_on_2d(&mut self) -> LineState
+    fn read_on_high(&mut self) -> LineState
         requires more { self.old.finished ≡ false }
+        requires line { IsPartOf1d self.old.part }
+        requires order { self.old.order ≡ BitOrder.HighestFirst }
         ensures { StaysShort self.old self.new (says_short result) }
     {
-        let place = self.place + self.line_read;
-        let Some(mut reader) = scanner_near_end(&self.data, self.order, place) else {
-            return self.go_on_by_call();
-        };
-        let Some(part) = &mut self.part else {
-            return LineState::Settled;
-        };
-        let (is_short, reached) = continue_line(&mut self.ctx, &mut reader, part);
-        if is_short {
-            self.line_read = reached - self.place;
-            return LineState::Short;
+        self.read_on_1d(BitOrder::HighestFirst)
+    }
+
+    /// Reads on as `read_on_1d` does, where the lowest bit of each byte comes first.
+    #[inline(never)]
+    fn read_on_low(&mut self) -> LineState
+        requires more { self.old.finished ≡ false }
+        requires line { IsPartOf1d self.old.part }
+        requires order { self.old.order ≡ BitOrder.LowestFirst }
+        ensures { StaysShort self.old self.new (says_short result) }
+    {
+        self.read_on_1d(BitOrder::LowestFirst)
+    }
+
+    /// Reads on as `read_on_1d` does, by a call, so that its callers stay small: each order of bits has code of its own.
+    #[inline(never)]
+    fn read_on_in_order(&mut self) -> LineState
+        requires more { self.old.finished ≡ false }
+        requires line { IsPartOf1d self.old.part }
+        ensures { StaysShort self.old self.new (says_short result) }
+    {
+        match self.order {
+            BitOrder::HighestFirst => self.read_on_high(),
+            BitOrder::LowestFirst => self.read_on_low(),
         }
-        self.line_read = 0;
-        self.part = None;
-        LineState::Settled
     }
 
     /// Returns whether the line here is known to be short: whether it goes on from a part that was kept, and still is short.
@@ -601,9 +613,23 @@ impl RowFeed {
             return false;
         }
         if self.is_within_1d_line() {
-            return says_short(self.read_on_1d());
+            return says_short(self.read_on_in_order());
         }
-        says_short(self.read_on_2d())
+        let place = self.place + self.line_read;
+        let Some(mut reader) = scanner_near_end(&self.data, self.order, place) else {
+            return says_short(self.go_on_by_call());
+        };
+        let Some(part) = &mut self.part else {
+            return false;
+        };
+        let (is_short, reached) = continue_line(&mut self.ctx, &mut reader, part);
+        if is_short {
+            self.line_read = reached - self.place;
+            return true;
+        }
+        self.line_read = 0;
+        self.part = None;
+        false
     }
 
     /// Keeps the part from which the line here goes on, which is short, unless it was tried for the first time: mostly it is whole

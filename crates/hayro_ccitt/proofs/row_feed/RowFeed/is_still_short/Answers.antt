@@ -1,12 +1,12 @@
 use Rattle.hayro_ccitt.proofs.Names.{common_steps}
-use Rattle.hayro_ccitt.proofs.Names.{◌≡◌, ◌∙◌, ◌+◌, ◌-◌, ap, arith, length-drop, drop, refl}
+use Rattle.hayro_ccitt.proofs.Names.{◌≡◌, ◌+◌, ◌-◌, arith, length-drop, drop, refl}
 use Rattle.hayro_ccitt.proofs.Names.{bits_in, true, false}
 use Rattle.hayro_ccitt.proofs.BitReading.BitLists.{length-bits_in}
 use Rattle.hayro_ccitt.proofs.Readings.PartsFed.{read_within, stays_by}
 use Rattle.hayro_ccitt.proofs.Readings.PartsScanned.{kept_short, short_scans, whole_scans}
-use Rattle.hayro_ccitt.specs.RowFeeds.{Feeding, LineGoesOn, feeding_of}
-use Rattle.hayro_ccitt.proofs.row_feed.RowFeed.read_on_2d.Goals.{After-continue_line-is_short}
-use Rattle.hayro_ccitt.proofs.row_feed.RowFeed.read_on_2d.Goals as goal
+use Rattle.hayro_ccitt.specs.RowFeeds.{LineGoesOn, feeding_of}
+use Rattle.hayro_ccitt.proofs.row_feed.RowFeed.is_still_short.Goals.{After-continue_line-is_short}
+use Rattle.hayro_ccitt.proofs.row_feed.RowFeed.is_still_short.Goals as goal
 
 pub overflow_add-place : goal.overflow_add-place
 overflow_add-place c =
@@ -56,7 +56,7 @@ pub returns-then-is_short : goal.returns-then-is_short
 returns-then-is_short c =
     let at = (goal.at.returns-then-is_short c).After-continue_line-is_short in
     let on = c.continue_line-is_short in
-    rw (← c.self.view_is) (stays_by (feeding_of c.self.inside) _ c.in-Some-part.part true c.in-Some-part.is (ap (λ (f : Feeding). f.finished) c.self.view_is ∙ c.requires.more)
+    rw (← c.self.view_is) (stays_by (feeding_of c.self.inside) _ c.in-Some-part.part true c.in-Some-part.is c.if-self.false
     (kept at).none_drawn (short_scans c.self.inside on.new.ctx c.in-Some-part.part on.new.part c.self.inside.line_read
     c.in-Some.reader (record c.in-Some.reader { place = on.result.1 }) on.result.0 c.self.invariant (starts_at at)
     on.ensures.goes_on (kept at) (on.result.1 - c.self.inside.place) refl on.ensures.within c.if-is_short.true))
@@ -65,7 +65,7 @@ pub returns : goal.returns
 returns c =
     let at = (goal.at.returns c).After-continue_line-is_short in
     let on = c.continue_line-is_short in
-    rw (← c.self.view_is) (stays_by (feeding_of c.self.inside) _ c.in-Some-part.part false c.in-Some-part.is (ap (λ (f : Feeding). f.finished) c.self.view_is ∙ c.requires.more)
+    rw (← c.self.view_is) (stays_by (feeding_of c.self.inside) _ c.in-Some-part.part false c.in-Some-part.is c.if-self.false
     (kept at).none_drawn (whole_scans c.self.inside on.new.ctx c.in-Some-part.part on.new.part c.self.inside.line_read
     c.in-Some.reader (record c.in-Some.reader { place = on.result.1 }) on.result.0 c.self.invariant (starts_at at)
     on.ensures.goes_on (kept at) c.if-is_short.false))
