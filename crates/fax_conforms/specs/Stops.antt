@@ -69,8 +69,8 @@ EndsAt whole OutOfMemory = Unit {0}
 
 -- ---- A line that is read
 
--- Of the rows and the bits after them for which a line stands (T.4, 4.1 and 4.2; T.6, 2.2), there are only the row of these changes
--- and these bits. If it ends early, and not because an allocation failed, there are none, and a rule is broken there.
+-- Of the rows and the bits after them for which a line stands (T.4, 4.1 and 4.2; T.6, 2.2), there are only the row of these
+-- changes and these bits. If it ends early, and not because an allocation failed, there are none, and a rule is broken there.
 pub record ReadsLine (columns : ℕ) (line : Row → Bits → Type 0) (changes : List ℕ) (rest whole : Bits)
     (answer : Result (Unit {0}) Stop) : Type 0 where
   pub row : OnOk answer (Leads columns line (IsOnly (pixels columns changes) rest))

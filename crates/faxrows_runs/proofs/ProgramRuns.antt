@@ -70,11 +70,13 @@ module _ {R W T : Type 0} (IsText : DecodeSettings → Bits → T → List ℕ �
       written = known (λ s b. (text : List ℕ) × IsText s b value text × Appends (bytes_before writer) (bytes_after writer) text)
           settings bits kept same writes.written;
       front = λ e. cc;
-      drained = has.drained;
-      fit = fits;
-      fit_write = λ e. cc;
-      fit_so_far = λ e. has.fit_so_far;
-      too_long = λ e. cc;
+      input = record {
+        drained = has.drained;
+        fit = fits;
+        fit_write = λ e. cc;
+        fit_so_far = λ e. has.fit_so_far;
+        too_long = λ e. cc;
+      };
       read = λ unfailed. (λ e. cc, λ failed. let both : true ≡ false = sym failed ∙ has.read unfailed in cc);
       write = λ unfailed. (λ e. cc, λ failed. let both : true ≡ false = sym failed ∙ writes.flag ∙ unfailed in cc);
     }
@@ -85,11 +87,13 @@ module _ {R W T : Type 0} (IsText : DecodeSettings → Bits → T → List ℕ �
       written = tt;
       front = λ e. known (λ s b. (value : T) × (text : List ℕ) × IsText s b value text
           × AppendsFront (bytes_before writer) (bytes_after writer) text) settings bits kept same writes.front;
-      drained = tt;
-      fit = tt;
-      fit_write = λ e. fits;
-      fit_so_far = λ e. has.fit_so_far;
-      too_long = λ e. let f : fault ≡ Write = writes.only in cc;
+      input = record {
+        drained = tt;
+        fit = tt;
+        fit_write = λ e. fits;
+        fit_so_far = λ e. has.fit_so_far;
+        too_long = λ e. let f : fault ≡ Write = writes.only in cc;
+      };
       read = λ unfailed. (
         λ e. let f : fault ≡ Write = writes.only in cc,
         λ failed. let both : true ≡ false = sym failed ∙ has.read unfailed in cc,

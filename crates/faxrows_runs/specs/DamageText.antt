@@ -1,5 +1,5 @@
 -- The damage of some data as lines of text.
-use Rattle.std.specs.Prelude.{◌≡◌, ℕ, zero, suc, List, [], ◌∷◌, ◌++◌, length, take, get_or, sum_by, codes, decimal, Option}
+use Rattle.std.specs.Prelude.{◌≡◌, ◌≢◌, ℕ, zero, suc, List, [], ◌∷◌, ◌++◌, length, take, get_or, sum_by, codes, decimal, Option}
 use Rattle.std.specs.Prelude.{None, Some, Ok, Err, Bool, true, false}
 use Rattle.hayro_ccitt.specs.DecodeError.{DecodeError}
 use Rattle.hayro_ccitt.specs.DecodeError.TheVariants.{OutOfMemory}
@@ -7,6 +7,7 @@ use Rattle.hayro_ccitt.specs.DecodeSettings.{DecodeSettings}
 use Rattle.hayro_ccitt.specs.Bits.{Bits}
 use Rattle.hayro_ccitt.specs.Damage.{cut_in, cuts_by_line, fault_in, misses_by_line, repairs_by_line, start_in}
 use Rattle.hayro_ccitt.specs.PlainReading.{line_starts, failed_at}
+use Rattle.hayro_ccitt.specs.RowsRead.{RowsRead}
 use Rattle.hayro_ccitt.specs.Texts as library
 use Rattle.faxrows_runs.specs.Runs.{Outcome, EndsAfter, IsTextOfEnd, rows_of, outcome_of}
 use Rattle.faxrows_runs.specs.declared.program.Done.{Done}
@@ -87,3 +88,15 @@ IsDamageWithoutMemory settings bits text =
 abbrev pub IsDamageText : DecodeSettings → Bits → Done → List ℕ → Type 0
 IsDamageText settings bits done =
     IsTextOfEnd done (outcome_of settings bits) (whole_damage settings bits) (IsDamageWithoutMemory settings bits)
+
+-- ---- How far the rows are read whose damage is told
+
+-- none is read, and reading hasn't failed
+pub record IsAtFirstRow (rows : RowsRead) : Type 0 where
+  pub none_read : rows.taken ≡ 0
+  pub unfailed : (error : DecodeError) → rows.end ≢ Some (Err error)
+
+-- the settings and the data are the same
+pub record IsOfSameData (old new : RowsRead) : Type 0 where
+  pub settings : new.settings ≡ old.settings
+  pub bits : new.bits ≡ old.bits

@@ -3,7 +3,7 @@ use Rattle.std.specs.Prelude.{◌≡◌, ◌↔◌, ◌≢◌, ℕ, true, false,
 use Rattle.std.specs.Io.KnownBytes.{Appends, IsAtEnd}
 use Rattle.hayro_ccitt.specs.Bits.{Bits, BitsFit}
 use Rattle.hayro_ccitt.specs.DecodeSettings.{DecodeSettings}
-use Rattle.fax_program.specs.Devices.{AppendsFront, WasRead}
+use Rattle.fax_program.specs.Devices.{AppendsFront, ReadsInput, WasRead}
 use Rattle.fax_program.specs.declared.fault.RunFault.{RunFault}
 use Rattle.fax_program.specs.declared.fault.RunFault.TheVariants.{BadArguments, Read, TooLong, Write}
 use Rattle.faxrows_runs.specs.Arguments.{arguments_of_words}
@@ -41,10 +41,6 @@ pub record RunsProgram {R W T : Type 0} (IsText : DecodeSettings → Bits → T 
   pub front : result ≡ Err Write → OnKnown (arguments_of_words words) (bytes_before reader) (λ settings bits.
       (value : T) × (text : List ℕ) × IsText settings bits value text
       × AppendsFront (bytes_before writer) (bytes_after writer) text)
-  pub drained : IfOk result (λ _. IsAtEnd (bytes_after reader))
-  pub fit : IfOk result (λ _. IfSome (bytes_before reader) BitsFit)
-  pub fit_write : result ≡ Err Write → IfSome (bytes_before reader) BitsFit
-  pub fit_so_far : result ≢ Err TooLong → WasRead (bytes_before reader) (bytes_after reader) BitsFit
-  pub too_long : result ≡ Err TooLong → IfSome (bytes_before reader) (λ input. ¬ (BitsFit input))
+  pub input : ReadsInput (bytes_before reader) (bytes_after reader) result
   pub read : reader.before.1 ≡ false → ((result ≡ Err Read) ↔ (reader.after.1 ≡ true))
   pub write : writer.before.1 ≡ false → ((result ≡ Err Write) ↔ (writer.after.1 ≡ true))

@@ -1,10 +1,11 @@
 //! A run of the program that writes the damage of the data instead of its rows.
 
-ghost use Rattle.std.specs.Prelude.{◌≡◌, ◌<◌, ◌-◌, ◌≢◌, ◌++◌, [], IfOk, OnOk, OnErr, map, string_bytes, length};
+ghost use Rattle.std.specs.Prelude.{◌≡◌, ◌<◌, ◌-◌, ◌++◌, [], IfOk, OnOk, OnErr, map, string_bytes, length};
 ghost use Rattle.std.specs.Prelude.{Some, Err};
 ghost use Rattle.hayro_ccitt.specs.PlainReading.{failed_at};
 ghost use Rattle.fax_program.specs.Devices.{AppendsFront};
-ghost use Rattle.faxrows_runs.specs.DamageText.{IsDamageText, damage_lines, last_line_of_damage, line_of_damage};
+ghost use Rattle.faxrows_runs.specs.DamageText.{IsAtFirstRow, IsDamageText, IsOfSameData, damage_lines, line_of_damage};
+ghost use Rattle.faxrows_runs.specs.DamageText.{last_line_of_damage};
 ghost use Rattle.faxrows_runs.specs.Output.{FailsByWriter, PassesOn, PutsText, WritesText, used};
 ghost use Rattle.faxrows_runs.specs.ProgramRuns.{RunsProgram};
 ghost use Rattle.faxrows_runs.specs.Runs.{rows_of};
@@ -15,7 +16,7 @@ use crate::input::read_input;
 use crate::output::flush;
 use crate::program::{Done, done_of};
 use fax_program::{Device, RunFault};
-use hayro_ccitt::{DecodeError, RowReader};
+use hayro_ccitt::RowReader;
 use std::alloc::Global;
 use std::io::{Read, Write};
 
@@ -53,8 +54,7 @@ fn write_damage<W: Write>(
     rows: &mut RowReader<'_>,
     writer: &mut Device<W>,
 ) -> std::result::Result<Done, RunFault>
-    requires none_read { rows.old.taken ≡ 0 }
-    requires unfailed { (error : DecodeError) → rows.old.end ≢ Some (Err error) }
+    requires first { IsAtFirstRow rows.old }
     ensures writes { WritesText (IsDamageText rows.old.settings rows.old.bits) (used W.contents writer.old writer.new) result }
 {
     let mut waiting = Vec::new(alloc);
@@ -71,11 +71,9 @@ fn put_damage<W: Write>(
     waiting: &mut Vec<u8>,
     writer: &mut Device<W>,
 ) -> std::result::Result<hayro_ccitt::Result<usize>, RunFault>
-    requires none_read { rows.old.taken ≡ 0 }
+    requires first { IsAtFirstRow rows.old }
     requires none_waits { waiting.old.items ≡ [] }
-    requires unfailed { (error : DecodeError) → rows.old.end ≢ Some (Err error) }
-    ensures settings { OnOk result (rows.new.settings ≡ rows.old.settings) }
-    ensures bits { OnOk result (rows.new.bits ≡ rows.old.bits) }
+    ensures same { OnOk result (IsOfSameData rows.old rows.new) }
     ensures ends { IfOk result (λ outcome. EndsByRow rows.old.settings rows.old.bits rows.new.taken outcome) }
     ensures fails { IfOk result (λ outcome. OnErr outcome
         (rows.new.line_start ≡ failed_at rows.new.settings rows.new.bits rows.new.taken)) }

@@ -32,8 +32,9 @@ module _ (g : Over) (c : After-put_end g) where
   last_lines : last_line_of_damage c.put_damage.new.rows.settings c.put_damage.new.rows.bits read outcome
       ≡ last_line_of_damage settings bits read outcome
   last_lines =
-      ap (λ (s : DecodeSettings). last_line_of_damage s c.put_damage.new.rows.bits read outcome) c.in_ok-outcome.ensures.settings
-      ∙ ap (λ (b : Bits). last_line_of_damage settings b read outcome) c.in_ok-outcome.ensures.bits
+      ap (λ (s : DecodeSettings). last_line_of_damage s c.put_damage.new.rows.bits read outcome)
+      c.in_ok-outcome.ensures.same.settings
+      ∙ ap (λ (b : Bits). last_line_of_damage settings b read outcome) c.in_ok-outcome.ensures.same.bits
 
 pub returns-in_err-outcome : goal.returns-in_err-outcome
 returns-in_err-outcome g c =
