@@ -377,7 +377,11 @@ def no_line_is_too_long():
     assert not found, "\n".join(found)
 
 
-MOST_CLAUSES = 13
+MOST_CLAUSES = 8
+# the functions that have more: nine, since two of them are called `decode`
+LONGER = {
+    "hayro_ccitt": {"decode", "decode_low_first", "feed", "feed_all", "line_ends_before", "next_row", "read_line", "read_whole_line"},
+}
 CLAUSE = re.compile(r"\b(?:requires|ensures)\s+(?:\w+\s*)?\{")
 
 
@@ -397,14 +401,16 @@ def clauses_of(text):
 
 
 def no_contract_is_too_long():
-    """No function has more than 13 clauses. A list of examples or laws, which has no body, may have as many as it likes."""
+    """No function but nine has more than eight clauses, `requires` counted. A list of examples or laws, which has no body, may have
+    as many as it likes."""
     found = []
     for crate in sorted(os.listdir("crates")):
         source = edits.Source(f"crates/{crate}")
         for item in source.items:
             if item.kind == "fn":
                 text = re.sub(r"//.*", "", source.texts[item.path][item.begin : item.end])
-                if clauses_of(text) > MOST_CLAUSES and not re.search(r"\{\s*\}\s*$", text):
+                is_longer = item.name.split("::")[-1] in LONGER.get(crate, ())
+                if clauses_of(text) > MOST_CLAUSES and not is_longer and not re.search(r"\{\s*\}\s*$", text):
                     found.append(f"{crate}: {item.name}: {clauses_of(text)} clauses")
     assert not found, "\n".join(found)
 

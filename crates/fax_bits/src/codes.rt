@@ -922,23 +922,6 @@ pub fn is_long_behind_modes(reader: &BitReader<'_>, skip: u8, tables: &Tables) -
     }
 }
 
-/// Returns whether one of the two runs behind the modes of `horizontal_ends` is likely to begin with a make-up word.
-#[inline(never)]
-pub fn has_makeup_behind_modes(reader: &BitReader<'_>, skip: u8, tables: &Tables) -> bool {
-    let start = usize::from(skip);
-    let color = if skip % 2 == 0 {
-        Color::Black
-    } else {
-        Color::White
-    };
-    let (first, width) = reader.word_ahead(start, color, tables);
-    if first >= 64 {
-        return true;
-    }
-    let (second, _) = reader.word_ahead(start + width, color.opposite(), tables);
-    second >= 64
-}
-
 /// Consumes V0 if it is here, and returns whether it is; otherwise nothing changes.
 #[inline(always)]
 pub fn pass_v0(reader: &mut BitReader<'_>) -> bool

@@ -27,7 +27,15 @@ on_all P (Err error) holds = λ fault. holds
 pub none_taken : {M : Type 0} (settings : DecodeSettings) (bits : Bits) (step : M → List ℕ → M) (meaning : M)
     (refuses : List ℕ → Type 0) → TakesFirst settings bits step meaning meaning refuses (Err OutOfMemory)
 none_taken settings bits step meaning refuses =
-    record { taken = 0; within = omega arith; meaning = refl; memory = λ e. inl refl; refused = λ e. cc; all = λ e. absurd e; widths = λ e. absurd e }
+    record {
+      taken = 0;
+      within = omega arith;
+      meaning = refl;
+      memory = λ e. inl refl;
+      refused = λ e. cc;
+      all = λ e. absurd e;
+      widths = λ e. absurd e;
+    }
 
 module _ {M : Type 0} (settings : DecodeSettings) (bits : Bits) (step : M → List ℕ → M) (before after : SinkState M) (held : Held)
     (ticks : ℕ) (answer : Result ℕ DecodeError) (left : Decodes settings bits step before after held ticks answer) where

@@ -35,8 +35,8 @@ pub record TakesFirst {M : Type 0} (settings : DecodeSettings) (bits : Bits) (st
   -- each has as many pixels as there are columns (T.4, 4.1.1)
   pub widths : OnAnswer answer (HaveWidth settings.columns (plain settings bits).rows)
 
--- A closed picture is read as its rows, and the result is its number of bytes, whatever follows it (T.6, 2.4.1.1; T.4, 4.1.4). So are
--- as many lines as the row limit (T.6, 2.2; T.4, 4.1.1, 4.1.2 and 4.2.1).
+-- A closed picture is read as its rows, and the result is its number of bytes, whatever follows it (T.6, 2.4.1.1; T.4, 4.1.4).
+-- So are as many lines as the row limit (T.6, 2.2; T.4, 4.1.1, 4.1.2 and 4.2.1).
 pub record ReadsPictures (settings : DecodeSettings) (bits : Bits) (answer : Result ℕ DecodeError) : Type 0 where
   pub closed : (rows : List Row) (count : ℕ) → IsClosedPicture settings rows count bits
       → OnAnswer answer ((answer ≡ Ok count) × ((plain settings bits).rows ≡ rows))

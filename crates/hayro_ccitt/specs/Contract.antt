@@ -17,8 +17,8 @@ use Rattle.hayro_ccitt.specs.Rows.{Row, HaveWidth}
 use Rattle.hayro_ccitt.specs.RowsKept.{RowsBeforeStay, RowsBehindStay}
 use Rattle.hayro_ccitt.specs.Work.{CountsWork}
 
--- Where the calls begin that decode all rows of a reader: at its first bit, with a context that holds no more than its settings, of
--- at least one column.
+-- Where the calls begin that decode all rows of a reader: at its first bit, with a context that holds no more than its
+-- settings, of at least one column.
 pub record BeginsRows (ctx : Context) (at : BitsAt) : Type 0 where
   pub columns : 0 < ctx.held.settings.columns
   pub fresh : ctx.held ≡ fresh ctx.held.settings

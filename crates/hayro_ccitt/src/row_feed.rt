@@ -12,7 +12,8 @@ ghost use Rattle.hayro_ccitt.specs.RowsTried.{IsLeft};
 ghost use Rattle.hayro_ccitt.specs.RowFeeds.{Begins, ComeNext, ComesInFeed, DropsRead, ReadsInFeed, ComesOn, FeedsNext};
 ghost use Rattle.hayro_ccitt.specs.RowFeeds.{IsFeedOf, KeepsBits, TriesLine, fed_bits, fed_end, fed_none, fed_row, is_left};
 ghost use Rattle.hayro_ccitt.specs.RowFeeds.{HoldsMore, KeepsPart, LineGoesOn, Scans, ScansLine, StaysShort, line_answer};
-ghost use Rattle.hayro_ccitt.specs.RowFeeds.{IsPartOf1d, says_short, some_line};
+ghost use Rattle.hayro_ccitt.specs.Continuations.{is_short};
+ghost use Rattle.hayro_ccitt.specs.RowFeeds.{IsPartOf1d, line_of_feed, says_short, some_line};
 ghost use Rattle.hayro_ccitt.specs.RowFeeds.{CountsRow, Feeding, FeedsRow, PushesRows, unused};
 ghost use Rattle.hayro_ccitt.specs.Rows.{AreChanges, changes};
 
@@ -770,14 +771,16 @@ impl RowFeed {
     }
 
     /// Reads on in the line that is next, where it was found to be short, and returns whether it still is: then
-    /// [`next_row`](RowFeed::next_row) would return [`Fed::NeedsMore`]. If it isn't, `next_row` goes on from here; where
-    /// `is_within_line` is false, nothing is done.
+    /// [`next_row`](RowFeed::next_row) would return [`Fed::NeedsMore`]. It isn't where the line is whole or wrong, or the data is
+    /// finished; `next_row` goes on from here. Where `is_within_line` is false, nothing is done.
     #[inline(always)]
     pub fn stays_within_line(&mut self) -> bool
         ensures more { result ≡ true → FeedsRow self.old self.new (Ok Fed.NeedsMore) }
         ensures scans { Scans self.old self.new }
         ensures goes_on { result ≡ false → (next : Feeding) (answer : Result Fed DecodeError) → FeedsRow self.new next answer
             → FeedsRow self.old next answer }
+        ensures settled { result ≡ false → self.old.part ≢ None → (self.old.finished ≡ true)
+            ⊎ (is_short (line_of_feed self.old) ≡ false) }
     {
         if self.part.is_none() {
             return false;

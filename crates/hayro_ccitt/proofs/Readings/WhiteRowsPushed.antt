@@ -49,7 +49,8 @@ pub none_pushed : {M : Type 0} {step : M → List ℕ → M} {lines : WhiteLines
     → HasPushedWhite step lines dropped most 0 start rows ctx at next meaning meaning
 none_pushed {rows = rows} {ctx} {at} {next} {meaning} same = grind (arith, common_steps)
 
-module _ {M : Type 0} {step : M → List ℕ → M} {lines : WhiteLines} {dropped most counted start : ℕ} {rows : RowState} {ctx : Context}
+module _ {M : Type 0} {step : M → List ℕ → M} {lines : WhiteLines} {dropped most counted start : ℕ} {rows : RowState}
+    {ctx : Context}
     {at next : BitsAt} {before after : M}
     (pushed : HasPushedWhite step lines dropped most counted start rows ctx at next before after) where
   abbrev count : ℕ
@@ -65,7 +66,8 @@ module _ {M : Type 0} {step : M → List ℕ → M} {lines : WhiteLines} {droppe
 
   -- one more is read
   module _ (follow : MayFollow ctx.held.settings ctx.held.has_eols ctx.held.reference lines)
-      (limit : most ≡ lines.limit - ctx.held.taken) (more : counted < most) {then : BitsAt} (passes : PassesLine lines next then) where
+      (limit : most ≡ lines.limit - ctx.held.taken) (more : counted < most) {then : BitsAt}
+        (passes : PassesLine lines next then) where
     abbrev start_then : ℕ
     start_then = dropped + next.place + lines.gap
 

@@ -23,7 +23,8 @@ returns-in_err-decode_once-clause-closed c = λ rows count is.
 pub returns-clause-closed : goal.returns-clause-closed
 returns-clause-closed c = λ rows count is.
     ap Ok
-    (returns-clause-counted c ∙ ap (λ rows. in_64_bits (black_in rows)) ((c.in_ok-decode_once.ensures.pictures.closed rows count is).1))
+    (returns-clause-counted c ∙ ap (λ rows. in_64_bits (black_in rows))
+    ((c.in_ok-decode_once.ensures.pictures.closed rows count is).1))
 
 pub returns-in_err-decode_once-clause-limited : goal.returns-in_err-decode_once-clause-limited
 returns-in_err-decode_once-clause-limited c = λ rows is.
@@ -32,4 +33,5 @@ returns-in_err-decode_once-clause-limited c = λ rows is.
 
 pub returns-clause-limited : goal.returns-clause-limited
 returns-clause-limited c = λ rows is.
-    ap Ok (returns-clause-counted c ∙ ap (λ rows. in_64_bits (black_in rows)) ((c.in_ok-decode_once.ensures.pictures.limited rows is).1))
+    ap Ok (returns-clause-counted c ∙ ap (λ rows. in_64_bits (black_in rows))
+    ((c.in_ok-decode_once.ensures.pictures.limited rows is).1))

@@ -98,7 +98,8 @@ returns-in_err-read_line-clause-rows g c =
     let answer = err_from_is_err_and c.from_residual.result c.from_residual.ensures.1 in
     let inv = c.rows.invariant in
     let error = (line_fails g there c.in_err-read_line.was).error in
-    rw (answer.1, answer.2) (rows_ended c.requires.begins.columns c.read_line.new.self (c.read_line.ensures.settings ∙ inv.settings)
+    rw (answer.1, answer.2) (rows_ended c.requires.begins.columns c.read_line.new.self
+    (c.read_line.ensures.settings ∙ inv.settings)
     (c.read_line.ensures.same_bits ∙ inv.bits) (stands g there) error.1 inv.within inv.meaning inv.unrefused
     (Err c.in_err-read_line.field-0.0) error.0)
 
@@ -272,7 +273,8 @@ returns-in-Err-push_white_rows-clause-rows g c =
     let refused = refused_behind g at c.in-Err-push_white_rows.is in
     let takes = refused.reads.takes in
     let mid = (pushes_white g at).mid in
-    rows_refused c.requires.begins.columns mid.rows c.push_white_rows.new.rows mid.ctx behind.settings_are behind.bits_are behind.stands
+    rows_refused c.requires.begins.columns mid.rows c.push_white_rows.new.rows mid.ctx behind.settings_are
+    behind.bits_are behind.stands
     (white_behind behind refused.reads)
     (ap (λ (r : RowState). r.stand) takes.kept_is) (white_comes behind refused.reads)
     c.take_back_row-in-Err-push_white_rows.ensures.frame

@@ -12,5 +12,6 @@ returns-clause-work c =
     subst (λ (b : Bits). CountsWork c.args.settings b held.taken ticks) (ap (λ (r : BitsAt). r.bits) c.at_place-reader.ensures)
     (subst (λ (s : DecodeSettings). CountsWork s bits held.taken ticks)
     (ap (λ (x : Context). x.held.settings) c.in_ok-ctx.ensures.made)
-    (begun_is_counted first.result c.in_ok-ctx.ctx.held.settings bits held first.new.reader.place ticks first.ensures.takes_none.none_taken
+    (begun_is_counted first.result c.in_ok-ctx.ctx.held.settings bits held first.new.reader.place
+    ticks first.ensures.takes_none.none_taken
     first.ensures.alone.stands (first.ensures.alone.paid 0 (ap (λ (x : Context). x.ticks) c.in_ok-ctx.ensures.made))))
