@@ -94,7 +94,7 @@ def rows_in_pieces():
 # pages, which have some 3, 20 and 330 bytes a line, and go on a word at a time.
 PIECES = {"changes": 1.11, "packed": 1.08, "next_changes": 1.07, "next_packed": 1.05}
 FEW_RUNS = {
-    "blank": {"changes": 1.65, "packed": 1.3, "next_changes": 0.4, "next_packed": 0.4},
+    "blank": {"changes": 1.38, "packed": 1.25, "next_changes": 0.2, "next_packed": 0.2},
     "borders": {"changes": 1.4, "packed": 1.29, "next_changes": 1, "next_packed": 1},
 }
 BYTES = {("blank", 256): 7.7, ("text", 300): 7.4, ("dither", 10): 8.45}
