@@ -67,7 +67,7 @@ module _ {M : Type 0} {step : M → List ℕ → M} {lines : WhiteLines} {droppe
   -- one more is read
   module _ (follow : MayFollow ctx.held.settings ctx.held.has_eols ctx.held.reference lines)
       (limit : most ≡ lines.limit - ctx.held.taken) (more : counted < most) {then : BitsAt}
-        (passes : PassesLine lines next then) where
+      (passes : PassesLine lines next then) where
     abbrev start_then : ℕ
     start_then = dropped + next.place + lines.gap
 

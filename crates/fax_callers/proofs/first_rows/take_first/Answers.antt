@@ -28,5 +28,5 @@ returns-clause-refused g c = λ refused some.
     let flag = decodes.short.flag refused in
     record {
       flag = search rules;
-      row = elim (decodes.short.refused_row refused) [ | inl full ↦ absurd (some full) | inr row ↦ rw (taken) row ];
+      row = elim (decodes.short.refused_row refused) [ inl full ↦ absurd (some full) | inr row ↦ rw (taken) row ];
     }

@@ -28,5 +28,8 @@ returns-in_err-decode_once-clause-limited c = λ rows is.
     rw (answer.1, answer.2) (λ fault. let never = (c.in_err-decode_once.ensures.pictures.limited rows is fault).0 in cc)
 
 pub returns-clause-limited : goal.returns-clause-limited
-returns-clause-limited c = λ rows is. (refl, returns-clause-packed c
-    ∙ ap packed (c.in_ok-decode_once.ensures.pictures.limited rows is).1)
+returns-clause-limited c = λ rows is. (
+  refl,
+  returns-clause-packed c
+      ∙ ap packed (c.in_ok-decode_once.ensures.pictures.limited rows is).1,
+)
