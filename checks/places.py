@@ -15,7 +15,7 @@ import sys
 
 WANT_OF_MEMORY, LOOPS = "checks/want_of_memory.txt", "checks/loops.txt"
 # The decoder's crates.
-DECODER = ["fax_bits", "fax_reading", "hayro_ccitt"]
+DECODER = ["fax_bits", "fax_reading", "fax_lines", "fax_rows", "fax_feeds", "hayro_ccitt"]
 # Crates whose functions nobody calls: tests, and worked examples.
 NOT_CALLED = {"decoder_tests", "encoder_tests", "faxrows_tests", "named_requests", "worked_rows"}
 WORDS = re.compile(

@@ -109,10 +109,10 @@ def no_proof_has_a_hole():
 # keeps a context.
 COUNTS = {
     "crates/fax_bits/src/codes.rt": {"new", "after", "tick"},
-    "crates/hayro_ccitt/src/context.rt": {"new", "restart"},
-    "crates/hayro_ccitt/src/row_reader.rt": {"new"},  # a reader's own context, which no call of `decode` has
-    "crates/hayro_ccitt/src/row_cursor.rt": {"new"},  # the same
-    "crates/hayro_ccitt/src/row_feed.rt": {"new"},  # the same
+    "crates/fax_lines/src/context.rt": {"new", "restart"},
+    "crates/fax_rows/src/row_reader.rt": {"new"},  # a reader's own context, which no call of `decode` has
+    "crates/fax_rows/src/row_cursor.rt": {"new"},  # the same
+    "crates/fax_feeds/src/row_feed.rt": {"new"},  # the same
 }
 MAKES_A_COUNT = re.compile(
     r"\bTicks>?\s*::|\bTicks\s*\{\s*\}|\bTicks\s+as\b|\btype\b.*\bTicks\b"
@@ -166,26 +166,47 @@ NO_WRONG_BODY = {
     # A count has no bytes, so its body stores nothing: the number is only in the proof by hand.
     "fax_bits": {"codes::Ticks::new"},
     # The trait's declaration. Each impl has edits of its own.
-    "hayro_ccitt": {"Decoder::push_row"},
+    "fax_lines": {"Decoder::push_row"},
     # It returns the only value of a type parameter that it has.
     "fax_program": {"device::Device::into_inner"},
 }
 
 
-# What `hayro_ccitt` passes on of the crate below it, which no other crate names: nothing of the window, nor of a reader's offset, nor
-# anything that counts more than a tick.
+# What `hayro_ccitt` passes on of the crates below it, which no other crate names: nothing of the window, nor of a reader's offset, nor
+# anything that counts more than a tick; and of a context no function that changes what a row is, or counts it.
 PASSED_ON = {
-    "DecodeError",
-    "DecodeSettings",
-    "EncodingMode",
-    "Result",
-    "bit_reader::BitOrder",
-    "bit_reader::BitReader",
-    "bits_fit",
-    "codes::Color",
-    "codes::Mode",
-    "codes::Ticks",
-    "tables",
+    "fax_bits": {
+        "DecodeError",
+        "DecodeSettings",
+        "EncodingMode",
+        "Result",
+        "bit_reader::BitOrder",
+        "bit_reader::BitReader",
+        "bits_fit",
+        "codes::Color",
+        "codes::Mode",
+        "codes::Ticks",
+        "tables",
+    },
+    "fax_lines": {
+        "Decoder",
+        "changes::append_pixels",
+        "changes::b1_index",
+        "changes::change_or_end",
+        "context::DecoderContext",
+        "context::decode_1d_line",
+        "context::decode_2d_line",
+    },
+    "fax_rows": {
+        "group3::check_eob",
+        "group3::decode_1d",
+        "group3::decode_2d",
+        "group3::recover",
+        "group4::decode",
+        "row_cursor::RowCursor",
+        "row_reader::RowReader",
+    },
+    "fax_feeds": {"row_feed::Fed", "row_feed::RowFeed"},
 }
 
 
@@ -193,12 +214,13 @@ PASSED_ON = {
 def below():
     laws = {item.name for item in edits.Source("crates/fax_reading").public()}
     assert all(name.startswith("laws::") for name in laws), laws
-    yield "fax_bits", "crates/hayro_ccitt/src/lib.rt", PASSED_ON, ["fax_reading", "hayro_ccitt"]
-    yield "fax_reading", "crates/hayro_ccitt/src/laws.rt", laws, ["hayro_ccitt"]
+    for place, crate in enumerate(places.DECODER[:-1]):
+        name, items = ("laws", laws) if crate == "fax_reading" else ("lib", PASSED_ON[crate])
+        yield crate, f"crates/hayro_ccitt/src/{name}.rt", items, places.DECODER[place + 1 :]
 
 
 def only_what_users_call_is_passed_on():
-    """Of `fax_bits` what is listed above, and of `fax_reading`, which has laws alone, each of them."""
+    """Of the crates below `hayro_ccitt` what is listed above, and of `fax_reading`, which has laws alone, each of them."""
     for crate, name, items, crates in below():
         with open(name, encoding="utf-8") as file:
             found = re.findall(rf"^ *pub use {crate}::(?:([\w:]+)::)?(\{{[^}}]*\}}|\w+);", file.read(), re.MULTILINE)
@@ -212,9 +234,9 @@ def only_what_users_call_is_passed_on():
 
 
 def is_for_users(crate, item):
-    """Whether a function is more than a part of the library: of the crate below the decoder only what is passed on is."""
+    """Whether a function is more than a part of the library: of the crates below the decoder only what is passed on is."""
     above = item.name.split("::")
-    return crate != "fax_bits" or bool(PASSED_ON & {"::".join(above[:length]) for length in range(1, len(above) + 1)})
+    return crate not in PASSED_ON or bool(PASSED_ON[crate] & {"::".join(above[:length]) for length in range(1, len(above) + 1)})
 
 
 def each_public_function_has_an_edit():
@@ -378,9 +400,11 @@ def no_line_is_too_long():
 
 
 MOST_CLAUSES = 8
-# the functions that have more: nine, since two of them are called `decode`
+# the functions that have more
 LONGER = {
-    "hayro_ccitt": {"decode", "decode_low_first", "feed", "feed_all", "line_ends_before", "next_row", "read_line", "read_whole_line"},
+    "fax_rows": {"decode", "next_row", "read_line"},
+    "fax_feeds": {"feed", "feed_all", "read_whole_line"},
+    "hayro_ccitt": {"decode", "decode_low_first", "line_ends_before"},
 }
 CLAUSE = re.compile(r"\b(?:requires|ensures)\s+(?:\w+\s*)?\{")
 

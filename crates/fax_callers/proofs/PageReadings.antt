@@ -10,7 +10,7 @@ use Rattle.std.proofs.Math.Seq.{drop-append_seam, take-add}
 use Rattle.hayro_ccitt.specs.BitOrder.{BitOrder}
 use Rattle.hayro_ccitt.specs.Bits.{BitsFit}
 use Rattle.hayro_ccitt.specs.RowFeeds.{ComeNext, Feeding, IsFeedOf, fed_bits}
-use Rattle.hayro_ccitt.specs.declared.row_reader.RowState.{RowState}
+use Rattle.hayro_ccitt.specs.RowState.{RowState}
 use Rattle.hayro_ccitt.proofs.BitReading.BitLists.{bits_are_whole, length-bits_in}
 use Rattle.fax_callers.specs.PageFeeds.{IsPageReading}
 use Rattle.fax_callers.specs.Rtc.{GoesOnBehind, page_size}

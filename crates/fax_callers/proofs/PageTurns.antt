@@ -6,11 +6,11 @@ use Rattle.hayro_ccitt.proofs.Names.{Group4, MissIsTold, ReadsNext, RowsRead, en
 use Rattle.hayro_ccitt.specs.BitOrder.{BitOrder}
 use Rattle.hayro_ccitt.specs.Bits.{BitsFit}
 use Rattle.hayro_ccitt.specs.RowFeeds.{Feeding, FeedsNext, IsFeedOf, KeepsBits, StandsIn, StaysThere, fed_end, fed_over}
-use Rattle.hayro_ccitt.specs.declared.row_feed.Fed.{Fed}
-use Rattle.hayro_ccitt.specs.declared.row_feed.Fed.TheVariants.{Row as ReadRow, NeedsMore as WantsMore, End as ReadAll}
-use Rattle.hayro_ccitt.specs.declared.row_reader.RowState.{RowState}
-use Rattle.hayro_ccitt.specs.declared.row_reader.Stand.{Stand}
-use Rattle.hayro_ccitt.specs.declared.row_reader.Stand.TheVariants.{AtLine, BehindRow, AtEnd, AtFault}
+use Rattle.hayro_ccitt.specs.Fed.{Fed}
+use Rattle.hayro_ccitt.specs.Fed.TheVariants.{Row as ReadRow, NeedsMore as WantsMore, End as ReadAll}
+use Rattle.hayro_ccitt.specs.RowState.{RowState}
+use Rattle.hayro_ccitt.specs.Stand.{Stand}
+use Rattle.hayro_ccitt.specs.Stand.TheVariants.{AtLine, BehindRow, AtEnd, AtFault}
 use Rattle.hayro_ccitt.proofs.BitReading.BitLists.{length-bits_in}
 use Rattle.hayro_ccitt.proofs.ErrorKinds.{by_kind}
 use Rattle.hayro_ccitt.proofs.Readings.RowByRow.{failed_stands}

@@ -13,7 +13,7 @@ use Rattle.hayro_ccitt.specs.BitOrder.{BitOrder}
 use Rattle.hayro_ccitt.specs.Bits.{BitsFit}
 use Rattle.hayro_ccitt.specs.PlainReading.{bytes_before}
 use Rattle.hayro_ccitt.specs.RowFeeds.{Feeding, IsFeedOf, StandsIn, fed_bits, fed_over}
-use Rattle.hayro_ccitt.specs.declared.row_reader.RowState.{RowState}
+use Rattle.hayro_ccitt.specs.RowState.{RowState}
 use Rattle.hayro_ccitt.proofs.BitReading.BitLists.{bits_are_whole, length-bits_in}
 use Rattle.hayro_ccitt.proofs.Readings.RowByRow.{ended_stands}
 use Rattle.fax_callers.specs.PageFeeds.{BytesComeNext, DropsRead, IsPageFeedOf, IsPageReading, PageFeeding, SameRows, Stays}

@@ -15,8 +15,8 @@ use Rattle.hayro_ccitt.specs.GapsContinued.{holds_one}
 use Rattle.hayro_ccitt.specs.PlainReading.{Move, after_line, behind_row, eols_of_end, is_end_of_block, nothing_read}
 use Rattle.hayro_ccitt.specs.PlainReading.{pass_gap}
 use Rattle.hayro_ccitt.specs.RowFeeds.{Feeding, IsFeedOf, IsOpenAt, StandsIn, fed_bits}
-use Rattle.hayro_ccitt.specs.declared.row_reader.Stand.{Stand}
-use Rattle.hayro_ccitt.specs.declared.row_reader.Stand.TheVariants.{AtLine, BehindRow, AtEnd, AtFault}
+use Rattle.hayro_ccitt.specs.Stand.{Stand}
+use Rattle.hayro_ccitt.specs.Stand.TheVariants.{AtLine, BehindRow, AtEnd, AtFault}
 use Rattle.hayro_ccitt.proofs.KeptRows.EqualFronts.{one_in_bits}
 use Rattle.hayro_ccitt.proofs.KeptRows.EqualFronts.{line_again, one_in_whole, one_stays}
 use Rattle.hayro_ccitt.proofs.Readings.FeedsPaid.{short_row}

@@ -9,8 +9,8 @@ use Rattle.hayro_ccitt.specs.BitOrder.{BitOrder}
 use Rattle.hayro_ccitt.specs.Bits.{BitsFit}
 use Rattle.hayro_ccitt.specs.FeedsPaid.{IsHistory, cost_of_failure}
 use Rattle.hayro_ccitt.specs.RowFeeds.{ComeNext, Feeding, FeedsNext, HoldsMore, IsFeedOf, KeepsBits, fed_bits, fed_end}
-use Rattle.hayro_ccitt.specs.declared.row_feed.Fed.{Fed}
-use Rattle.hayro_ccitt.specs.declared.row_feed.Fed.TheVariants.{End as ReadAll}
+use Rattle.hayro_ccitt.specs.Fed.{Fed}
+use Rattle.hayro_ccitt.specs.Fed.TheVariants.{End as ReadAll}
 use Rattle.hayro_ccitt.proofs.BitReading.BitLists.{bits_are_whole, length-bits_in}
 use Rattle.hayro_ccitt.proofs.EncodedPictures.PicturesOfEachKind.{closed_pictures}
 use Rattle.hayro_ccitt.proofs.ErrorKinds.{by_kind}

@@ -12,8 +12,8 @@ use Rattle.hayro_ccitt.specs.PlainReading.{Move, after_line, behind_row, bytes_b
 use Rattle.hayro_ccitt.specs.Repetition.{repeated}
 use Rattle.hayro_ccitt.specs.RowFeeds.{Feeding, IsFeedOf, StandsIn}
 use Rattle.hayro_ccitt.specs.DecodeError.TheVariants.{UnexpectedEof}
-use Rattle.hayro_ccitt.specs.declared.row_reader.Stand.{Stand}
-use Rattle.hayro_ccitt.specs.declared.row_reader.Stand.TheVariants.{AtLine, BehindRow, AtEnd, AtFault}
+use Rattle.hayro_ccitt.specs.Stand.{Stand}
+use Rattle.hayro_ccitt.specs.Stand.TheVariants.{AtLine, BehindRow, AtEnd, AtFault}
 use Rattle.hayro_ccitt.proofs.ErrorKinds.{by_kind}
 use Rattle.hayro_ccitt.proofs.BitReading.ConsecutiveEols.{cond_le, next_eol_found}
 use Rattle.hayro_ccitt.proofs.DrawingLines.ReadLines.{TookBits}

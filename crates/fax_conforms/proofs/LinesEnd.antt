@@ -1,9 +1,10 @@
 -- Where lines begin and end, and one step behind another.
-use Rattle.hayro_ccitt.proofs.Names.{◌≡◌, ℕ, suc, ◌+◌, ◌-◌, [], ◌∷◌, ◌++◌, length, take, refl, ap, sym, subst, ◌∙◌, arith}
+use Rattle.hayro_ccitt.proofs.Names.{◌≡◌, ℕ, suc, ◌+◌, ◌-◌, [], ◌++◌, length, take, refl, ap, sym, subst, ◌∙◌, arith}
 use Rattle.hayro_ccitt.proofs.Names.{append-nil, length-append, length-replicate, replicate, Color, Bits, Row}
 use Rattle.hayro_ccitt.proofs.Names.{is_black, EncodesLine1D, EncodesLine2D}
 use Rattle.std.proofs.lemmas.List.{take_all}
 use Rattle.fax_conforms.specs.Standing.{Spot, LineFrom, RunsFrom, Leads, Never, IsOnly}
+use Rattle.std.proofs.lemmas.List.{nil_from_length}
 
 pub leads_on : {P Q R : Row → Bits → Type 0} (columns : ℕ) → Leads columns P Q → Leads columns Q R → Leads columns P R
 leads_on columns f g row rest len =
@@ -44,10 +45,6 @@ no_runs color row bits e (EncodesLine1D.run n word {row = others} spells some ma
     absurd (let l = length-append (replicate n (is_black color)) others in
     omega (arith, l, length-replicate n (is_black color), e, some))
 
-pub empty : (row : Row) → length row ≡ 0 → row ≡ []
-empty [] e = refl
-empty (pixel ∷ row) e = absurd (omega arith)
-
 pub runs_end : (columns : ℕ) (at : Spot) (here : Bits) → length at.front ≡ columns
     → Leads columns (RunsFrom at here) (IsOnly at.front here)
 runs_end columns at here front_len row rest len = (to, back)
@@ -56,7 +53,7 @@ runs_end columns at here front_len row rest len = (to, back)
     to (others, bits, row_is, first, line, is) =
         let l : length row ≡ length at.front + length others = ap length row_is ∙ length-append at.front others in
         let none : length others ≡ 0 = omega (arith, l) in (
-          row_is ∙ ap (λ (r : Row). at.front ++ r) (empty others none) ∙ append-nil at.front,
+          row_is ∙ ap (λ (r : Row). at.front ++ r) (nil_from_length others none) ∙ append-nil at.front,
           sym (is ∙ ap (λ (x : Bits). x ++ rest) (no_runs at.color others bits none line)),
         )
 

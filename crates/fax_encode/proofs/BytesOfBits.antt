@@ -3,6 +3,7 @@ use Rattle.fax_encode.proofs.Names.{◌≡◌, ℕ, ◌+◌, ◌*◌, ◌<◌, B
 use Rattle.fax_encode.proofs.Names.{ap, ◌∙◌, arith, All, agree_below_at, eqb-true, All-head, All-tail, take-append_seam}
 use Rattle.fax_encode.proofs.Names.{drop-append_seam, BitOrder, HighestFirst, LowestFirst, Bits, bits_in, bits_of_byte}
 use Rattle.fax_encode.proofs.Names.{length-bits_in}
+use Rattle.hayro_ccitt.proofs.BitReading.BitLists.{length-bits_of_byte}
 
 -- the number of some bits
 number : BitOrder → ℕ → Bits → ℕ
@@ -18,10 +19,6 @@ unfolding is_its_number number
 its_number HighestFirst byte lt = eqb-true _ _ (agree_below_at (is_its_number HighestFirst) (λ b. true) 256 byte refl lt)
 its_number LowestFirst byte lt = eqb-true _ _ (agree_below_at (is_its_number LowestFirst) (λ b. true) 256 byte refl lt)
 
-eight_bits : (order : BitOrder) (byte : ℕ) → length (bits_of_byte order byte) ≡ 8
-eight_bits HighestFirst byte = refl
-eight_bits LowestFirst byte = refl
-
 -- the same bits are of the same bytes
 pub same_bytes : (order : BitOrder) (one two : List ℕ) → All (λ byte. byte < 256) one → All (λ byte. byte < 256) two
     → bits_in order one ≡ bits_in order two → one ≡ two
@@ -31,7 +28,8 @@ same_bytes order [] (b ∷ two) fit fits e =
 same_bytes order (a ∷ one) [] fit fits e =
     absurd (omega (arith, ap length e, length-bits_in order (a ∷ one), length-bits_in order []))
 same_bytes order (a ∷ one) (b ∷ two) fit fits e =
-    let long : length (bits_of_byte order a) ≡ length (bits_of_byte order b) = eight_bits order a ∙ sym (eight_bits order b) in
+    let long : length (bits_of_byte order a) ≡ length (bits_of_byte order b) =
+    length-bits_of_byte order a ∙ sym (length-bits_of_byte order b) in
     let front : bits_of_byte order a ≡ bits_of_byte order b
     = sym (take-append_seam (bits_of_byte order a) (bits_in order one)) ∙ ap (λ (n : ℕ). take n (bits_in order (a ∷ one))) long
     ∙ ap (take (length (bits_of_byte order b))) e ∙ take-append_seam (bits_of_byte order b) (bits_in order two) in

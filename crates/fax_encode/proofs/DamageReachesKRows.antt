@@ -141,7 +141,7 @@ rows_append rows [] more = refl
 rows_append rows (row ∷ before) more = rows_append (with_row rows row) before more
 
 -- the settings stay
-settings_stay : (rows : RowsEncoded) (more : List Row) → (with_rows rows more).settings ≡ rows.settings
+pub settings_stay : (rows : RowsEncoded) (more : List Row) → (with_rows rows more).settings ≡ rows.settings
 settings_stay rows [] = refl
 settings_stay rows (row ∷ more) = settings_stay (with_row rows row) more
 

@@ -1,7 +1,8 @@
 -- The changing elements as an encoder finds them, by how many changes are left of the position right of a0.
-use Rattle.fax_encode.proofs.Names.{◌≡◌, ℕ, zero, suc, ◌+◌, ◌<◌, ◌≤◌, ltb, ◌&&◌, List, [], ◌∷◌, length, get_or, refl, ap, ◌∙◌}
+use Rattle.fax_encode.proofs.Names.{◌≡◌, ℕ, zero, suc, ◌+◌, ◌<◌, ◌≤◌, ltb, ◌&&◌, List, [], ◌∷◌, length, get_or, ap, ◌∙◌}
 use Rattle.fax_encode.proofs.Names.{arith, AreChanges, AscendFrom, pixels, is_change, least_below, a1, a2, IsSplit, a1_is}
 use Rattle.fax_encode.proofs.Names.{next_change, AreLeft, AreAllLeft}
+use Rattle.fax_encode.proofs.Names.{get_or_default}
 
 -- the changes that are left, and no others
 pub split_of : (changes : List ℕ) (from left : ℕ) → AreAllLeft changes from left → IsSplit changes from left
@@ -43,12 +44,6 @@ next_is_right first width (p ∷ q ∷ places) zero j is ascend =
     rw e (omega arith)
 next_is_right first width (p ∷ places) (suc i) zero is ascend = absurd (omega arith)
 next_is_right first width (p ∷ places) (suc i) (suc j) is ascend = next_is_right (suc p) width places i j (omega arith) ascend.2
-
--- before the list's end it doesn't matter what follows it
-pub same_change : (places : List ℕ) (i a b : ℕ) → i < length places → get_or places i a ≡ get_or places i b
-same_change [] i a b lt = absurd (omega arith)
-same_change (p ∷ places) zero a b lt = refl
-same_change (p ∷ places) (suc i) a b lt = same_change places i a b (omega arith)
 
 -- right of a change the changes up to it are left, and no others
 pub left_of_next : (first width : ℕ) (places : List ℕ) (i j place : ℕ) → j ≡ i + 1 → AscendFrom first width places
@@ -92,5 +87,5 @@ pub still_left : (columns : ℕ) (changes : List ℕ) (from to left : ℕ) → f
     → to ≤ get_or changes left columns → AreAllLeft changes to left
 still_left columns changes from to left le are right = record {
   left = AreLeft-right changes from to left le are.left;
-  right = λ lt. (let same = same_change changes left columns 0 lt in omega (arith, same));
+  right = λ lt. (let same = get_or_default changes left columns 0 lt in omega (arith, same));
 }

@@ -2,11 +2,12 @@
 use Rattle.fax_encode.proofs.Names.{◌≡◌, ℕ, suc, ◌+◌, ◌^◌, ◌<◌, Bool, true, false, ◌∷◌, [], ◌++◌, length, replicate, ap, ◌∙◌}
 use Rattle.fax_encode.proofs.Names.{arith, append_assoc, length-append, length-replicate, pow-add, EncodingMode, Bits, low_bits}
 use Rattle.fax_encode.proofs.Names.{eol, tag_of, fill_of, chosen_eols, low_bits-append}
-use Rattle.fax_encode.proofs.WrittenBits.{zero_bits, power_positive}
+use Rattle.fax_encode.proofs.WrittenBits.{zero_bits}
+use Rattle.std.proofs.lemmas.Nat.{pow_pos}
 
 -- an EOL is the number 1 in twelve bits and its fill
 pub one_fits : (fill : ℕ) → 1 < 2 ^ (12 + fill)
-one_fits fill = omega (arith, pow-add 2 12 fill, power_positive fill)
+one_fits fill = omega (arith, pow-add 2 12 fill, pow_pos fill)
 
 pub eol_bits : (fill : ℕ) → low_bits (12 + fill) 1 ≡ eol fill
 eol_bits fill =

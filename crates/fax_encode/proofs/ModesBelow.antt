@@ -1,20 +1,13 @@
 -- Vertical modes V0 that follow one another.
-use Rattle.fax_encode.proofs.Names.{◌≡◌, ℕ, zero, suc, ◌+◌, ◌-◌, ◌^◌, ◌<◌, ◌≤◌, true, List, [], ◌∷◌, ◌++◌, length, replicate}
-use Rattle.fax_encode.proofs.Names.{get_or, refl, sym, ap, subst, ◌∙◌, arith, eqb, le-leb, bit_at_ones, Color}
-use Rattle.fax_encode.proofs.Names.{Bits, Row, bit_of, low_bits, AreChanges, pixels, a1, b1, b2, length-pixels}
+use Rattle.fax_encode.proofs.Names.{◌≡◌, ℕ, zero, suc, ◌+◌, ◌-◌, ◌<◌, ◌≤◌, true, List, [], ◌∷◌, ◌++◌, length, replicate}
+use Rattle.fax_encode.proofs.Names.{get_or, refl, sym, ap, subst, ◌∙◌, arith, le-leb, Color}
+use Rattle.fax_encode.proofs.Names.{Bits, Row, AreChanges, pixels, a1, b1, b2, length-pixels}
 use Rattle.fax_encode.proofs.Names.{b2_after_b1, Place, word_of_mode, vertical_mode, is_near, place_after, chosen_mode}
 use Rattle.fax_encode.proofs.Names.{chosen_from, AreAllLeft, IsNear, color_after, in_list_if_below}
-use Rattle.fax_encode.proofs.Elements.{a1_found, left_of_end, left_of_next, next_is_right, same_change}
+use Rattle.fax_encode.proofs.Elements.{a1_found, left_of_end, left_of_next, next_is_right}
 use Rattle.fax_encode.proofs.ModesWritten.{step_bits, vertical_bits, vertical_place}
 use Rattle.fax_encode.proofs.StepsToB1.{b1_reached, color_next, near_next}
-
--- the bits of a number of ones
-pub ones_bits : (k n : ℕ) → k ≤ n → low_bits k (2 ^ n - 1) ≡ replicate k true
-ones_bits zero n le = refl
-ones_bits (suc k) n le =
-    let one : bit_of (2 ^ n - 1) k ≡ true = ap (λ (b : ℕ). eqb b 1) (bit_at_ones n k (omega arith)) in
-    let rest = ones_bits k n (omega arith) in
-    cc
+use Rattle.fax_encode.proofs.Names.{get_or_default}
 
 -- an a1 below b1
 near_below : (m n : ℕ) → n ≡ m → is_near m n ≡ true
@@ -46,7 +39,7 @@ module _ (columns : ℕ) (reference changes : List ℕ) (lawful : AreChanges col
     a = sym (a1_found columns changes are from next left)
 
     here : from ≤ get_or reference index columns
-    here = omega (arith, same, left.right more, same_change changes next 0 columns more)
+    here = omega (arith, same, left.right more, get_or_default changes next 0 columns more)
 
     b : get_or reference index columns ≡ b1 above from color
     b = sym (b1_reached columns reference lawful (at from next) index near inside here)
@@ -106,8 +99,8 @@ module _ (columns : ℕ) (reference changes : List ℕ) (lawful : AreChanges col
   first_below next index lt le same =
       let c : next + 0 ≡ next = omega arith in
       let r : index + 0 ≡ index = omega arith in
-      same_change changes next columns 0 lt ∙ ap (λ (k : ℕ). get_or changes k 0) (sym c) ∙ same
-      ∙ ap (λ (k : ℕ). get_or reference k 0) r ∙ same_change reference index 0 columns le
+      get_or_default changes next columns 0 lt ∙ ap (λ (k : ℕ). get_or changes k 0) (sym c) ∙ same
+      ∙ ap (λ (k : ℕ). get_or reference k 0) r ∙ get_or_default reference index 0 columns le
 
   pub all_below : (n from next index last to reach : ℕ) → last ≡ next + n → to ≡ next + n + 1 → reach ≡ index + n + 1
       → from ≤ columns → IsNear columns reference (at from next) index → AreAllLeft changes from next → to ≤ length changes
@@ -148,6 +141,6 @@ module _ (columns : ℕ) (reference changes : List ℕ) (lawful : AreChanges col
     arith,
     same,
     is,
-    same_change changes next 0 columns lt,
+    get_or_default changes next 0 columns lt,
     left_of_end 0 columns changes next are lt,
   ))

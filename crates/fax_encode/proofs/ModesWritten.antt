@@ -6,6 +6,9 @@ use Rattle.fax_encode.proofs.Names.{AreChanges, pixels, opposite, a1, a2, b1, b2
 use Rattle.fax_encode.proofs.Names.{Place, word_of_mode, vertical_mode, is_near, is_coded, chosen_mode, runs_of_mode, place_after}
 use Rattle.fax_encode.proofs.Names.{bits_at, chosen_run, chosen_from}
 use Rattle.fax_encode.proofs.ChosenLines.{goes_right, chooses, chosen_more, chosen_over}
+use Rattle.fax_encode.proofs.Names.{AreAllLeft, IsNear, chosen_line_2d, place_of}
+use Rattle.fax_encode.proofs.RunsWritten.{one_part}
+use Rattle.fax_encode.specs.declared.group4.Coding.{Coding}
 
 module _ (reference row : Row) (at : Place) (inside : at.from ≤ length row) where
   open_bits : (mode : Mode) → chosen_mode reference row at ≡ mode
@@ -111,6 +114,33 @@ module _ (columns : ℕ) (reference changes : List ℕ) (lawful : AreChanges col
   no_more at now whole past e =
       sym (append-nil now) ∙ ap (λ (b : Bits). now ++ b) (sym (chosen_over (pixels columns reference)
       (pixels columns changes) one_width at (omega (arith, length-pixels columns changes are)))) ∙ e
+
+-- the modes of a line are written, behind these bits, up to there
+pub record IsCodedUpTo (columns : ℕ) (reference changes : List ℕ) (before so_far : Bits) (at : Coding) : Type 0 where
+  pub within : at.from ≤ columns + 1
+  pub near : IsNear columns reference (place_of at) at.above
+  pub next : at.from ≤ columns → AreAllLeft changes at.from at.next
+  pub inside : at.next < length changes → at.from ≤ columns
+  pub written : so_far ++ chosen_from (pixels columns reference) (pixels columns changes) (place_of at)
+      ≡ before ++ chosen_line_2d (pixels columns reference) (pixels columns changes)
+
+-- so they are up to the next place
+pub coded_on : {columns : ℕ} {reference changes : List ℕ} {before old new : Bits} {at after : Coding}
+    → AreChanges columns reference → AreChanges columns changes → IsCodedUpTo columns reference changes before old at
+    → at.from ≤ columns → new ≡ old ++ bits_at (pixels columns reference) (pixels columns changes) (place_of at)
+    → place_of after ≡ place_after (pixels columns reference) (pixels columns changes) (place_of at)
+    (chosen_mode (pixels columns reference) (pixels columns changes) (place_of at))
+    → IsNear columns reference (place_of after) after.above → (after.from ≤ columns → AreAllLeft changes after.from after.next)
+    → (after.next < length changes → after.from ≤ columns) → IsCodedUpTo columns reference changes before new after
+coded_on {columns} {reference} {changes} {before} {old} {new} {at} {after} lawful are coded inside more moves near next left =
+    record {
+      within = (step_right columns reference changes lawful are (place_of at) (place_of after) inside moves).1;
+      near = near;
+      next = next;
+      inside = left;
+      written = one_part new old _ _ _ _ coded.written
+          (step_bits columns reference changes lawful are (place_of at) (place_of after) inside moves) more;
+    }
 
 -- zeros up to a whole byte are the same number after whole bytes
 same_padding : (aligned : Bool) (before line : Bits) → (aligned ≡ true → length before % 8 ≡ 0)

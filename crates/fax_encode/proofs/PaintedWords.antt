@@ -5,6 +5,7 @@ use Rattle.fax_encode.proofs.Names.{bit_xor}
 use Rattle.fax_encode.proofs.Names.{bit_at_xor, bit_at_ones, bit_at_ones_above, bit_at-lt, HighestFirst, Bits, bit_of, bits_of}
 use Rattle.fax_encode.proofs.Names.{bits_of_byte, low_bits, low_bits-append}
 use Rattle.fax_encode.proofs.WrittenBits.{low_bits_mod}
+use Rattle.std.proofs.Math.Seq.{drop-nil, take-nil}
 
 -- ---- the bytes of a word
 -- one byte of a number, before the bytes below it
@@ -30,18 +31,10 @@ bits_of_word n =
     byte_before 56 n (n / 2 ^ 56 % 256) (n / 2 ^ 48 % 256 ∷ n / 2 ^ 40 % 256 ∷ n / 2 ^ 32 % 256 ∷ n / 2 ^ 24 % 256
     ∷ n / 2 ^ 16 % 256 ∷ n / 2 ^ 8 % 256 ∷ n % 256 ∷ []) refl seven
 
-take_none : (n : ℕ) → take {A = Bool} n [] ≡ []
-take_none zero = refl
-take_none (suc n) = refl
-
-drop_none : (n : ℕ) → drop {A = Bool} n [] ≡ []
-drop_none zero = refl
-drop_none (suc n) = refl
-
 -- the first bytes are the first bits
 pub bits_of-take : (k : ℕ) (bytes : List ℕ) → bits_of (take k bytes) ≡ take (8 * k) (bits_of bytes)
 bits_of-take zero bytes = refl
-bits_of-take (suc k) [] = sym (take_none (8 * suc k))
+bits_of-take (suc k) [] = sym (take-nil (8 * suc k))
 bits_of-take (suc k) (byte ∷ bytes) =
     let n : 8 * suc k ≡ suc (suc (suc (suc (suc (suc (suc (suc (8 * k)))))))) = omega arith in
     ap (λ (b : Bits). bits_of_byte HighestFirst byte ++ b) (bits_of-take k bytes)
@@ -49,7 +42,7 @@ bits_of-take (suc k) (byte ∷ bytes) =
 
 pub bits_of-drop : (k : ℕ) (bytes : List ℕ) → bits_of (drop k bytes) ≡ drop (8 * k) (bits_of bytes)
 bits_of-drop zero bytes = refl
-bits_of-drop (suc k) [] = sym (drop_none (8 * suc k))
+bits_of-drop (suc k) [] = sym (drop-nil (8 * suc k))
 bits_of-drop (suc k) (byte ∷ bytes) =
     let n : 8 * suc k ≡ suc (suc (suc (suc (suc (suc (suc (suc (8 * k)))))))) = omega arith in
     bits_of-drop k bytes ∙ sym (ap (λ (m : ℕ). drop m (bits_of (byte ∷ bytes))) n)
@@ -65,8 +58,8 @@ turned_bit (suc (suc b)) lt = absurd (omega arith)
 kept_bit : (b : ℕ) → b < 2 → (b + 0) % 2 ≡ b
 kept_bit b lt = omega arith
 
-pub turned_at : (m n k : ℕ) → k < m → bit_of (bit_xor n (2 ^ m - 1)) k ≡ not (bit_of n k)
-turned_at m n k lt =
+pub turned_bit_at : (m n k : ℕ) → k < m → bit_of (bit_xor n (2 ^ m - 1)) k ≡ not (bit_of n k)
+turned_bit_at m n k lt =
     ap (λ (b : ℕ). eqb b 1) (bit_at_xor n (2 ^ m - 1) k ∙ ap (λ (b : ℕ). (bit_at n k + b) % 2) (bit_at_ones m k lt))
     ∙ turned_bit (bit_at n k) (bit_at-lt n k)
 
@@ -81,7 +74,7 @@ turned_low zero m n color le e = refl
 turned_low (suc k) m n color le e =
     let first : bit_of n k ≡ color = cc in
     let rest : low_bits k n ≡ replicate k color = cc in
-    let one = turned_at m n k (omega arith) in
+    let one = turned_bit_at m n k (omega arith) in
     let others = turned_low k m n color (omega arith) rest in
     cc
 

@@ -3,6 +3,7 @@ use Rattle.fax_encode.proofs.Names.{◌≡◌, ℕ, suc, ◌+◌, ◌-◌, ◌*�
 use Rattle.fax_encode.proofs.Names.{get_or, drop, replicate, refl, sym, ap, subst, ◌∙◌, arith, append_assoc, flat_map, lt-ltb}
 use Rattle.fax_encode.proofs.Names.{le-ltb, slice_get-get_or, drop_some, AscendFrom-wider, opposite, AscendFrom, Color, Bits}
 use Rattle.fax_encode.proofs.Names.{low_bits, Word, IsWord, word_of_length, chosen_rest, chosen_run, chosen_runs, White, Black}
+use Rattle.fax_encode.proofs.Names.{length-drop, nil_from_length}
 
 -- a few pixels are a terminating word
 pub rest_few : (color : Color) (n : ℕ) → n < 64 → chosen_rest color n ≡ word_of_length color n
@@ -78,6 +79,27 @@ module _ (columns place i : ℕ) (color : Color) (changes : List ℕ) (lt : i < 
       ++ chosen_runs columns (opposite color) (get_or changes i 0) (drop (i + 1) changes)
   next_run = ap (chosen_runs columns color place) next_is
 
+-- and the last one
+pub last_run : (columns place i : ℕ) (changes : List ℕ) → i < length changes → length changes < i + 2
+    → AscendFrom place columns (drop i changes) → chosen_runs columns White place (drop i changes)
+    ≡ chosen_run White (get_or changes i 0 - place) ++ chosen_run Black (columns - get_or changes i 0)
+last_run columns place i changes last few ascend =
+    next_run columns place i White changes last ascend
+    ∙ ap (λ (l : List ℕ). chosen_run White (get_or changes i 0 - place) ++ chosen_runs columns Black (get_or changes i 0) l)
+    (nil_from_length (drop (i + 1) changes) (omega (arith, few, length-drop (i + 1) changes)))
+
+-- the changes behind two of them
+pub two_ascend : (columns place i : ℕ) (color : Color) (changes : List ℕ) → i + 1 < length changes
+    → AscendFrom place columns (drop i changes)
+    → (get_or changes (i + 1) 0 ≤ columns) × AscendFrom (get_or changes (i + 1) 0) columns (drop (i + 2) changes)
+two_ascend columns place i color changes second ascend =
+    let behind = next_ascends columns place i color changes (omega (arith, second)) ascend in
+    let two : i + 1 + 1 ≡ i + 2 = omega arith in (
+      next_within columns (get_or changes i 0) (i + 1) (opposite color) changes second behind,
+      subst (λ (n : ℕ). AscendFrom (get_or changes (i + 1) 0) columns (drop n changes)) two
+          (next_ascends columns (get_or changes i 0) (i + 1) (opposite color) changes second behind),
+    )
+
 -- and the one after it
 pub two_runs : (columns place i : ℕ) (color : Color) (changes : List ℕ) → i < length changes
     → i + 1 < length changes → AscendFrom place columns (drop i changes) → chosen_runs columns color place (drop i changes) ≡
@@ -106,13 +128,8 @@ module _ (columns place i : ℕ) (changes : List ℕ) (fourth : i + 3 < length c
   abbrev four : ℕ
   four = get_or changes (i + 3) 0
 
-  second_ascends : AscendFrom one columns (drop (i + 1) changes)
-  second_ascends = next_ascends columns place i White changes (omega arith) ascend
-
   third_ascends : AscendFrom two columns (drop (i + 2) changes)
-  third_ascends = let e : i + 1 + 1 ≡ i + 2 = omega arith in
-      subst (λ (n : ℕ). AscendFrom two columns (drop n changes)) e
-      (next_ascends columns one (i + 1) Black changes (omega arith) second_ascends)
+  third_ascends = (two_ascend columns place i White changes (omega (arith, fourth)) ascend).1
 
   fourth_ascends : AscendFrom three columns (drop (i + 3) changes)
   fourth_ascends = let e : i + 2 + 1 ≡ i + 3 = omega arith in

@@ -94,6 +94,18 @@ plain_both m n k color bytes behind sum is front back =
     ∙ ap (λ (b : Bits). replicate (8 * m) color ++ b) (ap (λ (l : List ℕ). bits_of (take n l)) (sym is) ∙ back)
     ∙ replicate-append-replicate (8 * m) (8 * n) color ∙ ap (λ (j : ℕ). replicate j color) more
 
+-- and so are more words of it
+pub plain_words : (count more : ℕ) (color : Bool) (bytes behind : List ℕ) → behind ≡ drop (8 * count) bytes
+    → bits_of (take (8 * count) bytes) ≡ replicate (64 * count) color
+    → bits_of (take (8 * more) behind) ≡ replicate (8 * (8 * more)) color
+    → bits_of (take (8 * (count + more)) bytes) ≡ replicate (64 * (count + more)) color
+plain_words count more color bytes behind is front back =
+    let before : 64 * count ≡ 8 * (8 * count) = omega arith in
+    let sum : 8 * (count + more) ≡ 8 * count + 8 * more = omega arith in
+    let after : 8 * (8 * (count + more)) ≡ 64 * (count + more) = omega arith in
+    plain_both (8 * count) (8 * more) (8 * (count + more)) color bytes behind sum is
+    (front ∙ ap (λ (n : ℕ). replicate n color) before) back ∙ ap (λ (n : ℕ). replicate n color) after
+
 -- a word of one colour
 pub plain_word_there : (word : ℕ) (color : Bool) (bytes : List ℕ) → 8 ≤ length bytes → low_bits 64 word ≡ take 64
     (bits_of bytes ++ replicate 64 false) → low_bits 64 word ≡ replicate 64 color → bits_of (take 8 bytes) ≡ replicate 64 color

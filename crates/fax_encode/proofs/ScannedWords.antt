@@ -7,7 +7,8 @@ use Rattle.fax_encode.proofs.Names.{and_comm, and_pow}
 use Rattle.fax_encode.proofs.Names.{leading_top, leading_length, one_shl, bit_at_xor, bit_at-lt, bit_at-suc, bit_at_above}
 use Rattle.fax_encode.proofs.Names.{bit_at_cat_low, bit_at_cat_high, pow-suc, Bits, bit_of, bits_of, low_bits, Row, last_pixel}
 use Rattle.fax_encode.proofs.Names.{one_times, some_number, changes_from, differences, ones_from, append-nil, low_bits_below}
-use Rattle.fax_encode.proofs.{PaintedWords.bits_of_word, WrittenBits.power_positive}
+use Rattle.fax_encode.proofs.PaintedWords.{bits_of_word}
+use Rattle.std.proofs.lemmas.Nat.{pow_pos}
 
 -- ---- the word of eight bytes
 -- the first eight bytes, and zeros past the end
@@ -189,7 +190,7 @@ module _ (word ahead count : ℕ) (small : word < 2 ^ 64) (is : ahead ≡ count_
       let at : 63 - ahead ≡ j = omega (arith, top.1) in
       let one : 1 * 2 ^ (63 - ahead) % 2 ^ 64 ≡ 2 ^ j =
       ap (λ (n : ℕ). 1 * 2 ^ n % 2 ^ 64) at ∙ one_shl j 64 (omega (arith, top.1)) in
-      omega (arith, one_cleared lt, one, power_positive j, top.2)
+      omega (arith, one_cleared lt, one, pow_pos j, top.2)
 
   -- what is left needs one place fewer
   pub room_left : (room : ℕ) → ahead < 64 → word < 2 ^ room

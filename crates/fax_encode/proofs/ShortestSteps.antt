@@ -25,15 +25,9 @@ use Rattle.fax_encode.proofs.ShortestWays.{rest_over, rest_bounded}
 use Rattle.fax_encode.proofs.RunLengths.{word_length}
 use Rattle.fax_encode.proofs.ShortestRunsWritten.{two_runs_least}
 use Rattle.std.proofs.lemmas.Bool.{lt-leb}
+use Rattle.fax_encode.proofs.Elements.{left_of_end}
 
 -- ---- Places right of changes.
--- a change of the list is left of the row's end
-changes_below : (first width : ℕ) (places : List ℕ) → AscendFrom first width places → (j : ℕ) → j < length places
-    → get_or places j width < width
-changes_below first width [] ascend j lt = absurd (omega arith)
-changes_below first width (place ∷ places) ascend zero lt = ascend.1
-changes_below first width (place ∷ places) ascend (suc j) lt = changes_below (suc place) width places ascend.2 j (omega arith)
-
 -- there are no more changes than pixels
 pub no_more_changes : (first width : ℕ) (places : List ℕ) → AscendFrom first width places → first ≤ width
     → first + length places ≤ width
@@ -82,7 +76,7 @@ module _ (columns : ℕ) (changes : List ℕ) (are : AreChanges columns changes)
     left = record { left = record { within = omega arith; left = λ k l. absurd (omega arith) }; right = λ l. omega arith };
   }
   stands_right (suc n) le =
-      let below = changes_below 0 columns changes are n (omega arith) in
+      let below = left_of_end 0 columns changes n are (omega arith) in
       let here : ℕ = get_or changes n columns in
       let one : here + 1 ≡ suc here = omega arith in
       record {

@@ -11,7 +11,10 @@ use Rattle.fax_encode.proofs.Names.{append-nil, bits_of, length-bits_of, length-
 use Rattle.fax_encode.proofs.Names.{take-append-le, take-append_seam}
 use Rattle.fax_encode.proofs.Names.{get_or-drop, plain_pixels, take-add, take-append-drop}
 use Rattle.fax_encode.proofs.BlackRuns.{bits_of-put_mid}
-use Rattle.fax_encode.proofs.PaintedWords.{bits_of-take, kept_at, turned_at}
+use Rattle.fax_encode.proofs.PaintedWords.{bits_of-take, kept_at, turned_bit_at}
+use Rattle.fax_encode.proofs.Elements.{left_of_end}
+use Rattle.fax_encode.proofs.Names.{AreChanges, get_or_default, ◌/◌, ◌*◌, ◌<◌}
+use Rattle.hayro_ccitt.proofs.PixelRows.ChangesAndPixels.{turned_at, turned_at-even}
 
 -- ---- the table of ones
 is_entry : ℕ → Bool
@@ -100,7 +103,7 @@ turned_in_part color (suc p) (bit ∷ bits) rest le =
 pub all_low_bits : (k m n : ℕ) → k ≤ m → low_bits k (bit_xor n (2 ^ m - 1)) ≡ map not (low_bits k n)
 all_low_bits zero m n le = refl
 all_low_bits (suc k) m n le =
-    let one = turned_at m n k (omega arith) in
+    let one = turned_bit_at m n k (omega arith) in
     let more = all_low_bits k m n (omega arith) in
     cc
 
@@ -123,7 +126,7 @@ pub pixels_after : (black : Bool) (color word : ℕ) → color ≡ plain_pixels 
 pixels_after true color word is = (
   ap (λ (m : ℕ). low_bits 64 (bit_xor word m)) is ∙ all_low_bits 64 64 word (omega arith)
       ∙ sym (all_after_black (low_bits 64 word)),
-  ap (λ (m : ℕ). bit_of (bit_xor word m) 0) is ∙ turned_at 64 word 0 (omega arith) ∙ sym (after_black (bit_of word 0)),
+  ap (λ (m : ℕ). bit_of (bit_xor word m) 0) is ∙ turned_bit_at 64 word 0 (omega arith) ∙ sym (after_black (bit_of word 0)),
 )
 pixels_after false color word is =
     let same : bit_xor word color ≡ word = ap (bit_xor word) is ∙ xor_zero_r word in (
@@ -190,7 +193,7 @@ word_turned color zero r mask (word ∷ words) lt below is =
     let last : Bool = turned_after color (bit_of word 0) in
     let new : ℕ = bit_xor word (2 ^ (64 - r) - 1) in
     let turned : turned_after color (bit_of new 0) ≡ not last =
-    ap (turned_after color) (turned_at (64 - r) word 0 (omega arith)) ∙ turned_pixel color (bit_of word 0) in
+    ap (turned_after color) (turned_bit_at (64 - r) word 0 (omega arith)) ∙ turned_pixel color (bit_of word 0) in
     let place : r ≡ 64 * 0 + r = omega arith in
     ap (λ (m : ℕ). map (turned_after color) (low_bits 64 (bit_xor word m))
     ++ joined_pixels (turned_after color (bit_of (bit_xor word m) 0)) words) is
@@ -221,21 +224,11 @@ plain_turned [] n color = all_turned n color
 plain_turned (bit ∷ front) n color = ap (λ (b : Bits). bit ∷ b) (plain_turned front n color)
 
 -- the colour after so many changes
-pub end_color : Bool → List ℕ → Bool
-end_color color [] = color
-end_color color (place ∷ places) = end_color (not color) places
+pub odd_ends_black : (places : List ℕ) → length places % 2 ≡ 1 → turned_at false places ≡ true
+odd_ends_black places odd = turned_at-even false places ∙ rw odd refl
 
-pub odd_ends_black : (places : List ℕ) → length places % 2 ≡ 1 → end_color false places ≡ true
-unfolding end_color
-odd_ends_black [] odd = absurd (omega arith)
-odd_ends_black (a ∷ []) odd = refl
-odd_ends_black (a ∷ b ∷ places) odd = odd_ends_black places (omega arith)
-
-pub even_ends_white : (places : List ℕ) → length places % 2 ≡ 0 → end_color false places ≡ false
-unfolding end_color
-even_ends_white [] even = refl
-even_ends_white (a ∷ []) even = absurd (omega arith)
-even_ends_white (a ∷ b ∷ places) even = even_ends_white places (omega arith)
+pub even_ends_white : (places : List ℕ) → length places % 2 ≡ 0 → turned_at false places ≡ false
+even_ends_white places even = turned_at-even false places ∙ rw even refl
 
 -- one position more
 pub one_turned : (places : List ℕ) (i : ℕ) (bits : Bits) → i < length places
@@ -359,19 +352,18 @@ all_quarters part places bits =
     ∙ sym (turned_in_turn (take (4 * part) places) rest bits)
     ∙ ap (λ (l : List ℕ). turned_at_all l bits) (take-append-drop (4 * part) places)
 
--- a change is below the width
-pub change_below : (columns from : ℕ) (places : List ℕ) (i : ℕ) → i < length places → AscendFrom from columns places
-    → get_or places i 0 < columns
-change_below columns from [] i lt ascend = absurd (omega arith)
-change_below columns from (p ∷ places) zero lt ascend = ascend.1
-change_below columns from (p ∷ places) (suc i) lt ascend = change_below columns (suc p) places i (omega arith) ascend.2
+-- a change is in a word of the row
+pub change_inside : (columns : ℕ) (places : List ℕ) (i : ℕ) {words before : ℕ} → i < length places → AreChanges columns places
+    → words ≡ before → columns < 64 * before → get_or places i 0 / 64 < words
+change_inside columns places i lt lawful same room =
+    omega (arith, left_of_end 0 columns places i lawful lt, get_or_default places i 0 columns lt, same, room)
 
 -- turned at its changes, a row of one colour is the row, and goes on in its last colour
 pub turned_is_row : (front : Bits) (place from columns total : ℕ) (color : Bool) (places : List ℕ) → length front ≡ place
     → place ≤ from → place ≤ columns → columns ≤ total → AscendFrom from columns places
     → turned_at_all places (front ++ replicate (total - place) color)
-    ≡ front ++ (pixels_from place color columns places ++ replicate (total - columns) (end_color color places))
-unfolding turned_at_all end_color
+    ≡ front ++ (pixels_from place color columns places ++ replicate (total - columns) (turned_at color places))
+unfolding turned_at_all
 turned_is_row front place from columns total color [] long le within fits ascend =
     let sum : total - place ≡ (columns - place) + (total - columns) = omega arith in
     ap (λ (b : Bits). front ++ b) (ap (λ (n : ℕ). replicate n color) sum
@@ -392,7 +384,7 @@ turned_is_row front place from columns total color (p ∷ places) long le within
     ap (turned_from p) split ∙ ap (λ (n : ℕ). turned_from n ((front ++ part) ++ replicate (total - p) color)) (sym here)
     ∙ plain_turned (front ++ part) (total - p) color in
     let rest : Bits = pixels_from p (not color) columns places in
-    let last : Bits = replicate (total - columns) (end_color (not color) places) in
+    let last : Bits = replicate (total - columns) (turned_at (not color) places) in
     let all : (front ++ part) ++ (rest ++ last) ≡ front ++ ((part ++ rest) ++ last) = simp append_assoc refl in
     ap (turned_at_all places) turned
     ∙ turned_is_row (front ++ part) p (suc p) columns total (not color) places here (omega arith) (omega arith) fits ascend.2

@@ -1,31 +1,9 @@
 -- The tables of code words have the word of each length at its position.
-use Rattle.fax_encode.proofs.Names.{◌≡◌, ℕ, ◌+◌, ◌*◌, ◌^◌, ◌<◌, ◌≤◌, Bool, true, false, ◌&&◌, leb, ltb, [], ◌∷◌, get_or, refl}
-use Rattle.fax_encode.proofs.Names.{sym, subst, beq, agree_below_at, leb-true, ltb-true, and_parts, false≢true, Color, White}
+use Rattle.fax_encode.proofs.Names.{◌≡◌, ℕ, ◌+◌, ◌*◌, ◌^◌, ◌<◌, ◌≤◌, Bool, true, ◌&&◌, leb, ltb, get_or, refl}
+use Rattle.fax_encode.proofs.Names.{sym, subst, agree_below_at, leb-true, ltb-true, and_parts, Color, White}
 use Rattle.fax_encode.proofs.Names.{Black, WHITE_TERMINATING, BLACK_TERMINATING, WHITE_MAKEUP, BLACK_MAKEUP, COMMON_MAKEUP, Bits}
 use Rattle.fax_encode.proofs.Names.{low_bits, Word, word_of_length, IsWord}
-
-unfoldable pub same_bits : Bits → Bits → Bool
-same_bits [] [] = true
-same_bits (a ∷ x) (b ∷ y) = beq a b && same_bits x y
-same_bits [] (b ∷ y) = false
-same_bits (a ∷ x) [] = false
-
-beq-true : (a b : Bool) → beq a b ≡ true → a ≡ b
-beq-true true true e = refl
-beq-true false false e = refl
-beq-true true false e = absurd (false≢true e)
-beq-true false true e = absurd (false≢true e)
-
-pub same_bits-true : (x y : Bits) → same_bits x y ≡ true → x ≡ y
-unfolding same_bits
-same_bits-true [] [] e = refl
-same_bits-true (a ∷ x) (b ∷ y) e =
-    let parts = and_parts (beq a b) (same_bits x y) e in
-    let one = beq-true a b parts.0 in
-    let rest = same_bits-true x y parts.1 in
-    cc
-same_bits-true [] (b ∷ y) e = absurd (false≢true e)
-same_bits-true (a ∷ x) [] e = absurd (false≢true e)
+use Rattle.hayro_ccitt.proofs.BitReading.WhiteWordsListed.{same_bits, same_bits-true}
 
 -- whether an entry is a word
 is_word : Bits → ℕ × ℕ × ℕ → Bool

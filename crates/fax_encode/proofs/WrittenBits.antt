@@ -2,25 +2,11 @@
 use Rattle.fax_encode.proofs.Names.{◌≡◌, ℕ, zero, suc, ◌+◌, ◌-◌, ◌*◌, ◌/◌, ◌%◌, ◌^◌, ◌<◌, ◌≤◌, false, List, [], ◌∷◌, ◌++◌, length}
 use Rattle.fax_encode.proofs.Names.{replicate, eqb, refl, sym, ap, ◌∙◌, arith, append_assoc, or_zero_r, bit_or}
 use Rattle.fax_encode.proofs.Names.{mul-mod_left, flat_map-append, append-nil, length-append, mod-pow-add, shl-shr, shl_whole}
-use Rattle.fax_encode.proofs.Names.{or_shifted, pow-add, div_below, mul-add-lt, bit_at_cat_high, bit_at_above}
+use Rattle.fax_encode.proofs.Names.{or_shifted, pow-add, mul-add-lt, bit_at_above}
 use Rattle.fax_encode.proofs.Names.{padding, filled_up, length-bits_of, length-low_bits, HighestFirst, Bits, bit_of, bits_of}
-use Rattle.fax_encode.proofs.Names.{bits_of_byte, low_bits, low_bits-append, low_bits_below, same_bit}
-
--- the bits of two numbers put together
-pub low_bits_cat : (width k a b : ℕ) → b < 2 ^ k → low_bits (width + k) (a * 2 ^ k + b) ≡ low_bits width a ++ low_bits k b
-low_bits_cat zero k a b lt = let e : zero + k ≡ k = omega arith in rw e (low_bits_below k a k b (omega arith))
-low_bits_cat (suc width) k a b lt =
-    let n : suc width + k ≡ suc (width + k) = omega arith in
-    let down : (width + k) - k ≡ width = omega arith in
-    let one : bit_of (a * 2 ^ k + b) (width + k) ≡ bit_of a width = same_bit (a * 2 ^ k + b) a (width + k) ((width + k) - k)
-    (bit_at_cat_high a k b (width + k) lt (omega arith)) ∙ ap (bit_of a) down in
-    let rest = low_bits_cat width k a b lt in
-    ap (λ (m : ℕ). low_bits m (a * 2 ^ k + b)) n ∙ (let both : bit_of (a * 2 ^ k + b) (width + k)
-    ∷ low_bits (width + k) (a * 2 ^ k + b) ≡ bit_of a width ∷ (low_bits width a ++ low_bits k b) = cc in both)
-
-pub power_positive : (k : ℕ) → 0 < 2 ^ k
-power_positive zero = omega arith
-power_positive (suc k) = omega (arith, power_positive k)
+use Rattle.fax_encode.proofs.Names.{bits_of_byte, low_bits, low_bits-append, low_bits_below}
+use Rattle.hayro_ccitt.proofs.BitReading.WordRanges.{low_bits_joined}
+use Rattle.std.proofs.lemmas.Nat.{pow_pos}
 
 divided : (n d : ℕ) → 0 < d → n / d * d + n % d ≡ n
 divided n d lt = omega arith
@@ -28,7 +14,7 @@ divided n d lt = omega arith
 -- the low bits of a number and of its remainder
 pub low_bits_mod : (width k n : ℕ) → width ≤ k → low_bits width (n % 2 ^ k) ≡ low_bits width n
 low_bits_mod width k n le =
-    sym (low_bits_below width (n / 2 ^ k) k (n % 2 ^ k) le) ∙ ap (low_bits width) (divided n (2 ^ k) (power_positive k))
+    sym (low_bits_below width (n / 2 ^ k) k (n % 2 ^ k) le) ∙ ap (low_bits width) (divided n (2 ^ k) (pow_pos k))
 
 byte_is_low_bits : (n : ℕ) → bits_of_byte HighestFirst n ≡ low_bits 8 n
 byte_is_low_bits n = refl
@@ -64,7 +50,7 @@ put_behind waiting count width word bits room fits is =
     let kept : waiting * 2 ^ width % 2 ^ 64 ≡ waiting % 2 ^ above * 2 ^ width
     = ap (λ (m : ℕ). waiting * 2 ^ width % 2 ^ m) (sym sum) ∙ shifted_up waiting above width in
     ap (low_bits (count + width)) (is ∙ ap (λ (n : ℕ). bit_or n word) kept ∙ or_shifted (waiting % 2 ^ above) width word fits)
-    ∙ low_bits_cat count width (waiting % 2 ^ above) word fits
+    ∙ low_bits_joined count width (waiting % 2 ^ above) word fits
     ∙ ap (λ (b : Bits). b ++ low_bits width word) (low_bits_mod count above waiting (omega arith))
 
 -- no bit of 0 is a one
@@ -85,11 +71,6 @@ put_more old waiting room width word bits lt le fits is =
     ∙ ap (λ (b : Bits). bits_of old ++ b) (put_behind waiting (64 - room) width word bits (omega arith) fits is)
     ∙ sym (append_assoc (bits_of old) (low_bits (64 - room) waiting) (low_bits width word))
 
--- the first bits of a word fit in what is left of 64 bits
-pub front_fits : (room over word : ℕ) → word < 2 ^ (room + over) → word / 2 ^ over < 2 ^ room
-front_fits room over word fits =
-    div_below word (2 ^ over) (2 ^ room) (power_positive over) (omega (arith, fits, pow-add 2 room over))
-
 -- ---- Zeros up to a whole byte.
 pub length-written : (bytes : List ℕ) (count waiting : ℕ)
     → length (bits_of bytes ++ low_bits count waiting) ≡ 8 * length bytes + count
@@ -108,7 +89,7 @@ pub finished : (old new : List ℕ) (waiting room left shifted : ℕ) → room �
     ++ low_bits ((64 - room) + room % 8) shifted → bits_of new ≡ filled_up (bits_of old ++ low_bits (64 - room) waiting)
 finished old new waiting room left shifted le is few same e =
     let none : left ≡ 0 = omega arith in
-    let fits : 0 < 2 ^ (room % 8) = power_positive (room % 8) in
+    let fits : 0 < 2 ^ (room % 8) = pow_pos (room % 8) in
     let shift : shifted ≡ bit_or (waiting * 2 ^ (room % 8) % 2 ^ 64) 0 =
     is ∙ sym (or_zero_r (waiting * 2 ^ (room % 8) % 2 ^ 64)) in
     sym (append-nil (bits_of new)) ∙ ap (λ (m : ℕ). bits_of new ++ low_bits m shifted) (sym none) ∙ e
@@ -136,4 +117,4 @@ two_words_fit a m b n bits short a-fits b-fits is =
 pub two_words_bits : (a m b n bits : ℕ) → m + n ≤ 64 → a < 2 ^ m → b < 2 ^ n → bits ≡ bit_or (a * 2 ^ n % 2 ^ 64) b
     → low_bits (m + n) bits ≡ low_bits m a ++ low_bits n b
 two_words_bits a m b n bits short a-fits b-fits is =
-    ap (low_bits (m + n)) (two_words a m b n bits short a-fits b-fits is) ∙ low_bits_cat m n a b b-fits
+    ap (low_bits (m + n)) (two_words a m b n bits short a-fits b-fits is) ∙ low_bits_joined m n a b b-fits

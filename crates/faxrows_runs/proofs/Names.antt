@@ -38,7 +38,7 @@ pub use Rattle.hayro_ccitt.specs.Rows.{HaveWidth, Row, changes}
 pub use Rattle.hayro_ccitt.specs.Answers.{PaintsBlack}
 pub use Rattle.hayro_ccitt.specs.RowFeeds.{ComeNext, Feeding, FeedsNext, IsFeedOf, KeepsBits, StandsIn, fed_bits, fed_end}
 pub use Rattle.hayro_ccitt.specs.RowFeeds.{fed_over}
-pub use Rattle.hayro_ccitt.specs.declared.row_feed.Fed.{Fed}
+pub use Rattle.hayro_ccitt.specs.Fed.{Fed}
 pub use Rattle.hayro_ccitt.specs.RowsRead.{ReaderStands, ended}
 pub use Rattle.hayro_ccitt.specs.RowsRead.{HasFailed, ReadsNext, RowsRead, at_end_of_rows}
 pub use Rattle.hayro_ccitt.specs.BitOrder.TheVariants.{HighestFirst, LowestFirst}

@@ -10,7 +10,7 @@ use Rattle.faxrows_runs.proofs.{Outputs.passes_both, Outputs.front_behind, Outpu
 use Rattle.faxrows_runs.proofs.RowsInTurn.{Came, came, ended_badly, ended_well, failed_so}
 use Rattle.faxrows_runs.proofs.Names.{Outcome, ReaderStands, StandsIn, false, fed_end, length-map, plain, rules, true}
 use Rattle.hayro_ccitt.proofs.Readings.RowByRow.{ended_stands, failed_stands}
-use Rattle.hayro_ccitt.specs.declared.row_reader.RowState.{RowState}
+use Rattle.hayro_ccitt.specs.RowState.{RowState}
 use Rattle.hayro_ccitt.proofs.ErrorKinds.{by_kind}
 
 module _ {start before : Option (List ℕ)} {whole : Bits} {old new : Feeding} {waited : List ℕ}

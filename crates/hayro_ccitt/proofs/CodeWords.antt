@@ -1,4 +1,3 @@
-pub mod PairsOfRuns
 pub use Rattle.fax_bits.proofs.CodeWords.CodeReadings
 pub use Rattle.fax_bits.proofs.CodeWords.LookedUp
 pub use Rattle.fax_bits.proofs.CodeWords.LookedUpModes

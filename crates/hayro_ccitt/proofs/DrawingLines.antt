@@ -1,14 +1,4 @@
-pub mod GroupMasks
-pub mod LinesAtOnce
-pub mod PartsOfLines
-pub mod RegularLanes
-pub mod RegularModes
-pub mod SameLines
-pub mod ShortLines
-pub mod TwoOnes
-pub mod UsualModes
-pub mod UsualStrokes
-pub mod WhiteLines
+pub use Rattle.fax_feeds.proofs.DrawingLines.PartsOfLines
 pub use Rattle.fax_reading.proofs.DrawingLines.CountedLines
 pub use Rattle.fax_reading.proofs.DrawingLines.CutRuns
 pub use Rattle.fax_reading.proofs.DrawingLines.Drawings

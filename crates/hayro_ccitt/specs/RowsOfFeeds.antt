@@ -3,14 +3,14 @@ use Rattle.std.specs.Prelude.{◌≡◌, ◌≢◌, ◌≤◌, ◌<◌, ◌+◌,
 use Rattle.std.specs.Prelude.{None, Result, Ok, Err, IfErr}
 use Rattle.fax_bits.specs.declared.error.DecodeError.{DecodeError}
 use Rattle.fax_bits.specs.declared.error.DecodeError.TheVariants.{Refused}
-use Rattle.hayro_ccitt.specs.declared.row_feed.Fed.{Fed}
+use Rattle.fax_feeds.specs.declared.row_feed.Fed.{Fed}
 use Rattle.hayro_ccitt.specs.Answers.{IsFault, meaning_after}
 use Rattle.hayro_ccitt.specs.Bits.{Bits}
 use Rattle.hayro_ccitt.specs.Decoding.{SinkState}
 use Rattle.hayro_ccitt.specs.PlainReading.{plain}
-use Rattle.hayro_ccitt.specs.RowFeeds.{Feeding, IsFeedOf, IsOpenAt, PushesRows}
+use Rattle.fax_feeds.specs.RowFeeds.{Feeding, IsFeedOf, IsOpenAt, PushesRows}
 use Rattle.hayro_ccitt.specs.Rows.{Row, changes}
-use Rattle.hayro_ccitt.specs.RowsRead.{HasEnded, HasFailed, ended}
+use Rattle.fax_rows.specs.RowsRead.{HasEnded, HasFailed, ended}
 
 -- the rows of the plain reading of some data, by the settings of a feed
 abbrev pub rows_of : Feeding → Bits → List Row

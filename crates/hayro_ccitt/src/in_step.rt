@@ -12,12 +12,12 @@ ghost use Rattle.hayro_ccitt.specs.Rows.{Row};
 ghost use Rattle.hayro_ccitt.specs.RowsKept.{EndsByWords, IsInStepFrom, PutsInStep, RowsFollow, TellsStep};
 ghost use Rattle.hayro_ccitt.specs.Work.{most_for_lines};
 
-use crate::context::DecoderContext;
 use crate::reach::{is_before_1d, pass_modes};
-use crate::rows::read_eols;
 use crate::{DecodeSettings, EncodingMode};
 use fax_bits::bit_reader::{BitReader, copy, starting_at};
 use fax_bits::codes::{Color, pass_eol};
+use fax_lines::context::{DecoderContext, run_length};
+use fax_rows::rows::read_eols;
 
 /// Passes the runs of a one-dimensional line without drawing them, as many as its columns take, and returns whether it is
 /// whole. If it isn't, the offset is unspecified.
@@ -34,7 +34,7 @@ fn pass_runs(ctx: &mut DecoderContext, reader: &mut BitReader<'_>) -> bool
     let mut passed: u32 = 0;
     let mut color = Color::White;
     'runs: while passed < columns {
-        match ctx.run_length(color, reader) {
+        match run_length(ctx, color, reader) {
             Some(run) => {
                 passed += run.min(columns - passed);
                 color = color.opposite();

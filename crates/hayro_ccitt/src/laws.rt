@@ -1,8 +1,8 @@
 //! Laws of CCITT data, whatever program reads it: each is the contract of a function that does nothing. Those about definitions
 //! alone are `fax_reading`'s.
 
-ghost use Rattle.hayro_ccitt.specs.FeedsKeepLittle.{FeedsKeepLittle};
-ghost use Rattle.hayro_ccitt.specs.FeedsPaid.{FeedsArePaid};
+ghost use Rattle.fax_feeds.specs.FeedsKeepLittle.{FeedsKeepLittle};
+ghost use Rattle.fax_feeds.specs.FeedsPaid.{FeedsArePaid};
 ghost use Rattle.hayro_ccitt.specs.Laws.{StepsOnRows};
 ghost use Rattle.hayro_ccitt.specs.RowsOfFeeds.{PassesPlainRows};
 

@@ -9,17 +9,14 @@
 //! program reads it.
 #![tactic(auto)]
 
-ghost use Rattle.std.specs.Prelude.{◌≡◌, ◌*◌, ◌<◌, ◌≤◌, ◌↔◌, ◌-◌, ℕ, List, Bool, true, false, None, Some, Ok, OnOk};
-ghost use Rattle.std.specs.Prelude.{OnErr, IfOk};
-ghost use Rattle.std.specs.Prelude.{IsOkUnless, IsTrue, length, max};
+ghost use Rattle.std.specs.Prelude.{◌≡◌, ◌*◌, ◌≤◌, ◌-◌, false, None, Some, Ok, OnOk, OnErr, IfOk, length, max};
 ghost use Rattle.hayro_ccitt.specs.Answers.{OnAnswer};
 ghost use Rattle.hayro_ccitt.specs.Bits.{AreWholeBytes, BitsFit, bits_in, bits_of, low_first_bits_of, here};
-ghost use Rattle.hayro_ccitt.specs.Contract.{BeginsRows, Decodes};
+ghost use Rattle.fax_rows.specs.Contract.{BeginsRows, Decodes};
 ghost use Rattle.hayro_ccitt.specs.Decoding.{DecodesRows, FailsHere, leaving};
-ghost use Rattle.hayro_ccitt.specs.PlainReading.{end_of, plain};
-ghost use Rattle.hayro_ccitt.specs.Rows.{AreChanges};
+ghost use Rattle.hayro_ccitt.specs.PlainReading.{plain};
 ghost use Rattle.hayro_ccitt.specs.Space.{most_room};
-ghost use Rattle.hayro_ccitt.specs.Work.{CountsRun, CountsWork, words_of, most_counted};
+ghost use Rattle.hayro_ccitt.specs.Work.{CountsWork};
 
 /// The bits of a slice of bytes, read from the start.
 pub mod bit_reader {
@@ -31,78 +28,42 @@ pub mod codes {
     pub use fax_bits::codes::{Color, Mode, Ticks};
 }
 
-pub mod changes;
-pub mod context;
-mod gap_look;
-pub mod group3;
-pub mod group4;
+/// Rows as lists of changes: the positions at which a row's colour turns, white at first.
+pub mod changes {
+    pub use fax_lines::changes::{append_pixels, b1_index, change_or_end};
+}
+
+/// What a decoder keeps from line to line, and the lines themselves.
+pub mod context {
+    pub use fax_lines::context::{DecoderContext, decode_1d_line, decode_2d_line};
+}
+
+/// Group 3: EOLs at the start of the data, between the lines and at the end, and repair of damaged lines (T.4).
+pub mod group3 {
+    pub use fax_rows::group3::{check_eob, decode_1d, decode_2d, recover};
+}
+
+/// Group 4: every line is two-dimensional (T.6).
+pub mod group4 {
+    pub use fax_rows::group4::decode;
+}
+
 mod in_step;
 pub mod laws;
-mod line_parts;
 mod locality;
-mod modes;
-mod push_rows;
 mod reach;
-mod regular_places;
-mod row_cursor;
-mod row_feed;
-mod row_reader;
-mod rows;
-mod usual;
-mod white_lines;
 
 use bit_reader::{BitOrder, BitReader};
 pub use context::DecoderContext;
 pub use fax_bits::{DecodeError, DecodeSettings, EncodingMode, Result, bits_fit, tables};
+pub use fax_feeds::row_feed::{Fed, RowFeed};
+pub use fax_lines::Decoder;
+use fax_lines::context::{restart, set_fault_start};
+pub use fax_rows::row_cursor::RowCursor;
+pub use fax_rows::row_reader::RowReader;
 pub use in_step::in_step_from;
 pub use locality::body_is_local;
 pub use reach::rows_reached;
-pub use row_cursor::RowCursor;
-pub use row_feed::{Fed, RowFeed};
-pub use row_reader::RowReader;
-
-/// A sink for the rows of an image. [`decode`] calls `push_row` once for each row, from the top.
-///
-/// Ghost members say what the sink means (`meaning`), and how a row changes that (`step`): what it means after
-/// [`decode`] is its step folded over the accepted rows. `fax_encode::BitmapSink`, which packs rows, is an example to
-/// copy.
-pub trait Decoder {
-    /// The type of what a sink means.
-    ghost Meaning: { Type 0 };
-
-    /// What the sink means now.
-    ghost meaning: { Self → Meaning };
-
-    /// From the width, a meaning and a row's changes to the meaning with that row.
-    ghost step: { ℕ → Meaning → List ℕ → Meaning };
-
-    /// The largest number of columns, in pixels, that the sink accepts.
-    ghost width: { Self → ℕ };
-
-    /// Whether the sink has refused a row.
-    ghost has_refused: { Self → Bool };
-
-    /// Which rows, given by their changes, the sink refuses in its present state. Without this member nothing is said
-    /// about it.
-    ghost refuses: { Self → List ℕ → Type 0 } = { λ _ _. Unit {0} };
-
-    /// Accepts a row of pixels, given by its changes: the positions, counted from 0 at the left, at which the colour
-    /// changes (T.4, 4.2.1.1), in strictly ascending order and each below the width. Each row starts white, so
-    /// the pixels from `changes[0]` up to `changes[1]` are black, those from `changes[2]` up to `changes[3]` again, and
-    /// so on; after an odd number of changes the row ends black. Its only error is `Refused`, and then the sink means
-    /// what it meant before.
-    ///
-    /// A row of 8 pixels of which 3 and 4 are black is `[3, 5]`; a white one is `[]`, a black one `[0]`.
-    fn push_row(&mut self, changes: &[u32]) -> Result<()>
-        requires { AreChanges (width self.old) changes.now }
-        ensures same_width { width self.new ≡ width self.old }
-        ensures taken { OnOk result (meaning self.new ≡ step (width self.old) (meaning self.old) changes.now) }
-        ensures not_refused { OnOk result (has_refused self.new ≡ has_refused self.old) }
-        ensures kept { OnErr result (meaning self.new ≡ meaning self.old) }
-        ensures refused { OnErr result (has_refused self.new ≡ true) }
-        ensures refused_row { OnErr result (refuses self.new changes.now) }
-        ensures only_refused { IsOkUnless result DecodeError.Refused };
-}
 
 /// Decodes the rows of an image according to its encoding.
 fn decode_rows<D: Decoder>(
@@ -159,12 +120,12 @@ fn decode_bits<D: Decoder>(
         ctx.new.held ctx.new.ticks result }
     ensures space { ctx.new.space ≤ max ctx.old.space (most_room ctx.old.held.settings reader.old.bits) }
 {
-    ctx.restart();
+    restart(ctx);
     if ctx.settings().columns == 0 {
         return Ok(0);
     }
     let answer = decode_rows(ctx, reader, decoder);
-    ctx.set_fault_start(fault_start_of(answer, reader));
+    set_fault_start(ctx, fault_start_of(answer, reader));
     answer?;
     reader.align();
     Ok(reader.byte_pos())

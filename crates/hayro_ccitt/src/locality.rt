@@ -11,10 +11,10 @@ ghost use Rattle.hayro_ccitt.specs.Space.{most_room};
 ghost use Rattle.hayro_ccitt.specs.Ticks.{looked};
 ghost use Rattle.hayro_ccitt.specs.Work.{most_for_body};
 
-use crate::context::{DecoderContext, decode_1d_line};
 use crate::{DecodeError, DecodeSettings, EncodingMode, Result};
 use fax_bits::bit_reader::starting_at;
 use fax_bits::codes::{Ticks, pass_eol};
+use fax_lines::context::{DecoderContext, decode_1d_line};
 
 /// Returns whether these settings are those of lenient one-dimensional data of Group 3.
 fn is_lenient_1d(settings: DecodeSettings) -> bool

@@ -8,10 +8,10 @@ ghost use Rattle.hayro_ccitt.specs.EndOfLine.{after_eol, next_eol};
 ghost use Rattle.hayro_ccitt.specs.LocalityByK.{ComeBefore1D, IsFollowedBy, IsLine2D, ReadsModes};
 ghost use Rattle.hayro_ccitt.specs.{Ticks.looked, Work.most_for_lines};
 
-use crate::context::DecoderContext;
 use crate::{DecodeSettings, EncodingMode};
 use fax_bits::bit_reader::{BitReader, copy, starting_at};
 use fax_bits::codes::{Color, pass_eol};
+use fax_lines::context::{DecoderContext, pass_mode};
 
 /// Passes the modes of a line, with their runs, as many as can be read.
 pub(crate) fn pass_modes(ctx: &mut DecoderContext, reader: &mut BitReader<'_>)
@@ -25,7 +25,7 @@ pub(crate) fn pass_modes(ctx: &mut DecoderContext, reader: &mut BitReader<'_>)
     let mut color = Color::White;
     'modes: loop {
         let mut next = copy(reader);
-        match ctx.pass_mode(color, &mut next) {
+        match pass_mode(ctx, color, &mut next) {
             Some(behind) => {
                 color = behind;
                 *reader = next;

@@ -7,7 +7,7 @@ use Rattle.hayro_ccitt.specs.Answers.{meaning_after}
 use Rattle.hayro_ccitt.specs.Decoding.{SinkState}
 use Rattle.hayro_ccitt.specs.Rows.{HaveWidth, Row, changes}
 use Rattle.hayro_ccitt.specs.RowFeeds.{Feeding as RowsFed, FeedsRow, FeedsRows, PushesRows, last_left, rows_left}
-use Rattle.hayro_ccitt.specs.declared.row_feed.Fed.{Fed}
+use Rattle.hayro_ccitt.specs.Fed.{Fed}
 use Rattle.hayro_ccitt_c.specs.GivenRows.{ComesToNone, GivesEach, GivesRows, PassesAll, RefusesOne, columns_of, feeding_after}
 use Rattle.hayro_ccitt_c.specs.GivenRows.{rows_given, status_behind}
 use Rattle.hayro_ccitt_c.specs.Packing.{bytes_of_row}

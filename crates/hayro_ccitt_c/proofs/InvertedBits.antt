@@ -5,7 +5,7 @@ use Rattle.std.proofs.lemmas.Bool.{agree_below_at}
 use Rattle.std.proofs.lemmas.List.{map-append}
 use Rattle.hayro_ccitt.specs.BitOrder.TheVariants.{HighestFirst}
 use Rattle.hayro_ccitt.specs.Bits.{Bits, bits_of, bits_of_byte}
-use Rattle.fax_encode.proofs.WordTables.{same_bits, same_bits-true}
+use Rattle.hayro_ccitt.proofs.BitReading.WhiteWordsListed.{same_bits, same_bits-true}
 
 -- the bits of a byte, inverted
 abbrev pub inverted_bits : ℕ → Bits

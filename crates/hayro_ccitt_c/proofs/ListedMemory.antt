@@ -1,17 +1,13 @@
 -- Lists of rows in the caller's memory, from what the sink leaves.
 use Rattle.std.proofs.Common.{◌≡◌, ℕ, suc, ◌+◌, ◌-◌, ◌≤◌, ◌<◌, List, [], ◌∷◌, ◌++◌, length, take, drop, set, refl, sym, ap}
-use Rattle.std.proofs.Common.{subst, ◌∙◌, arith, append_assoc}
+use Rattle.std.proofs.Common.{◌∙◌, arith, append_assoc}
 use Rattle.std.proofs.lemmas.List.{append-nil, length-append, drop-drop, length-set, take_more_set, drop-set-lt}
 use Rattle.std.proofs.lemmas.Slice.{take-put_mid, drop-put_mid}
 use borrow.Rule.Slice.PartMut.{put_mid}
-use Rattle.hayro_ccitt.specs.DecodeSettings.{DecodeSettings}
 use Rattle.hayro_ccitt.specs.Answers.{meaning_after}
-use Rattle.hayro_ccitt.specs.Bits.{Bits}
-use Rattle.hayro_ccitt.specs.PlainReading.{plain}
 use Rattle.hayro_ccitt.specs.Rows.{Row, AscendFrom, changes}
 use Rattle.hayro_ccitt_c.specs.Listing.{Listing, with_listed, listed, listed_row}
-use Rattle.hayro_ccitt_c.specs.Reports.{changes_taken, numbers_taken, AreListed}
-use Rattle.hayro_ccitt_c.proofs.Reporting.{counts, changes_counted}
+use Rattle.hayro_ccitt_c.proofs.Reporting.{counts}
 
 -- ---- one row
 -- there are no more changes than positions
@@ -78,30 +74,4 @@ rows_listed before (row ∷ rows) =
           others.rest ∙ drop-drop (length (listed rows)) (length one) before.rest ∙ ap (λ (n : ℕ). drop n before.rest) (sym more);
       changes = others.changes;
       name = others.name;
-    }
-
--- ---- what the caller's memory contains after a sink borrowed it that accepted the first rows
-pub record HoldsLists (settings : DecodeSettings) (bits : Bits) (taken : ℕ) (before after : List ℕ)
-    (start final : Listing) : Type 0 where
-  pub end : final.end ≡ numbers_taken settings bits taken
-  pub changes : final.changes ≡ changes_taken settings bits taken
-  pub listed : AreListed settings bits taken before after
-  pub name : start.name ≡ final.name
-
-pub holds_lists : (settings : DecodeSettings) (bits : Bits) (taken : ℕ) (start final : Listing) (before after : List ℕ)
-    → start.end ≡ 0 → start.numbers ≡ [] → start.rest ≡ before → start.changes ≡ 0 → take final.end after ≡ final.numbers
-    → drop final.end after ≡ final.rest → final ≡ meaning_after with_listed start (take taken (plain settings bits).rows)
-    → HoldsLists settings bits taken before after start final
-holds_lists settings bits taken start final before after begun empty whole uncounted numbers rest meaning =
-    let rows : List Row = take taken (plain settings bits).rows in
-    let has : HasListed rows start final = subst (HasListed rows start) (sym meaning) (rows_listed start rows) in
-    let end : final.end ≡ length (listed rows) = omega (arith, has.end) in
-    record {
-      end = end;
-      changes = has.changes ∙ ap (λ (n : ℕ). meaning_after counts n rows) uncounted ∙ changes_counted 0 rows;
-      listed = record {
-        rows = ap (λ (n : ℕ). take n after) (sym end) ∙ numbers ∙ has.numbers ∙ ap (λ (l : List ℕ). l ++ listed rows) empty;
-        rest = ap (λ (n : ℕ). drop n after) (sym end) ∙ rest ∙ has.rest ∙ ap (drop (length (listed rows))) whole;
-      };
-      name = sym has.name;
     }

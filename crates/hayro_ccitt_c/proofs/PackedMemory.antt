@@ -28,6 +28,7 @@ use Rattle.hayro_ccitt_c.specs.Packing.{outside_rows}
 use Rattle.hayro_ccitt_c.specs.Reports.{changes_taken, ArePacked}
 use Rattle.hayro_ccitt_c.specs.declared.packed_rows.Layout.{Layout}
 use Rattle.hayro_ccitt_c.proofs.Reporting.{counts, changes_counted}
+use Rattle.std.proofs.lemmas.List.{nil_from_length}
 
 -- ---- one row
 -- the first elements of a list in two parts
@@ -159,10 +160,6 @@ long_row : (black_is_0 : Bool) (columns : ℕ) (row : Row) → length row ≡ co
 long_row true columns row is = omega (arith, filled row, is, length-map (filled_up row) not)
 long_row false columns row is = omega (arith, filled row, is)
 
-none_left : (bits : Bits) → length bits ≡ 0 → bits ≡ []
-none_left [] is = refl
-none_left (bit ∷ bits) is = absurd (omega (arith, is))
-
 -- memory whose first bits are those of the same bytes as before
 module _ (gap : ℕ) (before after : List ℕ) (rest : Bits) (same : length after ≡ length before)
     (is : bits_of after ≡ bits_of (take gap before) ++ rest) where
@@ -171,7 +168,7 @@ module _ (gap : ℕ) (before after : List ℕ) (rest : Bits) (same : length afte
 
   -- no bits are behind memory that is shorter
   nothing : length before ≤ gap → rest ≡ []
-  nothing short = none_left rest (omega (
+  nothing short = nil_from_length rest (omega (
     arith,
     ap length is,
     length-bits_of after,

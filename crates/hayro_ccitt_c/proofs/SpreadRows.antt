@@ -16,6 +16,7 @@ use Rattle.hayro_ccitt_c.specs.Packing.{bytes_of_row, row_read, rows_at, rows_re
 use Rattle.hayro_ccitt_c.specs.Encoding.{layout_asked, rows_asked}
 use Rattle.hayro_ccitt_c.specs.declared.encoding.EncodeSettings.{EncodeSettings}
 use Rattle.hayro_ccitt_c.specs.declared.packed_rows.Layout.{Layout}
+use Rattle.fax_encode.proofs.DamageReachesKRows.{settings_stay}
 
 -- ---- how many there are
 
@@ -130,14 +131,10 @@ rows_read-together columns memory wide =
 
 -- ---- what an encoder has after them
 
--- the width and the settings stay
+-- the width stays
 pub columns_stay : (rows : RowsEncoded) (more : List Row) → (with_rows rows more).columns ≡ rows.columns
 columns_stay rows [] = refl
 columns_stay rows (row ∷ more) = columns_stay (with_row rows row) more
-
-pub settings_stay : (rows : RowsEncoded) (more : List Row) → (with_rows rows more).settings ≡ rows.settings
-settings_stay rows [] = refl
-settings_stay rows (row ∷ more) = settings_stay (with_row rows row) more
 
 -- no memory is wanted
 pub memory_stays : (rows : RowsEncoded) (more : List Row) → rows.wants_memory ≡ false → (with_rows rows more).wants_memory ≡ false

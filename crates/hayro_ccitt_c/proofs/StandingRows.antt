@@ -61,32 +61,42 @@ many_listed count [] = omega arith
 many_listed count (row ∷ rows) =
     omega (arith, many_listed (count + length (changes row)) rows, length-append (listed_row (changes row)) (listed rows))
 
--- lists of rows
-module _ (start final : Listing) (rows : List Row) (before after : List ℕ) (begun : start.end ≡ 0) (empty : start.numbers ≡ [])
-    (whole : start.rest ≡ before) (uncounted : start.changes ≡ 0) (numbers : take final.end after ≡ final.numbers)
-    (rest : drop final.end after ≡ final.rest) (meaning : final ≡ meaning_after with_listed start rows) where
-  listing : HasListed rows start final
-  listing = subst (HasListed rows start) (sym meaning) (rows_listed start rows)
+-- what a sink means that has listed numbers up to a place of the caller's memory
+abbrev pub listing_of : ℕ → List ℕ → ℕ → ℕ → Listing
+listing_of end lists changes name =
+    record { end = end; numbers = take end lists; rest = drop end lists; changes = changes; name = name }
 
-  pub end_is : final.end ≡ length (listed rows)
-  end_is = omega (arith, listing.end, begun)
-
-  pub same_lists : start.name ≡ final.name
-  same_lists = sym listing.name
-
-  pub stand_listed : StandListed rows before after
-  stand_listed = record {
-    rows_are = ap (λ (n : ℕ). take n after) (sym end_is) ∙ numbers ∙ listing.numbers
-        ∙ ap (λ (l : List ℕ). l ++ listed rows) empty;
-    rest = ap (λ (n : ℕ). drop n after) (sym end_is) ∙ rest ∙ listing.rest ∙ ap (drop (length (listed rows))) whole;
-  }
-
-  changes_are : final.changes ≡ min (sum_from 0 rows) 18446744073709551615
-  changes_are = listing.changes ∙ ap (λ (n : ℕ). meaning_after counts n rows) uncounted ∙ changes_counted 0 rows
-
-  pub no_more : final.changes ≤ final.end
-  no_more = omega (arith, end_is, many_listed 0 rows, changes_are)
-
+-- lists of rows were written, from the start of the memory on
+pub record AreFromStart (name name' end count : ℕ) (rows : List Row) (before after : List ℕ) : Type 0 where
+  pub end_is : end ≡ length (listed rows)
+  pub same : name ≡ name'
+  pub stand : StandListed rows before after
+  pub counted : count ≡ min (sum_from 0 rows) 18446744073709551615
+  pub no_more : count ≤ end
   -- where memory is no longer than numbers of 64 bits count
-  pub changes_within : final.end ≤ 18446744073709551615 → final.end ≡ length rows + final.changes
-  changes_within few = omega (arith, end_is, many_listed 0 rows, changes_are, few)
+  pub within : end ≤ 18446744073709551615 → end ≡ length rows + count
+
+pub lists_from_start : {begin end none count name name' : ℕ} {lists before after : List ℕ} {rows : List Row} → begin ≡ 0
+    → lists ≡ before → none ≡ 0
+    → listing_of end after count name' ≡ meaning_after with_listed (listing_of begin lists none name) rows
+    → AreFromStart name name' end count rows before after
+lists_from_start {begin} {end} {none} {count} {name} {name'} {lists} {before} {after} {rows} begun whole uncounted meaning =
+    let start : Listing = listing_of begin lists none name in
+    let listing : HasListed rows start (listing_of end after count name') =
+    subst (HasListed rows start) (sym meaning) (rows_listed start rows) in
+    let end_is : end ≡ length (listed rows) = omega (arith, listing.end, begun) in
+    let counted : count ≡ min (sum_from 0 rows) 18446744073709551615 =
+    listing.changes ∙ ap (λ (n : ℕ). meaning_after counts n rows) uncounted ∙ changes_counted 0 rows in
+    record {
+      end_is = end_is;
+      same = sym listing.name;
+      stand = record {
+        rows_are = ap (λ (n : ℕ). take n after) (sym end_is) ∙ listing.numbers
+            ∙ ap (λ (n : ℕ). take n lists ++ listed rows) begun;
+        rest = ap (λ (n : ℕ). drop n after) (sym end_is) ∙ listing.rest
+            ∙ ap (λ (n : ℕ). drop (length (listed rows)) (drop n lists)) begun ∙ ap (drop (length (listed rows))) whole;
+      };
+      counted = counted;
+      no_more = omega (arith, end_is, many_listed 0 rows, counted);
+      within = λ few. omega (arith, end_is, many_listed 0 rows, counted, few);
+    }

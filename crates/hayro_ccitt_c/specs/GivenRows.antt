@@ -5,7 +5,7 @@ use Rattle.hayro_ccitt.specs.Answers.{meaning_after}
 use Rattle.hayro_ccitt.specs.DecodeError.{DecodeError}
 use Rattle.hayro_ccitt.specs.Decoding.{SinkState}
 use Rattle.hayro_ccitt.specs.Rows.{HaveWidth, Row, changes}
-use Rattle.hayro_ccitt.specs.declared.row_feed.Fed.{Fed}
+use Rattle.hayro_ccitt.specs.Fed.{Fed}
 use Rattle.hayro_ccitt_c.specs.Listing.{listed, listed_row}
 use Rattle.hayro_ccitt_c.specs.Packing.{bytes_of_row, bytes_of_rows, outside_rows, packed_row, rows_at, spaced}
 use Rattle.hayro_ccitt_c.specs.RowsFed.{GivesFed, TurnsToFed, is_fed_row, status_of_fed}

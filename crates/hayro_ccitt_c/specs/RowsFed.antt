@@ -6,8 +6,8 @@ use Rattle.hayro_ccitt.specs.DecodeError.{DecodeError}
 use Rattle.hayro_ccitt.specs.DecodeSettings.{DecodeSettings}
 use Rattle.hayro_ccitt.specs.Bits.{AreWholeBytes, Bits, bits_in}
 use Rattle.hayro_ccitt.specs.RowFeeds.{Feeding as RowsFed, ComeNext, FeedsRow, HoldsMore, IsFeedOf}
-use Rattle.hayro_ccitt.specs.declared.row_feed.Fed.{Fed}
-use Rattle.hayro_ccitt.specs.declared.row_feed.Fed.TheVariants.{Row, NeedsMore, End}
+use Rattle.hayro_ccitt.specs.Fed.{Fed}
+use Rattle.hayro_ccitt.specs.Fed.TheVariants.{Row, NeedsMore, End}
 use Rattle.hayro_ccitt_c.specs.RowsGiven.{status_of_row}
 use Rattle.hayro_ccitt_c.specs.declared.feeding.Feeding.{Feeding}
 use Rattle.hayro_ccitt_c.specs.declared.packed_rows.Layout.{Layout}

@@ -15,6 +15,9 @@ use hayro_ccitt::{DecodeError, Decoder};
 /// A white row of fewer bytes is written at once.
 const LEAST_WAITING: usize = 16;
 
+/// A white row of more bytes is written at once: its bytes are on their way to the cache while the next row is read.
+const MOST_WAITING: usize = 1024;
+
 /// The most bytes that are cleared by one call.
 const MOST_TOGETHER: usize = 2047;
 
@@ -91,13 +94,13 @@ fn pack_black_as_0(row: &mut [u8], columns: u32, changes: &[u32])
 }
 
 /// Returns the byte before which a white row of so many bytes begins that need not be written when it comes: it fits, and no bytes
-/// are between it and the next one. It is 0 if there is none, or a row is so short that it is written at once.
+/// are between it and the next one. It is 0 if there is none, or a row is so short or so long that it is written at once.
 #[inline(always)]
 fn last_waiting(bitmap: &[u8], bytes: usize, layout: Layout) -> usize
     ensures together { 0 < result → bytes ≡ layout.stride }
     ensures ready { 0 < result → result + bytes ≤ length bitmap.now + 1 }
 {
-    if bytes != layout.stride as usize || bytes < LEAST_WAITING {
+    if bytes != layout.stride as usize || bytes < LEAST_WAITING || bytes > MOST_WAITING {
         return 0;
     }
     if bitmap.len() < bytes {
@@ -144,18 +147,6 @@ fn most_cleared(bytes: usize, black_is_0: bool) -> usize
         0
     } else {
         most_cleared_first(bytes)
-    }
-}
-
-/// Fills rows of so many bytes: wide ones by one call, as a single one.
-#[inline(always)]
-fn fill_rows(rows: &mut [u8], byte: u8, bytes: usize)
-    ensures { rows.new ≡ replicate (length rows.old) byte }
-{
-    if bytes > MOST_TOGETHER {
-        fill_apart(rows, byte);
-    } else {
-        fill_all(rows, byte);
     }
 }
 
@@ -256,10 +247,9 @@ impl<'a> PackedRows<'a> {
     {
         let from = self.written;
         self.written = self.start;
-        fill_rows(
+        fill_all(
             &mut self.bitmap[from..self.start],
             white_byte(self.layout.black_is_0),
-            self.bytes,
         );
     }
 
@@ -378,7 +368,7 @@ impl<'a> PackedRows<'a> {
         self.write_white();
         let end = self.start + self.bytes;
         let white = white_byte(self.layout.black_is_0);
-        fill_apart(&mut self.bitmap[self.start..end], white);
+        fill_bytes(&mut self.bitmap[self.start..end], white);
         self.go_on(&[]);
         Ok(())
     }

@@ -5,13 +5,13 @@ use Rattle.fax_bits.proofs.Names.{eqb-true, and_parts, or_cases, false≢true, W
 use Rattle.fax_bits.proofs.Names.{low_bits, Code, Has, white_codes, IsWhiteWord}
 use Rattle.fax_bits.specs.declared.tables.CodeWord.{CodeWord}
 
-unfoldable same_bits : Bits → Bits → Bool
+unfoldable pub same_bits : Bits → Bits → Bool
 same_bits [] [] = true
 same_bits (a ∷ x) (b ∷ y) = beq a b && same_bits x y
 same_bits [] (b ∷ y) = false
 same_bits (a ∷ x) [] = false
 
-same_bits-true : (x y : Bits) → same_bits x y ≡ true → x ≡ y
+pub same_bits-true : (x y : Bits) → same_bits x y ≡ true → x ≡ y
 unfolding same_bits
 same_bits-true [] [] e = refl
 same_bits-true (a ∷ x) (b ∷ y) e = grind (arith, common_steps, same_bits-true x y)

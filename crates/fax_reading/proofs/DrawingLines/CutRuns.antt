@@ -7,20 +7,15 @@ use Rattle.fax_reading.proofs.Names.{[], false≢true, Horizontal, turn_behind, 
 use Rattle.fax_bits.proofs.Repetition.Repeated.{after_turn}
 use Rattle.fax_reading.proofs.DrawingLines.Drawings.{try, drawn_by, step_1d, step_2d}
 use Rattle.fax_reading.proofs.DrawingLines.DrawnLines.{run_open, line_mode}
+use Rattle.std.proofs.Math.Bool.{or-true}
 
 -- ---- One step
-
-pub or_true : (b : Bool) → (b || true) ≡ true
-or_true b = grind arith
-
-pub or_false : (b : Bool) → (b || false) ≡ b
-or_false b = grind arith
 
 -- painting tells whether a run is cut
 pub paint_cuts : (strict : Bool) (columns : ℕ) (front : Row) (color : Color) (n : ℕ) (row : Row) (go_on : Row → Step) (pen : Pen)
     (before now : Bool) → paint strict columns front color n ≡ Ok row → now ≡ (before || ltb (columns - length front) n)
     → go_on row ≡ Turn.next pen → TellsCut (try front (paint true columns front color n) go_on) pen before now
-paint_cuts strict columns front color n row go_on pen before now paints told on = grind (arith, common_steps, false≢true, or_true)
+paint_cuts strict columns front color n row go_on pen before now paints told on = grind (arith, common_steps, false≢true, or-true)
 
 -- two steps, one after the other
 pub two_cut : (first : Step) (middle : Pen) (behind : Pen → Step) (last : Pen) (a b c : Bool) → TellsCut first middle a b

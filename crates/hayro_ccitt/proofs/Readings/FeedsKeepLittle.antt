@@ -6,13 +6,13 @@ use Rattle.hayro_ccitt.proofs.Names.{false≢true, Bits, Context, DecodeError, D
 use Rattle.hayro_ccitt.proofs.Names.{Stand, AtLine, BehindRow, AtEnd, AtFault, ReaderStands, StandsAtLine, StandsBehindRow, ended}
 use Rattle.hayro_ccitt.proofs.Names.{line_here}
 use Rattle.hayro_ccitt.specs.Continuations.{is_short, line_before}
-use Rattle.hayro_ccitt.specs.FeedsKeepLittle.{AreNeeded, AreOpenFor, FeedsKeepLittle, IsFedInTurn}
+use Rattle.fax_feeds.specs.FeedsKeepLittle.{AreNeeded, AreOpenFor, FeedsKeepLittle, IsFedInTurn}
 use Rattle.hayro_ccitt.specs.GapsContinued.{first_gap_is_settled, gap_is_settled}
 use Rattle.hayro_ccitt.specs.Lines.{Line}
-use Rattle.hayro_ccitt.specs.RowFeeds.{CountsRow, Feeding, FeedsNext, FeedsRow, HoldsMore, IsFeedOf, IsOpenAt, StandsIn, fed_end}
-use Rattle.hayro_ccitt.specs.declared.row_feed.Fed.{Fed}
-use Rattle.hayro_ccitt.proofs.Readings.OpenBits.{open_bits_are_read, open_first_gap_before, open_gap_before}
-use Rattle.hayro_ccitt.proofs.Readings.RowsFed.{from_place}
+use Rattle.fax_feeds.specs.RowFeeds.{CountsRow, Feeding, FeedsNext, FeedsRow, HoldsMore, IsFeedOf, IsOpenAt, StandsIn, fed_end}
+use Rattle.fax_feeds.specs.declared.row_feed.Fed.{Fed}
+use Rattle.fax_feeds.proofs.Readings.OpenBits.{open_bits_are_read, open_first_gap_before, open_gap_before}
+use Rattle.fax_feeds.proofs.Readings.RowsFed.{from_place}
 use Rattle.hayro_ccitt.proofs.Readings.RowsOfFeeds.{none_taken}
 use Rattle.fax_reading.proofs.Continuations.LinesContinued.{line_settled}
 

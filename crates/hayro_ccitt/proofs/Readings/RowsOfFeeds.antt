@@ -6,10 +6,10 @@ use Rattle.hayro_ccitt.proofs.Names.{Bits, SinkState, IsFault, HasEnded, HasFail
 use Rattle.hayro_ccitt.proofs.Names.{drop, length, take}
 use Rattle.std.specs.Prelude.{Bool, IfErr}
 use Rattle.std.proofs.lemmas.List.{drop_more}
-use Rattle.hayro_ccitt.specs.RowFeeds.{ComesToNoRow, Feeding, FeedsNext, FeedsRows, IsFeedOf, RefusesRow}
-use Rattle.hayro_ccitt.specs.RowFeeds.{last_left, rows_left}
+use Rattle.fax_feeds.specs.RowFeeds.{ComesToNoRow, Feeding, FeedsNext, FeedsRows, IsFeedOf, RefusesRow}
+use Rattle.fax_feeds.specs.RowFeeds.{last_left, rows_left}
 use Rattle.hayro_ccitt.specs.RowsOfFeeds.{PassesNextRows, PassesPlainRows, rows_of, sink_state}
-use Rattle.hayro_ccitt.specs.declared.row_feed.Fed.{Fed}
+use Rattle.fax_feeds.specs.declared.row_feed.Fed.{Fed}
 use Rattle.fax_bits.proofs.ErrorKinds.{by_kind, fault_not_memory}
 
 -- calls have read these rows, each one

@@ -7,7 +7,7 @@ use Rattle.hayro_ccitt.proofs.decode_bits.Goals as goal
 
 pub returns-in_err-answer-clause-decodes : goal.returns-in_err-answer-clause-decodes
 returns-in_err-answer-clause-decodes g c =
-    let settings = c.restart.new.self.held.settings in
+    let settings = c.restart.new.ctx.held.settings in
     let same = ap (λ (x : Context). x.held.settings) c.restart.ensures.frame in
     let some : settings.columns ≢ 0 =
     λ none. c.if-settings-eq0.false (ap (λ (s : DecodeSettings). s.columns) c.settings.ensures.value ∙ none) in
@@ -32,7 +32,7 @@ returns-clause-within g c = grind (arith, common_steps)
 
 pub returns-clause-decodes : goal.returns-clause-decodes
 returns-clause-decodes g c =
-    let settings = c.restart.new.self.held.settings in
+    let settings = c.restart.new.ctx.held.settings in
     let same = ap (λ (x : Context). x.held.settings) c.restart.ensures.frame in
     let some : settings.columns ≢ 0 =
     λ none. c.if-settings-eq0.false (ap (λ (s : DecodeSettings). s.columns) c.settings.ensures.value ∙ none) in

@@ -6,7 +6,7 @@ use Rattle.std.specs.Option.{unwrap_or}
 use Rattle.std.proofs.lemmas.List.{length-take-le}
 use Rattle.std.proofs.Math.Seq.{take-length}
 use Rattle.hayro_ccitt.specs.RowFeeds.{Feeding, fed_bits}
-use Rattle.hayro_ccitt.specs.declared.row_reader.RowState.{RowState}
+use Rattle.hayro_ccitt.specs.RowState.{RowState}
 use Rattle.fax_callers.specs.PageFeeds.{IsPageReading}
 use Rattle.fax_callers.specs.Rtc.{GoesOnBehind, page_size}
 use Rattle.fax_callers.proofs.PageReadings.{bytes_are, count_within, front_length, kept_page, longer, longer_within, none_all}

@@ -1,32 +1,20 @@
-use Rattle.fax_encode.proofs.Names.{◌≡◌, ◌+◌, ◌*◌, ℕ, replicate, ap, ◌∙◌, arith, take_rest, low_bits}
-use Rattle.fax_encode.proofs.ScannedRows.{plain_more, plain_both}
+use Rattle.fax_encode.proofs.Names.{◌≡◌, ◌*◌, ℕ, ap, ◌∙◌, arith, take_rest, low_bits}
+use Rattle.fax_encode.proofs.ScannedRows.{plain_more, plain_words}
 use Rattle.fax_encode.proofs.bitmap_rows.count_plain.Goals as goal
 
 pub eights-preserved : goal.eights-preserved
-eights-preserved c =
-    let count : ℕ = c.eights.count in
-    let before : 64 * count ≡ 8 * (8 * count) = omega arith in
-    let sum : 8 * (count + 8) ≡ 8 * count + 64 = omega arith in
-    let after : 8 * (8 * (count + 8)) ≡ 64 * (count + 8) = omega arith in
-    record {
-      within = omega (arith, c.eights-test.true);
-      same = plain_both (8 * count) 64 (8 * (count + 8)) c.args.is_black c.args.bytes.now _ sum
-          (take_rest c.args.bytes.now (8 * count)) (c.eights.invariant.same ∙ ap (λ (n : ℕ). replicate n c.args.is_black) before)
-          (c.eight_are_plain.ensures c.if-eight_are_plain.true) ∙ ap (λ (n : ℕ). replicate n c.args.is_black) after;
-    }
+eights-preserved c = record {
+  within = omega (arith, c.eights-test.true);
+  same = plain_words c.eights.count 8 c.args.is_black c.args.bytes.now _ (take_rest c.args.bytes.now (8 * c.eights.count))
+      c.eights.invariant.same (c.eight_are_plain.ensures c.if-eight_are_plain.true);
+}
 
 pub fours-preserved : goal.fours-preserved
-fours-preserved c =
-    let count : ℕ = c.fours.count in
-    let before : 64 * count ≡ 8 * (8 * count) = omega arith in
-    let sum : 8 * (count + 4) ≡ 8 * count + 32 = omega arith in
-    let after : 8 * (8 * (count + 4)) ≡ 64 * (count + 4) = omega arith in
-    record {
-      within = omega (arith, c.fours-test.true);
-      same = plain_both (8 * count) 32 (8 * (count + 4)) c.args.is_black c.args.bytes.now _ sum
-          (take_rest c.args.bytes.now (8 * count)) (c.fours.invariant.same ∙ ap (λ (n : ℕ). replicate n c.args.is_black) before)
-          (c.four_are_plain.ensures c.if-four_are_plain.true) ∙ ap (λ (n : ℕ). replicate n c.args.is_black) after;
-    }
+fours-preserved c = record {
+  within = omega (arith, c.fours-test.true);
+  same = plain_words c.fours.count 4 c.args.is_black c.args.bytes.now _ (take_rest c.args.bytes.now (8 * c.fours.count))
+      c.fours.invariant.same (c.four_are_plain.ensures c.if-four_are_plain.true);
+}
 
 pub ones-preserved : goal.ones-preserved
 ones-preserved c =

@@ -2,10 +2,12 @@ use Rattle.fax_encode.proofs.Names.{◌≡◌, ◌+◌, ◌-◌, ◌*◌, ◌%�
 use Rattle.fax_encode.proofs.Names.{ℕ, suc, true, length, replicate, get_or, sym, ap, subst}
 use Rattle.fax_encode.proofs.Names.{◌∙◌, arith, append_assoc, one_shl, Bits, Row, low_bits, pixels, chosen_from, AreAllLeft}
 use Rattle.fax_encode.proofs.Names.{IsNear, color_after, all_bits}
-use Rattle.fax_encode.proofs.{Elements.left_of_end, Elements.same_change}
-use Rattle.fax_encode.proofs.ModesBelow.{IsBelow, all_below, ones_bits}
+use Rattle.fax_encode.proofs.Elements.{left_of_end}
+use Rattle.fax_encode.proofs.ModesBelow.{IsBelow, all_below}
 use Rattle.fax_encode.proofs.group4.put_all_below.Goals.{After-from}
 use Rattle.fax_encode.proofs.group4.put_all_below.Goals as goal
+use Rattle.hayro_ccitt.proofs.BitReading.WordRanges.{ones_below}
+use Rattle.fax_encode.proofs.Names.{get_or_default}
 
 below : (c : After-from) → IsBelow c.args._columns c.args.reference.now c.args.changes.now c.requires.coded.reference
     c.requires.coded.changes
@@ -29,7 +31,7 @@ in_list c = omega (arith, c.count_below-count.ensures.some, c.count_below-count.
 last : (c : After-from) → c.from.result
     ≡ get_or c.args.changes.now (c.args.at.next + c.count_below-count.result - 1) c.args._columns
 last c = c.from.ensures
-    ∙ same_change c.args.changes.now (c.args.at.next + c.count_below-count.result - 1) 0 c.args._columns (in_list c)
+    ∙ get_or_default c.args.changes.now (c.args.at.next + c.count_below-count.result - 1) 0 c.args._columns (in_list c)
 
 pub returns-clause-written : goal.returns-clause-written
 returns-clause-written c =
@@ -46,7 +48,7 @@ returns-clause-written c =
     ap (λ (n : ℕ). all_bits c.put.new.self ++ behind n) (last d)
     ∙ ap (λ (b : Bits). b ++ behind place) c.in_ok-put.ensures
     ∙ ap (λ (m : ℕ). (old ++ low_bits count (m - 1)) ++ behind place) one
-    ∙ ap (λ (b : Bits). (old ++ b) ++ behind place) (ones_bits count count (omega arith))
+    ∙ ap (λ (b : Bits). (old ++ b) ++ behind place) (ones_below count count (omega arith))
     ∙ ap (λ (m : ℕ). (old ++ replicate m true) ++ behind place) more
     ∙ append_assoc old (replicate (suc (count - 1)) true) (behind place) ∙ ap (λ (b : Bits). old ++ b) (sym (below d).bits)
 

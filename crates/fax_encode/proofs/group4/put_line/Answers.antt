@@ -1,8 +1,9 @@
-use Rattle.fax_encode.proofs.Names.{◌≤◌, arith, pixels, bits_at, chosen_from, place_of, all_bits}
-use Rattle.fax_encode.proofs.{ModesWritten.no_more, ModesWritten.step_bits, ModesWritten.step_right, RunsWritten.one_part}
+use Rattle.fax_encode.proofs.Names.{◌≤◌, arith, place_of, all_bits}
+use Rattle.fax_encode.proofs.ModesWritten.{coded_on, no_more, step_right}
 use Rattle.fax_encode.proofs.Names.{◌∙◌}
-use Rattle.fax_encode.proofs.{Elements.same_change, ModesBelow.below_in_list}
+use Rattle.fax_encode.proofs.ModesBelow.{below_in_list}
 use Rattle.fax_encode.proofs.group4.put_line.Goals as goal
+use Rattle.fax_encode.proofs.Names.{get_or_default}
 
 pub changes-smaller : goal.changes-smaller
 changes-smaller c =
@@ -12,24 +13,9 @@ changes-smaller c =
     omega (arith, right.0, right.1)
 
 pub changes-preserved : goal.changes-preserved
-changes-preserved c =
-    let inside : c.changes.at.from ≤ c.args.columns = c.changes.invariant.inside c.changes-test.true in
-    let right = step_right c.args.columns c.args.reference.now c.args.changes.now c.requires.reference c.requires.changes
-    (place_of c.changes.at) (place_of c.in_ok-at-2.at) inside c.in_ok-at-2.ensures.place in
-    record {
-      within = right.1;
-      near = c.in_ok-at-2.ensures.near;
-      next = c.in_ok-at-2.ensures.next;
-      inside = c.in_ok-at-2.ensures.inside;
-      written = one_part (all_bits c.put_mode.new.writer) (all_bits c.changes.writer) (chosen_from
-          (pixels c.args.columns c.args.reference.now) (pixels c.args.columns c.args.changes.now) (place_of c.changes.at))
-          (bits_at (pixels c.args.columns c.args.reference.now) (pixels c.args.columns
-          c.args.changes.now) (place_of c.changes.at))
-          (chosen_from (pixels c.args.columns c.args.reference.now)
-          (pixels c.args.columns c.args.changes.now) (place_of c.in_ok-at-2.at)) _ c.changes.invariant.written
-          (step_bits c.args.columns c.args.reference.now c.args.changes.now c.requires.reference c.requires.changes
-          (place_of c.changes.at) (place_of c.in_ok-at-2.at) inside c.in_ok-at-2.ensures.place) c.in_ok-at-2.ensures.written;
-    }
+changes-preserved c = coded_on c.requires.reference c.requires.changes c.changes.invariant
+    (c.changes.invariant.inside c.changes-test.true) c.in_ok-at-2.ensures.written c.in_ok-at-2.ensures.place
+    c.in_ok-at-2.ensures.near c.in_ok-at-2.ensures.next c.in_ok-at-2.ensures.inside
 
 pub modes-smaller : goal.modes-smaller
 modes-smaller c =
@@ -39,23 +25,9 @@ modes-smaller c =
     omega (arith, right.0, right.1)
 
 pub modes-preserved : goal.modes-preserved
-modes-preserved c =
-    let inside : c.modes.at.from ≤ c.args.columns = omega (arith, c.from.ensures, c.modes-test.true) in
-    let right = step_right c.args.columns c.args.reference.now c.args.changes.now c.requires.reference c.requires.changes
-    (place_of c.modes.at) (place_of c.in_ok-at-3.at) inside c.in_ok-at-3.ensures.place in
-    record {
-      within = right.1;
-      near = c.in_ok-at-3.ensures.near;
-      next = c.in_ok-at-3.ensures.next;
-      inside = c.in_ok-at-3.ensures.inside;
-      written = one_part (all_bits c.put_mode-in-modes.new.writer) (all_bits c.modes.writer) (chosen_from
-          (pixels c.args.columns c.args.reference.now) (pixels c.args.columns c.args.changes.now) (place_of c.modes.at))
-          (bits_at (pixels c.args.columns c.args.reference.now) (pixels c.args.columns c.args.changes.now) (place_of c.modes.at))
-          (chosen_from (pixels c.args.columns c.args.reference.now)
-          (pixels c.args.columns c.args.changes.now) (place_of c.in_ok-at-3.at)) _ c.modes.invariant.written
-          (step_bits c.args.columns c.args.reference.now c.args.changes.now c.requires.reference c.requires.changes
-          (place_of c.modes.at) (place_of c.in_ok-at-3.at) inside c.in_ok-at-3.ensures.place) c.in_ok-at-3.ensures.written;
-    }
+modes-preserved c = coded_on c.requires.reference c.requires.changes c.modes.invariant
+    (omega (arith, c.from.ensures, c.modes-test.true)) c.in_ok-at-3.ensures.written c.in_ok-at-3.ensures.place
+    c.in_ok-at-3.ensures.near c.in_ok-at-3.ensures.next c.in_ok-at-3.ensures.inside
 
 pub returns : goal.returns
 returns c = no_more c.args.columns c.args.reference.now c.args.changes.now c.requires.reference c.requires.changes (place_of
@@ -102,4 +74,4 @@ put_all_below-requires-clause-below c =
     c.changes.at.next c.find_above-above.result.index c.find_above-above.result.b1 c.changes-test.true c.if-changes-at.true
     c.find_above-above.ensures.found.first in
     c.if-changes-at.true ∙ c.find_above-above.ensures.found.first
-    ∙ same_change c.args.reference.now c.find_above-above.result.index c.args.columns 0 within
+    ∙ get_or_default c.args.reference.now c.find_above-above.result.index c.args.columns 0 within

@@ -1,9 +1,10 @@
-use Rattle.fax_encode.proofs.Names.{◌≡◌, ◌+◌, ◌-◌, ◌<◌, ◌++◌, ℕ, List, [], OnOk, length, drop, get_or, sym, ap, subst, ◌∙◌, arith}
-use Rattle.fax_encode.proofs.Names.{nil_from_length, length-drop, White, Black, Bits, AscendFrom, chosen_run, chosen_runs}
+use Rattle.fax_encode.proofs.Names.{◌≡◌, ◌+◌, ◌-◌, ◌<◌, ◌++◌, ℕ, List, OnOk, length, drop, get_or, sym, ap, subst, ◌∙◌, arith}
+use Rattle.fax_encode.proofs.Names.{White, Black, Bits, chosen_run, chosen_runs}
 use Rattle.fax_encode.proofs.Names.{all_bits}
-use Rattle.fax_encode.proofs.RunsWritten.{four_ascend, four_runs, four_within, next_within, next_ascends, next_run, two_runs}
+use Rattle.fax_encode.proofs.RunsWritten.{four_ascend, four_runs, four_within, two_runs}
 use Rattle.fax_encode.proofs.RunsWritten.{one_part}
 use Rattle.fax_encode.proofs.runs.put_changes.Goals as goal
+use Rattle.fax_encode.proofs.RunsWritten.{last_run, two_ascend}
 
 pub twos-preserved : goal.twos-preserved
 twos-preserved c =
@@ -17,14 +18,13 @@ twos-preserved c =
     let second : i + 1 < length changes = omega (arith, c.twos-test.true) in
     let two : i + 1 + 1 ≡ i + 2 = omega arith in
     let ascend = c.twos.invariant.ascend in
-    let behind = next_ascends columns place i White changes first ascend in
+    let behind = two_ascend columns place i White changes second ascend in
     let left : Bits = chosen_runs columns White white (drop (i + 1 + 1) changes) in
     let split = two_runs columns place i White changes first second ascend in
     record {
       counted = omega (arith, second);
-      within = next_within columns black (i + 1) Black changes second behind;
-      ascend = subst (λ (n : ℕ). AscendFrom white columns (drop n changes)) two
-          (next_ascends columns black (i + 1) Black changes second behind);
+      within = behind.0;
+      ascend = behind.1;
       written = ap (λ (n : ℕ). all_bits c.put_runs.new.writer ++ chosen_runs columns White white (drop n changes)) (sym two)
           ∙ one_part (all_bits c.put_runs.new.writer)
           (all_bits c.twos.writer) (chosen_runs columns White place (drop i changes)) (chosen_run White (black - place)
@@ -55,13 +55,8 @@ returns c =
     let columns : ℕ = c.args.columns in
     let changes : List ℕ = c.args.changes.now in
     let place : ℕ = c.twos.place in
-    let black : ℕ = get_or changes i 0 in
     let last : i < length changes =
     omega (arith, c.twos-test.false, c.if-next-changes.false, c.twos.invariant.counted) in
-    let none : drop (i + 1) changes ≡ [] =
-    nil_from_length (drop (i + 1) changes) (omega (arith, c.twos-test.false, length-drop (i + 1) changes)) in
-    let split : chosen_runs columns White place (drop i changes) ≡ chosen_run White (black - place)
-    ++ chosen_run Black (columns - black) = next_run columns place i White changes last c.twos.invariant.ascend
-    ∙ ap (λ (l : List ℕ). chosen_run White (black - place) ++ chosen_runs columns Black black l) none in
+    let split = last_run columns place i changes last (omega (arith, c.twos-test.false)) c.twos.invariant.ascend in
     subst (λ (b : Bits). OnOk c.put_runs-2.result (all_bits c.put_runs-2.new.writer ≡ b))
     (ap (λ (b : Bits). all_bits c.twos.writer ++ b) (sym split) ∙ c.twos.invariant.written) c.put_runs-2.ensures

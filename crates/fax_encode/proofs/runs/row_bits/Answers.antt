@@ -1,9 +1,9 @@
-use Rattle.fax_encode.proofs.Names.{◌≡◌, ◌+◌, ◌-◌, ◌<◌, ◌++◌, ℕ, List, [], length, drop, get_or, sym, ap, subst, ◌∙◌, arith}
-use Rattle.fax_encode.proofs.Names.{nil_from_length, length-drop, length-append, White, Black, AscendFrom, chosen_run}
+use Rattle.fax_encode.proofs.Names.{◌≡◌, ◌+◌, ◌-◌, ◌<◌, ℕ, List, length, drop, get_or, sym, ap, ◌∙◌, arith}
+use Rattle.fax_encode.proofs.Names.{length-append, White, Black, chosen_run}
 use Rattle.fax_encode.proofs.Names.{chosen_runs}
-use Rattle.fax_encode.proofs.RunsWritten.{next_within, next_ascends, next_run}
 use Rattle.fax_encode.proofs.RunLengths.{pair_taken}
 use Rattle.fax_encode.proofs.runs.row_bits.Goals as goal
+use Rattle.fax_encode.proofs.RunsWritten.{last_run, two_ascend}
 
 pub loop-next-preserved : goal.loop-next-preserved
 loop-next-preserved c =
@@ -11,18 +11,16 @@ loop-next-preserved c =
     let columns : ℕ = c.args.columns in
     let changes : List ℕ = c.args.changes.now in
     let place : ℕ = c.loop-next.place in
-    let black : ℕ = get_or changes i 0 in
     let white : ℕ = get_or changes (i + 1) 0 in
     let first : i < length changes = omega (arith, c.loop-next-test.true) in
     let second : i + 1 < length changes = omega (arith, c.loop-next-test.true) in
     let two : i + 1 + 1 ≡ i + 2 = omega arith in
     let ascend = c.loop-next.invariant.ascend in
-    let behind = next_ascends columns place i White changes first ascend in
+    let behind = two_ascend columns place i White changes second ascend in
     record {
       counted = omega (arith, second);
-      within = next_within columns black (i + 1) Black changes second behind;
-      ascend = subst (λ (n : ℕ). AscendFrom white columns (drop n changes)) two
-          (next_ascends columns black (i + 1) Black changes second behind);
+      within = behind.0;
+      ascend = behind.1;
       few = omega (
         arith,
         c.from-bits.ensures,
@@ -48,11 +46,7 @@ returns c =
     let black : ℕ = get_or changes i 0 in
     let last : i < length changes =
     omega (arith, c.loop-next-test.false, c.if-next-changes.false, c.loop-next.invariant.counted) in
-    let none : drop (i + 1) changes ≡ [] =
-    nil_from_length (drop (i + 1) changes) (omega (arith, c.loop-next-test.false, length-drop (i + 1) changes)) in
-    let split : chosen_runs columns White place (drop i changes) ≡ chosen_run White (black - place)
-    ++ chosen_run Black (columns - black) = next_run columns place i White changes last c.loop-next.invariant.ascend
-    ∙ ap (λ (l : List ℕ). chosen_run White (black - place) ++ chosen_runs columns Black black l) none in
+    let split = last_run columns place i changes last (omega (arith, c.loop-next-test.false)) c.loop-next.invariant.ascend in
     omega (
       arith,
       ap length split,

@@ -1,4 +1,4 @@
-use Rattle.fax_encode.proofs.Names.{◌≡◌, ℕ, bit_of}
+use Rattle.fax_encode.proofs.Names.{bit_of}
 use Rattle.fax_encode.proofs.TurnedWords.{pixels_after}
 use Rattle.fax_encode.proofs.turned_words.after.Goals as goal
 

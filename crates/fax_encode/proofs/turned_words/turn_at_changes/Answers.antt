@@ -2,19 +2,15 @@ use Rattle.fax_encode.proofs.Names.{◌≡◌, ◌+◌, ◌-◌, ◌*◌, ◌<�
 use Rattle.fax_encode.proofs.Names.{refl, sym, ap, ◌∙◌, arith, Bits, joined_pixels, length-pixels, pixels}
 use Rattle.fax_encode.proofs.Names.{turned_at_all, turned_from}
 use Rattle.fax_encode.proofs.Names.{[], AreChanges}
-use Rattle.fax_encode.proofs.TurnedWords.{all_places_turned, change_below, end_color, odd_ends_black}
+use Rattle.fax_encode.proofs.TurnedWords.{all_places_turned, change_inside, odd_ends_black}
 use Rattle.fax_encode.proofs.TurnedWords.{even_ends_white, joined_zeros}
 use Rattle.fax_encode.proofs.TurnedWords.{one_turned, plain_turned, turned_is_row}
 use Rattle.fax_encode.proofs.turned_words.turn_at_changes.Goals as goal
+use Rattle.hayro_ccitt.proofs.PixelRows.ChangesAndPixels.{turned_at}
 
 pub turn_behind-requires : goal.turn_behind-requires
-turn_behind-requires c =
-    omega (
-      arith,
-      change_below c.args.columns 0 c.args.changes.now c.changes.done c.changes-test.true c.requires.changes,
-      c.requires.room,
-      c.changes.invariant.room,
-    )
+turn_behind-requires c = change_inside _ _ c.changes.done c.changes-test.true c.requires.changes c.changes.invariant.room
+    c.requires.room
 
 pub changes-preserved : goal.changes-preserved
 changes-preserved c =
@@ -33,7 +29,7 @@ changes-preserved c =
 -- after the loop all changes are turned
 abbrev AllTurned : ℕ → List ℕ → List ℕ → List ℕ → Type 0
 AllTurned columns changes words now =
-    joined_pixels false now ≡ pixels columns changes ++ replicate (64 * length words - columns) (end_color false changes)
+    joined_pixels false now ≡ pixels columns changes ++ replicate (64 * length words - columns) (turned_at false changes)
 
 turned_all : (columns done : ℕ) (changes words now : List ℕ) → AreChanges columns changes → columns < 64 * length words
     → words ≡ replicate (length words) 0 → length changes ≤ done

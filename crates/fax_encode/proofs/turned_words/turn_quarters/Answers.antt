@@ -1,6 +1,6 @@
-use Rattle.fax_encode.proofs.Names.{◌≡◌, ◌+◌, ◌*◌, ◌/◌, ◌≤◌, ◌<◌, ℕ, List, Bits, get_or, length, drop, ap, refl, sym, ◌∙◌, arith}
+use Rattle.fax_encode.proofs.Names.{◌≡◌, ◌+◌, ◌*◌, ◌/◌, ℕ, List, Bits, get_or, length, drop, ap, refl, sym, ◌∙◌, arith}
 use Rattle.fax_encode.proofs.Names.{false, joined_pixels, turned_at_all, turned_from}
-use Rattle.fax_encode.proofs.TurnedWords.{all_quarters, change_below, no_quarters, one_of_each, quarters_turned}
+use Rattle.fax_encode.proofs.TurnedWords.{all_quarters, change_inside, no_quarters, one_of_each, quarters_turned}
 use Rattle.fax_encode.proofs.turned_words.turn_quarters.Goals as goal
 
 pub quarters-init : goal.quarters-init
@@ -11,49 +11,25 @@ quarters-init c = record {
 }
 
 pub turn_behind-requires : goal.turn_behind-requires
-turn_behind-requires c =
-    omega (
-      arith,
-      change_below c.args._columns 0 c.args.changes.now c.quarters.done (omega (arith, c.quarters-test.true)) c.requires.changes,
-      c.requires.room,
-      c.quarters.invariant.room,
-    )
+turn_behind-requires c = change_inside _ _ c.quarters.done (omega (arith, c.quarters-test.true)) c.requires.changes
+    c.quarters.invariant.room c.requires.room
 
 pub turn_behind-requires-in-quarters : goal.turn_behind-requires-in-quarters
-turn_behind-requires-in-quarters c =
-    let place : ℕ = length c.args.changes.now / 4 + c.quarters.done in
-    omega (
-      arith,
-      change_below c.args._columns 0 c.args.changes.now place (omega (arith, c.quarters-test.true)) c.requires.changes,
-      c.requires.room,
-      c.turn_behind.ensures.length,
-      c.quarters.invariant.room,
-    )
+turn_behind-requires-in-quarters c = change_inside _ _ (length c.args.changes.now / 4 + c.quarters.done)
+    (omega (arith, c.quarters-test.true)) c.requires.changes
+    (c.turn_behind.ensures.length ∙ c.quarters.invariant.room) c.requires.room
 
 pub turn_behind-requires-in-quarters-2 : goal.turn_behind-requires-in-quarters-2
-turn_behind-requires-in-quarters-2 c =
-    let place : ℕ = 2 * (length c.args.changes.now / 4) + c.quarters.done in
-    omega (
-      arith,
-      change_below c.args._columns 0 c.args.changes.now place (omega (arith, c.quarters-test.true)) c.requires.changes,
-      c.requires.room,
-      c.turn_behind-in-quarters.ensures.length,
-      c.turn_behind.ensures.length,
-      c.quarters.invariant.room,
-    )
+turn_behind-requires-in-quarters-2 c = change_inside _ _ (2 * (length c.args.changes.now / 4) + c.quarters.done)
+    (omega (arith, c.quarters-test.true)) c.requires.changes
+    (c.turn_behind-in-quarters.ensures.length ∙ c.turn_behind.ensures.length
+    ∙ c.quarters.invariant.room) c.requires.room
 
 pub turn_behind-requires-in-quarters-3 : goal.turn_behind-requires-in-quarters-3
-turn_behind-requires-in-quarters-3 c =
-    let place : ℕ = 3 * (length c.args.changes.now / 4) + c.quarters.done in
-    omega (
-      arith,
-      change_below c.args._columns 0 c.args.changes.now place (omega (arith, c.quarters-test.true)) c.requires.changes,
-      c.requires.room,
-      c.turn_behind-in-quarters-2.ensures.length,
-      c.turn_behind-in-quarters.ensures.length,
-      c.turn_behind.ensures.length,
-      c.quarters.invariant.room,
-    )
+turn_behind-requires-in-quarters-3 c = change_inside _ _ (3 * (length c.args.changes.now / 4) + c.quarters.done)
+    (omega (arith, c.quarters-test.true)) c.requires.changes
+    (c.turn_behind-in-quarters-2.ensures.length ∙ c.turn_behind-in-quarters.ensures.length ∙ c.turn_behind.ensures.length
+    ∙ c.quarters.invariant.room) c.requires.room
 
 pub quarters-preserved : goal.quarters-preserved
 quarters-preserved c =

@@ -1,4 +1,4 @@
-use Rattle.hayro_ccitt.proofs.Readings.FeedsPaid.{feeds_are_paid}
+use Rattle.fax_feeds.proofs.Readings.FeedsPaid.{feeds_are_paid}
 use Rattle.hayro_ccitt.proofs.laws.feeds_paid.Goals as goal
 
 pub returns : goal.returns

@@ -18,7 +18,7 @@ modes-preserved c =
       further (here c.args.reader.now) c.modes.color (here c.modes.reader) c.in-Some.behind (here c.pass_mode.new.reader)
           c.modes.invariant.3 read,
       passed_mode (here c.args.reader.now) c.modes.color (here c.modes.reader) c.in-Some.behind (here c.pass_mode.new.reader)
-          c.args.ctx.now.ticks c.modes.ctx.ticks c.pass_mode.new.self.ticks c.modes.invariant.4 read (omega (
+          c.args.ctx.now.ticks c.modes.ctx.ticks c.pass_mode.new.ctx.ticks c.modes.invariant.4 read (omega (
             arith,
             c.in-Some.ensures.at_most,
             ap (λ (at : BitsAt). length (mode_found c.modes.color (here at))) c.copy-next.ensures.value,
@@ -37,7 +37,7 @@ returns-in-None-clause-last c =
 pub returns-in-None-clause-at_most : goal.returns-in-None-clause-at_most
 returns-in-None-clause-at_most c =
     all_passed (here c.args.reader.now) c.modes.color (here c.modes.reader) c.args.ctx.now.ticks c.modes.ctx.ticks
-    c.pass_mode.new.self.ticks c.modes.invariant.4 (omega (
+    c.pass_mode.new.ctx.ticks c.modes.invariant.4 (omega (
       arith,
       c.in-None.ensures.at_most,
       ap (λ (at : BitsAt). length (mode_found c.modes.color (here at))) c.copy-next.ensures.value,

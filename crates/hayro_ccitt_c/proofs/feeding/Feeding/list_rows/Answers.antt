@@ -1,5 +1,5 @@
 use Rattle.std.proofs.Common.{Ok, refl}
-use Rattle.hayro_ccitt.specs.declared.row_feed.Fed.{Fed}
+use Rattle.hayro_ccitt.specs.Fed.{Fed}
 use Rattle.hayro_ccitt_c.specs.GivenRows.{AreListedRows, room_of_lists}
 use Rattle.hayro_ccitt_c.proofs.FedRows.{gives_from, gives_no_row}
 use Rattle.hayro_ccitt_c.proofs.feeding.Feeding.list_rows.Goals as goal

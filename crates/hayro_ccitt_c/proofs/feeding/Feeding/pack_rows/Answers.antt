@@ -1,5 +1,5 @@
 use Rattle.std.proofs.Common.{ℕ, Ok, refl, subst, arith}
-use Rattle.hayro_ccitt.specs.declared.row_feed.Fed.{Fed}
+use Rattle.hayro_ccitt.specs.Fed.{Fed}
 use Rattle.hayro_ccitt_c.specs.GivenRows.{ArePackedRows, StandPacked, columns_of, room_of_packed}
 use Rattle.hayro_ccitt_c.specs.Packing.{spaced}
 use Rattle.hayro_ccitt_c.specs.declared.packed_rows.Layout.{Layout}

@@ -11,7 +11,7 @@ returns-clause-taken c =
     let on = c.go_on.ensures in
     let end : ℕ = s.start + s.bytes in
     let old : List ℕ = take (end - s.start) (drop s.start s.bitmap.now) in
-    let row : List ℕ = c.fill_apart.new.bytes in
+    let row : List ℕ = c.fill_bytes.new.bytes in
     let bytes : s.bytes ≡ bytes_of_row s.columns = omega (arith, s.whole) in
     let room : s.start + s.bytes ≤ length s.bitmap.now =
     omega (arith, c.if-self.false, c.args.self.now.whole, s.whole, same.shape.columns, same.start, same.size) in
@@ -21,7 +21,7 @@ returns-clause-taken c =
     on.changes
     on.same_reference
     ∙ packed_behind s.layout s.columns s.start s.written s.bytes [] s.bitmap.now row s.changes _
-    s.bitmap.ghost_name same.written bytes s.reaches (omega (arith, room)) (omega (arith, room)) c.fill_apart.auto.bytes
+    s.bitmap.ghost_name same.written bytes s.reaches (omega (arith, room)) (omega (arith, room)) c.fill_bytes.auto.bytes
     (white_bytes s.layout.black_is_0 s.columns [] old row c.white_byte-white.result refl long c.white_byte-white.ensures
-    c.fill_apart.ensures)
+    c.fill_bytes.ensures)
     refl _ _ same.meaning same.shape.columns

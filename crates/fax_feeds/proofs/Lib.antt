@@ -1,0 +1,3 @@
+pub mod DrawingLines
+pub mod Names
+pub mod Readings

@@ -1,0 +1,137 @@
+use Rattle.fax_feeds.proofs.Names.{common_steps}
+use Rattle.fax_feeds.proofs.Names.{◌≡◌, ◌≢◌, ◌∙◌, ap, sym, subst, arith, false≢true, false, true, BitsAt, bits_in}
+use Rattle.fax_feeds.proofs.Names.{None}
+use Rattle.fax_feeds.proofs.Names.{Context, Ok, is_at_line, drop, ended, refl}
+use Rattle.fax_feeds.proofs.Readings.FeedTurns.{IsReadBy, full_row, gap_read_by, gap_row, line_read_by, line_row}
+use Rattle.fax_feeds.proofs.Readings.FeedTurns.{past_gap, past_line, seen_by, turn_reads}
+use Rattle.fax_feeds.proofs.Readings.PartsFed.{scanned_after, unread_line}
+use Rattle.fax_feeds.specs.RowFeeds.{Feeding, FeedsRow, KeepsPart, ReadsInFeed, fed_row, feeding_of}
+use Rattle.fax_feeds.specs.declared.row_feed.RowFeed.TheInside.{Inside}
+use Rattle.fax_feeds.proofs.row_feed.RowFeed.read_from_gap.Goals.{After-is_some_line}
+use Rattle.fax_feeds.proofs.row_feed.RowFeed.read_from_gap.Goals.{After-is_unsettled, then-is_unsettled, else-is_unsettled}
+use Rattle.fax_feeds.proofs.row_feed.RowFeed.read_from_gap.Goals as goal
+
+-- ---- The gap
+
+reader_is_at : (c : After-is_some_line) → c.placed_at-reader.result
+    ≡ record { bits = bits_in c.self.inside.order c.self.inside.«data».items; place = c.self.inside.place }
+reader_is_at c = grind (arith, common_steps)
+
+feed_by : (c : After-is_some_line) → IsReadBy c.self.inside c.placed_at-reader.result
+feed_by c = grind (arith, common_steps, reader_is_at c)
+
+unended_feed : (c : After-is_some_line) → ended c.self.inside.rows.stand ≡ None
+unended_feed c = ap (λ (f : Feeding). ended f.rows.stand) c.self.view_is ∙ c.requires.unended
+
+-- the feed where the gap was passed
+abbrev behind_gap : After-is_some_line → Inside
+behind_gap c = past_gap c.self.inside c.come_to_settled_line-line.new.ctx c.come_to_settled_line-line.new.rows
+    c.bit_pos-self-inside.result c.come_to_settled_line-line.new.look
+
+gap_kept : (c : After-is_some_line) → IsReadBy (behind_gap c) c.come_to_settled_line-line.new.reader
+gap_kept c = gap_read_by (feed_by c) c.bit_pos-self-inside.ensures.place c.come_to_settled_line-line.ensures
+
+pub come_to_settled_line-line-requires-clause-seen : goal.come_to_settled_line-line-requires-clause-seen
+come_to_settled_line-line-requires-clause-seen c = grind (arith, common_steps, seen_by)
+
+pub come_to_settled_line-line-requires-clause-line : goal.come_to_settled_line-line-requires-clause-line
+come_to_settled_line-line-requires-clause-line c = c.self.invariant.line
+
+pub invariant_of-self : goal.invariant_of-self
+invariant_of-self c = (gap_kept (goal.at.invariant_of-self c).After-is_some_line).kept
+
+pub returns-then-not-is_some_line-clause-reads : goal.returns-then-not-is_some_line-clause-reads
+returns-then-not-is_some_line-clause-reads c =
+    let here = (goal.at.returns-then-not-is_some_line-clause-reads c).After-is_some_line in
+    let row = gap_row (feed_by here) c.bit_pos-self-inside.ensures.place c.come_to_settled_line-line.ensures (unended_feed here)
+    (c.is_some_line.ensures.none c.if-not-is_some_line.true) in
+    rw (← c.self.view_is) (λ whole tried feed. rw c.fed_none.ensures (row.reads whole tried (unended_feed here) feed))
+
+-- ---- The line
+
+pub invariant_of-self-then-not-can_take_row : goal.invariant_of-self-then-not-can_take_row
+invariant_of-self-then-not-can_take_row c =
+    (gap_kept (goal.at.invariant_of-self-then-not-can_take_row c).After-is_some_line).kept
+
+pub returns-then-not-can_take_row-clause-reads : goal.returns-then-not-can_take_row-clause-reads
+returns-then-not-can_take_row-clause-reads c =
+    let here = (goal.at.returns-then-not-can_take_row-clause-reads c).After-is_some_line in
+    let row = full_row (feed_by here) c.bit_pos-self-inside.ensures.place c.come_to_settled_line-line.ensures (unended_feed here)
+    (c.is_some_line.ensures.here c.if-not-is_some_line.false)
+    (λ fits few. false≢true (sym c.if-not-can_take_row.true ∙ c.can_take_row.ensures.room fits few)) _ in
+    rw (← c.self.view_is) (λ whole tried feed. row.reads whole tried (unended_feed here) feed)
+
+pub overflow_add-line_start : goal.overflow_add-line_start
+overflow_add-line_start c =
+    let kept = (gap_kept (goal.at.overflow_add-line_start c).After-is_some_line).kept in
+    omega (arith, kept.within, kept.fit)
+
+module _ (c : After-is_unsettled) where
+  abbrev here_gap : After-is_some_line
+  here_gap = c.before.before.before.before.before.before.before.before.before.before.before.before.before.before.before
+
+  line_is_at : is_at_line c.come_to_settled_line-line.new.rows.stand ≡ true
+  line_is_at = c.come_to_settled_line-line.ensures.line (c.is_some_line.ensures.here c.if-not-is_some_line.false)
+
+  -- the feed where the line was read, or left
+  abbrev behind_line : Inside
+  behind_line = past_line (behind_gap here_gap) c.try_line-row.new.ctx c.try_line-row.new.rows c.bit_pos-self-inside-2.result
+
+  line_kept : IsReadBy behind_line c.try_line-row.new.reader
+  line_kept = line_read_by (gap_kept here_gap) line_is_at c.bit_pos-self-inside-2.ensures.place c.begin_line.ensures.frame
+      c.try_line-row.ensures.tries
+
+  line_reads : ReadsInFeed (feeding_of (behind_gap here_gap)) (feeding_of behind_line) c.try_line-row.result
+  line_reads = turn_reads (gap_kept here_gap) line_is_at c.bit_pos-self-inside-2.ensures.place c.begin_line.ensures.frame
+      c.try_line-row.ensures.tries c.begin_line.ensures.width
+
+pub invariant_of-self-then-is_unsettled : goal.invariant_of-self-then-is_unsettled
+invariant_of-self-then-is_unsettled c = (line_kept (goal.at.invariant_of-self-then-is_unsettled c).After-is_unsettled).kept
+
+pub invariant_of-self-else-is_unsettled : goal.invariant_of-self-else-is_unsettled
+invariant_of-self-else-is_unsettled c = (line_kept (goal.at.invariant_of-self-else-is_unsettled c).After-is_unsettled).kept
+
+-- the line was read, or failed
+whole_feeds : (c : After-is_unsettled) → c.try_line-row.result ≢ Ok false
+    → FeedsRow (feeding_of c.self.inside) (feeding_of (behind_line c)) (fed_row c.try_line-row.result)
+whole_feeds c other = line_row (feed_by (here_gap c)) c.bit_pos-self-inside.ensures.place
+    c.come_to_settled_line-line.ensures (unended_feed (here_gap c)) (c.is_some_line.ensures.here c.if-not-is_some_line.false)
+    (c.can_take_row.ensures.rows c.if-not-can_take_row.false) (line_reads c) (λ e none. absurd (other e))
+
+-- it is short, and its part is kept
+short_feeds : (c : After-is_unsettled) {new : Feeding} → c.try_line-row.result ≡ Ok false
+    → KeepsPart (feeding_of (behind_line c)) new → FeedsRow (feeding_of c.self.inside) new (fed_row c.try_line-row.result)
+short_feeds c {new} is keeps =
+    let gap = feeding_of (behind_gap (here_gap c)) in
+    let short = subst (ReadsInFeed gap (feeding_of (behind_line c))) is (line_reads c) in
+    let kept = subst (ReadsInFeed gap new) (sym is)
+    (scanned_after short (gap_kept (here_gap c)).none (line_kept c).none keeps) in
+    line_row (feed_by (here_gap c)) c.bit_pos-self-inside.ensures.place c.come_to_settled_line-line.ensures
+    (unended_feed (here_gap c)) (c.is_some_line.ensures.here c.if-not-is_some_line.false)
+    (c.can_take_row.ensures.rows c.if-not-can_take_row.false) kept
+    (λ e still. unread_line short refl (λ tagged end. c.try_line-row.ensures.no_tag
+    (ap (λ (x : Context). x.held.settings.encoding) c.begin_line.ensures.frame ∙ tagged)
+    (ap (λ (b : BitsAt). drop b.place b.bits) (gap_kept (here_gap c)).is ∙ end) is
+    ∙ ap (λ (x : Context). x.ticks) c.begin_line.ensures.frame) keeps still)
+
+pub returns-clause-reads : goal.returns-clause-reads
+returns-clause-reads c =
+    let here = (goal.at.returns-clause-reads c).After-is_unsettled in
+    rw (← c.self.view_is) (λ whole tried feed. rw c.fed_row.ensures (elim c.if-is_unsettled.branch [
+      | then-is_unsettled w ↦
+          let row = short_feeds here (c.is_unsettled.ensures.short w.if-is_unsettled.true) w.keep_part.ensures in
+          rw w.self-is (row.reads whole tried (unended_feed (here_gap here)) feed)
+      | else-is_unsettled w ↦
+          let row = whole_feeds here (c.is_unsettled.ensures.other w.if-is_unsettled.false) in
+          rw w.self-is (row.reads whole tried (unended_feed (here_gap here)) feed)
+    ]))
+
+pub returns-clause-counts : goal.returns-clause-counts
+returns-clause-counts c =
+    let here = (goal.at.returns-clause-counts c).After-is_unsettled in
+    rw (← c.self.view_is, c.fed_row.ensures) (elim c.if-is_unsettled.branch [
+      | then-is_unsettled w ↦
+          rw w.self-is (short_feeds here (c.is_unsettled.ensures.short w.if-is_unsettled.true) w.keep_part.ensures).counts
+      | else-is_unsettled w ↦
+          rw w.self-is (whole_feeds here (c.is_unsettled.ensures.other w.if-is_unsettled.false)).counts
+    ])

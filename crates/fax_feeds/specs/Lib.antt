@@ -1,0 +1,5 @@
+pub mod FeedsKeepLittle
+pub mod FeedsPaid
+pub mod GapsSeen
+pub mod LineParts
+pub mod RowFeeds

@@ -1,0 +1,666 @@
+-- Rows from data that comes in pieces: what is kept of it, what is seen of a reading, and which data it is a reading of.
+use Rattle.std.specs.Prelude.{◌≡◌, ◌≢◌, ◌≤◌, ◌<◌, ◌+◌, ◌*◌, ◌/◌, ◌^◌, ℕ, Bool, true, false, ◌++◌, [], not, ◌&&◌, ◌⊎◌}
+use Rattle.std.specs.Prelude.{vec_capacity, List, max, drop, length, replicate, ◌∷◌, Option, None, Some, Result, Ok, Err, IfErr}
+use Rattle.fax_bits.specs.declared.bit_reader.BitOrder.{BitOrder}
+use Rattle.fax_bits.specs.declared.codes.Color.TheVariants.{White}
+use Rattle.fax_bits.specs.declared.settings.EncodingMode.TheVariants.{Group3_2D}
+use Rattle.fax_bits.specs.declared.error.DecodeError.{DecodeError}
+use Rattle.fax_bits.specs.declared.error.DecodeError.TheVariants.{InvalidCode, OutOfMemory, Refused}
+use Rattle.fax_feeds.specs.declared.line_parts.KeptPart.{KeptPart}
+use Rattle.fax_feeds.specs.declared.row_feed.Fed.{Fed}
+use Rattle.fax_feeds.specs.declared.row_feed.LineState.{LineState}
+use Rattle.fax_feeds.specs.declared.row_feed.RowFeed.TheInside.{Inside}
+use Rattle.fax_rows.specs.declared.row_reader.RowState.{RowState}
+use Rattle.fax_rows.specs.declared.row_reader.Stand.{Stand}
+use Rattle.fax_rows.specs.declared.row_reader.Stand.TheVariants.{AtLine, BehindRow, AtEnd, AtFault}
+use Rattle.fax_reading.specs.Answers.{HasBlack, PaintsBlack, front_of, meaning_after}
+use Rattle.fax_bits.specs.Bits.{AreWholeBytes, Bits, BitsAt, bits_in, here}
+use Rattle.fax_reading.specs.Context.{Context, Held, fresh, redrawn}
+use Rattle.fax_reading.specs.Continuations.{is_short}
+use Rattle.fax_reading.specs.Decoding.{SinkState}
+use Rattle.fax_reading.specs.GapsContinued.{first_gap_is_settled, gap_is_settled}
+use Rattle.fax_feeds.specs.GapsSeen.{IsSeen, nothing_seen, rules_for}
+use Rattle.fax_feeds.specs.declared.gap_look.GapLook.{GapLook}
+use Rattle.fax_feeds.specs.LineParts.{IsLawfulPart, IsPartOf}
+use Rattle.fax_reading.specs.Lines.{Line}
+use Rattle.fax_reading.specs.PlainReading.{line_here, lines_of, row_of_line}
+use Rattle.fax_reading.specs.Rows.{Row, changes}
+use Rattle.fax_rows.specs.RowsRead.{IsStanding, IsStandingAtLine, ReachesNextLine, ReadsNext, RowsRead, ended, is_at_line}
+use Rattle.fax_rows.specs.RowsRead.{seen}
+use Rattle.fax_rows.specs.RowsTried.{CanCome, IsLeft, TriesRow}
+use Rattle.fax_bits.specs.Faults.{no_memory}
+
+-- ---- What is seen
+
+-- the context, what is kept between two rows, the order of the bits, whether what is before the first line was passed,
+-- whether the
+-- data is finished, the bits kept of it, how many bits came before them, the offset of the next bit among those kept, how many
+-- bits from there on were looked at since the gap before the next line is sought, the part of the line there from which it goes
+-- on, if it was found to be short, how many of its bits were read, and for how many bytes there is room
+pub record Feeding : Type 0 where
+  pub ctx : Context
+  pub rows : RowState
+  pub order : BitOrder
+  pub begun : Bool
+  pub finished : Bool
+  pub kept : Bits
+  pub dropped : ℕ
+  pub place : ℕ
+  pub looked : ℕ
+  pub part : Option KeptPart
+  pub line_read : ℕ
+  pub tried_at : ℕ
+  pub room : ℕ
+
+abbrev pub feeding_of : Inside → Feeding
+feeding_of f = record {
+  ctx = f.ctx;
+  rows = f.rows;
+  order = f.order;
+  begun = f.begun;
+  finished = f.is_last;
+  kept = bits_in f.order f.«data».items;
+  dropped = f.dropped;
+  place = f.place;
+  looked = f.look.bits;
+  part = f.part;
+  line_read = f.line_read;
+  tried_at = f.tried;
+  room = vec_capacity f.«data»;
+}
+
+-- the line that begins these bits is short, and goes on from this part of it, of which so many bits were read
+pub record LineGoesOn (begun : Bool) (stand : Stand) (held : Held) (here : Bits) (read : ℕ) (part : KeptPart) : Type 0 where
+  pub is_begun : begun ≡ true
+  pub at_line : is_at_line stand ≡ true
+  pub none_drawn : redrawn held [] White ≡ held
+  pub within : read ≤ length here
+  pub lawful : IsLawfulPart held.settings held.reference part
+  pub line : IsPartOf held.settings held.reference here part (drop read here)
+
+-- the part is one of a one-dimensional line
+abbrev pub IsPartOf1d : Option KeptPart → Type 0
+IsPartOf1d None = ⊥
+IsPartOf1d (Some part) = part.is_2d ≡ false
+
+abbrev pub PartIsKept : Option KeptPart → Bool → Stand → Held → Bits → ℕ → Type 0
+PartIsKept None begun stand held here read = read ≡ 0
+PartIsKept (Some part) begun stand held here read = LineGoesOn begun stand held here read part
+
+-- the next bit is among those kept, or just after them, offsets fit, and nothing was read yet if nothing has begun
+pub record IsKept (f : Inside) : Type 0 where
+  pub within : f.place ≤ 8 * length f.«data».items
+  pub fit : f.dropped + 8 * length f.«data».items + 64 < 2 ^ 64
+  pub fresh : f.begun ≡ false → f.ctx.held ≡ fresh f.ctx.held.settings
+  pub start : f.begun ≡ false → f.place ≡ 0
+  pub unended : f.begun ≡ false → ended f.rows.stand ≡ None
+  pub rows : f.begun ≡ false → is_at_line f.rows.stand ≡ false
+  pub seen : IsSeen (rules_for f.begun f.ctx.held) f.look (drop f.place (bits_in f.order f.«data».items))
+  pub line : is_at_line f.rows.stand ≡ true → f.look ≡ nothing_seen
+  pub part : PartIsKept f.part f.begun f.rows.stand f.ctx.held (drop f.place (bits_in f.order f.«data».items)) f.line_read
+
+-- what was read of these bits
+abbrev pub fed_over : Bits → Feeding → RowsRead
+fed_over whole feed = seen feed.rows feed.ctx (record { bits = whole; place = feed.dropped + feed.place })
+
+-- ---- Which data it is a reading of
+
+-- the bits kept, of which so many came before, lie in some data, and more bits may follow them
+pub record LieIn (whole : Bits) (dropped : ℕ) (finished : Bool) (kept : Bits) : Type 0 where
+  pub within : dropped ≤ length whole
+  pub more : Bits
+  pub bits : drop dropped whole ≡ kept ++ more
+  pub can_come : CanCome finished more
+
+-- nothing was read yet
+pub record IsAtFront (from : ℕ) (rows : RowState) (ctx : Context) (place : ℕ) : Type 0 where
+  pub fresh : ctx.held ≡ fresh ctx.held.settings
+  pub ticks : ctx.ticks ≡ from
+  pub state : rows ≡ record { started_at = 0; damage = None; cut = false; missed = None; stand = Stand.BehindRow }
+  pub start : place ≡ 0
+
+-- where the reading is by the plain reading of these bits, with the work of all tries that were left
+abbrev pub StandsIn : Bool → ℕ → RowState → Context → BitsAt → Type 0
+StandsIn true tried rows ctx at = IsStanding tried rows ctx at
+StandsIn false tried rows ctx at = IsAtFront tried rows ctx at.place
+
+-- It is a reading of these bits, of which those fed so far are a beginning, and all of them if the data is finished; its
+-- rows so far
+-- are those of the plain reading. This much work was counted for what was tried and left.
+pub record IsFeedOf (whole : Bits) (tried : ℕ) (feed : Feeding) : Type 0 where
+  pub fit : length whole + 64 < 2 ^ 64
+  pub lie : LieIn whole feed.dropped feed.finished feed.kept
+  pub stands : StandsIn feed.begun tried feed.rows feed.ctx (record { bits = whole; place = feed.dropped + feed.place })
+
+-- ---- What a call leaves
+
+-- nothing was read: more data is needed, or there is no memory for the row
+abbrev pub HasNone : Result Fed DecodeError → Type 0
+HasNone (Ok fed) = fed ≡ Fed.NeedsMore
+HasNone (Err error) = error ≡ OutOfMemory
+
+-- what a call that reads no row leaves unchanged: the rows so far and what is known of the last one
+pub record StaysThere (old new : RowsRead) : Type 0 where
+  pub settings : new.settings ≡ old.settings
+  pub bits : new.bits ≡ old.bits
+  pub counts : old.ticks ≤ new.ticks
+  pub taken : new.taken ≡ old.taken
+  pub row : new.row ≡ old.row
+  pub damage : new.damage ≡ old.damage
+  pub cut : new.cut ≡ old.cut
+  pub line_start : new.line_start ≡ old.line_start
+  pub unended : new.end ≡ None
+  pub line : old.at_line ≡ true → new.at_line ≡ true
+
+-- What is next can be changed by data that follows: what is before the first line, the gap, or the line, which is short
+-- (T.4, 4.1 and
+-- 4.2; T.6, 2.2 and 2.4.1.1).
+abbrev pub IsOpenAt : Bool → Stand → Context → Bits → Type 0
+IsOpenAt false stand ctx next = first_gap_is_settled ctx.held.settings.encoding ctx.held.settings next ≡ false
+IsOpenAt true AtLine ctx next = is_short (line_here ctx.held.settings ctx.held.reference next) ≡ true
+IsOpenAt true BehindRow ctx next = gap_is_settled ctx.held.settings ctx.held.taken ctx.held.has_eols next ≡ false
+IsOpenAt true AtEnd ctx next = ⊥
+IsOpenAt true (AtFault error) ctx next = ⊥
+
+-- Of a gap that begins these bits some were looked at before, and so many more now, each counted once: as far as is needed to
+-- know that nothing that follows changes it, or all there are. None are at a line, nor in data that is finished.
+pub record LooksAhead (is_last at_line : Bool) (looked : ℕ) (gap : Bits) (counted : ℕ) : Type 0 where
+  pub line : at_line ≡ true → counted ≡ 0
+  pub finished : is_last ≡ true → counted ≡ 0
+  pub within : 0 < counted → counted + looked ≤ length gap
+
+-- the line that is here
+abbrev pub line_of_feed : Feeding → Line
+line_of_feed feed = line_here feed.ctx.held.settings feed.ctx.held.reference (drop feed.place feed.kept)
+
+-- what reading a short line on has counted, at most: two ticks a bit that was read of it, the changes of the reference row that
+-- were passed, and two for the word that is missing
+abbrev pub paid_by : Option KeptPart → ℕ → ℕ
+paid_by None read = 0
+paid_by (Some part) read = part.passed + 2 * read + 2
+
+abbrev pub paid_for_line : Feeding → ℕ
+paid_for_line feed = paid_by feed.part feed.line_read
+
+-- the most of it, where the line is read to its end, or to that of its bits that are known
+abbrev pub most_for_line : Feeding → ℕ
+most_for_line feed = length (changes feed.ctx.held.reference) + 2 * length (drop feed.place feed.kept)
+
+-- a line is found to be short for the first time, and no part of it is kept
+pub record TriesFirst (old new : Feeding) : Type 0 where
+  pub untried : old.tried_at ≢ new.dropped + new.place
+  pub tried : new.tried_at ≡ new.dropped + new.place
+  pub at_line : is_at_line new.rows.stand ≡ true
+
+-- the most that is counted to find a line to be short, or to draw what memory is left for
+abbrev pub most_to_find : Feeding → ℕ
+most_to_find feed = 4 * length (drop feed.place feed.kept) + length (changes feed.ctx.held.reference)
+
+-- What a call counts for a line that it leaves, or that was left before. Where a short line goes on, only the bits that are read
+-- newly are counted, and the changes that are passed newly; where it is found to be short first, four ticks a bit more, and the
+-- changes once. Where it is read, what went before counts no more than once for the whole line (T.4, 4.1 and 4.2; T.6, 2.2).
+pub record LineWork (old new : Feeding) (answer : Result Fed DecodeError) (counted : ℕ) : Type 0 where
+  pub goes_on : answer ≡ Ok Fed.NeedsMore → old.part ≢ None → counted + paid_for_line old ≤ paid_for_line new + 2
+  pub begins : answer ≡ Ok Fed.NeedsMore → old.part ≡ None → counted ≤ paid_for_line new
+      + (4 * length (drop new.place new.kept) + length (changes new.ctx.held.reference) + 2)
+  pub read : (HasNone answer → ⊥) → counted + paid_for_line old ≤ most_for_line old + 4
+  pub at_once : (HasNone answer → ⊥) → old.part ≡ None → counted ≡ 0
+  -- the part that is kept goes on, and where none is kept nothing is counted
+  pub some : answer ≡ Ok Fed.NeedsMore → old.part ≢ None → new.part ≢ None
+  pub unread : answer ≡ Ok Fed.NeedsMore → old.part ≡ None → new.part ≡ None → (counted ≡ 0) ⊎ TriesFirst old new
+  -- a line that was left before is read on once more, and then from its start
+  pub failed : answer ≡ Err OutOfMemory
+      → counted + paid_for_line old ≤ most_for_line old + most_to_find new + 6
+  pub failed_at_once : answer ≡ Err OutOfMemory → old.part ≡ None → counted ≤ most_to_find new + 2
+
+-- an EOL is among some bits, which begin at this offset, and ends no later than another (T.4, 4.1.2)
+pub record PassesEol (gap : Bits) (from to : ℕ) : Type 0 where
+  pub fill : Bits
+  pub behind : Bits
+  pub place : gap ≡ fill ++ replicate 11 false ++ true ∷ behind
+  pub passed : from + length fill + 12 ≤ to
+
+-- A row is read from a line that begins at this offset. It has no more changes than the line has bits, and but one more than
+-- there are bits up to the end of an EOL, where it is repaired (T.4, 4.1.2).
+pub record DrawsRow (old new : Feeding) : Type 0 where
+  pub start : ℕ
+  pub onward : old.dropped + old.place ≤ start
+  pub past_eol : old.finished ≡ false → old.begun ≡ true → is_at_line old.rows.stand ≡ false → old.ctx.held.has_eols ≡ true
+      → PassesEol (drop old.place old.kept) (old.dropped + old.place) start
+  pub most : start + length (changes new.ctx.held.reference) ≤ new.dropped + length new.kept + 1
+  pub drawn : (start + length (changes new.ctx.held.reference) ≤ new.dropped + new.place)
+      ⊎ ((new.ctx.held.has_eols ≡ true) × ((more fill behind : Bits)
+      → drop new.place new.kept ++ more ≡ fill ++ replicate 11 false ++ true ∷ behind
+      → start + length (changes new.ctx.held.reference) ≤ new.dropped + new.place + length fill + 13))
+
+-- How a call goes on in the data, and what it counts for that: where a gap is passed, no more than twelve bits beyond it were
+-- looked at; the changes of a row are no more than the words of its line, and one; and the lists of changes have no more room
+-- than before, or than a row needs.
+pub record CallGoesOn (old new : Feeding) (answer : Result Fed DecodeError) (gap extra : ℕ) : Type 0 where
+  pub counts : old.ctx.ticks + extra ≤ new.ctx.ticks
+  pub stored : answer ≡ Ok Fed.Row → length (changes new.ctx.held.reference) + (old.ctx.ticks + extra) ≤ new.ctx.ticks + 1
+  pub draws : answer ≡ Ok Fed.Row → DrawsRow old new
+  pub onward : ended new.rows.stand ≡ None → old.dropped + old.place ≤ new.dropped + new.place
+  pub near : old.begun ≡ true → old.finished ≡ false → ended new.rows.stand ≡ None
+      → gap + old.looked + (old.dropped + old.place) ≤ new.dropped + new.place + new.looked + 12
+  pub stays : HasNone answer → (old.begun && is_at_line old.rows.stand) ≡ true → new.place ≡ old.place
+  -- what a line yields that was left before
+  pub row_is : answer ≡ Ok Fed.Row → (old.begun && is_at_line old.rows.stand) ≡ true
+      → row_of_line old.ctx.held.settings old.ctx.held.has_eols (drop old.place old.kept) (line_of_feed old)
+      ≡ Ok (new.ctx.held.reference, drop new.place new.kept)
+  -- an EOL is passed, where EOLs are sought and more data may come (T.4, 4.1.2)
+  pub past_eol : old.finished ≡ false → old.begun ≡ true → is_at_line old.rows.stand ≡ false → old.ctx.held.has_eols ≡ true
+      → ended new.rows.stand ≡ None → (answer ≡ Ok Fed.NeedsMore → is_at_line new.rows.stand ≡ true)
+      → PassesEol (drop old.place old.kept) (old.dropped + old.place) (new.dropped + new.place)
+  pub behind : answer ≡ Ok Fed.Row → is_at_line new.rows.stand ≡ false
+  pub tried : HasNone answer → (old.begun && is_at_line old.rows.stand) ≡ true
+      → (new.tried_at ≡ old.tried_at) ⊎ (new.tried_at ≡ new.dropped + new.place)
+  pub sought : answer ≡ Ok Fed.Row → (old.begun && is_at_line old.rows.stand) ≡ true
+      → new.ctx.held.has_eols ≡ old.ctx.held.has_eols
+  pub waits : answer ≡ Ok Fed.NeedsMore → is_at_line new.rows.stand ≡ false
+      → (new.place ≡ old.place) × (new.ctx.held.has_eols ≡ old.ctx.held.has_eols)
+  pub within : new.place ≤ length new.kept
+  pub paid : paid_for_line new ≤ most_for_line new + 2
+  pub unkept : (answer ≡ Ok Fed.NeedsMore → is_at_line new.rows.stand ≡ false) → new.part ≡ None
+  pub unbegun : new.begun ≡ false
+      → (old.begun ≡ false) × (answer ≡ Ok Fed.NeedsMore) × (is_at_line new.rows.stand ≡ false)
+  pub space : new.ctx.space ≤ max old.ctx.space (2 * old.ctx.held.settings.columns + 66)
+
+-- What a call that reads the next row leaves, of whatever data those fed are a beginning: the next row of its plain reading,
+-- its end
+-- or its fault; or nothing is read, since what is next can still be changed, or since a change of a row that paints a black
+-- pixel
+-- can't be stored. What was tried and left counted at most so much.
+pub record FeedsNext (whole : Bits) (tried : ℕ) (old new : Feeding) (answer : Result Fed DecodeError) : Type 0 where
+  pub row : answer ≡ Ok Fed.Row → ReadsNext (fed_over whole old) (fed_over whole new) (Ok true)
+  pub end : answer ≡ Ok Fed.End → ReadsNext (fed_over whole old) (fed_over whole new) (Ok false)
+  pub fault : IfErr answer (λ e. e ≢ OutOfMemory → ReadsNext (fed_over whole old) (fed_over whole new) (Err e))
+  pub none : HasNone answer → StaysThere (fed_over whole old) (fed_over whole new)
+  pub unsettled : answer ≡ Ok Fed.NeedsMore
+      → (new.finished ≡ false) × IsOpenAt new.begun new.rows.stand new.ctx (drop new.place new.kept)
+  pub memory : answer ≡ Err OutOfMemory
+      → HasBlack (front_of (line_here new.ctx.held.settings new.ctx.held.reference (drop new.place new.kept)))
+  pub paints : answer ≡ Err OutOfMemory → PaintsBlack (lines_of new.ctx.held.settings whole) new.ctx.held.taken
+  pub extra : ℕ
+  pub stands : IsFeedOf whole (tried + extra) new
+  -- what was counted for bits of the gap that weren't looked at before, and for the line; where the gap waits, the bits that were
+  -- looked at are kept
+  pub gap : ℕ
+  pub line_extra : ℕ
+  pub extra_is : extra ≡ gap + line_extra
+  pub looks : LooksAhead old.finished (old.begun && is_at_line old.rows.stand) old.looked (drop old.place old.kept) gap
+  pub looked : answer ≡ Ok Fed.NeedsMore → is_at_line new.rows.stand ≡ false → gap + old.looked ≡ new.looked
+  pub line_work : LineWork old new answer line_extra
+  pub goes_on : CallGoesOn old new answer gap extra
+
+-- ---- The steps of a call: not part of the trusted specification
+
+-- the answer of a step that passes a gap, if it was passed
+abbrev pub came : Result (Option Bool) DecodeError → Result Bool DecodeError
+came (Ok None) = Ok true
+came (Ok (Some line)) = Ok line
+came (Err error) = Err error
+
+-- the gap before the next line is passed, if there is one here, and no data that follows can change it
+pub record ComesOn (is_last : Bool) (gap_start : ℕ) (rows kept : RowState) (look kept_look : GapLook) (old new : Context)
+    (before after : BitsAt) (answer : Result (Option Bool) DecodeError) : Type 0 where
+  pub extra : ℕ
+  pub looks : LooksAhead is_last (is_at_line rows.stand) look.bits (here before) extra
+  pub looked : answer ≡ Ok None → (extra + look.bits ≡ kept_look.bits)
+      × IsSeen (rules_for true old.held) kept_look (here before)
+  pub none_looked : answer ≢ Ok None → kept_look ≡ nothing_seen
+  -- of a gap that is passed no more than twelve bits beyond its end were looked at
+  pub near : answer ≢ Ok None → is_last ≡ false → extra + look.bits + before.place ≤ after.place + 12
+  pub counts : old.ticks + extra ≤ new.ticks
+  pub onward : answer ≡ Ok (Some true) → before.place ≤ after.place
+  pub at_line : is_at_line rows.stand ≡ true → (after ≡ before) × (new.held ≡ old.held)
+  pub past_eol : is_last ≡ false → is_at_line rows.stand ≡ false → old.held.has_eols ≡ true → answer ≡ Ok (Some true)
+      → PassesEol (here before) before.place after.place
+  pub same_bits : after.bits ≡ before.bits
+  pub within : after.place ≤ length after.bits
+  pub space : new.space ≡ old.space
+  pub frame : new.held ≡ record old.held { has_eols = new.held.has_eols; repairs = new.held.repairs }
+  pub waits : answer ≡ Ok None → (new.held ≡ old.held) × (new.ticks ≡ old.ticks + extra) × (kept ≡ rows) × (after ≡ before)
+      × (is_last ≡ false) × (is_at_line rows.stand ≡ false)
+      × (gap_is_settled old.held.settings old.held.taken old.held.has_eols (here before) ≡ false)
+  pub comes : (from : ℕ) (whole : Bits) (dropped : ℕ) → answer ≢ Ok None → LieIn whole dropped is_last before.bits
+      → gap_start ≡ dropped + before.place → IsStanding from rows old (record { bits = whole; place = gap_start })
+      → ReachesNextLine (seen rows old (record { bits = whole; place = gap_start }))
+      (seen kept new (record { bits = whole; place = dropped + after.place })) (came answer)
+  pub stands : (from : ℕ) (whole : Bits) (dropped : ℕ) → answer ≢ Ok None → LieIn whole dropped is_last before.bits
+      → gap_start ≡ dropped + before.place → IsStanding from rows old (record { bits = whole; place = gap_start })
+      → IsStanding (from + extra) kept new (record { bits = whole; place = dropped + after.place })
+  pub line : answer ≡ Ok (Some true) → is_at_line kept.stand ≡ true
+  pub only_code : IfErr answer (λ e. e ≡ InvalidCode)
+
+-- the line here is read, unless data that follows can change it
+pub record TriesLine (is_last : Bool) (line_start : ℕ) (rows kept : RowState) (old new : Context) (before after : BitsAt)
+    (answer : Result Bool DecodeError) : Type 0 where
+  pub tried : TriesRow is_last old new answer before after
+  pub same_bits : after.bits ≡ before.bits
+  pub within : after.place ≤ length after.bits
+  pub left : IsLeft answer → (kept ≡ rows) × (after ≡ before)
+  pub behind : answer ≡ Ok true → kept.stand ≡ BehindRow
+  pub reads : (from : ℕ) (whole : Bits) (dropped : ℕ) → (IsLeft answer → ⊥) → LieIn whole dropped is_last before.bits
+      → line_start ≡ dropped + before.place → IsStandingAtLine from rows old (record { bits = whole; place = line_start })
+      → ReadsNext (seen rows old (record { bits = whole; place = line_start }))
+      (seen kept new (record { bits = whole; place = dropped + after.place })) answer
+  pub stands : (from : ℕ) (whole : Bits) (dropped : ℕ) → (IsLeft answer → ⊥) → LieIn whole dropped is_last before.bits
+      → line_start ≡ dropped + before.place → IsStandingAtLine from rows old (record { bits = whole; place = line_start })
+      → IsStanding from kept new (record { bits = whole; place = dropped + after.place })
+
+abbrev pub some_line : Result Bool DecodeError → Result (Option Bool) DecodeError
+some_line (Ok line) = Ok (Some line)
+some_line (Err error) = Err error
+
+-- a line was left
+abbrev pub is_left : Result Bool DecodeError → Bool
+is_left (Ok read) = not read
+is_left (Err error) = no_memory error
+
+-- what came of a line that wasn't left
+abbrev pub line_answer : Result Bool DecodeError → Result (Unit {0}) DecodeError
+line_answer (Ok read) = Ok tt
+line_answer (Err error) = Err error
+
+-- what no step changes: the order and the bits kept, how many came before them, for how many bytes there is room, and whether
+-- the data is finished
+pub record KeepsBits (old new : Feeding) : Type 0 where
+  pub order : new.order ≡ old.order
+  pub finished : new.finished ≡ old.finished
+  pub kept : new.kept ≡ old.kept
+  pub dropped : new.dropped ≡ old.dropped
+  pub room : new.room ≡ old.room
+
+-- What a call that reads the next row leaves, whatever the data is: the settings; and of a row that it is counted, has as many
+-- pixels as there are columns, and a gap is next.
+pub record CountsRow (old new : Feeding) (answer : Result Fed DecodeError) : Type 0 where
+  pub settings : new.ctx.held.settings ≡ old.ctx.held.settings
+  pub taken : answer ≡ Ok Fed.Row → (new.ctx.held.taken ≡ old.ctx.held.taken + 1) × (new.ctx.held.taken < 2 ^ 64)
+  pub width : answer ≡ Ok Fed.Row → length new.ctx.held.reference ≡ old.ctx.held.settings.columns
+  pub stands : answer ≡ Ok Fed.Row → (new.begun ≡ true) × (new.rows.stand ≡ BehindRow) × (new.part ≡ None)
+
+-- how a reading goes on behind what is before its first line
+abbrev pub line_first : Stand → Result Bool DecodeError
+line_first AtLine = Ok true
+line_first BehindRow = Ok true
+line_first AtEnd = Ok false
+line_first (AtFault error) = Err error
+
+-- a line is reached behind a gap
+pub record ReachesLine (old new : Feeding) (extra : ℕ) : Type 0 where
+  pub counts : old.ctx.ticks + extra ≤ new.ctx.ticks
+  pub onward : old.dropped + old.place ≤ new.dropped + new.place
+  pub near : old.begun ≡ true → old.finished ≡ false
+      → extra + old.looked + (old.dropped + old.place) ≤ new.dropped + new.place + 12
+  pub past_eol : old.finished ≡ false → old.begun ≡ true → is_at_line old.rows.stand ≡ false → old.ctx.held.has_eols ≡ true
+      → PassesEol (drop old.place old.kept) (old.dropped + old.place) (new.dropped + new.place)
+  pub at_line : (old.begun && is_at_line old.rows.stand) ≡ true
+      → (new.place ≡ old.place) × (new.ctx.held ≡ old.ctx.held) × (new.kept ≡ old.kept)
+  pub tried : new.tried_at ≡ old.tried_at
+  pub space : new.ctx.space ≡ old.ctx.space
+  pub settings : new.ctx.held.settings ≡ old.ctx.held.settings
+
+-- what is before the first line is passed, if no data that follows can change it
+pub record Begins (old new : Feeding) (answer : Bool) : Type 0 where
+  pub extra : ℕ
+  pub looks : LooksAhead old.finished false old.looked (drop old.place old.kept) extra
+  pub looked : answer ≡ false → extra + old.looked ≡ new.looked
+  pub keeps : KeepsBits old new
+  pub begun : new.begun ≡ answer
+  pub within : new.place ≤ length new.kept
+  pub space : new.ctx.space ≡ old.ctx.space
+  pub settings : new.ctx.held.settings ≡ old.ctx.held.settings
+  pub taken : new.ctx.held.taken ≡ old.ctx.held.taken
+  pub waits : answer ≡ false → (new.ctx.held ≡ old.ctx.held) × (new.ctx.ticks ≡ old.ctx.ticks + extra) × (new.rows ≡ old.rows)
+      × (new.place ≡ old.place) × (old.finished ≡ false)
+      × (first_gap_is_settled old.ctx.held.settings.encoding old.ctx.held.settings old.kept ≡ false)
+  pub reaches : (whole : Bits) (tried : ℕ) → answer ≡ true → IsFeedOf whole tried old → ReachesLine old new extra
+  pub unfailed : answer ≡ true → (error : DecodeError) → ended new.rows.stand ≢ Some (Err error)
+  pub passes : (whole : Bits) (tried : ℕ) → answer ≡ true → IsFeedOf whole tried old
+      → ReachesNextLine (fed_over whole old) (fed_over whole new) (line_first new.rows.stand)
+  pub stands : (whole : Bits) (tried : ℕ) → IsFeedOf whole tried old → IsFeedOf whole (tried + extra) new
+
+-- so is the gap before the next line
+pub record ComesInFeed (old new : Feeding) (answer : Result (Option Bool) DecodeError) : Type 0 where
+  pub extra : ℕ
+  pub looks : LooksAhead old.finished (is_at_line old.rows.stand) old.looked (drop old.place old.kept) extra
+  pub looked : answer ≡ Ok None → extra + old.looked ≡ new.looked
+  pub keeps : KeepsBits old new
+  pub begun : new.begun ≡ true
+  pub within : new.place ≤ length new.kept
+  pub space : new.ctx.space ≡ old.ctx.space
+  pub waits : answer ≡ Ok None → (new.ctx.held ≡ old.ctx.held) × (new.ctx.ticks ≡ old.ctx.ticks + extra) × (new.rows ≡ old.rows)
+      × (new.place ≡ old.place) × (old.finished ≡ false) × (is_at_line old.rows.stand ≡ false)
+      × (gap_is_settled old.ctx.held.settings old.ctx.held.taken old.ctx.held.has_eols (drop old.place old.kept) ≡ false)
+  pub comes : (whole : Bits) (tried : ℕ) → answer ≢ Ok None → IsFeedOf whole tried old
+      → ReachesNextLine (fed_over whole old) (fed_over whole new) (came answer)
+  pub stands : (whole : Bits) (tried : ℕ) → answer ≢ Ok None → IsFeedOf whole tried old → IsFeedOf whole (tried + extra) new
+  pub line : answer ≡ Ok (Some true) → is_at_line new.rows.stand ≡ true
+  pub counts : old.ctx.ticks + extra ≤ new.ctx.ticks
+  pub reaches : (whole : Bits) (tried : ℕ) → answer ≡ Ok (Some true) → IsFeedOf whole tried old → ReachesLine old new extra
+  pub only_code : IfErr answer (λ e. e ≡ InvalidCode)
+  pub waiting : (whole : Bits) (tried : ℕ) → answer ≡ Ok None → IsFeedOf whole tried old → IsFeedOf whole (tried + extra) new
+
+-- what is counted for a line that is left, or that was left before
+pub record LineIsPaid (old new : Feeding) (answer : Result Bool DecodeError) (counted : ℕ) : Type 0 where
+  pub goes_on : answer ≡ Ok false → old.part ≢ None → counted + paid_for_line old ≤ paid_for_line new + 2
+  pub begins : answer ≡ Ok false → old.part ≡ None → counted ≤ paid_for_line new
+      + (4 * length (drop old.place old.kept) + length (changes old.ctx.held.reference) + 2)
+  pub read : (IsLeft answer → ⊥) → counted + paid_for_line old ≤ most_for_line old + 4
+  pub at_once : (IsLeft answer → ⊥) → old.part ≡ None → counted ≡ 0
+  pub some : answer ≡ Ok false → old.part ≢ None → new.part ≢ None
+  pub failed : answer ≡ Err OutOfMemory → counted + paid_for_line old ≤ most_for_line old + most_to_find old + 6
+  pub failed_at_once : answer ≡ Err OutOfMemory → old.part ≡ None → counted ≤ most_to_find old + 2
+
+-- and the line here is read
+pub record ReadsInFeed (old new : Feeding) (answer : Result Bool DecodeError) : Type 0 where
+  pub extra : ℕ
+  pub keeps : KeepsBits old new
+  pub begun : new.begun ≡ true
+  pub counts : old.ctx.ticks ≤ new.ctx.ticks
+  pub left : IsLeft answer → (new.rows ≡ old.rows) × (new.place ≡ old.place) × (new.ctx.held ≡ redrawn old.ctx.held [] White)
+  pub unsettled : answer ≡ Ok false → (old.finished ≡ false)
+      × (is_short (line_here new.ctx.held.settings new.ctx.held.reference (drop old.place old.kept)) ≡ true)
+  pub memory : answer ≡ Err OutOfMemory
+      → HasBlack (front_of (line_here new.ctx.held.settings new.ctx.held.reference (drop old.place old.kept)))
+  pub paints : (whole : Bits) (tried : ℕ) → answer ≡ Err OutOfMemory → IsFeedOf whole tried old
+      → PaintsBlack (lines_of new.ctx.held.settings whole) new.ctx.held.taken
+  pub reads : (whole : Bits) (tried : ℕ) → (IsLeft answer → ⊥) → IsFeedOf whole tried old
+      → ReadsNext (fed_over whole old) (fed_over whole new) answer
+  pub stands : (whole : Bits) (tried : ℕ) → IsFeedOf whole tried old → IsFeedOf whole (tried + extra) new
+  pub most : new.ctx.space ≤ max old.ctx.space (2 * old.ctx.held.settings.columns + 66)
+  pub counted : old.ctx.ticks + extra ≤ new.ctx.ticks
+  pub stored : answer ≡ Ok true → length (changes new.ctx.held.reference) + (old.ctx.ticks + extra) ≤ new.ctx.ticks + 1
+  pub looked : new.looked ≡ old.looked
+  pub done : answer ≢ Ok false → new.part ≡ None
+  pub tried : (new.tried_at ≡ old.tried_at) ⊎ (new.tried_at ≡ new.dropped + new.place)
+  pub behind : answer ≡ Ok true → new.rows.stand ≡ BehindRow
+  pub within : new.place ≤ length new.kept
+  pub paid : paid_for_line new ≤ most_for_line new + 2
+  pub row_is : (whole : Bits) (tried : ℕ) → answer ≡ Ok true → IsFeedOf whole tried old
+      → (row_of_line old.ctx.held.settings old.ctx.held.has_eols (drop old.place old.kept) (line_of_feed old)
+      ≡ Ok (new.ctx.held.reference, drop new.place new.kept)) × (old.place ≤ new.place)
+      × (new.ctx.held.has_eols ≡ old.ctx.held.has_eols)
+  pub work : LineIsPaid old new answer extra
+  pub width : answer ≡ Ok true → length new.ctx.held.reference ≡ old.ctx.held.settings.columns
+  pub settings : new.ctx.held.settings ≡ old.ctx.held.settings
+  pub taken : answer ≡ Ok true → new.ctx.held.taken ≡ old.ctx.held.taken + 1
+
+-- a short line is read on: nothing changes but the count of work, and what is kept of the line
+pub record Scans (old new : Feeding) : Type 0 where
+  pub frame : new ≡ record old {
+    ctx = record old.ctx { ticks = new.ctx.ticks };
+    part = new.part;
+    line_read = new.line_read;
+    tried_at = new.tried_at;
+  }
+  pub counts : old.ctx.ticks ≤ new.ctx.ticks
+
+-- from a part with so many changes passed and bits read on
+pub record ScansLine (passed read : ℕ) (old new : Feeding) (short : Bool) : Type 0 where
+  pub scans : Scans old new
+  pub tried : new.tried_at ≡ old.tried_at
+  pub said : is_short (line_of_feed old) ≡ short
+  pub none : short ≡ false → new.part ≡ None
+  pub some : short ≡ true → new.part ≢ None
+  pub kept : short ≡ true → (new.place ≤ length new.kept) × (paid_for_line new ≤ most_for_line new + 2)
+  pub work : short ≡ true → new.ctx.ticks + (passed + 2 * read) ≤ old.ctx.ticks + paid_for_line new
+  pub most : new.ctx.ticks + (passed + 2 * read) ≤ old.ctx.ticks + most_for_line old + 2
+
+-- whether a line still is short
+abbrev pub says_short : LineState → Bool
+says_short LineState.Short = true
+says_short LineState.Settled = false
+
+-- from the part that is kept, if one is
+pub record StaysShort (old new : Feeding) (short : Bool) : Type 0 where
+  pub scans : Scans old new
+  pub tried : new.tried_at ≡ old.tried_at
+  pub said : short ≡ true
+      → (is_short (line_of_feed old) ≡ true) × (old.finished ≡ false) × (redrawn old.ctx.held [] White ≡ old.ctx.held)
+  pub settled : short ≡ false → old.part ≢ None → (old.finished ≡ true) ⊎ (is_short (line_of_feed old) ≡ false)
+  pub none : short ≡ false → new.part ≡ None
+  pub some : short ≡ true → new.part ≢ None
+  pub kept : short ≡ true → (new.place ≤ length new.kept) × (paid_for_line new ≤ most_for_line new + 2)
+  pub unkept : old.part ≡ None → (short ≡ false) × (new.ctx.ticks ≡ old.ctx.ticks)
+  pub work : short ≡ true → new.ctx.ticks + paid_for_line old ≤ old.ctx.ticks + paid_for_line new + 2
+  pub most : new.ctx.ticks + paid_for_line old ≤ old.ctx.ticks + most_for_line old + 4
+
+-- from the start of the line, which is short
+pub record KeepsPart (old new : Feeding) : Type 0 where
+  pub scans : Scans old new
+  pub work : is_short (line_of_feed old) ≡ true → new.ctx.ticks ≤ old.ctx.ticks + paid_for_line new
+  pub paid : new.part ≢ None → paid_for_line new ≤ most_for_line new + 2
+  pub tried : new.tried_at ≡ old.dropped + old.place
+  -- where none is, the line is tried for the first time, or the tag is missing
+  pub no_tag : is_short (line_of_feed old) ≡ true → new.part ≡ None → old.tried_at ≡ old.dropped + old.place
+      → (old.ctx.held.settings.encoding ≡ Group3_2D) × (drop old.place old.kept ≡ []) × (new.ctx.ticks ≡ old.ctx.ticks)
+
+-- what a call answers where a line was tried
+abbrev pub fed_row : Result Bool DecodeError → Result Fed DecodeError
+fed_row (Ok true) = Ok Fed.Row
+fed_row (Ok false) = Ok Fed.NeedsMore
+fed_row (Err error) = Err error
+
+-- what it answers where no line was reached
+abbrev pub fed_none : Result (Option Bool) DecodeError → Result Fed DecodeError
+fed_none (Ok None) = Ok Fed.NeedsMore
+fed_none (Ok (Some line)) = Ok Fed.End
+fed_none (Err error) = Err error
+
+-- what a call answers once the reading has ended
+abbrev pub fed_end : Result (Unit {0}) DecodeError → Result Fed DecodeError
+fed_end (Ok x) = Ok Fed.End
+fed_end (Err error) = Err error
+
+-- ---- Rows that are passed to a sink
+
+-- What a call leaves that reads the next row: of whatever data those fed are a beginning, the next row of the plain reading, its
+-- end or its fault, or nothing is read; and after the end nothing changes. What is kept of the data stays.
+pub record FeedsRow (old new : Feeding) (answer : Result Fed DecodeError) : Type 0 where
+  pub reads : (whole : Bits) (tried : ℕ) → ended old.rows.stand ≡ None → IsFeedOf whole tried old
+      → FeedsNext whole tried old new answer
+  pub keeps : KeepsBits old new
+  pub over : (end : Result (Unit {0}) DecodeError) → ended old.rows.stand ≡ Some end → (new ≡ old) × (answer ≡ fed_end end)
+  pub counts : CountsRow old new answer
+
+-- what calls leave, one after another, each of which reads a row
+abbrev pub FeedsRows : Feeding → List Feeding → Type 0
+FeedsRows old [] = Unit {0}
+FeedsRows old (new ∷ after) = FeedsRow old new (Ok Fed.Row) × FeedsRows new after
+
+-- and what the last of them leaves
+abbrev pub last_left : Feeding → List Feeding → Feeding
+last_left old [] = old
+last_left old (new ∷ after) = last_left new after
+
+-- the rows that they read
+abbrev pub rows_left : List Feeding → List Row
+rows_left [] = []
+rows_left (new ∷ after) = new.ctx.held.reference ∷ rows_left after
+
+-- Rows were read one after another, and each was passed to a sink of this step, which takes it from one meaning to another.
+pub record PassesRows {M : Type 0} (step : M → List ℕ → M) (before after : M) (old new : Feeding) : Type 0 where
+  pub rows : List Feeding
+  pub reads : FeedsRows old rows
+  pub last : new ≡ last_left old rows
+  pub meaning : after ≡ meaning_after step before (rows_left rows)
+
+-- a call that reads the next row has this answer, which is no row, and the sink has refused none
+pub record ComesToNoRow {M : Type 0} (before after : SinkState M) (old new : Feeding) (answer : Result Fed DecodeError)
+    : Type 0 where
+  pub call : FeedsRow old new answer
+  pub no_row : answer ≢ Ok Fed.Row
+  pub flag : after.refused ≡ before.refused
+
+-- it reads a row that the sink refuses
+pub record RefusesRow {M : Type 0} (after : SinkState M) (old new : Feeding) (answer : Result Fed DecodeError) : Type 0 where
+  pub call : FeedsRow old new (Ok Fed.Row)
+  pub answer_is : answer ≡ Err Refused
+  pub flag : after.refused ≡ true
+  pub row : after.refuses (changes new.ctx.held.reference)
+
+-- What a call leaves that passes rows to a sink: each was read as by a call that reads the next row, and the sink means them in
+-- order; then such a call comes to no row, or the sink refuses its row, and means what it meant before.
+pub record PushesRows {M : Type 0} (step : M → List ℕ → M) (before after : SinkState M) (old new : Feeding)
+    (answer : Result Fed DecodeError) : Type 0 where
+  pub mid : Feeding
+  pub passes : PassesRows step before.meaning after.meaning old mid
+  pub ends : ComesToNoRow before after mid new answer ⊎ RefusesRow after mid new answer
+  pub keeps : KeepsBits old new
+  pub settings : new.ctx.held.settings ≡ old.ctx.held.settings
+
+-- ---- More data
+
+-- how many bits were fed
+abbrev pub fed_bits : Feeding → ℕ
+fed_bits feed = feed.dropped + length feed.kept
+
+-- the bits of the bytes that were fed and aren't consumed: a byte of which a bit was read is
+abbrev pub unused : Feeding → Bits
+unused feed = drop (8 * ((feed.place + 7) / 8)) feed.kept
+
+-- These bits are held behind those that were, and the reading is at the same offset. Before it fewer than eight bits are held.
+-- There is room for no more bits than before, or than twice those held.
+pub record HoldsMore (next : Bits) (old new : Feeding) : Type 0 where
+  pub unread : drop new.place new.kept ≡ drop old.place old.kept ++ next
+  pub left : unused new ≡ unused old ++ next
+  pub fed : fed_bits new ≡ fed_bits old + length next
+  pub place : new.dropped + new.place ≡ old.dropped + old.place
+  pub few_read : new.place < 8
+  pub begun : new.begun ≡ old.begun
+  pub looked : new.looked ≡ old.looked
+  pub part : new.part ≡ old.part
+  pub line_read : new.line_read ≡ old.line_read
+  pub tried_at : new.tried_at ≡ old.tried_at
+  pub room : 8 * new.room ≤ max (8 * old.room) (2 * length new.kept)
+  pub within : old.place ≤ length old.kept
+  pub reading : (new.ctx ≡ old.ctx) × (new.rows ≡ old.rows) × (new.finished ≡ old.finished)
+  pub order : new.order ≡ old.order
+
+-- these bits are those of the whole data that come next, and whole bytes follow them
+pub record ComeNext (whole : Bits) (feed : Feeding) (next : Bits) : Type 0 where
+  pub rest : Bits
+  pub bits : drop (feed.dropped + length feed.kept) whole ≡ next ++ rest
+  pub bytes : AreWholeBytes rest
+
+-- the whole bytes before the next bit are dropped
+pub record DropsRead (old new : Feeding) : Type 0 where
+  pub bytes : ℕ
+  pub read : 8 * bytes ≤ old.place
+  pub kept : new.kept ≡ drop (8 * bytes) old.kept
+  pub dropped : new.dropped ≡ old.dropped + 8 * bytes
+  pub place : new.place + 8 * bytes ≡ old.place
+  pub few_read : new.place < 8
+  pub looked : new.looked ≡ old.looked
+  pub within : old.place ≤ length old.kept
+  pub ctx : new.ctx ≡ old.ctx
+  pub rows : new.rows ≡ old.rows
+  pub order : new.order ≡ old.order
+  pub begun : new.begun ≡ old.begun
+  pub finished : new.finished ≡ old.finished
+  pub part : new.part ≡ old.part
+  pub line_read : new.line_read ≡ old.line_read
+  pub tried_at : new.tried_at ≡ old.tried_at
+  pub room : new.room ≡ old.room

@@ -1,0 +1,10 @@
+pub mod GroupMasks
+pub mod LinesAtOnce
+pub mod RegularLanes
+pub mod RegularModes
+pub mod SameLines
+pub mod ShortLines
+pub mod TwoOnes
+pub mod UsualModes
+pub mod UsualStrokes
+pub mod WhiteLines

@@ -1,0 +1,4 @@
+pub mod CodeWords
+pub mod DrawingLines
+pub mod Names
+pub mod Work

@@ -1,0 +1,14 @@
+use Rattle.std.specs.Prelude.{max, vec_len, vec_capacity}
+use Rattle.fax_lines.specs.DrawnModes.{CanDraw, Draws, line_start}
+use Rattle.fax_reading.specs.Space.{room_for}
+use Rattle.fax_lines.proofs.Names.{◌≡◌, ◌≤◌}
+use Rattle.fax_lines.proofs.modes.draw_modes.Given as goal
+
+-- what is drawn so far, and that the row isn't full
+abbrev pub invariant-rooms : goal.invariant-rooms
+invariant-rooms l = record {
+  drawn : Draws l.line line_start l.fn.hand l.fn.row l.fn.ticks l.now l.hand l.row l.ticks;
+  can : CanDraw l.line l.now l.hand l.row;
+  same_bits : l.hand.at.bits ≡ l.fn.hand.at.bits;
+  space : vec_capacity l.row ≤ max (vec_capacity l.fn.row) (room_for (vec_len l.row));
+}

@@ -1,0 +1,104 @@
+-- What the calls of a context leave that draw a line or a part of one.
+use Rattle.std.specs.Prelude.{◌≡◌, ◌+◌, ◌≤◌, ℕ, suc, max, List, length, Bool, false, [], Result, OnOk}
+use Rattle.fax_bits.specs.declared.codes.Color.TheVariants.{White}
+use Rattle.fax_bits.specs.declared.codes.Mode.{Mode}
+use Rattle.fax_bits.specs.declared.error.DecodeError.{DecodeError}
+use Rattle.fax_reading.specs.Answers.{OnAnswer, TellsCut, pen_of, strict_step_of_mode, words_of_mode}
+use Rattle.fax_bits.specs.Bits.{BitsAt, here}
+use Rattle.fax_reading.specs.Context.{ArePassed, Context, passed_changes, redrawn}
+use Rattle.fax_reading.specs.Rows.{changes}
+use Rattle.fax_reading.specs.Space.{room_for}
+use Rattle.fax_reading.specs.UsualModes.{GoesOn2d}
+use Rattle.fax_reading.specs.UsualRuns.{GoesOn}
+
+-- What is passed of the reference row's changes while b1 is sought: none right of a0, no fewer than before, each with a tick, and
+-- there is one tick more (T.4, 4.2.1.1).
+pub record PassesChanges (places : List ℕ) (painted before after old new : ℕ) : Type 0 where
+  pub passed : ArePassed places painted after
+  pub forward : before ≤ after
+  pub work : new + before ≡ old + after + 1
+
+-- A line is at its start: nothing of it is painted, white is next, and no change of the reference row is passed (T.4, 4.1.1 and
+-- 4.2.1.1).
+pub record IsAtStart (ctx : Context) : Type 0 where
+  pub front : ctx.held.front ≡ []
+  pub color : ctx.held.color ≡ White
+  pub passed : ctx.passed ≡ 0
+
+-- the number of bits of a vertical mode that is so far from b1 (T.4, table 4)
+pub record IsWidth (distance width : ℕ) : Type 0 where
+  pub one : distance ≡ 1 → width ≡ 3
+  pub two : distance ≡ 2 → width ≡ 6
+  pub three : distance ≡ 3 → width ≡ 7
+
+-- What a call leaves that looks for b1: the changes that aren't right of a0 are passed, each with a tick, and there is one tick
+-- more (T.4, 4.2.1.1).
+pub record SeeksB1 (old new : Context) : Type 0 where
+  pub edge : length old.held.reference ≡ old.held.settings.columns
+  pub within : length old.held.front ≤ old.held.settings.columns
+  pub held : new.held ≡ old.held
+  pub cut : new.cut ≡ old.cut
+  pub passed : new.passed ≡ passed_changes (changes old.held.reference) (length old.held.front)
+  pub passed_within : new.passed ≤ length (changes old.held.reference)
+  pub forward : old.passed ≤ new.passed
+  pub work : new.ticks + old.passed ≡ old.ticks + new.passed + 1
+  pub space : new.space ≡ old.space
+
+-- What a call changes that draws: of what the context holds, the front and the colour; and of the data, the place.
+pub record OnlyDraws (old new : Context) (before after : BitsAt) : Type 0 where
+  pub held : new.held ≡ redrawn old.held new.held.front new.held.color
+  pub same_bits : after.bits ≡ before.bits
+
+-- It counts a tick for each of these words; if one of them is missing or wrong, at most one more.
+pub record CountsWords (words old new : ℕ) (answer : Result (Unit {0}) DecodeError) : Type 0 where
+  pub exact : OnOk answer (new ≡ old + words)
+  pub at_least : old + words ≤ new
+  pub at_most : new ≤ old + words + 1
+
+-- What a call leaves of a list of changes that is full and can't grow (auxiliary).
+pub record StaysFull (old new : List ℕ) (room room_after : ℕ) : Type 0 where
+  pub full : room ≤ length old
+  pub unchanged : new ≡ old
+  pub left : room_after ≡ room
+
+-- What a call leaves that draws a mode, besides the pen: a tick for each word of its runs, one for each change that is passed,
+-- and at most three more (T.4, 4.2.1.3; T.6, 2.2).
+pub record DrawsOneMode (mode : Mode) (old new : Context) (answer : Result (Unit {0}) DecodeError)
+    (before after : BitsAt) : Type 0 where
+  pub held : new.held ≡ redrawn old.held new.held.front new.held.color
+  pub same_bits : after.bits ≡ before.bits
+  pub counts : old.ticks ≤ new.ticks
+  pub at_least : OnAnswer answer (old.ticks + length (words_of_mode old.held (here before) mode) ≤ new.ticks)
+  pub at_most : new.ticks + old.passed ≤ old.ticks + length (words_of_mode old.held (here before) mode) + new.passed + 3
+  pub within : old.passed ≤ length (changes old.held.reference) → new.passed ≤ length (changes old.held.reference)
+  pub cut : OnOk answer
+      (TellsCut (strict_step_of_mode old.held (here before) mode) (pen_of new.held (here after)) old.cut new.cut)
+  pub space : new.space ≤ max old.space (room_for (suc (length (changes old.held.front))))
+
+-- What a call leaves that draws runs of a line as long as they are usual: the line goes on from there (T.4, 4.1.1).
+pub record DrawsUsualRuns (old new : Context) (before after : BitsAt) : Type 0 where
+  pub drawn : GoesOn old.held.settings.strict old.held.settings.columns (pen_of old.held (here before))
+      (pen_of new.held (here after)) old.ticks new.ticks
+  pub held : new.held ≡ redrawn old.held new.held.front new.held.color
+  pub cut : new.cut ≡ old.cut
+  pub same_bits : after.bits ≡ before.bits
+  pub onward : before.place ≤ after.place
+  pub space : new.space ≡ old.space
+
+-- What a call leaves that draws modes from the start of a line as long as they are usual: the line goes on from there (T.4,
+-- 4.2.1.3; T.6, 2.2).
+pub record DrawsUsualModes (old new : Context) (before after : BitsAt) : Type 0 where
+  pub drawn : GoesOn2d old.held.settings.strict old.held.settings.columns old.held.reference (pen_of old.held (here before))
+      (pen_of new.held (here after)) old.ticks new.ticks old.passed new.passed
+  pub held : new.held ≡ redrawn old.held new.held.front new.held.color
+  pub cut : new.cut ≡ old.cut
+  pub within : new.passed ≤ length (changes old.held.reference)
+  pub same_bits : after.bits ≡ before.bits
+  pub space : new.space ≤ max old.space
+      (room_for (max (length (changes old.held.reference)) (suc (length (changes new.held.front)))))
+
+-- What a call leaves that draws a line at once, or nothing, and tells which (T.4, 4.2.1.3; T.6, 2.2).
+pub record DrawsAtOnce (old new : Context) (before after : BitsAt) (drawn : Bool) : Type 0 where
+  pub draws : DrawsUsualModes old new before after
+  pub unchanged : drawn ≡ false → (new ≡ old) × (after ≡ before)
+  pub space : new.space ≡ old.space

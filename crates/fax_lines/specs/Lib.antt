@@ -1,0 +1,9 @@
+pub mod ContextSteps
+pub mod ContextView
+pub mod Counting
+pub mod DrawnModes
+pub mod Lending
+pub mod PassedRows
+pub mod RegularModes
+pub mod TwoRunsHere
+pub mod WhiteLines

@@ -1,0 +1,1579 @@
+//! What a decoder keeps from line to line, and the lines themselves.
+
+ghost use Rattle.std.specs.Prelude.{◌≡◌, ◌+◌, ◌-◌, ◌*◌, ◌^◌, ◌<◌, ◌≤◌, ◌⊎◌, ◌↔◌, ℕ, Ok, Err, OnOk, OnErr, IfOk, IfErr, true};
+ghost use Rattle.std.specs.Prelude.{false, suc, max, vec_capacity, MatchResult};
+ghost use Rattle.std.specs.Prelude.{◌||◌, IsOkUnless, IsTrue, if◌then◌else◌, is_some, option_map, length, get_or, []};
+ghost use Rattle.fax_reading.specs.LocalityByK.{behind_mode};
+ghost use Rattle.fax_bits.specs.Ticks.{run_found};
+ghost use Rattle.fax_reading.specs.Work.{mode_found};
+ghost use Rattle.fax_bits.specs.Runs.{codes_of, read_run};
+ghost use Rattle.fax_reading.specs.Rows.{AreChanges, right_of, b1, b2, changes, opposite, too_many_pixels};
+ghost use Rattle.fax_bits.specs.Bits.{here};
+ghost use Rattle.fax_reading.specs.Context.{redrawn, painted_front, taken_row, after_repair, after_taking, fresh, with_missed};
+ghost use Rattle.fax_bits.specs.CodeReading.{read_code};
+ghost use Rattle.fax_lines.specs.ContextSteps.{CountsWords, DrawsAtOnce, DrawsOneMode, DrawsUsualModes, DrawsUsualRuns};
+ghost use Rattle.fax_lines.specs.ContextSteps.{IsAtStart, IsWidth, OnlyDraws, PassesChanges, SeeksB1};
+ghost use Rattle.fax_lines.specs.PassedRows.{PassesRow};
+ghost use Rattle.fax_lines.specs.Counting.{OnlyCounts};
+ghost use Rattle.fax_reading.specs.Context.{ArePassed, exceeds, right_of_painted, with_cut};
+ghost use Rattle.fax_lines.specs.WhiteLines.{AreKnown, MayFollow};
+ghost use Rattle.fax_reading.specs.Answers.{DrawsLine, DrawsStep, OnAnswer, words_of_run, words_from_1d};
+ghost use Rattle.fax_reading.specs.Answers.{words_from_2d, StoresChange, RepairStoresChange, pen_of, step_of_run, step_of_mode};
+ghost use Rattle.fax_reading.specs.Answers.{line_from_1d, line_from_2d, front_of, is_broken, strict_step_of_run};
+ghost use Rattle.fax_reading.specs.Answers.{TellsCut};
+ghost use Rattle.fax_reading.specs.Lines.{line_1d, line_2d};
+ghost use Rattle.fax_reading.specs.Space.{room_for, most_stored};
+
+use crate::Decoder;
+use crate::changes::{append_pixels, b1_index, change_or_end, vertical_place};
+use crate::modes::{
+    CodingLine, draw_modes, has_mode, has_no_room, is_white_row, lay_down_row, next_color,
+    put_ends, repeat_changes, take_ends,
+};
+use crate::usual::{draw_runs, draw_two_runs, lay_down, pass_white_row, take_up, turn_at};
+use crate::white_lines::{WhiteLines, may_follow, none_known, white_lines};
+use fax_bits::bit_reader::{
+    BitOrder, BitReader, BitScanner, BitsAtHand, at_hand, go_to, none_at_hand, pass_bits,
+    window_at_hand,
+};
+use fax_bits::codes::{
+    Color, Mode, Ticks, horizontal_ends, is_long_behind_modes, is_long_pair, pass_v0, tick_times,
+};
+use fax_bits::tables::{LOOKUP_INVALID, Tables};
+use fax_bits::{DecodeError, DecodeSettings, EncodingMode, Result};
+use std::alloc::Global;
+use std::marker::Model;
+use std::mem;
+
+/// Exchanges two lists of changes: two empty ones stay as they are. Each is moved by its fields: if one load took a length with what is
+/// beside it, it would wait until the store of that length, which was just before, is done.
+#[inline(always)]
+fn exchange(reference: &mut Vec<u32>, coding: &mut Vec<u32>)
+    ensures reference { reference.new.items ≡ coding.old.items }
+    ensures coding { coding.new.items ≡ reference.old.items }
+    ensures space { max (vec_capacity reference.new) (vec_capacity coding.new)
+        ≡ max (vec_capacity reference.old) (vec_capacity coding.old) }
+{
+    let is_white = is_white_row(coding);
+    if is_white_row(reference) {
+        if is_white {
+            return;
+        }
+    }
+    let mut above = Vec::new(*reference.allocator());
+    let mut drawn = Vec::new(*coding.allocator());
+    mem::swap(reference, &mut above);
+    mem::swap(coding, &mut drawn);
+    mem::swap(reference, &mut drawn);
+    mem::swap(coding, &mut above);
+}
+
+/// Finds the white lines of these settings. This is a call, so that rows that aren't white cost nothing for it.
+#[cold]
+#[inline(never)]
+fn find_white_lines(lines: &mut WhiteLines, settings: DecodeSettings, has_eols: bool)
+    requires { 0 < settings.columns }
+    ensures known { AreKnown settings lines.new }
+    ensures same { lines.new.has_eols ≡ has_eols }
+{
+    *lines = white_lines(settings, has_eols);
+}
+
+/// Returns the number of bits of a vertical mode that is one, two or three pixels from b1.
+#[inline(always)]
+fn vertical_width(distance: u32) -> usize
+    requires { (0 < distance) × (distance ≤ 3) }
+    ensures { IsWidth distance result }
+{
+    match distance {
+        1 => 3,
+        2 => 6,
+        _ => 7,
+    }
+}
+
+/// Returns how far from b1 a vertical mode is that may be next with V0 behind it, or 0. The bits of both are this number: 5 for VL,
+/// and 7 for VR.
+#[inline(always)]
+fn vertical_distance(reader: &BitReader<'_>, code: u32) -> u32
+    ensures { result ≤ 3 }
+{
+    let bits = reader.peek_u32();
+    if bits >> 28 == code {
+        1
+    } else if bits >> 25 == code {
+        2
+    } else if bits >> 24 == code {
+        3
+    } else {
+        0
+    }
+}
+
+/// The state of decoding: the settings, the reference row and the coding row (T.4, 4.2.1.1), the number of rows
+/// decoded, and the lookup tables of the code words. One context may decode any number of images with the same
+/// settings, one after another.
+#[derive(Drop)]
+pub struct DecoderContext {
+    ref_changes: Vec<u32>,
+    coding_changes: Vec<u32>,
+    pixels_decoded: u32,
+    /// How many changes of the reference row are not right of a0, as far as b1 was searched for: it never decreases
+    /// within a line.
+    passed: usize,
+    /// Whether a run of the line was cut at the row's end.
+    is_cut: bool,
+    color: Color,
+    decoded_rows: u64,
+    damaged_rows: u64,
+    /// The fault of the last row that was repaired; it means nothing before the first.
+    last_fault: DecodeError,
+    /// The number of rows decoded with the last one that was repaired.
+    last_damaged: u64,
+    cut_rows: u64,
+    missed_eols: u64,
+    has_eols: bool,
+    fault_start: Option<usize>,
+    settings: DecodeSettings,
+    tables: Tables,
+    /// Whether the last line with many changes suits drawing by groups: it has few bits for each.
+    suits_groups: bool,
+    /// Whether the last line that began in horizontal mode, below a row of one change or none, seemed to have no other mode. It
+    /// decides nothing but which code draws the next such line.
+    is_filled_by_runs: bool,
+    /// Whether the last row below one of four to six changes wasn't white, and none came below fewer changes since. It decides nothing
+    /// but which code draws the next runs of a one-dimensional line.
+    is_unlikely_white: bool,
+    ticks: Ticks,
+}
+
+impl Model for DecoderContext {
+    ghost use Rattle.fax_reading.specs.Context.{Context};
+
+    ghost Value = { Context };
+
+    ghost use Rattle.fax_lines.specs.ContextView.{context_of, IsLawful};
+
+    ghost view = { context_of };
+
+    ghost invariant = { IsLawful };
+}
+
+impl DecoderContext {
+    ghost use Rattle.std.specs.Borrow.{sem};
+    ghost use Rattle.fax_lines.specs.Lending.{LendsTicks};
+    ghost use Rattle.fax_reading.specs.Settings.{AreSettings};
+
+    /// Creates a context for images with these settings: a white reference row, nothing painted, no row decoded. All
+    /// settings are valid, even 0 and 4294967295 columns.
+    ///
+    /// # Errors
+    ///
+    /// `OutOfMemory` if an allocation fails. Nothing is created then.
+    ///
+    /// ```text
+    /// let mut ctx = DecoderContext::new(rt.alloc(), settings)?;
+    /// ```
+    pub fn new(alloc: Global, settings: DecodeSettings) -> Result<DecoderContext>
+        ensures made { IfOk result (λ ctx. ctx ≡ record { held = fresh settings; passed = 0; cut = false; ticks = 0; space = 0 }) }
+        ensures only_memory { IsOkUnless result DecodeError.OutOfMemory }
+    {
+        Ok(DecoderContext {
+            ref_changes: Vec::new(alloc),
+            coding_changes: Vec::new(alloc),
+            pixels_decoded: 0,
+            passed: 0,
+            is_cut: false,
+            color: Color::White,
+            decoded_rows: 0,
+            damaged_rows: 0,
+            last_fault: DecodeError::UnexpectedEof,
+            last_damaged: 0,
+            cut_rows: 0,
+            missed_eols: 0,
+            has_eols: false,
+            fault_start: None,
+            settings,
+            tables: Tables::new(alloc)?,
+            suits_groups: false,
+            is_filled_by_runs: true,
+            is_unlikely_white: false,
+            ticks: Ticks::new(),
+        })
+    }
+
+    /// Returns the settings that the context was created with.
+    pub fn settings(&self) -> DecodeSettings
+        ensures value { result ≡ self.now.held.settings }
+        ensures fit { AreSettings result }
+    {
+        // The range of a number is known once it is read.
+        let _columns = self.settings.columns;
+        let _rows = self.settings.rows;
+        self.settings
+    }
+
+    /// Returns the number of rows that the sink accepted since the context was created or last reset: after
+    /// `decode`, which resets it, those of that image, even if it returned an error.
+    pub fn decoded_rows(&self) -> u64
+        ensures { result ≡ self.now.held.taken }
+    {
+        self.decoded_rows
+    }
+
+    /// Returns the number of decoded rows whose line was damaged, and repaired, as lenient Group 3 data with EOLs is (T.4,
+    /// 4.1.2): after `decode`, which resets it, those of that image, even if it returned an error.
+    pub fn damaged_rows(&self) -> u64
+        ensures { result ≡ self.now.held.repairs.rows }
+    {
+        self.damaged_rows
+    }
+
+    /// Returns the number of decoded rows in which a lenient reading cut a run, or a vertical mode, that goes beyond the row's
+    /// end, where a strict one fails (T.4, 4.1.1): after `decode`, which resets it, those of that
+    /// image, even if it returned an error. A row that was repaired isn't counted here.
+    pub fn cut_rows(&self) -> u64
+        ensures { result ≡ self.now.held.repairs.cut }
+    {
+        self.cut_rows
+    }
+
+    /// Returns the number of decoded rows after which a lenient reading of Group 3 skipped other bits up to the next EOL, or
+    /// found none (T.4, 4.1.2): after `decode`, which resets it, those of that image. After a repaired
+    /// row none is missed: there the search for the EOL is part of the repair.
+    pub fn missed_eols(&self) -> u64
+        ensures { result ≡ self.now.held.repairs.missed }
+    {
+        self.missed_eols
+    }
+
+    /// Returns the offset of the fault in bits if the last `decode` returned an error, or `None`: that at which
+    /// the line of the row with the index [`decoded_rows`](DecoderContext::decoded_rows) begins, after its EOL, in
+    /// two-dimensional data of Group 3 that of its tag bit (T.4, 4.2.2); or the offset at which strict data lacks an
+    /// EOL (T.4, 4.1.2). It is within the data.
+    pub fn fault_start(&self) -> Option<usize>
+        ensures { result ≡ self.now.held.fault_start }
+    {
+        self.fault_start
+    }
+
+    /// Returns whether EOLs are expected between the lines of Group 3 (T.4, 4.1.2): at first if `end_of_line` is set or
+    /// the data begins with an EOL, and no longer once none is left. After Group 4 it is false.
+    pub fn has_eols(&self) -> bool
+        ensures { result ≡ self.now.held.has_eols }
+    {
+        self.has_eols
+    }
+
+    /// Sets whether EOLs are expected between the lines. Nothing else changes.
+    pub fn set_has_eols(&mut self, has_eols: bool)
+        ensures frame { self.new ≡ record self.old { held = record self.old.held { has_eols = has_eols } } }
+    {
+        self.has_eols = has_eols;
+    }
+
+    /// Borrows the count of work, for calls that count. A program can't read it; contracts see a number. Nothing else
+    /// changes.
+    pub fn ticks(&mut self) -> &mut Ticks
+        ensures* writes_back { sem 𝓛 (LendsTicks self.entry result) }
+        ensures value { result.now ≡ self.old.ticks }
+    {
+        &mut self.ticks
+    }
+
+    /// Resets all but the settings and the count of work to what a new context has. It allocates nothing.
+    pub fn reset(&mut self)
+        ensures frame { self.new ≡ record self.old { held = fresh self.old.held.settings; passed = 0; cut = false } }
+    {
+        begin_line(self);
+        self.ref_changes.clear();
+        self.decoded_rows = 0;
+        self.damaged_rows = 0;
+        self.last_fault = DecodeError::UnexpectedEof;
+        self.last_damaged = 0;
+        self.cut_rows = 0;
+        self.missed_eols = 0;
+        self.has_eols = false;
+        self.fault_start = None;
+    }
+
+    /// Turns the present colour.
+    #[inline(always)]
+    fn turn_color(&mut self)
+        ensures frame { self.new ≡ record self.old
+            { held = redrawn self.old.held self.old.held.front (opposite self.old.held.color) } }
+    {
+        self.color = self.color.opposite();
+    }
+
+    /// Paints `count` pixels of the present colour at the end of the front. More than the row has room for are cut off
+    /// at its end, and it is kept that a run of the line was cut.
+    ///
+    /// # Errors
+    ///
+    /// `InvalidCode` if strict data has more than the row has room for. `OutOfMemory` occurs only while a change is
+    /// stored, so only if the last pixel has another colour. After an error nothing has changed.
+    #[inline(always)]
+    pub fn push_pixels(&mut self, count: u32) -> Result<()>
+        ensures painted { OnOk result (painted_front self.old.held count ≡ Ok self.new.held.front) }
+        ensures frame { OnOk result (self.new ≡ record self.old {
+          held = redrawn self.old.held self.new.held.front self.old.held.color;
+          cut = self.old.cut || exceeds self.old.held count;
+          space = self.new.space;
+        }) }
+        ensures too_many { (result ≡ Err too_many_pixels) ↔ (painted_front self.old.held count ≡ Err too_many_pixels) }
+        ensures memory { result ≡ Err DecodeError.OutOfMemory → StoresChange self.old.held count }
+        ensures only { IfErr result (λ e. (e ≡ too_many_pixels) ⊎ (e ≡ DecodeError.OutOfMemory)) }
+        ensures unchanged { OnErr result (self.new ≡ self.old) }
+        ensures few { length (changes self.new.held.front) ≤ suc (length (changes self.old.held.front)) }
+        ensures space { self.new.space ≤ max self.old.space (room_for (length (changes self.old.held.front))) }
+    {
+        let painted = self.pixels_decoded;
+        if count > self.settings.columns - painted {
+            return self.push_and_cut(count);
+        }
+        append_pixels(&mut self.coding_changes, painted, self.color, count)?;
+        self.pixels_decoded = painted + count;
+        Ok(())
+    }
+
+    /// The same by a call, for more pixels than the row has room for: that is rare.
+    #[cold]
+    #[inline(never)]
+    fn push_and_cut(&mut self, count: u32) -> Result<()>
+        ensures painted { OnOk result (painted_front self.old.held count ≡ Ok self.new.held.front) }
+        ensures frame { OnOk result (self.new ≡ record self.old {
+          held = redrawn self.old.held self.new.held.front self.old.held.color;
+          cut = self.old.cut || exceeds self.old.held count;
+          space = self.new.space;
+        }) }
+        ensures too_many { (result ≡ Err too_many_pixels) ↔ (painted_front self.old.held count ≡ Err too_many_pixels) }
+        ensures memory { result ≡ Err DecodeError.OutOfMemory → StoresChange self.old.held count }
+        ensures only { IfErr result (λ e. (e ≡ too_many_pixels) ⊎ (e ≡ DecodeError.OutOfMemory)) }
+        ensures unchanged { OnErr result (self.new ≡ self.old) }
+        ensures few { length (changes self.new.held.front) ≤ suc (length (changes self.old.held.front)) }
+        ensures space { self.new.space ≤ max self.old.space (room_for (length (changes self.old.held.front))) }
+    {
+        let painted = self.pixels_decoded;
+        let room = self.settings.columns - painted;
+        let fitting = count.min(room);
+        if fitting < count && self.settings.strict {
+            return Err(DecodeError::InvalidCode);
+        }
+        append_pixels(&mut self.coding_changes, painted, self.color, fitting)?;
+        self.pixels_decoded = painted + fitting;
+        if fitting < count {
+            self.is_cut = true;
+        }
+        Ok(())
+    }
+
+    /// Paints the rest of the row white whatever the present colour, which then is white.
+    ///
+    /// # Errors
+    ///
+    /// `OutOfMemory` occurs only while a change is stored, so only if the row isn't full and its last pixel is black.
+    /// Then nothing has changed.
+    pub fn fill_white(&mut self) -> Result<()>
+        ensures frame { OnOk result (self.new ≡ record self.old { held = after_repair self.old.held; space = self.new.space }) }
+        ensures memory { result ≡ Err DecodeError.OutOfMemory → RepairStoresChange self.old.held }
+        ensures only_memory { IsOkUnless result DecodeError.OutOfMemory }
+        ensures unchanged { OnErr result (self.new ≡ self.old) }
+        ensures space { self.new.space ≤ max self.old.space (room_for (length (changes self.old.held.front))) }
+    {
+        let rest = self.settings.columns - self.pixels_decoded;
+        append_pixels(
+            &mut self.coding_changes,
+            self.pixels_decoded,
+            Color::White,
+            rest,
+        )?;
+        self.pixels_decoded = self.settings.columns;
+        self.color = Color::White;
+        Ok(())
+    }
+
+    /// Returns the number of pixels painted.
+    #[inline(always)]
+    fn pixels_painted(&self) -> u32
+        ensures { result ≡ length self.now.held.front }
+    {
+        self.pixels_decoded
+    }
+
+    /// Returns whether the row has all its pixels.
+    #[inline(always)]
+    fn is_full(&self) -> bool
+        ensures { IsTrue result ↔ (self.now.held.settings.columns ≤ length self.now.held.front) }
+    {
+        self.pixels_decoded == self.settings.columns
+    }
+
+    /// Returns the index of b1 among the changing elements of the reference row; that of b2 is the next (T.4,
+    /// 4.2.1.1).
+    #[inline(always)]
+    fn b1_place(&mut self) -> usize
+        ensures b1 { b1 self.old.held.reference (right_of self.old.held.front) self.old.held.color
+            ≡ get_or (changes self.old.held.reference) result self.old.held.settings.columns }
+        ensures b2 { b2 self.old.held.reference (right_of self.old.held.front) self.old.held.color
+            ≡ get_or (changes self.old.held.reference) (result + 1) self.old.held.settings.columns }
+        ensures fits { result + 1 < 2 ^ 64 }
+        ensures seeks { SeeksB1 self.old self.new }
+    {
+        b1_index(
+            self.ref_changes.as_slice(),
+            self.pixels_decoded,
+            self.color,
+            self.settings.columns,
+            &mut self.passed,
+            &mut self.ticks,
+        )
+    }
+
+    /// Returns the changing element of the reference row with this index, or the row's end if there is none.
+    #[inline(always)]
+    fn reference_change(&self, index: usize) -> u32
+        ensures { result ≡ get_or (changes self.now.held.reference) index self.now.held.settings.columns }
+    {
+        change_or_end(self.ref_changes.as_slice(), index, self.settings.columns)
+    }
+
+    /// Returns b1, the first changing element of the reference row right of a0 that turns the present colour to the
+    /// other one, or the row's end (T.4, 4.2.1.1). It allocates nothing.
+    #[inline(always)]
+    pub fn b1(&mut self) -> u32
+        ensures value { result ≡ b1 self.old.held.reference (right_of self.old.held.front) self.old.held.color }
+        ensures seeks { SeeksB1 self.old self.new }
+    {
+        let place = self.b1_place();
+        self.reference_change(place)
+    }
+
+    /// Returns b2, the next changing element of the reference row after b1, or the row's end (T.4, 4.2.1.1). It
+    /// is not left of the end of the front. It allocates nothing.
+    #[inline(always)]
+    pub fn b2(&mut self) -> u32
+        ensures value { result ≡ b2 self.old.held.reference (right_of self.old.held.front) self.old.held.color }
+        ensures right { length self.old.held.front ≤ result }
+        ensures seeks { SeeksB1 self.old self.new }
+    {
+        let place = self.b1_place();
+        self.reference_change(place + 1)
+    }
+
+    /// Passes the row to the sink, continued in its last colour if it isn't full.
+    #[tactic(auto, using(fax_reading::proofs::PixelRows::ChangesAndPixels::front_fits))]
+    fn hand_over<D: Decoder>(&self, decoder: &mut D) -> Result<()>
+        requires { self.now.held.settings.columns ≤ D.width decoder.old }
+        ensures width { D.width decoder.new ≡ D.width decoder.old }
+        ensures passes { PassesRow (D.step (D.width decoder.old))
+            (record { meaning = D.meaning decoder.old; refused = D.has_refused decoder.old; refuses = D.refuses decoder.old })
+            (record { meaning = D.meaning decoder.new; refused = D.has_refused decoder.new; refuses = D.refuses decoder.new })
+            (changes (taken_row self.now.held)) result }
+    {
+        decoder.push_row(self.coding_changes.as_slice())
+    }
+
+    /// Passes the row to the sink, continued in its last colour if it isn't full. Then it is the reference row, the
+    /// front is empty, the colour is white and one more row was accepted. It allocates nothing.
+    ///
+    /// # Errors
+    ///
+    /// `Refused` if the sink refuses the row. The context and the sink's meaning are then as before.
+    #[tactic(auto, using(fax_reading::proofs::PixelRows::ChangesAndPixels::front_fits))]
+    #[inline(always)]
+    pub fn next_line<D: Decoder>(&mut self, decoder: &mut D) -> Result<()>
+        requires width { self.old.held.settings.columns ≤ D.width decoder.old }
+        requires rows { self.old.held.taken + 1 < 2 ^ 64 }
+        ensures width { D.width decoder.new ≡ D.width decoder.old }
+        ensures passes { PassesRow (D.step (D.width decoder.old))
+            (record { meaning = D.meaning decoder.old; refused = D.has_refused decoder.old; refuses = D.refuses decoder.old })
+            (record { meaning = D.meaning decoder.new; refused = D.has_refused decoder.new; refuses = D.refuses decoder.new })
+            (changes (taken_row self.old.held)) result }
+        ensures frame { OnOk result (self.new ≡ record self.old { held = after_taking self.old.held; passed = 0; cut = false }) }
+        ensures unchanged { OnErr result (self.new ≡ self.old) }
+    {
+        self.hand_over(decoder)?;
+        end_line(self);
+        Ok(())
+    }
+
+    /// Passes a run of a colour without drawing it, and returns whether one is here. If there is none, the offset is
+    /// unspecified.
+    fn pass_run(&mut self, color: Color, reader: &mut BitReader<'_>) -> bool
+        ensures run { result ≡ true → (n : ℕ) × (read_run color (here reader.old) ≡ Ok (n, here reader.new)) }
+        ensures none { result ≡ false → (fault : DecodeError) × (read_run color (here reader.old) ≡ Err fault) }
+        ensures same_bits { reader.new.bits ≡ reader.old.bits }
+        ensures only_ticks { OnlyCounts self.old self.new }
+        ensures cut { self.new.cut ≡ self.old.cut }
+        ensures at_most { self.new.ticks
+            ≤ self.old.ticks + length (run_found color (0, here reader.old)) + (if result then 0 else 1) }
+    {
+        run_length(self, color, reader).is_some()
+    }
+
+    /// Reads a run of the present colour, paints it and turns the colour.
+    #[inline(always)]
+    fn draw_run(&mut self, reader: &mut BitReader<'_>) -> Result<()>
+        ensures step { DrawsStep (step_of_run self.old.held (here reader.old))
+            result (pen_of self.new.held (here reader.new)) }
+        ensures only { OnlyDraws self.old self.new reader.old reader.new }
+        ensures words { CountsWords (length (words_of_run self.old.held (here reader.old))) self.old.ticks self.new.ticks result }
+        ensures cut { OnOk result (TellsCut (strict_step_of_run self.old.held (here reader.old))
+            (pen_of self.new.held (here reader.new)) self.old.cut self.new.cut) }
+        ensures passed { self.new.passed ≡ self.old.passed }
+        ensures few { length (changes self.new.held.front) ≤ suc (length (changes self.old.held.front)) }
+        ensures space { self.new.space ≤ max self.old.space (room_for (length (changes self.old.held.front))) }
+    {
+        let run = reader.decode_run(self.color, &self.tables, &mut self.ticks)?;
+        self.push_pixels(run)?;
+        self.turn_color();
+        Ok(())
+    }
+
+    /// Draws pairs of runs as long as they are usual, from a white one on.
+    #[inline(always)]
+    fn draw_by_twos(&mut self, hand: &mut BitsAtHand<'_>)
+        ensures { DrawsUsualRuns self.old self.new hand.old.at hand.new.at }
+    {
+        if !self.color.is_white() {
+            return;
+        }
+        if self.pixels_decoded == self.settings.columns {
+            return;
+        }
+        if !take_up(&mut self.coding_changes, self.pixels_decoded) {
+            return;
+        }
+        let ticks = &mut self.ticks;
+        let (place, color) = draw_runs(
+            hand,
+            &mut self.coding_changes,
+            self.pixels_decoded,
+            self.settings,
+            &self.tables,
+            ticks,
+        );
+        lay_down(&mut self.coding_changes, place);
+        self.pixels_decoded = place;
+        self.color = color;
+    }
+
+    /// The same for a reader, in whichever order its bits are.
+    #[inline(never)]
+    fn draw_runs_of(&mut self, reader: &mut BitReader<'_>)
+        ensures { DrawsUsualRuns self.old self.new reader.old reader.new }
+    {
+        if !self.color.is_white() {
+            return;
+        }
+        if self.pixels_decoded == self.settings.columns {
+            return;
+        }
+        if let Some(mut hand) = at_hand(reader, BitOrder::HighestFirst) {
+            self.draw_by_twos(&mut hand);
+            go_to(reader, &hand);
+            return;
+        }
+        if let Some(mut hand) = at_hand(reader, BitOrder::LowestFirst) {
+            self.draw_by_twos(&mut hand);
+            go_to(reader, &hand);
+        }
+    }
+
+    /// Returns whether plain calls are likely to draw the next runs of a row at less cost that is as wide as to have runs of three
+    /// words or more: it has few more, or the next ones may be such runs.
+    #[inline(always)]
+    fn suits_plain_calls_if_wide(&self, reader: &BitReader<'_>) -> bool {
+        // As many changes as the row before has, or a few less, are expected.
+        let stored = self.coding_changes.len();
+        let before = reference_row(self).len();
+        if before <= stored + 5 && stored <= before + 1 {
+            return true;
+        }
+        // In so wide a row of so few changes most runs have three words or more.
+        if (self.settings.columns / 2048) as usize >= before.max(stored) {
+            return true;
+        }
+        before < 4 && stored < 6 || is_long_pair(reader, 0, Color::White, &self.tables)
+    }
+
+    /// Returns the entry of the word of a colour that may be after the next `skip` bits: it is, as far as the next 32 bits reach.
+    #[inline(always)]
+    fn entry_ahead(&self, reader: &BitReader<'_>, skip: u32, color: Color) -> u16 {
+        let bits = reader.peek_u32() << (skip % 32);
+        let index = match color {
+            Color::White => bits >> 20,
+            Color::Black => bits >> 19,
+        };
+        let entries = self.tables.lookup(color);
+        entries.get(index as usize).copied().unwrap_or(0)
+    }
+
+    /// Returns whether this row, wider than 64 pixels, seems to be white: its next word, if it is one of white, is a make-up word as
+    /// long as that of a white row.
+    #[inline(always)]
+    fn seems_white(&self, reader: &BitReader<'_>) -> bool {
+        let run = u32::from(self.entry_ahead(reader, 0, Color::White) & LOOKUP_INVALID);
+        run >= 64 && run + 63 >= self.settings.columns
+    }
+
+    /// The same below a row of four to six changes: if such a row wasn't white, it isn't asked again until one is below fewer changes.
+    #[inline(always)]
+    fn seems_white_below_few(&mut self, reader: &BitReader<'_>) -> bool
+        ensures { self.new ≡ self.old }
+    {
+        if self.is_unlikely_white {
+            return false;
+        }
+        let is_white = self.seems_white(reader);
+        self.is_unlikely_white = !is_white;
+        is_white
+    }
+
+    /// Returns whether one of the two runs after the next `skip` bits, the first of this colour, is likely to begin with a make-up
+    /// word.
+    #[inline(always)]
+    fn has_makeup_behind(&self, reader: &BitReader<'_>, skip: u8, color: Color) -> bool {
+        let first = self.entry_ahead(reader, u32::from(skip), color);
+        if first & LOOKUP_INVALID >= 64 {
+            return true;
+        }
+        let behind = u32::from(skip) + u32::from(first >> 12);
+        let second = self.entry_ahead(reader, behind, color.opposite());
+        second & LOOKUP_INVALID >= 64
+    }
+
+    /// Returns whether plain calls are likely to draw the next runs of this row at less cost: it has few more, or is white, or the
+    /// next ones may have three words or more.
+    #[inline(always)]
+    fn suits_plain_calls(&mut self, reader: &BitReader<'_>) -> bool
+        ensures { self.new ≡ self.old }
+    {
+        if self.settings.columns <= 64 {
+            return false;
+        }
+        if self.settings.columns > 2623 {
+            return self.suits_plain_calls_if_wide(reader);
+        }
+        let before = reference_row(self).len();
+        if before < 4 {
+            self.is_unlikely_white = false;
+            return self.coding_changes.len() < 6;
+        }
+        before < 7 && self.seems_white_below_few(reader)
+    }
+
+    /// The same, without a call where the row is full or black is next.
+    #[inline(always)]
+    fn draw_usual_runs(&mut self, reader: &mut BitReader<'_>)
+        ensures { DrawsUsualRuns self.old self.new reader.old reader.new }
+    {
+        // After the first run of a line black is next, unless the row is full.
+        if !self.color.is_white() {
+            return;
+        }
+        // Most often a full row is a white one.
+        if self.pixels_decoded == self.settings.columns {
+            return;
+        }
+        if self.suits_plain_calls(reader) {
+            return;
+        }
+        self.draw_runs_of(reader);
+    }
+
+    /// Draws a white run and a black one in the window, or a white one up to the row's end, and returns whether they are usual;
+    /// otherwise it draws nothing.
+    #[inline(always)]
+    fn draw_window(&mut self, hand: &mut BitsAtHand<'_>) -> bool
+        requires within { 32 ≤ hand.old.left }
+        ensures draws { DrawsUsualRuns self.old self.new hand.old.at hand.new.at }
+        ensures left { result ≡ false → hand.new.at ≡ hand.old.at }
+    {
+        if !self.color.is_white() {
+            return false;
+        }
+        if self.pixels_decoded == self.settings.columns {
+            return false;
+        }
+        if !take_up(&mut self.coding_changes, self.pixels_decoded) {
+            return false;
+        }
+        let ticks = &mut self.ticks;
+        let reached = draw_two_runs(
+            hand,
+            &mut self.coding_changes,
+            self.pixels_decoded,
+            self.settings,
+            &self.tables,
+            ticks,
+        );
+        match reached {
+            None => {
+                lay_down(&mut self.coding_changes, self.pixels_decoded);
+                false
+            }
+            Some((place, color)) => {
+                lay_down(&mut self.coding_changes, place);
+                self.pixels_decoded = place;
+                self.color = color;
+                true
+            }
+        }
+    }
+
+    /// The same for a reader, with the bits that it has in its window.
+    #[inline(always)]
+    fn draw_window_of(&mut self, reader: &mut BitReader<'_>)
+        ensures { DrawsUsualRuns self.old self.new reader.old reader.new }
+    {
+        if let Some(mut hand) = window_at_hand(reader) {
+            if self.draw_window(&mut hand) {
+                go_to(reader, &hand);
+            }
+        }
+    }
+
+    /// Draws such runs until the row is full, or one isn't usual.
+    #[inline(always)]
+    fn draw_windows_of(&mut self, reader: &mut BitReader<'_>)
+        ensures { DrawsUsualRuns self.old self.new reader.old reader.new }
+    {
+        let mut before = 0;
+        'windows: while before < self.pixels_decoded {
+            before = self.pixels_decoded;
+            self.draw_window_of(reader);
+            if self.pixels_decoded == self.settings.columns {
+                return;
+            }
+        }
+    }
+
+    /// Draws a white row below a white one from the reader's own window, and returns whether there is one here; otherwise nothing
+    /// changes.
+    #[inline(always)]
+    fn draw_white_row(&mut self, reader: &mut BitReader<'_>) -> bool
+        requires { IsAtStart self.old }
+        ensures draws { DrawsUsualRuns self.old self.new reader.old reader.new }
+        ensures unchanged { result ≡ false → (self.new ≡ self.old) × (reader.new ≡ reader.old) }
+    {
+        if !is_white_row(&self.ref_changes) {
+            return false;
+        }
+        let columns = self.settings.columns;
+        if columns == 0 {
+            return false;
+        }
+        let Some(mut hand) = window_at_hand(reader) else {
+            return false;
+        };
+        let white = self.tables.lookup(Color::White);
+        let ticks = &mut self.ticks;
+        if !pass_white_row(&mut hand, columns, white, ticks) {
+            return false;
+        }
+        self.pixels_decoded = columns;
+        self.color = Color::Black;
+        go_to(reader, &hand);
+        true
+    }
+
+    /// Draws the first runs of a line as long as they are usual. Those of a narrow row below one of fewer than four changes are
+    /// drawn from the reader's own window, without a call, and so is a white row below a white one. If the first run of such a
+    /// narrow row isn't usual, and the row before has fewer than two changes, it is left to the plain calls.
+    #[inline(always)]
+    fn draw_first_runs(&mut self, reader: &mut BitReader<'_>)
+        requires { IsAtStart self.old }
+        ensures { DrawsUsualRuns self.old self.new reader.old reader.new }
+    {
+        if self.settings.columns > 64 {
+            if self.draw_white_row(reader) {
+                return;
+            }
+        } else if self.ref_changes.len() < 4 {
+            self.draw_window_of(reader);
+            if self.pixels_decoded == self.settings.columns {
+                return;
+            }
+            if self.pixels_decoded == 0 && self.ref_changes.len() < 2 {
+                return;
+            }
+            self.draw_windows_of(reader);
+        }
+        self.draw_usual_runs(reader);
+    }
+
+    /// Returns whether a row as wide as to have runs of three words or more is likely to have them in its first two modes: plain
+    /// calls draw them.
+    #[inline(always)]
+    fn begins_with_long_runs(&self, reader: &BitReader<'_>) -> bool {
+        if self.settings.columns <= 2623 {
+            return false;
+        }
+        let skip = horizontal_ends(reader);
+        if skip == 0 {
+            return false;
+        }
+        is_long_behind_modes(reader, skip, &self.tables)
+    }
+
+    /// Returns whether plain calls are likely to draw a wide row at less cost: one that seems to have runs of three words or more in
+    /// its first two modes, or runs of two below a row of few changes, as longer ones are likely to follow.
+    #[inline(always)]
+    fn has_long_runs(&self, reader: &BitReader<'_>) -> bool {
+        let skip = horizontal_ends(reader);
+        if skip == 0 {
+            return false;
+        }
+        if self.ref_changes.len() < 4 {
+            return if skip % 2 == 0 {
+                self.has_makeup_behind(reader, skip, Color::Black)
+            } else {
+                self.has_makeup_behind(reader, skip, Color::White)
+            };
+        }
+        is_long_behind_modes(reader, skip, &self.tables)
+    }
+
+    /// The same, without a call where the row isn't as wide as to have such runs.
+    #[inline(always)]
+    fn suits_plain_modes(&self, reader: &BitReader<'_>) -> bool {
+        if self.settings.columns <= 2623 {
+            return false;
+        }
+        self.has_long_runs(reader)
+    }
+
+    /// Draws modes from the start of a line as long as they are usual.
+    #[inline(always)]
+    fn draw_modes_at_hand(&mut self, hand: &mut BitsAtHand<'_>)
+        requires empty { hand.old.left ≡ 0 }
+        requires start { IsAtStart self.old }
+        ensures { DrawsUsualModes self.old self.new hand.old.at hand.new.at }
+    {
+        let columns = self.settings.columns;
+        // A place and three more fit a lane of 32 bits with a sign.
+        if columns == 0 || columns > (1 << 31) - 4 {
+            return;
+        }
+        if !has_mode(hand, &mut self.coding_changes) {
+            return;
+        }
+        if !put_ends(&mut self.ref_changes, columns) {
+            return;
+        }
+        let line = CodingLine {
+            columns,
+            strict: self.settings.strict,
+            places: self.ref_changes.as_slice(),
+            tables: &self.tables,
+            by_groups: self.suits_groups,
+        };
+        let reached = draw_modes(hand, &mut self.coding_changes, &line, &mut self.ticks);
+        take_ends(&mut self.ref_changes);
+        lay_down_row(&mut self.coding_changes, reached.painted, columns);
+        self.pixels_decoded = reached.painted;
+        self.color = reached.color;
+        // The change before b1 may be right of a0.
+        self.passed = reached.index.saturating_sub(1);
+    }
+
+    /// The same for a reader, in whichever order its bits are.
+    #[inline(never)]
+    fn draw_modes_of(&mut self, reader: &mut BitReader<'_>)
+        requires { IsAtStart self.old }
+        ensures { DrawsUsualModes self.old self.new reader.old reader.new }
+    {
+        let mut hand = none_at_hand(reader);
+        self.draw_modes_at_hand(&mut hand);
+        let start = reader.bit_pos();
+        go_to(reader, &hand);
+        let changes = self.coding_changes.len();
+        if changes > 15 {
+            self.suits_groups = reader.bit_pos().saturating_sub(start) / 4 < changes;
+        }
+    }
+
+    /// Draws a white line under a white row, which is V0 alone, and returns whether there is one here; otherwise nothing
+    /// changes.
+    #[inline(always)]
+    fn draw_white_line(&mut self, reader: &mut BitReader<'_>) -> bool
+        requires { IsAtStart self.old }
+        ensures { DrawsAtOnce self.old self.new reader.old reader.new result }
+    {
+        if !is_white_row(&self.ref_changes) {
+            return false;
+        }
+        let columns = self.settings.columns;
+        if columns == 0 {
+            return false;
+        }
+        if !pass_v0(reader) {
+            return false;
+        }
+        // One tick for the mode, and one for b1.
+        self.ticks.tick();
+        self.ticks.tick();
+        self.pixels_decoded = columns;
+        self.color = Color::Black;
+        true
+    }
+
+    /// Draws a line of V0 alone from the reader's own window, which repeats the row above it, and returns whether there is one here;
+    /// otherwise nothing changes.
+    #[inline(always)]
+    fn draw_same_line(&mut self, reader: &mut BitReader<'_>) -> bool
+        requires { IsAtStart self.old }
+        ensures { DrawsAtOnce self.old self.new reader.old reader.new result }
+    {
+        // Most lines that begin otherwise aren't looked at further.
+        if reader.peek_u32() >> 31 == 0 {
+            return false;
+        }
+        let count = self.ref_changes.len();
+        if count == 0 || count > 31 || self.coding_changes.capacity() < count {
+            return false;
+        }
+        let ones = (1 << (count + 1)) - 1;
+        if !pass_bits(reader, ones, count + 1) {
+            return false;
+        }
+        // Of each mode one tick is its own, and one that of b1.
+        tick_times(&mut self.ticks, 2 * (count + 1));
+        repeat_changes(self.ref_changes.as_slice(), &mut self.coding_changes);
+        self.pixels_decoded = self.settings.columns;
+        self.color = next_color(&self.coding_changes).opposite();
+        self.passed = count - 1;
+        true
+    }
+
+    /// Draws a line of VL and V0 below a row of one change or none from the reader's own window: a row of one change. Returns whether
+    /// there is one here; otherwise nothing changes.
+    #[inline(always)]
+    fn draw_left_change(&mut self, reader: &mut BitReader<'_>) -> bool
+        requires { IsAtStart self.old }
+        ensures { DrawsAtOnce self.old self.new reader.old reader.new result }
+    {
+        if self.ref_changes.len() > 1 || self.coding_changes.capacity() == 0 {
+            return false;
+        }
+        let b1 = change_or_end(self.ref_changes.as_slice(), 0, self.settings.columns);
+        let left = vertical_distance(reader, 5);
+        if left == 0 || left > b1 {
+            return false;
+        }
+        if !pass_bits(reader, 5, vertical_width(left) + 1) {
+            return false;
+        }
+        // Of each mode one tick is its own, and one that of b1.
+        tick_times(&mut self.ticks, 4);
+        turn_at(&mut self.coding_changes, b1 - left);
+        self.pixels_decoded = self.settings.columns;
+        true
+    }
+
+    /// The same for VR and V0, below a row of one change.
+    #[inline(always)]
+    fn draw_right_change(&mut self, reader: &mut BitReader<'_>) -> bool
+        requires { IsAtStart self.old }
+        ensures { DrawsAtOnce self.old self.new reader.old reader.new result }
+    {
+        if self.ref_changes.len() != 1 || self.coding_changes.capacity() == 0 {
+            return false;
+        }
+        let columns = self.settings.columns;
+        let b1 = self.ref_changes[0];
+        let right = vertical_distance(reader, 7);
+        if right == 0 || right >= columns - b1 {
+            return false;
+        }
+        if !pass_bits(reader, 7, vertical_width(right) + 1) {
+            return false;
+        }
+        tick_times(&mut self.ticks, 4);
+        turn_at(&mut self.coding_changes, b1 + right);
+        self.pixels_decoded = columns;
+        true
+    }
+
+    /// Draws a line of VR alone below a row of which only the last one, two or three pixels are black, from the reader's own window: a
+    /// white row. Returns whether there is one here; otherwise nothing changes.
+    #[inline(always)]
+    fn draw_white_below_last(&mut self, reader: &mut BitReader<'_>) -> bool
+        requires { IsAtStart self.old }
+        ensures { DrawsAtOnce self.old self.new reader.old reader.new result }
+    {
+        if self.ref_changes.len() != 1 {
+            return false;
+        }
+        let columns = self.settings.columns;
+        let black = columns - self.ref_changes[0];
+        if black > 3 || !pass_bits(reader, 3, vertical_width(black)) {
+            return false;
+        }
+        tick_times(&mut self.ticks, 2);
+        self.pixels_decoded = columns;
+        self.color = Color::Black;
+        true
+    }
+
+    /// Draws a line of pass mode alone below a row of one change or none from the reader's own window: a white row. Returns whether
+    /// there is one here; otherwise nothing changes.
+    #[inline(always)]
+    fn draw_passed_row(&mut self, reader: &mut BitReader<'_>) -> bool
+        requires { IsAtStart self.old }
+        ensures { DrawsAtOnce self.old self.new reader.old reader.new result }
+    {
+        if self.ref_changes.len() > 1 {
+            return false;
+        }
+        let columns = self.settings.columns;
+        if columns == 0 || !pass_bits(reader, 1, 4) {
+            return false;
+        }
+        tick_times(&mut self.ticks, 2);
+        self.pixels_decoded = columns;
+        true
+    }
+
+    /// Draws a line of VR, or of VR and V0, below a row of one change. Returns whether there is one here; otherwise nothing changes.
+    #[inline(always)]
+    fn draw_from_right(&mut self, reader: &mut BitReader<'_>) -> bool
+        requires { IsAtStart self.old }
+        ensures { DrawsAtOnce self.old self.new reader.old reader.new result }
+    {
+        if self.draw_white_below_last(reader) {
+            return true;
+        }
+        self.draw_right_change(reader)
+    }
+
+    /// Draws a line of a vertical mode, or of one and V0, or of pass mode, below a row of one change or none, to a row of one change or
+    /// none. Returns whether there is one here; otherwise nothing changes. It is a call, so that other lines are drawn without one.
+    #[inline(never)]
+    fn draw_short_line(&mut self, reader: &mut BitReader<'_>) -> bool
+        requires { IsAtStart self.old }
+        ensures { DrawsAtOnce self.old self.new reader.old reader.new result }
+    {
+        let bits = reader.peek_u32() >> 28;
+        // No other such line begins with pass mode.
+        if bits == 1 {
+            return self.draw_passed_row(reader);
+        }
+        // No line of VL begins with VR1.
+        if bits >> 1 == 3 {
+            return self.draw_from_right(reader);
+        }
+        if self.draw_left_change(reader) {
+            return true;
+        }
+        self.draw_from_right(reader)
+    }
+
+    /// The same, without a call if the line begins with V0, or with VL1 and another mode than V0: no such line does.
+    #[inline(always)]
+    fn draw_whole_line(&mut self, reader: &mut BitReader<'_>) -> bool
+        requires { IsAtStart self.old }
+        ensures { DrawsAtOnce self.old self.new reader.old reader.new result }
+    {
+        let bits = reader.peek_u32() >> 28;
+        if bits > 7 || bits == 4 {
+            return false;
+        }
+        self.draw_short_line(reader)
+    }
+
+    /// Draws modes from the start of a line that begins in horizontal mode, below a row of one change or none, while they are
+    /// usual; or none, if it is likely to be the only mode: plain calls draw it at less cost.
+    #[inline(always)]
+    fn draw_from_horizontal(&mut self, reader: &mut BitReader<'_>)
+        requires { IsAtStart self.old }
+        ensures { DrawsUsualModes self.old self.new reader.old reader.new }
+    {
+        if self.is_filled_by_runs || self.begins_with_long_runs(reader) {
+            return;
+        }
+        self.draw_modes_of(reader);
+        self.is_filled_by_runs = self.coding_changes.len() < 2;
+    }
+
+    /// Draws modes from the start of a line as long as they are usual: a white line at once.
+    #[inline(always)]
+    fn draw_usual_modes(&mut self, reader: &mut BitReader<'_>)
+        requires { IsAtStart self.old }
+        ensures { DrawsUsualModes self.old self.new reader.old reader.new }
+    {
+        if self.ref_changes.len() < 2 {
+            if self.draw_white_line(reader) {
+                return;
+            }
+            // The first row with changes is drawn by calls that ask for the room that it needs.
+            if is_white_row(&self.ref_changes) && has_no_room(&self.coding_changes) {
+                return;
+            }
+            if reader.peek_u32() >> 29 == 1 {
+                self.draw_from_horizontal(reader);
+                return;
+            }
+            if self.draw_whole_line(reader) {
+                return;
+            }
+        }
+        if self.draw_same_line(reader) {
+            return;
+        }
+        if self.suits_plain_modes(reader) {
+            return;
+        }
+        self.draw_modes_of(reader);
+    }
+
+    /// Draws the two runs of a horizontal mode (T.4, 4.2.1.3).
+    #[inline(never)]
+    fn draw_both_runs(&mut self, reader: &mut BitReader<'_>) -> Result<()>
+        ensures step { DrawsStep (step_of_mode self.old.held (here reader.old) Mode.Horizontal)
+            result (pen_of self.new.held (here reader.new)) }
+        ensures leaves { DrawsOneMode Mode.Horizontal self.old self.new result reader.old reader.new }
+    {
+        self.draw_run(reader)?;
+        self.draw_run(reader)
+    }
+
+    /// Draws a mode, the runs of a horizontal one by a call.
+    #[inline(always)]
+    fn draw_other_mode(&mut self, mode: Mode, reader: &mut BitReader<'_>) -> Result<()>
+        ensures step { DrawsStep (step_of_mode self.old.held (here reader.old) mode)
+            result (pen_of self.new.held (here reader.new)) }
+        ensures leaves { DrawsOneMode mode self.old self.new result reader.old reader.new }
+    {
+        match mode {
+            Mode::Pass => {
+                let b2 = self.b2();
+                self.push_pixels(b2 - self.pixels_painted())
+            }
+            Mode::Vertical(offset) => {
+                let b1 = self.b1();
+                let painted = self.pixels_painted();
+                let place = vertical_place(b1, painted, offset).ok_or(DecodeError::Overflow)?;
+                self.push_pixels(place - painted)?;
+                self.turn_color();
+                Ok(())
+            }
+            Mode::Horizontal => self.draw_both_runs(reader),
+        }
+    }
+
+    /// The same where the row has no room for a change.
+    #[cold]
+    #[inline(never)]
+    fn draw_mode_without_room(&mut self, mode: Mode, reader: &mut BitReader<'_>) -> Result<()>
+        ensures step { DrawsStep (step_of_mode self.old.held (here reader.old) mode)
+            result (pen_of self.new.held (here reader.new)) }
+        ensures leaves { DrawsOneMode mode self.old self.new result reader.old reader.new }
+    {
+        self.draw_other_mode(mode, reader)
+    }
+
+    /// The same by a call, which calls nothing if the row has room for a change.
+    #[inline(never)]
+    fn draw_mode_by_call(&mut self, mode: Mode, reader: &mut BitReader<'_>) -> Result<()>
+        ensures step { DrawsStep (step_of_mode self.old.held (here reader.old) mode)
+            result (pen_of self.new.held (here reader.new)) }
+        ensures leaves { DrawsOneMode mode self.old self.new result reader.old reader.new }
+    {
+        if self.coding_changes.len() >= self.coding_changes.capacity() {
+            return self.draw_mode_without_room(mode, reader);
+        }
+        self.draw_other_mode(mode, reader)
+    }
+
+    /// Notes that plain calls draw a mode that isn't horizontal.
+    #[inline(always)]
+    fn note_other_mode(&mut self)
+        ensures { self.new ≡ self.old }
+    {
+        self.is_filled_by_runs = false;
+    }
+
+    /// Draws a mode (T.4, 4.2.1.3).
+    #[inline(always)]
+    fn draw_mode(&mut self, mode: Mode, reader: &mut BitReader<'_>) -> Result<()>
+        ensures step { DrawsStep (step_of_mode self.old.held (here reader.old) mode)
+            result (pen_of self.new.held (here reader.new)) }
+        ensures leaves { DrawsOneMode mode self.old self.new result reader.old reader.new }
+    {
+        match mode {
+            Mode::Horizontal => self.draw_both_runs(reader),
+            other => {
+                self.note_other_mode();
+                self.draw_mode_by_call(other, reader)
+            }
+        }
+    }
+}
+
+/// Returns the fault of the last line that was repaired.
+pub fn last_fault(ctx: &DecoderContext) -> DecodeError
+    ensures { result ≡ ctx.now.held.repairs.fault }
+{
+    ctx.last_fault
+}
+
+/// Counts a row whose line was repaired after this fault.
+pub fn count_damaged_row(ctx: &mut DecoderContext, fault: DecodeError)
+    requires { ctx.old.held.repairs.rows + 1 < 2 ^ 64 }
+    ensures frame { ctx.new ≡ record ctx.old {
+      held = record ctx.old.held {
+        repairs = record ctx.old.held.repairs {
+          rows = ctx.old.held.repairs.rows + 1;
+          fault = fault;
+          last = ctx.old.held.taken;
+        };
+      };
+    } }
+{
+    ctx.damaged_rows += 1;
+    ctx.last_fault = fault;
+    ctx.last_damaged = ctx.decoded_rows;
+}
+
+/// Returns whether a run of the line was cut at the row's end.
+#[inline(always)]
+pub fn is_cut(ctx: &DecoderContext) -> bool
+    ensures { result ≡ ctx.now.cut }
+{
+    ctx.is_cut
+}
+
+/// Counts the row of the line as one in which a run was cut.
+#[cold]
+#[inline(never)]
+pub fn count_cut_row(ctx: &mut DecoderContext)
+    requires rows { ctx.old.held.taken + 1 < 2 ^ 64 }
+    ensures frame { ctx.new ≡ record ctx.old {
+      held = record ctx.old.held { repairs = with_cut ctx.old.held.taken ctx.old.held.repairs };
+    } }
+{
+    // At most one row is cut a row.
+    if ctx.cut_rows <= ctx.decoded_rows {
+        ctx.cut_rows += 1;
+    }
+}
+
+/// Counts an EOL that is missed after the rows so far, unless the last of them was repaired.
+#[cold]
+#[inline(never)]
+pub fn count_missed_eol(ctx: &mut DecoderContext)
+    ensures frame { ctx.new ≡ record ctx.old {
+      held = record ctx.old.held { repairs = with_missed ctx.old.held.taken ctx.old.held.repairs };
+    } }
+{
+    // At most one EOL is missed a row.
+    if ctx.last_damaged != ctx.decoded_rows && ctx.missed_eols < ctx.decoded_rows {
+        ctx.missed_eols += 1;
+    }
+}
+
+/// Sets the offset of the fault.
+pub fn set_fault_start(ctx: &mut DecoderContext, place: Option<usize>)
+    ensures frame { ctx.new ≡ record ctx.old { held = record ctx.old.held { fault_start = place } } }
+{
+    ctx.fault_start = place;
+}
+
+/// Returns the changes of the reference row: those of the last accepted row, none before the first.
+pub fn reference_row(ctx: &DecoderContext) -> &[u32]
+    ensures changes { result.now ≡ changes ctx.now.held.reference }
+    ensures lawful { AreChanges ctx.now.held.settings.columns result.now }
+    ensures width { length ctx.now.held.reference ≡ ctx.now.held.settings.columns }
+{
+    ctx.ref_changes.as_slice()
+}
+
+/// Resets all but the settings to what a new context has.
+pub fn restart(ctx: &mut DecoderContext)
+    ensures frame { ctx.new ≡ record { held = fresh ctx.old.held.settings; passed = 0; cut = false; ticks = 0; space = ctx.old.space } }
+{
+    ctx.reset();
+    ctx.ticks = Ticks::new();
+}
+
+/// Empties the front and sets the colour to white, as each line begins, where no run of it is cut.
+#[inline(always)]
+pub fn begin_line(ctx: &mut DecoderContext)
+    ensures frame { ctx.new ≡ record ctx.old { held = redrawn ctx.old.held [] Color.White; passed = 0; cut = false } }
+    ensures width { length ctx.old.held.reference ≡ ctx.old.held.settings.columns }
+{
+    ctx.coding_changes.clear();
+    ctx.pixels_decoded = 0;
+    ctx.passed = 0;
+    ctx.is_cut = false;
+    ctx.color = Color::White;
+}
+
+/// Makes the row that was drawn, continued in its last colour if it isn't full, the reference row. The front is empty
+/// then, the colour is white, and one more row is counted. It allocates nothing.
+#[tactic(auto, using(fax_reading::proofs::PixelRows::ChangesAndPixels::front_fits))]
+#[inline(always)]
+pub fn end_line(ctx: &mut DecoderContext)
+    requires rows { ctx.old.held.taken + 1 < 2 ^ 64 }
+    ensures frame { ctx.new ≡ record ctx.old { held = after_taking ctx.old.held; passed = 0; cut = false } }
+    ensures width { length ctx.new.held.reference ≡ ctx.new.held.settings.columns }
+{
+    // The row that was drawn is whole.
+    ctx.pixels_decoded = ctx.settings.columns;
+    // No change of the new reference row was passed.
+    ctx.passed = 0;
+    exchange(&mut ctx.ref_changes, &mut ctx.coding_changes);
+    begin_line(ctx);
+    ctx.decoded_rows += 1;
+}
+
+/// Returns that no white line is known yet.
+#[inline(always)]
+pub fn no_white_lines(ctx: &DecoderContext) -> WhiteLines
+    ensures { AreKnown ctx.now.held.settings result }
+{
+    none_known(&ctx.settings)
+}
+
+/// Returns whether one of these white lines may be next: below a white row, where lines begin anywhere. They are those of
+/// the settings then.
+#[inline(always)]
+pub fn repeats_white(ctx: &DecoderContext, lines: &mut WhiteLines) -> bool
+    requires { AreKnown ctx.now.held.settings lines.old }
+    ensures known { AreKnown ctx.now.held.settings lines.new }
+    ensures follow { result ≡ true
+        → MayFollow ctx.now.held.settings ctx.now.held.has_eols ctx.now.held.reference lines.new }
+{
+    if !is_white_row(&ctx.ref_changes) {
+        return false;
+    }
+    let columns = ctx.settings.columns;
+    if columns == 0 {
+        return false;
+    }
+    if ctx.settings.rows_are_byte_aligned && !ctx.has_eols {
+        return false;
+    }
+    if lines.first.count == 0 || lines.has_eols != ctx.has_eols {
+        find_white_lines(lines, ctx.settings, ctx.has_eols);
+    }
+    lines.first.count != 0
+}
+
+/// Returns whether the bits of one of these white lines are next, and that line may be next (see `repeats_white`).
+#[inline(always)]
+pub fn white_is_next(ctx: &DecoderContext, lines: &mut WhiteLines, reader: &BitReader<'_>) -> bool
+    requires { AreKnown ctx.now.held.settings lines.old }
+    ensures known { AreKnown ctx.now.held.settings lines.new }
+    ensures follow { result ≡ true
+        → MayFollow ctx.now.held.settings ctx.now.held.has_eols ctx.now.held.reference lines.new }
+{
+    repeats_white(ctx, lines) && may_follow(lines, reader, 0)
+}
+
+/// Counts one more row that is the reference row again, with two ticks: for its mode and for b1, or for the words of its run.
+#[inline(always)]
+pub fn take_row_again(ctx: &mut DecoderContext)
+    requires { ctx.old.held.taken + 1 < 2 ^ 64 }
+    ensures frame { ctx.new ≡ record ctx.old {
+      held = record ctx.old.held { taken = ctx.old.held.taken + 1 };
+      ticks = ctx.old.ticks + 2;
+    } }
+{
+    let rows = ctx.decoded_rows;
+    ctx.decoded_rows = rows + 1;
+    ctx.ticks.tick();
+    ctx.ticks.tick();
+}
+
+/// Counts so many more rows, each as `take_row_again` does.
+#[inline(always)]
+pub fn take_rows_again(ctx: &mut DecoderContext, count: u64)
+    requires { ctx.old.held.taken + count < 2 ^ 64 }
+    ensures frame { ctx.new ≡ record ctx.old {
+      held = record ctx.old.held { taken = ctx.old.held.taken + count };
+      ticks = ctx.old.ticks + count + count;
+    } }
+{
+    ctx.decoded_rows += count;
+    tick_times(&mut ctx.ticks, count as usize);
+    tick_times(&mut ctx.ticks, count as usize);
+}
+
+/// Takes back the last row, which the sink refused: it isn't counted, and this many rows are damaged, and in this many a
+/// run was cut.
+#[cold]
+#[inline(never)]
+pub fn take_back_row(ctx: &mut DecoderContext, damaged_rows: u64, cut_rows: u64)
+    requires { 0 < ctx.old.held.taken }
+    ensures frame { ctx.new ≡ record ctx.old {
+      held = record ctx.old.held {
+        taken = ctx.old.held.taken - 1;
+        repairs = record ctx.old.held.repairs { rows = damaged_rows; cut = cut_rows };
+      };
+    } }
+{
+    ctx.decoded_rows -= 1;
+    ctx.damaged_rows = damaged_rows;
+    ctx.cut_rows = cut_rows;
+}
+
+/// Reads a word of a run of a colour without drawing it.
+#[inline(always)]
+pub fn read_word(ctx: &mut DecoderContext, color: Color, reader: &mut BitScanner<'_>) -> Result<u16>
+    ensures word { MatchResult result
+        (λ n. read_code (codes_of color) (here reader.old) ≡ Ok (n, here reader.new))
+        (λ e. read_code (codes_of color) (here reader.old) ≡ Err e) }
+    ensures same_bits { reader.new.bits ≡ reader.old.bits }
+    ensures onward { reader.old.place ≤ reader.new.place }
+    ensures lacking { result ≡ Err DecodeError.UnexpectedEof → reader.new ≡ reader.old }
+    ensures frame { ctx.new ≡ record ctx.old { ticks = ctx.old.ticks + 1 } }
+{
+    reader.read_word(color, &ctx.tables, &mut ctx.ticks)
+}
+
+/// Returns b1 and b2 of a row of which this many pixels are painted, and whose next ones have this colour (T.4, 4.2.1.1).
+/// `passed` is how many changes of the reference row are known not to be right of a0; afterwards it is the number of all such
+/// changes.
+#[inline(always)]
+pub fn places_behind(
+    ctx: &mut DecoderContext,
+    painted: u32,
+    color: Color,
+    passed: &mut usize,
+) -> (u32, u32)
+    requires { ArePassed (changes ctx.old.held.reference) painted passed.old }
+    ensures b1 { result.0 ≡ b1 ctx.old.held.reference (right_of_painted painted) color }
+    ensures b2 { result.1 ≡ b2 ctx.old.held.reference (right_of_painted painted) color }
+    ensures within { result.0 ≤ ctx.old.held.settings.columns }
+    ensures onward { painted ≤ ctx.old.held.settings.columns → painted ≤ result.0 }
+    ensures passes { PassesChanges (changes ctx.old.held.reference) painted passed.old passed.new ctx.old.ticks
+        ctx.new.ticks }
+    ensures frame { ctx.new ≡ record ctx.old { ticks = ctx.new.ticks } }
+{
+    let ticks = &mut ctx.ticks;
+    let index = b1_index(
+        ctx.ref_changes.as_slice(),
+        painted,
+        color,
+        ctx.settings.columns,
+        passed,
+        ticks,
+    );
+    (ctx.reference_change(index), ctx.reference_change(index + 1))
+}
+
+/// Passes a run of a colour without drawing it, and returns its length. If there is none, it returns `None`, and the
+/// offset is unspecified.
+pub fn run_length(ctx: &mut DecoderContext, color: Color, reader: &mut BitReader<'_>) -> Option<u32>
+    ensures run { (n : ℕ) → result ≡ Some n → read_run color (here reader.old) ≡ Ok (n, here reader.new) }
+    ensures none { result ≡ None → (fault : DecodeError) × (read_run color (here reader.old) ≡ Err fault) }
+    ensures same_bits { reader.new.bits ≡ reader.old.bits }
+    ensures only_ticks { OnlyCounts ctx.old ctx.new }
+    ensures cut { ctx.new.cut ≡ ctx.old.cut }
+    ensures at_most { ctx.new.ticks
+        ≤ ctx.old.ticks + length (run_found color (0, here reader.old)) + (if is_some result then 0 else 1) }
+{
+    match reader.decode_run(color, &ctx.tables, &mut ctx.ticks) {
+        Ok(run) => Some(run),
+        Err(_) => None,
+    }
+}
+
+/// Passes the mode here, in a line of this colour, with the runs of a horizontal one, without drawing it, and
+/// returns the colour after it. If there is none, or one of its runs is broken, it returns `None`, and the offset is
+/// unspecified (T.4, 4.2.1.3).
+pub fn pass_mode(
+    ctx: &mut DecoderContext,
+    color: Color,
+    reader: &mut BitReader<'_>,
+) -> Option<Color>
+    ensures behind { option_map (λ behind. (behind, here reader.new)) result ≡ behind_mode color (here reader.old) }
+    ensures same_bits { reader.new.bits ≡ reader.old.bits }
+    ensures only_ticks { OnlyCounts ctx.old ctx.new }
+    ensures cut { ctx.new.cut ≡ ctx.old.cut }
+    ensures at_most { ctx.new.ticks
+        ≤ ctx.old.ticks + length (mode_found color (here reader.old)) + (if is_some result then 0 else 1) }
+{
+    let Ok(mode) = reader.decode_mode(&mut ctx.ticks) else {
+        return None;
+    };
+    match mode {
+        Mode::Pass => Some(color),
+        Mode::Vertical(_) => Some(color.opposite()),
+        Mode::Horizontal => {
+            if !ctx.pass_run(color, reader) || !ctx.pass_run(color.opposite(), reader) {
+                return None;
+            }
+            Some(color)
+        }
+    }
+}
+
+/// Decodes a one-dimensional line, whatever the front was before (T.4, 4.1.1). Of what the context holds, only
+/// the front and the colour change.
+///
+/// # Errors
+///
+/// After `UnexpectedEof`, `InvalidCode` or `Overflow` the front is what was painted up to the fault. `OutOfMemory`
+/// occurs only while a change is stored: the front is then a prefix of the line's row, where the next pixel differs
+/// from the last one.
+#[inline(never)]
+pub fn decode_1d_line(ctx: &mut DecoderContext, reader: &mut BitReader<'_>) -> Result<()>
+    ensures line { DrawsLine (line_from_1d ctx.old.held (here reader.old))
+        result ctx.new.held.front (here reader.new) }
+    ensures cut { OnOk result (ctx.new.cut ≡ is_broken (line_1d true ctx.old.held.settings.columns (here reader.old))) }
+    ensures only { OnlyDraws ctx.old ctx.new reader.old reader.new }
+    ensures counts { ctx.old.ticks ≤ ctx.new.ticks }
+    ensures exact { OnOk result (ctx.new.ticks
+        ≡ ctx.old.ticks + length (words_from_1d ctx.old.held (here reader.old))) }
+    ensures at_least { OnAnswer result (ctx.old.ticks
+        + length (words_from_1d ctx.old.held (here reader.old)) ≤ ctx.new.ticks) }
+    ensures at_most { ctx.new.ticks ≤ ctx.old.ticks + length (words_from_1d ctx.old.held (here reader.old)) + 1 }
+    ensures space { ctx.new.space ≤ max ctx.old.space (room_for
+        (length (changes (front_of (line_from_1d ctx.old.held (here reader.old)))))) }
+{
+    begin_line(ctx); // The first run is white.
+    ctx.draw_first_runs(reader);
+    'runs: while !ctx.is_full() {
+        ctx.draw_run(reader)?;
+        ctx.draw_usual_runs(reader);
+    }
+    Ok(())
+}
+
+/// Decodes a two-dimensional line against the reference row, whatever the front was before (T.4, 4.2, T.6,
+/// 2.2). Of what the context holds, only the front and the colour change.
+///
+/// # Errors
+///
+/// After `UnexpectedEof`, `InvalidCode` or `Overflow` the front is what was painted up to the fault. `OutOfMemory`
+/// occurs only while a change is stored: the front is then a prefix of the line's row, where the next pixel differs
+/// from the last one.
+#[inline(always)]
+pub fn decode_2d_line(ctx: &mut DecoderContext, reader: &mut BitReader<'_>) -> Result<()>
+    ensures line { DrawsLine (line_from_2d ctx.old.held (here reader.old))
+        result ctx.new.held.front (here reader.new) }
+    ensures cut { OnOk result (ctx.new.cut
+        ≡ is_broken (line_2d true ctx.old.held.settings.columns ctx.old.held.reference (here reader.old))) }
+    ensures only { OnlyDraws ctx.old ctx.new reader.old reader.new }
+    ensures counts { ctx.old.ticks ≤ ctx.new.ticks }
+    ensures at_least { OnAnswer result (ctx.old.ticks
+        + length (words_from_2d ctx.old.held (here reader.old)) ≤ ctx.new.ticks) }
+    ensures at_most { ctx.new.ticks ≤ ctx.old.ticks + 4 * length (words_from_2d ctx.old.held (here reader.old)) + 1
+        + length (changes ctx.old.held.reference) }
+    ensures no_words { length (words_from_2d ctx.old.held (here reader.old)) ≡ 0 → ctx.new.ticks ≤ ctx.old.ticks + 1 }
+    ensures space { ctx.new.space ≤ max ctx.old.space (room_for
+        (most_stored ctx.old.held.reference (line_from_2d ctx.old.held (here reader.old)))) }
+{
+    begin_line(ctx); // The place a0 is left of the row.
+    ctx.draw_usual_modes(reader);
+    'modes: while !ctx.is_full() {
+        let mode = reader.decode_mode(&mut ctx.ticks)?;
+        ctx.draw_mode(mode, reader)?;
+    }
+    Ok(())
+}

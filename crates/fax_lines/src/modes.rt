@@ -1,0 +1,1371 @@
+//! Modes whose code words are all in the window, drawn with the line's own values. The functions of `context` draw the
+//! others.
+
+ghost use Rattle.std.specs.Prelude.{vec_len, vec_capacity, get_or, ◌≡◌, ◌≢◌, ◌+◌, ◌-◌, ◌%◌, ◌<◌, ◌≤◌, ◌⊎◌, ℕ, Some, IfSome};
+ghost use Rattle.std.specs.Prelude.{max, IfNone, IsTrue, ◌↔◌, true, false, pos, negsuc, length, replicate, take, drop};
+ghost use Rattle.std.specs.Prelude.{◌++◌, ◌∷◌, [], ◌^◌};
+ghost use Rattle.fax_lines.specs.DrawnModes.{AreModesHere, IsFirstMode, LeadFrom, first_clear};
+ghost use Rattle.fax_bits.specs.ModeGroups.{AreNextWords, words_of};
+ghost use Rattle.fax_lines.specs.RegularModes.{AreSet};
+ghost use Rattle.fax_lines.specs.DrawnModes.{IsNextMode, CanDraw, Draws, DrawsMode, DrawsSome, KeepsRoom, line_start};
+ghost use Rattle.fax_reading.specs.Rows.{AreChanges, pixels, opposite};
+ghost use Rattle.fax_reading.specs.Space.{room_for};
+ghost use Rattle.fax_reading.specs.UsualModes.{AreEnded, changes_in, IsNear, IsB1, TurnsFrom};
+ghost use Rattle.fax_lines.specs.TwoRunsHere.{AreTwoRunsHere};
+ghost use Rattle.fax_bits.specs.Window.{moved, AtHand};
+
+use crate::changes::{change_or_end, make_room};
+use crate::regular_places::regular_places;
+use crate::usual::{TwoRuns, is_next, lay_down, pair_at_hand, run_at_hand, turn_at};
+use fax_bits::bit_reader::BitsAtHand;
+use fax_bits::codes::{Color, Mode, Ticks, mode_of, tick_times};
+use fax_bits::mode_groups::{ModeGroup, group_at_hand};
+use fax_bits::tables::Tables;
+use std::mem;
+
+/// What doesn't change while a line is drawn.
+#[derive(Clone, Copy)]
+pub(crate) struct CodingLine<'a> {
+    /// The number of pixels of a row.
+    pub(crate) columns: u32,
+    /// Whether the data is strict. Only contracts read this.
+    pub(crate) strict: bool,
+    /// The changes of the reference row, and the row's end six times behind them.
+    pub(crate) places: &'a [u32],
+    /// The look-up tables of runs.
+    pub(crate) tables: &'a Tables,
+    /// Whether vertical modes are drawn several at a time.
+    pub(crate) by_groups: bool,
+}
+
+/// How far a line is drawn: what a mode changes.
+#[derive(Clone, Copy)]
+pub(crate) struct Stroke {
+    /// How many pixels are painted: the position a0, or 0 at the line's start.
+    pub(crate) painted: u32,
+    /// The index of b1 among the changes of the reference row.
+    pub(crate) index: usize,
+    /// The colour of the next pixels.
+    pub(crate) color: Color,
+}
+
+/// A vertical mode: how far from b1 it is, in pixels, and the number of its bits.
+#[derive(Clone, Copy)]
+struct VerticalMode {
+    distance: u32,
+    width: usize,
+}
+
+/// Returns whether there is room for as many changes as the window has bits: a code word stores no more changes than it has
+/// bits.
+#[inline(always)]
+fn has_room_for_window(row: &Vec<u32>) -> bool
+    ensures { result ≡ true → vec_len row.now + 64 ≤ vec_capacity row.now }
+{
+    row.len() + 64 <= row.capacity()
+}
+
+/// Fills the window if it has fewer than 32 bits; returns false if it can't be filled, or there is no room for its changes.
+#[inline(always)]
+pub(crate) fn has_mode(hand: &mut BitsAtHand<'_>, row: &mut Vec<u32>) -> bool
+    requires room { vec_len row.old + hand.old.left ≤ vec_capacity row.old }
+    ensures same { hand.new.at ≡ hand.old.at }
+    ensures same_row { row.new.items ≡ row.old.items }
+    ensures enough { result ≡ true → 32 ≤ hand.new.left }
+    ensures room { result ≡ true → vec_len row.new + hand.new.left ≤ vec_capacity row.new }
+    ensures space { vec_capacity row.new ≤ max (vec_capacity row.old) (room_for (vec_len row.old)) }
+{
+    if hand.left() >= 32 {
+        return true;
+    }
+    if !hand.refill() {
+        return false;
+    }
+    has_room_for_window(row) || make_room(row)
+}
+
+/// Fills the window if it has fewer than 16 bits; returns false if it can't be filled, or there is no room for its changes.
+#[inline(always)]
+fn has_next_mode(hand: &mut BitsAtHand<'_>, row: &Vec<u32>) -> bool
+    requires room { vec_len row.now + hand.old.left ≤ vec_capacity row.now }
+    ensures same { hand.new.at ≡ hand.old.at }
+    ensures enough { result ≡ true → 16 ≤ hand.new.left }
+    ensures room { vec_len row.now + hand.new.left ≤ vec_capacity row.now }
+{
+    if hand.left() >= 16 {
+        return true;
+    }
+    has_room_for_window(row) && hand.refill()
+}
+
+/// Returns the mode whose code word is here, if there is one, and the number of its bits.
+#[inline(always)]
+fn mode_at_hand(hand: &BitsAtHand<'_>) -> (Option<Mode>, usize)
+    requires within { 7 ≤ hand.now.left }
+    ensures mode { IfSome result.0 (λ mode. IsNextMode mode result.1 hand.now) }
+    ensures v0 { result.0 ≡ Some (Mode.Vertical (pos 0)) → result.1 ≡ 1 }
+    ensures horizontal { result.0 ≡ Some Mode.Horizontal → result.1 ≡ 3 }
+    ensures pass { result.0 ≡ Some Mode.Pass → result.1 ≡ 4 }
+    ensures there { hand.now.at.place < length hand.now.at.bits }
+{
+    mode_of(hand.seven())
+}
+
+/// Returns whether a list has no room even for its first change.
+#[inline(always)]
+pub(crate) fn has_no_room(changes: &Vec<u32>) -> bool
+    ensures { result ≡ true → vec_capacity changes.now ≡ 0 }
+{
+    changes.capacity() == 0
+}
+
+/// Returns the change of the reference row at an index, or the row's end behind the last one.
+#[inline(always)]
+fn change_at(line: &CodingLine<'_>, index: usize) -> u32
+    requires ended { AreEnded line.now.columns line.now.places.now }
+    requires near { index ≤ length (changes_in line.now.places.now) + 1 }
+    ensures { result ≡ get_or (changes_in line.now.places.now) index line.now.columns }
+{
+    line.places[index]
+}
+
+/// Returns the index of b1, going up in steps of two from an index near it. Each change that is looked at is a tick.
+#[inline(always)]
+fn seek_b1(line: &CodingLine<'_>, painted: u32, start: usize, ticks: &mut Ticks) -> usize
+    requires ended { AreEnded line.now.columns line.now.places.now }
+    requires inside { (0 < painted) × (painted < line.now.columns) }
+    requires within { start ≤ length (changes_in line.now.places.now) + 1 }
+    requires near { IsNear line.now.columns (changes_in line.now.places.now) painted start }
+    ensures near { IsNear line.now.columns (changes_in line.now.places.now) painted result }
+    ensures right { painted < get_or (changes_in line.now.places.now) result line.now.columns }
+    ensures onward { (start ≤ result) × (result % 2 ≡ start % 2) }
+    ensures work { ticks.new + ticks.new + start ≡ ticks.old + ticks.old + result + 2 }
+{
+    let mut index = start;
+    ticks.tick();
+    'changes: while change_at(line, index) <= painted {
+        ticks.tick();
+        index += 2;
+    }
+    index
+}
+
+/// Returns the index of b1 after a mode that changes the colour left of b1, at a position right of a0.
+#[inline(always)]
+fn b1_after_left(line: &CodingLine<'_>, stroke: Stroke, place: u32) -> usize
+    requires ended { AreEnded line.now.columns line.now.places.now }
+    requires within { stroke.index ≤ length (changes_in line.now.places.now) + 1 }
+    requires at { IsB1 line.now.columns (changes_in line.now.places.now) stroke.painted stroke.index stroke.color }
+    requires right { stroke.painted < place }
+    requires left { place < get_or (changes_in line.now.places.now) stroke.index line.now.columns }
+    ensures at { IsB1 line.now.columns (changes_in line.now.places.now) place result (opposite stroke.color) }
+    ensures near { stroke.index ≤ result + 1 }
+{
+    if stroke.index == 0 {
+        return 1;
+    }
+    let before = stroke.index - 1;
+    if change_at(line, before) > place {
+        before
+    } else {
+        before + 2
+    }
+}
+
+/// Draws V0 inside the row: a change below b1, which is at this place.
+#[inline(always)]
+fn draw_v0_below(
+    hand: &mut BitsAtHand<'_>,
+    row: &mut Vec<u32>,
+    _line: &CodingLine<'_>,
+    stroke: Stroke,
+    place: u32,
+    ticks: &mut Ticks,
+) -> Stroke
+    requires mode { IsNextMode (Mode.Vertical (pos 0)) 1 hand.old }
+    requires can { CanDraw _line.now stroke hand.old row.old }
+    requires b1 { place ≡ get_or (changes_in _line.now.places.now) stroke.index _line.now.columns }
+    requires inside { place < _line.now.columns }
+    ensures drawn { DrawsMode _line.now stroke hand.old row.old ticks.old result hand.new row.new ticks.new }
+    ensures below { (result.painted ≡ place) × (result.index ≡ stroke.index + 1) }
+    ensures passed { (hand.new.at ≡ moved 1 hand.old.at) × (hand.new.left + 1 ≡ hand.old.left) }
+    ensures kept { KeepsRoom hand.old row.old hand.new row.new }
+{
+    hand.pass(1);
+    tick_times(ticks, 2);
+    turn_at(row, place);
+    Stroke {
+        painted: place,
+        index: stroke.index + 1,
+        color: stroke.color.opposite(),
+    }
+}
+
+/// Returns whether the next two bits are ones: V0 twice.
+#[inline(always)]
+fn has_two_v0(hand: &BitsAtHand<'_>) -> bool
+    requires enough { 16 ≤ hand.now.left }
+    ensures two { result ≡ true → (next : AtHand) → next.at ≡ moved 1 hand.now.at → next.left + 1 ≡ hand.now.left
+        → IsNextMode (Mode.Vertical (pos 0)) 1 next }
+{
+    let bits = hand.seven();
+    if bits < 96 {
+        return false;
+    }
+    true
+}
+
+/// Draws V0: a change below b1, or the rest of the row; and V0 once more if it is next, and inside the row.
+#[inline(always)]
+fn draw_v0(
+    hand: &mut BitsAtHand<'_>,
+    row: &mut Vec<u32>,
+    line: &CodingLine<'_>,
+    stroke: Stroke,
+    ticks: &mut Ticks,
+) -> Stroke
+    requires mode { IsNextMode (Mode.Vertical (pos 0)) 1 hand.old }
+    requires enough { 16 ≤ hand.old.left }
+    requires can { CanDraw line.now stroke hand.old row.old }
+    ensures drawn { DrawsMode line.now stroke hand.old row.old ticks.old result hand.new row.new ticks.new }
+    ensures kept { KeepsRoom hand.old row.old hand.new row.new }
+{
+    let place = change_at(line, stroke.index);
+    if place >= line.columns {
+        hand.pass(1);
+        tick_times(ticks, 2);
+        return Stroke {
+            painted: line.columns,
+            color: stroke.color.opposite(),
+            ..stroke
+        };
+    }
+    if has_two_v0(hand) {
+        let next = change_at(line, stroke.index + 1);
+        if next < line.columns {
+            let first = draw_v0_below(hand, row, line, stroke, place, ticks);
+            return draw_v0_below(hand, row, line, first, next, ticks);
+        }
+    }
+    draw_v0_below(hand, row, line, stroke, place, ticks)
+}
+
+/// Draws VR up to the row's end. Returns `None`, and draws nothing, if it doesn't end there.
+#[inline(always)]
+fn draw_to_end(
+    hand: &mut BitsAtHand<'_>,
+    row: &mut Vec<u32>,
+    line: &CodingLine<'_>,
+    stroke: Stroke,
+    mode: VerticalMode,
+    ticks: &mut Ticks,
+) -> Option<Stroke>
+    requires mode { IsNextMode (Mode.Vertical (pos mode.distance)) mode.width hand.old }
+    requires some { 0 < mode.distance }
+    requires can { CanDraw line.now stroke hand.old row.old }
+    ensures drawn { DrawsSome line.now stroke hand.old row.old ticks.old result hand.new row.new ticks.new }
+    ensures kept { KeepsRoom hand.old row.old hand.new row.new }
+{
+    let b1 = change_at(line, stroke.index);
+    if line.columns - b1 != mode.distance {
+        return None;
+    }
+    hand.pass(mode.width);
+    tick_times(ticks, 2);
+    Some(Stroke {
+        painted: line.columns,
+        color: stroke.color.opposite(),
+        ..stroke
+    })
+}
+
+/// Draws VR: a change right of b1, or the rest of the row. Returns `None`, and draws nothing, if that is after the row's end.
+#[inline(always)]
+fn draw_right(
+    hand: &mut BitsAtHand<'_>,
+    row: &mut Vec<u32>,
+    line: &CodingLine<'_>,
+    stroke: Stroke,
+    mode: VerticalMode,
+    ticks: &mut Ticks,
+) -> Option<Stroke>
+    requires mode { IsNextMode (Mode.Vertical (pos mode.distance)) mode.width hand.old }
+    requires some { 0 < mode.distance }
+    requires can { CanDraw line.now stroke hand.old row.old }
+    ensures drawn { DrawsSome line.now stroke hand.old row.old ticks.old result hand.new row.new ticks.new }
+    ensures kept { KeepsRoom hand.old row.old hand.new row.new }
+{
+    let b1 = change_at(line, stroke.index);
+    if line.columns - b1 <= mode.distance {
+        return draw_to_end(hand, row, line, stroke, mode, ticks);
+    }
+    let place = b1 + mode.distance;
+    hand.pass(mode.width);
+    tick_times(ticks, 2);
+    turn_at(row, place);
+    let index = seek_b1(line, place, stroke.index + 1, ticks);
+    Some(Stroke {
+        painted: place,
+        index,
+        color: stroke.color.opposite(),
+    })
+}
+
+/// Draws VL up to the row's left edge, if nothing is painted: the row begins in black. Returns `None`, and draws nothing,
+/// elsewhere.
+#[inline(always)]
+fn draw_to_edge(
+    hand: &mut BitsAtHand<'_>,
+    row: &mut Vec<u32>,
+    line: &CodingLine<'_>,
+    stroke: Stroke,
+    mode: VerticalMode,
+    ticks: &mut Ticks,
+) -> Option<Stroke>
+    requires mode { IsNextMode (Mode.Vertical (negsuc (mode.distance - 1))) mode.width hand.old }
+    requires some { 0 < mode.distance }
+    requires can { CanDraw line.now stroke hand.old row.old }
+    ensures drawn { DrawsSome line.now stroke hand.old row.old ticks.old result hand.new row.new ticks.new }
+    ensures kept { KeepsRoom hand.old row.old hand.new row.new }
+{
+    if stroke.painted > 0 {
+        return None;
+    }
+    if !stroke.color.is_white() {
+        return None;
+    }
+    let b1 = change_at(line, stroke.index);
+    if b1 != mode.distance {
+        return None;
+    }
+    hand.pass(mode.width);
+    tick_times(ticks, 2);
+    turn_at(row, stroke.painted);
+    Some(Stroke {
+        painted: stroke.painted,
+        index: stroke.index + 1,
+        color: stroke.color.opposite(),
+    })
+}
+
+/// Draws VL: a change left of b1. Returns `None`, and draws nothing, if that is neither right of a0 nor at the row's left edge.
+#[inline(always)]
+fn draw_left(
+    hand: &mut BitsAtHand<'_>,
+    row: &mut Vec<u32>,
+    line: &CodingLine<'_>,
+    stroke: Stroke,
+    mode: VerticalMode,
+    ticks: &mut Ticks,
+) -> Option<Stroke>
+    requires mode { IsNextMode (Mode.Vertical (negsuc (mode.distance - 1))) mode.width hand.old }
+    requires some { 0 < mode.distance }
+    requires can { CanDraw line.now stroke hand.old row.old }
+    ensures drawn { DrawsSome line.now stroke hand.old row.old ticks.old result hand.new row.new ticks.new }
+    ensures kept { KeepsRoom hand.old row.old hand.new row.new }
+{
+    let b1 = change_at(line, stroke.index);
+    if b1 - stroke.painted <= mode.distance {
+        return draw_to_edge(hand, row, line, stroke, mode, ticks);
+    }
+    let place = b1 - mode.distance;
+    hand.pass(mode.width);
+    tick_times(ticks, 3);
+    turn_at(row, place);
+    let index = b1_after_left(line, stroke, place);
+    Some(Stroke {
+        painted: place,
+        index,
+        color: stroke.color.opposite(),
+    })
+}
+
+/// Draws a pass: the colour continues to below b2.
+#[inline(always)]
+fn draw_pass(
+    hand: &mut BitsAtHand<'_>,
+    row: &mut Vec<u32>,
+    line: &CodingLine<'_>,
+    stroke: Stroke,
+    ticks: &mut Ticks,
+) -> Stroke
+    requires mode { IsNextMode Mode.Pass 4 hand.old }
+    requires can { CanDraw line.now stroke hand.old row.old }
+    ensures drawn { DrawsMode line.now stroke hand.old row.old ticks.old result hand.new row.new ticks.new }
+    ensures kept { KeepsRoom hand.old row.old hand.new row.new }
+{
+    let b2 = change_or_end(line.places, stroke.index + 1, line.columns);
+    hand.pass(4);
+    tick_times(ticks, 2);
+    if b2 >= line.columns {
+        return Stroke {
+            painted: line.columns,
+            ..stroke
+        };
+    }
+    Stroke {
+        painted: b2,
+        index: stroke.index + 2,
+        ..stroke
+    }
+}
+
+/// Fills the window if it has fewer than 55 bits; returns false if it can't be filled, or there is no room for its changes.
+#[inline(always)]
+fn has_long_runs(hand: &mut BitsAtHand<'_>, row: &Vec<u32>) -> bool
+    requires room { vec_len row.now + hand.old.left ≤ vec_capacity row.now }
+    ensures same { hand.new.at ≡ hand.old.at }
+    ensures enough { result ≡ true → 55 ≤ hand.new.left }
+    ensures room { result ≡ true → vec_len row.now + hand.new.left ≤ vec_capacity row.now }
+{
+    if hand.left() >= 55 {
+        return true;
+    }
+    hand.refill() && has_room_for_window(row)
+}
+
+/// Returns the two runs after a horizontal mode. Returns `None` if one of them is neither a terminating word nor a make-up word
+/// and a terminating word.
+#[inline(always)]
+fn runs_at_hand(
+    hand: &mut BitsAtHand<'_>,
+    row: &Vec<u32>,
+    line: &CodingLine<'_>,
+    color: Color,
+) -> Option<TwoRuns>
+    requires enough { 16 ≤ hand.old.left }
+    requires room { vec_len row.now + hand.old.left ≤ vec_capacity row.now }
+    ensures same { hand.new.at ≡ hand.old.at }
+    ensures room { IfSome result (λ runs. vec_len row.now + hand.new.left ≤ vec_capacity row.now) }
+    ensures runs { IfSome result (λ runs. AreTwoRunsHere color (moved 3 hand.old.at) runs) }
+    ensures few { IfSome result (λ runs. (runs.first ≤ 4158) × (runs.second ≤ 4158) × (3 + runs.width ≤ hand.new.left)) }
+{
+    if let Some(runs) = pair_at_hand(hand, 3, color) {
+        return Some(runs);
+    }
+    if !has_long_runs(hand, row) {
+        return None;
+    }
+    let (first, width, words) = run_at_hand(hand, 3, color, line.tables.lookup(color))?;
+    let other = color.opposite();
+    let (second, width2, words2) = run_at_hand(hand, 3 + width, other, line.tables.lookup(other))?;
+    Some(TwoRuns {
+        first,
+        second,
+        width: width + width2,
+        words: words + words2,
+    })
+}
+
+/// Draws two runs of one code word each that end before the row does: the most frequent case. Returns `None`, and changes
+/// nothing, if they aren't of that kind.
+#[inline(always)]
+fn draw_short_runs(
+    hand: &mut BitsAtHand<'_>,
+    row: &mut Vec<u32>,
+    line: &CodingLine<'_>,
+    stroke: Stroke,
+    ticks: &mut Ticks,
+) -> Option<Stroke>
+    requires mode { IsNextMode Mode.Horizontal 3 hand.old }
+    requires enough { 16 ≤ hand.old.left }
+    requires can { CanDraw line.now stroke hand.old row.old }
+    ensures drawn { IfSome result (λ next. DrawsMode line.now stroke hand.old row.old ticks.old next hand.new row.new ticks.new) }
+    ensures left { IfNone result ((hand.new ≡ hand.old) × (row.new ≡ row.old) × (ticks.new ≡ ticks.old)) }
+    ensures kept { KeepsRoom hand.old row.old hand.new row.new }
+{
+    let runs = pair_at_hand(hand, 3, stroke.color)?;
+    if runs.first + runs.second >= line.columns - stroke.painted {
+        return None;
+    }
+    let place = stroke.painted + runs.first + runs.second;
+    hand.pass(3);
+    hand.pass(runs.width);
+    ticks.tick();
+    tick_times(ticks, runs.words);
+    turn_at(row, stroke.painted + runs.first);
+    turn_at(row, place);
+    let index = seek_b1(line, place, stroke.index, ticks);
+    Some(Stroke {
+        painted: place,
+        index,
+        ..stroke
+    })
+}
+
+/// Draws a run up to the row's end and an empty one. Returns `None`, and draws nothing, if the row doesn't end there.
+#[inline(always)]
+fn draw_last_run(
+    hand: &mut BitsAtHand<'_>,
+    row: &mut Vec<u32>,
+    line: &CodingLine<'_>,
+    stroke: Stroke,
+    runs: TwoRuns,
+    ticks: &mut Ticks,
+) -> Option<Stroke>
+    requires mode { IsNextMode Mode.Horizontal 3 hand.old }
+    requires can { CanDraw line.now stroke hand.old row.old }
+    requires runs { AreTwoRunsHere stroke.color (moved 3 hand.old.at) runs }
+    requires within { 3 + runs.width ≤ hand.old.left }
+    requires none { runs.second ≡ 0 }
+    ensures drawn { DrawsSome line.now stroke hand.old row.old ticks.old result hand.new row.new ticks.new }
+    ensures kept { KeepsRoom hand.old row.old hand.new row.new }
+{
+    if runs.first != line.columns - stroke.painted {
+        return None;
+    }
+    hand.pass(3);
+    hand.pass(runs.width);
+    ticks.tick();
+    tick_times(ticks, runs.words);
+    Some(Stroke {
+        painted: line.columns,
+        ..stroke
+    })
+}
+
+/// Draws two runs of one or two code words each. Returns `None`, and draws nothing, if they aren't of the usual kind.
+#[inline(always)]
+fn draw_runs_of_words(
+    hand: &mut BitsAtHand<'_>,
+    row: &mut Vec<u32>,
+    line: &CodingLine<'_>,
+    stroke: Stroke,
+    ticks: &mut Ticks,
+) -> Option<Stroke>
+    requires mode { IsNextMode Mode.Horizontal 3 hand.old }
+    requires enough { 16 ≤ hand.old.left }
+    requires can { CanDraw line.now stroke hand.old row.old }
+    ensures drawn { DrawsSome line.now stroke hand.old row.old ticks.old result hand.new row.new ticks.new }
+    ensures kept { KeepsRoom hand.old row.old hand.new row.new }
+{
+    let runs = runs_at_hand(hand, row, line, stroke.color)?;
+    if runs.second == 0 {
+        return draw_last_run(hand, row, line, stroke, runs, ticks);
+    }
+    if !is_next(row, runs.first) {
+        return None;
+    }
+    let room = line.columns - stroke.painted;
+    if runs.first + runs.second > room {
+        return None;
+    }
+    hand.pass(3);
+    hand.pass(runs.width);
+    ticks.tick();
+    tick_times(ticks, runs.words);
+    turn_at(row, stroke.painted + runs.first);
+    if runs.first + runs.second == room {
+        return Some(Stroke {
+            painted: line.columns,
+            ..stroke
+        });
+    }
+    let place = stroke.painted + runs.first + runs.second;
+    turn_at(row, place);
+    let index = seek_b1(line, place, stroke.index, ticks);
+    Some(Stroke {
+        painted: place,
+        index,
+        ..stroke
+    })
+}
+
+/// Draws two runs. Returns `None`, and draws nothing, if they aren't of the usual kind.
+#[inline(always)]
+fn draw_horizontal(
+    hand: &mut BitsAtHand<'_>,
+    row: &mut Vec<u32>,
+    line: &CodingLine<'_>,
+    stroke: Stroke,
+    ticks: &mut Ticks,
+) -> Option<Stroke>
+    requires mode { IsNextMode Mode.Horizontal 3 hand.old }
+    requires enough { 16 ≤ hand.old.left }
+    requires can { CanDraw line.now stroke hand.old row.old }
+    ensures drawn { DrawsSome line.now stroke hand.old row.old ticks.old result hand.new row.new ticks.new }
+    ensures kept { KeepsRoom hand.old row.old hand.new row.new }
+{
+    match draw_short_runs(hand, row, line, stroke, ticks) {
+        None => draw_runs_of_words(hand, row, line, stroke, ticks),
+        Some(reached) => Some(reached),
+    }
+}
+
+/// Draws a vertical mode that is here, read with the number of its bits. Returns `None`, and draws nothing, if it isn't of the
+/// usual kind, or no vertical mode.
+#[inline(always)]
+fn draw_vertical(
+    hand: &mut BitsAtHand<'_>,
+    row: &mut Vec<u32>,
+    line: &CodingLine<'_>,
+    stroke: Stroke,
+    read: (Mode, usize),
+    ticks: &mut Ticks,
+) -> Option<Stroke>
+    requires mode { IsNextMode read.0 read.1 hand.old }
+    requires v0 { read.0 ≡ Mode.Vertical (pos 0) → read.1 ≡ 1 }
+    requires enough { 16 ≤ hand.old.left }
+    requires can { CanDraw line.now stroke hand.old row.old }
+    ensures drawn { DrawsSome line.now stroke hand.old row.old ticks.old result hand.new row.new ticks.new }
+    ensures kept { KeepsRoom hand.old row.old hand.new row.new }
+{
+    let (mode, width) = read;
+    match mode {
+        Mode::Vertical(0) => Some(draw_v0(hand, row, line, stroke, ticks)),
+        Mode::Vertical(1) => draw_right(
+            hand,
+            row,
+            line,
+            stroke,
+            VerticalMode { distance: 1, width },
+            ticks,
+        ),
+        Mode::Vertical(2) => draw_right(
+            hand,
+            row,
+            line,
+            stroke,
+            VerticalMode { distance: 2, width },
+            ticks,
+        ),
+        Mode::Vertical(3) => draw_right(
+            hand,
+            row,
+            line,
+            stroke,
+            VerticalMode { distance: 3, width },
+            ticks,
+        ),
+        Mode::Vertical(-1) => draw_left(
+            hand,
+            row,
+            line,
+            stroke,
+            VerticalMode { distance: 1, width },
+            ticks,
+        ),
+        Mode::Vertical(-2) => draw_left(
+            hand,
+            row,
+            line,
+            stroke,
+            VerticalMode { distance: 2, width },
+            ticks,
+        ),
+        Mode::Vertical(-3) => draw_left(
+            hand,
+            row,
+            line,
+            stroke,
+            VerticalMode { distance: 3, width },
+            ticks,
+        ),
+        _ => None,
+    }
+}
+
+/// Returns the colour of the next pixels: white behind an even number of changes.
+#[inline(always)]
+pub(crate) fn next_color(row: &Vec<u32>) -> Color
+    ensures turns { TurnsFrom (vec_len row.now) result }
+{
+    if row.len().is_multiple_of(2) {
+        Color::White
+    } else {
+        Color::Black
+    }
+}
+
+/// Returns a stroke with the colour that the number of changes says, so that a loop needn't keep it.
+#[inline(always)]
+fn recolored(row: &Vec<u32>, stroke: Stroke) -> Stroke
+    requires colored { TurnsFrom (vec_len row.now) stroke.color }
+    ensures { result ≡ stroke }
+{
+    Stroke {
+        color: next_color(row),
+        ..stroke
+    }
+}
+
+/// Vertical modes that are next, four at most, where they lead to, and which of them are regular.
+#[derive(Clone, Copy)]
+struct ModesHere {
+    group: ModeGroup,
+    /// The places of four modes.
+    places: [u32; 4],
+    /// A bit for each mode, from the lowest: a mode is regular if its bit and those below it are set.
+    regular: u64,
+}
+
+/// Returns where the vertical modes of a group lead to, below the changes of the reference row from b1 on.
+#[inline(always)]
+fn modes_here(line: &CodingLine<'_>, stroke: Stroke, group: ModeGroup) -> ModesHere
+    requires ended { AreEnded line.now.columns line.now.places.now }
+    requires fits { line.now.columns + 3 < 2 ^ 31 }
+    requires inside { stroke.painted < line.now.columns }
+    requires within { (0 < stroke.index) × (stroke.index ≤ length (changes_in line.now.places.now) + 1) }
+    ensures same { result.group ≡ group }
+    ensures lead { LeadFrom line.now stroke result }
+{
+    let (places, regular) = regular_places(
+        line.places,
+        line.columns,
+        stroke.index,
+        group.offsets(),
+        stroke.painted,
+    );
+    ModesHere {
+        group,
+        places,
+        regular,
+    }
+}
+
+/// Returns whether all modes of a group are regular.
+#[inline(always)]
+fn are_regular(modes: &ModesHere) -> bool
+    requires mask { modes.now.regular < 16 }
+    requires few { length (words_of modes.now.group) ≤ 4 }
+    ensures all { result ≡ true → AreSet modes.now.regular (length (words_of modes.now.group)) }
+    ensures some { result ≡ false → first_clear modes.now < length (words_of modes.now.group) }
+{
+    (15 - modes.regular) & modes.group.used() == 0
+}
+
+/// Stores four places behind a row's changes.
+#[inline(always)]
+fn push_places(row: &mut Vec<u32>, places: [u32; 4])
+    requires room { vec_len row.old + 4 ≤ vec_capacity row.old }
+    ensures items { row.new.items ≡ row.old.items ++ places }
+    ensures count { vec_len row.new ≡ vec_len row.old + 4 }
+    ensures room { vec_capacity row.new ≡ vec_capacity row.old }
+{
+    turn_at(row, places[0]);
+    turn_at(row, places[1]);
+    turn_at(row, places[2]);
+    turn_at(row, places[3]);
+}
+
+/// Stores the first of four places behind a row's changes, as many as are counted.
+#[inline(always)]
+fn turn_at_places(row: &mut Vec<u32>, places: [u32; 4], count: usize)
+    requires few { count ≤ 4 }
+    requires room { vec_len row.old + 4 ≤ vec_capacity row.old }
+    ensures items { row.new.items ≡ row.old.items ++ take count places }
+    ensures count { vec_len row.new ≡ vec_len row.old + count }
+    ensures room { vec_capacity row.new ≡ vec_capacity row.old }
+{
+    let before = row.len();
+    push_places(row, places);
+    row.truncate(before + count);
+}
+
+/// Draws the modes of a group, which are all regular.
+#[inline(always)]
+fn draw_regular(
+    hand: &mut BitsAtHand<'_>,
+    row: &mut Vec<u32>,
+    _line: &CodingLine<'_>,
+    stroke: Stroke,
+    modes: &ModesHere,
+    ticks: &mut Ticks,
+) -> Stroke
+    requires can { CanDraw _line.now stroke hand.old row.old }
+    requires here { AreModesHere _line.now stroke hand.old modes.now }
+    requires all { AreSet modes.now.regular (length (words_of modes.now.group)) }
+    ensures drawn { DrawsMode _line.now stroke hand.old row.old ticks.old result hand.new row.new ticks.new }
+    ensures inside { result.painted < _line.now.columns }
+    ensures kept { KeepsRoom hand.old row.old hand.new row.new }
+{
+    let count = ModeGroup::count(modes.group);
+    turn_at_places(row, modes.places, count);
+    hand.pass(modes.group.width());
+    tick_times(ticks, 2 * count);
+    Stroke {
+        painted: row[row.len() - 1],
+        index: stroke.index + count,
+        color: next_color(row),
+    }
+}
+
+/// Returns the index of b1 after a vertical mode, whose place is right of a0.
+#[inline(always)]
+fn b1_after(line: &CodingLine<'_>, stroke: Stroke, place: u32, ticks: &mut Ticks) -> usize
+    requires ended { AreEnded line.now.columns line.now.places.now }
+    requires within { stroke.index ≤ length (changes_in line.now.places.now) + 1 }
+    requires at { IsB1 line.now.columns (changes_in line.now.places.now) stroke.painted stroke.index stroke.color }
+    requires inside { (stroke.painted < place) × (place < line.now.columns) }
+    ensures at { IsB1 line.now.columns (changes_in line.now.places.now) place result (opposite stroke.color) }
+    ensures work { (ticks.old ≤ ticks.new) × (ticks.new + stroke.index ≤ ticks.old + result + 1) }
+{
+    if stroke.index > 0 && change_at(line, stroke.index - 1) > place {
+        return stroke.index - 1;
+    }
+    seek_b1(line, place, stroke.index + 1, ticks)
+}
+
+/// Draws the first mode of a group if it leads to a place right of a0, in the row or at its end. Returns `None`, and draws
+/// nothing, elsewhere.
+#[inline(always)]
+fn draw_first(
+    hand: &mut BitsAtHand<'_>,
+    row: &mut Vec<u32>,
+    line: &CodingLine<'_>,
+    stroke: Stroke,
+    group: ModeGroup,
+    ticks: &mut Ticks,
+) -> Option<Stroke>
+    requires enough { 16 ≤ hand.old.left }
+    requires can { CanDraw line.now stroke hand.old row.old }
+    requires some { 0 < length (words_of group) }
+    requires words { AreNextWords (words_of group) hand.old.at }
+    ensures drawn { IfSome result (λ next. DrawsMode line.now stroke hand.old row.old ticks.old next hand.new row.new ticks.new) }
+    ensures left { IfNone result ((hand.new ≡ hand.old) × (row.new ≡ row.old) × (ticks.new ≡ ticks.old)) }
+    ensures kept { KeepsRoom hand.old row.old hand.new row.new }
+{
+    let above = change_at(line, stroke.index) + u32::from(group.offsets()[0]);
+    if above <= stroke.painted + 3 {
+        return None;
+    }
+    let place = above - 3;
+    if place > line.columns {
+        return None;
+    }
+    hand.pass(group.first_width(1));
+    tick_times(ticks, 2);
+    let color = stroke.color.opposite();
+    if place == line.columns {
+        return Some(Stroke {
+            painted: place,
+            index: stroke.index,
+            color,
+        });
+    }
+    turn_at(row, place);
+    let index = b1_after(line, stroke, place, ticks);
+    Some(Stroke {
+        painted: place,
+        index,
+        color,
+    })
+}
+
+/// Draws the mode that is here, whose group this is. Returns `None`, and draws nothing, if it isn't of the usual kind.
+#[inline(always)]
+fn draw_mode_of_group(
+    hand: &mut BitsAtHand<'_>,
+    row: &mut Vec<u32>,
+    line: &CodingLine<'_>,
+    stroke: Stroke,
+    group: ModeGroup,
+    ticks: &mut Ticks,
+) -> Option<Stroke>
+    requires enough { 16 ≤ hand.old.left }
+    requires can { CanDraw line.now stroke hand.old row.old }
+    requires first { IsFirstMode group hand.old }
+    requires words { AreNextWords (words_of group) hand.old.at }
+    ensures drawn { DrawsSome line.now stroke hand.old row.old ticks.old result hand.new row.new ticks.new }
+    ensures kept { KeepsRoom hand.old row.old hand.new row.new }
+{
+    if group.is_horizontal() {
+        return draw_horizontal(hand, row, line, stroke, ticks);
+    }
+    if group.is_pass() {
+        return Some(draw_pass(hand, row, line, stroke, ticks));
+    }
+    if ModeGroup::count(group) == 0 {
+        return None;
+    }
+    if let Some(reached) = draw_first(hand, row, line, stroke, group, ticks) {
+        return Some(reached);
+    }
+    let (mode, width) = mode_at_hand(hand);
+    draw_vertical(hand, row, line, stroke, (mode?, width), ticks)
+}
+
+/// Returns the last of some places that are stored in a row from an index on, or what was painted before if there is none.
+#[inline(always)]
+fn painted_by(row: &Vec<u32>, start: usize, count: usize, painted: u32) -> u32
+    requires within { start + count ≤ vec_len row.now }
+    ensures { result ≡ get_or (painted ∷ drop start row.now.items) count 0 }
+{
+    if count == 0 {
+        return painted;
+    }
+    row[start + count - 1]
+}
+
+/// Draws the regular modes that a group begins with, and the mode behind them if it leads to a place right of them in the row, or
+/// to the row's end. Returns how far the row is drawn then, and whether it isn't full; or `None` if no mode is drawn.
+#[inline(always)]
+fn draw_first_modes(
+    hand: &mut BitsAtHand<'_>,
+    row: &mut Vec<u32>,
+    line: &CodingLine<'_>,
+    stroke: Stroke,
+    modes: &ModesHere,
+    ticks: &mut Ticks,
+) -> Option<(Stroke, bool)>
+    requires can { CanDraw line.now stroke hand.old row.old }
+    requires here { AreModesHere line.now stroke hand.old modes.now }
+    requires some { first_clear modes.now < length (words_of modes.now.group) }
+    ensures drawn { IfSome result
+        (λ next. DrawsMode line.now stroke hand.old row.old ticks.old next.0 hand.new row.new ticks.new) }
+    ensures open { IfSome result (λ next. IsTrue next.1 ↔ (next.0.painted < line.now.columns)) }
+    ensures left { IfNone result ((hand.new ≡ hand.old) × (row.new.items ≡ row.old.items) × (ticks.new ≡ ticks.old)) }
+    ensures kept { KeepsRoom hand.old row.old hand.new row.new }
+{
+    let count = (!modes.regular).trailing_zeros() as usize;
+    let start = row.len();
+    push_places(row, modes.places);
+    let place = row[start + count];
+    let painted = painted_by(row, start, count, stroke.painted);
+    if painted < place && place < line.columns {
+        row.truncate(start + count + 1);
+        hand.pass(modes.group.first_width(count + 1));
+        tick_times(ticks, 2 * count + 2);
+        let before = Stroke {
+            painted,
+            index: stroke.index + count,
+            color: next_color(row).opposite(),
+        };
+        let index = b1_after(line, before, place, ticks);
+        let color = next_color(row);
+        return Some((
+            Stroke {
+                painted: place,
+                index,
+                color,
+            },
+            true,
+        ));
+    }
+    row.truncate(start + count);
+    let index = stroke.index + count;
+    if place == line.columns {
+        hand.pass(modes.group.first_width(count + 1));
+        tick_times(ticks, 2 * count + 2);
+        let color = next_color(row).opposite();
+        return Some((
+            Stroke {
+                painted: place,
+                index,
+                color,
+            },
+            false,
+        ));
+    }
+    if count == 0 {
+        return None;
+    }
+    hand.pass(modes.group.first_width(count));
+    tick_times(ticks, 2 * count);
+    let color = next_color(row);
+    Some((
+        Stroke {
+            painted,
+            index,
+            color,
+        },
+        true,
+    ))
+}
+
+/// Draws the vertical modes of a group, as many as lead to places in the row, if b1 isn't the first change. Returns how far the
+/// row is drawn then, and whether it isn't full; or `None`, drawing nothing, if there is no such mode.
+#[inline(always)]
+fn draw_group(
+    hand: &mut BitsAtHand<'_>,
+    row: &mut Vec<u32>,
+    line: &CodingLine<'_>,
+    stroke: Stroke,
+    group: ModeGroup,
+    ticks: &mut Ticks,
+) -> Option<(Stroke, bool)>
+    requires enough { 16 ≤ hand.old.left }
+    requires can { CanDraw line.now stroke hand.old row.old }
+    requires words { AreNextWords (words_of group) hand.old.at }
+    ensures drawn { IfSome result
+        (λ next. DrawsMode line.now stroke hand.old row.old ticks.old next.0 hand.new row.new ticks.new) }
+    ensures open { IfSome result (λ next. IsTrue next.1 ↔ (next.0.painted < line.now.columns)) }
+    ensures left { IfNone result ((hand.new ≡ hand.old) × (row.new.items ≡ row.old.items) × (ticks.new ≡ ticks.old)) }
+    ensures kept { KeepsRoom hand.old row.old hand.new row.new }
+{
+    if ModeGroup::count(group) == 0 {
+        return None;
+    }
+    if stroke.index == 0 {
+        return None;
+    }
+    let modes = modes_here(line, stroke, group);
+    if are_regular(&modes) {
+        let next = draw_regular(hand, row, line, stroke, &modes, ticks);
+        return Some((next, true));
+    }
+    draw_first_modes(hand, row, line, stroke, &modes, ticks)
+}
+
+/// Draws modes while they are of the usual kind, and there is room. Returns the stroke that is reached then.
+#[inline(always)]
+fn draw_bits(
+    hand: &mut BitsAtHand<'_>,
+    row: &mut Vec<u32>,
+    line: &CodingLine<'_>,
+    stroke: Stroke,
+    ticks: &mut Ticks,
+) -> Stroke
+    requires can { CanDraw line.now stroke hand.old row.old }
+    ensures drawn { Draws line.now stroke hand.old row.old ticks.old result hand.new row.new ticks.new }
+    ensures same_bits { hand.new.at.bits ≡ hand.old.at.bits }
+    ensures longer { vec_len row.old ≤ vec_len row.new }
+    ensures space { vec_capacity row.new ≡ vec_capacity row.old }
+{
+    let mut now = stroke;
+    'modes: loop {
+        if !has_next_mode(hand, row) {
+            return recolored(row, now);
+        }
+        let group = group_at_hand(hand);
+        if let Some((next, is_open)) = draw_group(hand, row, line, now, group, ticks) {
+            if !is_open {
+                return next;
+            }
+            now = next;
+            continue;
+        }
+        let here = recolored(row, now);
+        match draw_mode_of_group(hand, row, line, here, group, ticks) {
+            None => return here,
+            Some(next) => {
+                if next.painted == line.columns {
+                    return next;
+                }
+                now = next;
+            }
+        }
+    }
+}
+
+/// The same with a copy of the window, so that its fields are values of this call.
+#[inline(always)]
+fn draw_groups(
+    hand: &mut BitsAtHand<'_>,
+    row: &mut Vec<u32>,
+    line: &CodingLine<'_>,
+    stroke: Stroke,
+    ticks: &mut Ticks,
+) -> Stroke
+    requires can { CanDraw line.now stroke hand.old row.old }
+    ensures drawn { Draws line.now stroke hand.old row.old ticks.old result hand.new row.new ticks.new }
+    ensures same_bits { hand.new.at.bits ≡ hand.old.at.bits }
+    ensures longer { vec_len row.old ≤ vec_len row.new }
+    ensures space { vec_capacity row.new ≡ vec_capacity row.old }
+{
+    let mut bits = hand.copy();
+    let reached = draw_bits(&mut bits, row, line, stroke, ticks);
+    *hand = bits;
+    reached
+}
+
+/// Draws the mode that is here, in a colour. Returns `None`, and draws nothing, if it isn't of the usual kind.
+#[inline(always)]
+fn draw_mode_at_hand(
+    hand: &mut BitsAtHand<'_>,
+    row: &mut Vec<u32>,
+    line: &CodingLine<'_>,
+    stroke: Stroke,
+    ticks: &mut Ticks,
+) -> Option<Stroke>
+    requires enough { 16 ≤ hand.old.left }
+    requires can { CanDraw line.now stroke hand.old row.old }
+    ensures drawn { DrawsSome line.now stroke hand.old row.old ticks.old result hand.new row.new ticks.new }
+    ensures there { IfSome result (λ reached. hand.old.at.place < length hand.old.at.bits) }
+    ensures kept { KeepsRoom hand.old row.old hand.new row.new }
+{
+    let (mode, width) = mode_at_hand(hand);
+    match mode? {
+        Mode::Pass => Some(draw_pass(hand, row, line, stroke, ticks)),
+        Mode::Horizontal => draw_horizontal(hand, row, line, stroke, ticks),
+        vertical => draw_vertical(hand, row, line, stroke, (vertical, width), ticks),
+    }
+}
+
+/// Returns whether the two colours differ.
+#[inline(always)]
+fn is_turned(color: Color, next: Color) -> bool
+    ensures same { result ≡ false → next ≡ color }
+    ensures other { result ≡ true → next ≡ opposite color }
+{
+    match color {
+        Color::White => match next {
+            Color::White => false,
+            Color::Black => true,
+        },
+        Color::Black => match next {
+            Color::White => true,
+            Color::Black => false,
+        },
+    }
+}
+
+/// Draws modes in one colour while they are of the usual kind, up to one that changes the colour. Returns the stroke that is
+/// reached then, and whether that is all.
+#[inline(always)]
+fn draw_in_color(
+    hand: &mut BitsAtHand<'_>,
+    row: &mut Vec<u32>,
+    line: &CodingLine<'_>,
+    stroke: Stroke,
+    ticks: &mut Ticks,
+) -> (Stroke, bool)
+    requires can { CanDraw line.now stroke hand.old row.old }
+    ensures drawn { Draws line.now stroke hand.old row.old ticks.old result.0 hand.new row.new ticks.new }
+    ensures same_bits { hand.new.at.bits ≡ hand.old.at.bits }
+    ensures onward { hand.old.at.place ≤ hand.new.at.place }
+    ensures turned { result.1 ≡ false → (result.0.color ≡ opposite stroke.color) × (CanDraw line.now result.0 hand.new row.new)
+        × (hand.old.at.place < hand.new.at.place) × (hand.old.at.place < length hand.old.at.bits) }
+    ensures longer { vec_len row.old ≤ vec_len row.new }
+    ensures space { vec_capacity row.new ≡ vec_capacity row.old }
+{
+    let mut now = stroke;
+    'modes: loop {
+        if !has_next_mode(hand, row) {
+            return (now, true);
+        }
+        match draw_mode_at_hand(hand, row, line, now, ticks) {
+            None => return (now, true),
+            Some(next) => {
+                if is_turned(stroke.color, next.color) {
+                    return (next, next.painted == line.columns);
+                }
+                if next.painted == line.columns {
+                    return (next, true);
+                }
+                // The colour is the same, and a value that the compiler knows.
+                now = Stroke {
+                    color: stroke.color,
+                    ..next
+                };
+            }
+        }
+    }
+}
+
+/// Draws modes of a black run, if that is next, up to a white one. Returns the stroke that is reached then, and whether that is
+/// all.
+#[inline(always)]
+fn draw_to_white(
+    hand: &mut BitsAtHand<'_>,
+    row: &mut Vec<u32>,
+    line: &CodingLine<'_>,
+    stroke: Stroke,
+    ticks: &mut Ticks,
+) -> (Stroke, bool)
+    requires can { CanDraw line.now stroke hand.old row.old }
+    ensures drawn { Draws line.now stroke hand.old row.old ticks.old result.0 hand.new row.new ticks.new }
+    ensures same_bits { hand.new.at.bits ≡ hand.old.at.bits }
+    ensures turned { result.1 ≡ false → (result.0.color ≡ Color.White) × (CanDraw line.now result.0 hand.new row.new) }
+    ensures longer { vec_len row.old ≤ vec_len row.new }
+    ensures space { vec_capacity row.new ≡ vec_capacity row.old }
+{
+    match stroke.color {
+        Color::White => (stroke, false),
+        Color::Black => draw_in_color(hand, row, line, stroke, ticks),
+    }
+}
+
+/// Draws modes while they are of the usual kind, and there is room. Returns the stroke that is reached then.
+#[inline(always)]
+fn draw_turns(
+    hand: &mut BitsAtHand<'_>,
+    row: &mut Vec<u32>,
+    line: &CodingLine<'_>,
+    stroke: Stroke,
+    ticks: &mut Ticks,
+) -> Stroke
+    requires can { CanDraw line.now stroke hand.old row.old }
+    ensures drawn { Draws line.now stroke hand.old row.old ticks.old result hand.new row.new ticks.new }
+    ensures same_bits { hand.new.at.bits ≡ hand.old.at.bits }
+    ensures longer { vec_len row.old ≤ vec_len row.new }
+    ensures space { vec_capacity row.new ≡ vec_capacity row.old }
+{
+    // A copy of the window, so that its fields are values of this call.
+    let mut bits = hand.copy();
+    let (first, is_done) = draw_to_white(&mut bits, row, line, stroke, ticks);
+    if is_done {
+        *hand = bits;
+        return first;
+    }
+    let mut white = Stroke {
+        color: Color::White,
+        ..first
+    };
+    'turns: loop {
+        let (next, is_over) = draw_in_color(&mut bits, row, line, white, ticks);
+        if is_over {
+            *hand = bits;
+            return next;
+        }
+        let black = Stroke {
+            color: Color::Black,
+            ..next
+        };
+        let (next, is_over) = draw_in_color(&mut bits, row, line, black, ticks);
+        if is_over {
+            *hand = bits;
+            return next;
+        }
+        white = Stroke {
+            color: Color::White,
+            ..next
+        };
+    }
+}
+
+/// The same with a list of its own meanwhile, so that the list's fields are values of this call.
+#[inline(always)]
+fn draw_own_row(
+    hand: &mut BitsAtHand<'_>,
+    row: &mut Vec<u32>,
+    line: &CodingLine<'_>,
+    stroke: Stroke,
+    ticks: &mut Ticks,
+) -> Stroke
+    requires can { CanDraw line.now stroke hand.old row.old }
+    ensures drawn { Draws line.now stroke hand.old row.old ticks.old result hand.new row.new ticks.new }
+    ensures same_bits { hand.new.at.bits ≡ hand.old.at.bits }
+    ensures longer { vec_len row.old ≤ vec_len row.new }
+    ensures space { vec_capacity row.new ≡ vec_capacity row.old }
+{
+    let mut own = Vec::new(*row.allocator());
+    mem::swap(row, &mut own);
+    let reached = if line.by_groups {
+        draw_groups(hand, &mut own, line, stroke, ticks)
+    } else {
+        draw_turns(hand, &mut own, line, stroke, ticks)
+    };
+    mem::swap(row, &mut own);
+    reached
+}
+
+/// Draws modes from a line's start on, while they are of the usual kind, and makes room as it is needed. Returns the stroke
+/// that is reached then.
+#[inline(always)]
+pub(crate) fn draw_modes(
+    hand: &mut BitsAtHand<'_>,
+    row: &mut Vec<u32>,
+    line: &CodingLine<'_>,
+    ticks: &mut Ticks,
+) -> Stroke
+    requires can { CanDraw line.now line_start hand.old row.old }
+    ensures drawn { Draws line.now line_start hand.old row.old ticks.old result hand.new row.new ticks.new }
+    ensures same_bits { hand.new.at.bits ≡ hand.old.at.bits }
+    ensures space { vec_capacity row.new ≤ max (vec_capacity row.old) (room_for (vec_len row.new)) }
+{
+    let mut now = Stroke {
+        painted: 0,
+        index: 0,
+        color: Color::White,
+    };
+    // Each time the room doubles.
+    'rooms: for _ in 0..32 {
+        let reached = draw_own_row(hand, row, line, now, ticks);
+        if reached.painted == line.columns {
+            return reached;
+        }
+        // A window has at most 64 bits.
+        if hand.left() > 64 {
+            return reached;
+        }
+        if has_room_for_window(row) {
+            return reached;
+        }
+        if !make_room(row) {
+            return reached;
+        }
+        now = reached;
+    }
+    now
+}
+
+/// Prepares a front for `context`: a change at the front's end is removed, unless the row is full.
+#[inline(always)]
+pub(crate) fn lay_down_row(changes: &mut Vec<u32>, painted: u32, columns: u32)
+    requires lawful { AreChanges (painted + 1) changes.old.items }
+    requires whole { columns ≤ painted → AreChanges painted changes.old.items }
+    ensures lawful { AreChanges painted changes.new.items }
+    ensures same { pixels painted changes.new.items ≡ pixels painted changes.old.items }
+    ensures few { vec_len changes.old ≤ vec_len changes.new + 1 }
+    ensures space { vec_capacity changes.new ≡ vec_capacity changes.old }
+{
+    if painted < columns {
+        lay_down(changes, painted);
+    }
+}
+
+/// Returns whether there is room for a row's ends.
+#[inline(always)]
+fn has_room_for_ends(changes: &Vec<u32>) -> bool
+    ensures { result ≡ true → vec_len changes.now + 6 ≤ vec_capacity changes.now }
+{
+    changes.capacity() - changes.len() >= 6
+}
+
+/// Puts a row's end six times behind its changes, so that b1 is among them with four places after it, and returns whether there
+/// is room; otherwise the changes stay as they are.
+#[inline(always)]
+pub(crate) fn put_ends(changes: &mut Vec<u32>, columns: u32) -> bool
+    ensures ended { result ≡ true → changes.new.items ≡ changes.old.items ++ replicate 6 columns }
+    ensures unchanged { result ≡ false → changes.new.items ≡ changes.old.items }
+    ensures space { vec_capacity changes.new ≤ max (vec_capacity changes.old) (room_for (vec_len changes.old)) }
+{
+    if !has_room_for_ends(changes) && !make_room(changes) {
+        return false;
+    }
+    turn_at(changes, columns);
+    turn_at(changes, columns);
+    turn_at(changes, columns);
+    turn_at(changes, columns);
+    turn_at(changes, columns);
+    turn_at(changes, columns);
+    true
+}
+
+/// Removes the ends behind a row's changes.
+#[inline(always)]
+pub(crate) fn take_ends(changes: &mut Vec<u32>)
+    requires { 6 ≤ length changes.old.items }
+    ensures items { changes.new.items ≡ changes_in changes.old.items }
+    ensures space { vec_capacity changes.new ≡ vec_capacity changes.old }
+{
+    let _sixth = changes.take_last();
+    let _fifth = changes.take_last();
+    let _fourth = changes.take_last();
+    let _third = changes.take_last();
+    let _second = changes.take_last();
+    let _first = changes.take_last();
+}
+
+/// Stores the changes of a row behind those of another one.
+#[inline(always)]
+pub(crate) fn repeat_changes(changes: &[u32], row: &mut Vec<u32>)
+    requires room { vec_len row.old + length changes.now ≤ vec_capacity row.old }
+    ensures items { row.new.items ≡ row.old.items ++ changes.now }
+    ensures room { vec_capacity row.new ≡ vec_capacity row.old }
+{
+    let mut done = 0;
+    'changes: while done < changes.len() {
+        turn_at(row, changes[done]);
+        done += 1;
+    }
+}
+
+/// Returns whether the row of a list of changes is white.
+#[inline(always)]
+pub(crate) fn is_white_row(changes: &Vec<u32>) -> bool
+    ensures { result ≡ true → changes.now.items ≡ [] }
+{
+    changes.is_empty()
+}

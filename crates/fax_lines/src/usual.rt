@@ -1,0 +1,423 @@
+//! Runs whose code words are all in the window, drawn with the line's own values. The functions of `context` draw the
+//! others.
+
+ghost use Rattle.std.specs.Prelude.{vec_len, vec_capacity, get_or, ◌≡◌, ◌≢◌, ◌+◌, ◌-◌, ◌%◌, ◌<◌, ◌≤◌, ◌⊎◌, ℕ, Bool, IfSome};
+ghost use Rattle.std.specs.Prelude.{IfNone};
+ghost use Rattle.std.specs.Prelude.{min, true, false, length, ◌++◌, ◌∷◌, []};
+ghost use Rattle.fax_bits.specs.Bits.{here};
+ghost use Rattle.fax_bits.specs.LookUps.{AreEntriesOf};
+ghost use Rattle.fax_lines.specs.DrawnModes.{DrawsNothing};
+ghost use Rattle.fax_reading.specs.Rows.{AreChanges, pixels, opposite};
+ghost use Rattle.fax_reading.specs.UsualModes.{AreEnded, changes_in, IsNear, IsB1};
+ghost use Rattle.fax_reading.specs.UsualRuns.{IsWordHere, IsRunHere, IsShort, IsOpen, IsReached};
+ghost use Rattle.fax_lines.specs.TwoRunsHere.{AreTwoRunsHere, CanFollow, DrawsRuns, MovesOn};
+ghost use Rattle.fax_reading.specs.UsualRuns.{GoesOn, pen_at};
+ghost use Rattle.fax_bits.specs.Window.{moved};
+
+use fax_bits::DecodeSettings;
+use fax_bits::bit_reader::BitsAtHand;
+use fax_bits::codes::{Color, Ticks, tick_times};
+use fax_bits::pairs::pairs_of;
+use fax_bits::tables::Tables;
+use fax_bits::words_at_hand::word_at_hand;
+use std::mem;
+
+/// Returns the run at an offset in the window: its pixels, its bits and its number of code words. Returns `None` if it is
+/// neither a terminating word nor a make-up word and a terminating word.
+#[inline(always)]
+pub(crate) fn run_at_hand(
+    hand: &BitsAtHand<'_>,
+    skip: usize,
+    color: Color,
+    words: &[u16],
+) -> Option<(u32, usize, usize)>
+    requires within { skip + 26 ≤ hand.now.left }
+    requires near { skip ≤ 29 }
+    requires entries { AreEntriesOf color words.now }
+    ensures run { IfSome result (λ run. IsRunHere color (moved skip hand.now.at) run.0 run.1 run.2) }
+    ensures below { IfSome result (λ run. (run.0 ≤ 4158) × (run.2 ≤ 2)) }
+{
+    let (run, width) = word_at_hand(hand, skip, color, words);
+    if run < 64 {
+        return Some((run, width, 1));
+    }
+    if run == 4095 {
+        return None;
+    }
+    let (rest, more) = word_at_hand(hand, skip + width, color, words);
+    if rest < 64 {
+        Some((run + rest, width + more, 2))
+    } else {
+        None
+    }
+}
+
+/// Fills the window if it has fewer than 52 bits; returns false if it can't be filled.
+#[inline(always)]
+fn has_two_runs(hand: &mut BitsAtHand<'_>) -> bool
+    ensures same { hand.new.at ≡ hand.old.at }
+    ensures enough { result ≡ true → 52 ≤ hand.new.left }
+{
+    if hand.left() >= 52 {
+        return true;
+    }
+    hand.refill()
+}
+
+/// Stores a change at the position reached, if there is room for it.
+#[inline(always)]
+pub(crate) fn turn_at(changes: &mut Vec<u32>, place: u32)
+    requires room { vec_len changes.old < vec_capacity changes.old }
+    ensures items { changes.new.items ≡ changes.old.items ++ place ∷ [] }
+    ensures room { vec_capacity changes.new ≡ vec_capacity changes.old }
+    ensures count { vec_len changes.new ≡ vec_len changes.old + 1 }
+{
+    changes.push_reserved(place);
+}
+
+/// Returns whether a change at the end of a run of this length is right of the last one.
+#[inline(always)]
+pub(crate) fn is_next(changes: &Vec<u32>, run: u32) -> bool
+    ensures { result ≡ true → (0 < run) ⊎ (changes.now.items ≡ []) }
+{
+    run > 0 || changes.is_empty()
+}
+
+/// Returns whether there is room for two changes.
+#[inline(always)]
+pub(crate) fn has_room(changes: &Vec<u32>) -> bool
+    ensures { result ≡ true → vec_len changes.now + 2 ≤ vec_capacity changes.now }
+{
+    changes.capacity() - changes.len() >= 2
+}
+
+/// The same, by a sum: the loop over pairs of runs then has its values in registers, in either order of bits.
+#[inline(always)]
+fn has_room_for_pair(changes: &Vec<u32>) -> bool
+    ensures { result ≡ true → vec_len changes.now + 2 ≤ vec_capacity changes.now }
+{
+    changes.len() + 2 <= changes.capacity()
+}
+
+/// Fills the window if it has fewer than twelve bits; returns false if it can't be filled.
+#[inline(always)]
+fn has_pair(hand: &mut BitsAtHand<'_>) -> bool
+    ensures same { hand.new.at ≡ hand.old.at }
+    ensures enough { result ≡ true → 12 ≤ hand.new.left }
+{
+    if hand.left() >= 12 {
+        return true;
+    }
+    hand.refill()
+}
+
+/// Two runs that were read, of a colour and of the other one.
+#[derive(Copy, Clone)]
+pub(crate) struct TwoRuns {
+    /// The pixels of the first run.
+    pub(crate) first: u32,
+    /// The pixels of the second run.
+    pub(crate) second: u32,
+    /// The number of bits of all their code words.
+    pub(crate) width: usize,
+    /// The number of their code words.
+    pub(crate) words: usize,
+}
+
+/// Returns two runs of one code word each at an offset in the window, the first of this colour. Returns `None` if they have more
+/// than twelve bits, or one of them is empty.
+#[inline(always)]
+pub(crate) fn pair_at_hand(hand: &BitsAtHand<'_>, skip: usize, color: Color) -> Option<TwoRuns>
+    requires within { skip + 12 ≤ hand.now.left }
+    ensures runs { IfSome result (λ runs. AreTwoRunsHere color (moved skip hand.now.at) runs) }
+    ensures short { IfSome result (λ runs. IsShort runs.first × IsShort runs.second) }
+    ensures narrow { IfSome result (λ runs. runs.width ≤ 12) }
+{
+    let entry = pairs_of(color)[hand.twelve(skip)];
+    if entry == 0 {
+        return None;
+    }
+    Some(TwoRuns {
+        first: u32::from(entry & 63),
+        second: u32::from(entry >> 6 & 63),
+        width: usize::from(entry >> 12),
+        words: 2,
+    })
+}
+
+/// Returns the run at an offset in the window: its pixels, its bits and its number of code words. Returns `None` if it is
+/// neither a terminating word nor a make-up word and a terminating word, or the window doesn't reach as far.
+#[inline(always)]
+fn run_in_window(
+    hand: &BitsAtHand<'_>,
+    skip: usize,
+    color: Color,
+    words: &[u16],
+) -> Option<(u32, usize, usize)>
+    requires near { skip ≤ 29 }
+    requires entries { AreEntriesOf color words.now }
+    ensures run { IfSome result (λ run. IsRunHere color (moved skip hand.now.at) run.0 run.1 run.2) }
+    ensures below { IfSome result (λ run. (run.0 ≤ 4158) × (run.2 ≤ 2)) }
+    ensures within { IfSome result (λ run. skip + run.1 ≤ hand.now.left) }
+{
+    if skip + 26 <= hand.left() {
+        return run_at_hand(hand, skip, color, words);
+    }
+    if skip + 13 > hand.left() {
+        return None;
+    }
+    let (run, width) = word_at_hand(hand, skip, color, words);
+    if run < 64 {
+        Some((run, width, 1))
+    } else {
+        None
+    }
+}
+
+/// Draws a white run that ends before the row does, and a black one after it. Returns how far the row reaches then, and the
+/// colour in which it would continue.
+#[inline(always)]
+fn draw_both(
+    hand: &mut BitsAtHand<'_>,
+    row: &mut Vec<u32>,
+    painted: u32,
+    settings: DecodeSettings,
+    runs: TwoRuns,
+    ticks: &mut Ticks,
+) -> (u32, Color)
+    requires runs { AreTwoRunsHere Color.White hand.old.at runs }
+    requires within { runs.width ≤ hand.old.left }
+    requires follow { CanFollow settings painted row.old.items runs }
+    requires room { vec_len row.old + 2 ≤ vec_capacity row.old }
+    ensures drawn { DrawsRuns settings painted hand.old row.old ticks.old result.0 result.1 hand.new row.new ticks.new }
+    ensures place { result.0 ≡ painted + runs.first + min runs.second (settings.columns - (painted + runs.first)) }
+    ensures moved { hand.new.at ≡ moved runs.width hand.old.at }
+    ensures space { vec_capacity row.new ≡ vec_capacity row.old }
+{
+    let place = painted + runs.first;
+    hand.pass(runs.width);
+    tick_times(ticks, runs.words);
+    turn_at(row, place);
+    if runs.first + runs.second >= settings.columns - painted {
+        return (settings.columns, Color::White);
+    }
+    turn_at(row, place + runs.second);
+    (place + runs.second, Color::White)
+}
+
+/// Draws a white run and a black one of one code word each that end before the row does: the most frequent case. Returns how far
+/// the row reaches then; or `None`, drawing nothing, if they aren't of that kind.
+#[inline(always)]
+fn draw_pair(
+    hand: &mut BitsAtHand<'_>,
+    row: &mut Vec<u32>,
+    painted: u32,
+    settings: DecodeSettings,
+    ticks: &mut Ticks,
+) -> Option<u32>
+    requires open { IsOpen settings.columns painted row.old.items }
+    ensures drawn { IfSome result (λ place. GoesOn settings.strict settings.columns
+        (pen_at painted row.old.items Color.White hand.old.at)
+        (pen_at place row.new.items Color.White hand.new.at) ticks.old ticks.new) }
+    ensures open { IfSome result (λ place. IsOpen settings.columns place row.new.items) }
+    ensures forward { IfSome result (λ place. painted < place) }
+    ensures left { IfNone result (DrawsNothing hand.old row.old ticks.old hand.new row.new ticks.new) }
+    ensures kept { MovesOn hand.old row.old hand.new row.new }
+{
+    if !has_pair(hand) {
+        return None;
+    }
+    let runs = pair_at_hand(hand, 0, Color::White)?;
+    if runs.first + runs.second >= settings.columns - painted {
+        return None;
+    }
+    if !has_room_for_pair(row) {
+        return None;
+    }
+    let (place, _color) = draw_both(hand, row, painted, settings, runs, ticks);
+    Some(place)
+}
+
+/// Draws a white run and a black one, or a white one up to the row's end, as far as they are in the window. Returns how far the
+/// row reaches then, and the colour in which it would continue; or `None`, drawing nothing, if they aren't of the usual kind.
+#[inline(always)]
+pub(crate) fn draw_two_runs(
+    hand: &mut BitsAtHand<'_>,
+    row: &mut Vec<u32>,
+    painted: u32,
+    settings: DecodeSettings,
+    tables: &Tables,
+    ticks: &mut Ticks,
+) -> Option<(u32, Color)>
+    requires within { 26 ≤ hand.old.left }
+    requires open { IsOpen settings.columns painted row.old.items }
+    ensures drawn { IfSome result (λ reached. DrawsRuns settings painted hand.old row.old ticks.old reached.0 reached.1
+        hand.new row.new ticks.new) }
+    ensures forward { IfSome result (λ reached. painted < reached.0) }
+    ensures left { IfNone result (DrawsNothing hand.old row.old ticks.old hand.new row.new ticks.new) }
+    ensures kept { MovesOn hand.old row.old hand.new row.new }
+{
+    let (first, width, words) = run_at_hand(hand, 0, Color::White, tables.lookup(Color::White))?;
+    let room = settings.columns - painted;
+    // A run that is cut is left to the plain calls.
+    if first > room {
+        return None;
+    }
+    if first == room {
+        hand.pass(width);
+        tick_times(ticks, words);
+        return Some((settings.columns, Color::Black));
+    }
+    if !is_next(row, first) {
+        return None;
+    }
+    if !has_room_for_pair(row) {
+        return None;
+    }
+    let (second, width2, words2) = run_in_window(
+        hand,
+        width,
+        Color::Black,
+        tables.lookup(Color::Black),
+    )?;
+    if second == 0 {
+        return None;
+    }
+    if second > room - first {
+        return None;
+    }
+    let runs = TwoRuns {
+        first,
+        second,
+        width: width + width2,
+        words: words + words2,
+    };
+    Some(draw_both(hand, row, painted, settings, runs, ticks))
+}
+
+/// Draws runs in pairs while they are of the usual kind. Returns how far the row reaches then, and the colour in which it
+/// continues.
+#[inline(always)]
+fn draw_pairs(
+    hand: &mut BitsAtHand<'_>,
+    row: &mut Vec<u32>,
+    painted: u32,
+    settings: DecodeSettings,
+    tables: &Tables,
+    ticks: &mut Ticks,
+) -> (u32, Color)
+    requires open { IsOpen settings.columns painted row.old.items }
+    ensures drawn { DrawsRuns settings painted hand.old row.old ticks.old result.0 result.1 hand.new row.new ticks.new }
+    ensures forward { painted ≤ result.0 }
+    ensures kept { MovesOn hand.old row.old hand.new row.new }
+{
+    let mut place = painted;
+    'runs: loop {
+        if let Some(next) = draw_pair(hand, row, place, settings, ticks) {
+            place = next;
+        } else {
+            if !has_two_runs(hand) {
+                return (place, Color::White);
+            }
+            match draw_two_runs(hand, row, place, settings, tables, ticks) {
+                None => return (place, Color::White),
+                Some((next, color)) => {
+                    if next == settings.columns {
+                        return (next, color);
+                    }
+                    place = next;
+                }
+            }
+        }
+    }
+}
+
+/// The same with a list of its own meanwhile, so that the list's fields are values of this call.
+#[inline(always)]
+pub(crate) fn draw_runs(
+    hand: &mut BitsAtHand<'_>,
+    row: &mut Vec<u32>,
+    painted: u32,
+    settings: DecodeSettings,
+    tables: &Tables,
+    ticks: &mut Ticks,
+) -> (u32, Color)
+    requires open { IsOpen settings.columns painted row.old.items }
+    ensures drawn { DrawsRuns settings painted hand.old row.old ticks.old result.0 result.1 hand.new row.new ticks.new }
+    ensures forward { painted ≤ result.0 }
+    ensures kept { MovesOn hand.old row.old hand.new row.new }
+{
+    let mut own = Vec::new(*row.allocator());
+    mem::swap(row, &mut own);
+    let reached = draw_pairs(hand, &mut own, painted, settings, tables, ticks);
+    mem::swap(row, &mut own);
+    reached
+}
+
+/// Passes a white row: one run as long as the row. Returns whether there is one in the window; otherwise nothing changes.
+#[inline(always)]
+pub(crate) fn pass_white_row(
+    hand: &mut BitsAtHand<'_>,
+    columns: u32,
+    white: &[u16],
+    ticks: &mut Ticks,
+) -> bool
+    requires open { 0 < columns }
+    requires within { 32 ≤ hand.old.left }
+    requires white { AreEntriesOf Color.White white.now }
+    ensures drawn { result ≡ true → (strict : Bool) → GoesOn strict columns (pen_at 0 [] Color.White hand.old.at)
+        (pen_at columns [] Color.Black hand.new.at) ticks.old ticks.new }
+    ensures same_bits { hand.new.at.bits ≡ hand.old.at.bits }
+    ensures onward { hand.old.at.place ≤ hand.new.at.place }
+    ensures left { result ≡ false → (hand.new.at ≡ hand.old.at) × (ticks.new ≡ ticks.old) }
+{
+    let Some((run, width, words)) = run_at_hand(hand, 0, Color::White, white) else {
+        return false;
+    };
+    if run != columns {
+        return false;
+    }
+    hand.pass(width);
+    tick_times(ticks, words);
+    true
+}
+
+/// Prepares a front for drawing in pairs, white next: if it ends in black, a change is stored at its end. Returns false,
+/// and changes nothing, if there is no room for that.
+#[inline(always)]
+pub(crate) fn take_up(changes: &mut Vec<u32>, painted: u32) -> bool
+    requires { AreChanges painted changes.old.items }
+    ensures lawful { result ≡ true → AreChanges (painted + 1) changes.new.items }
+    ensures even { result ≡ true → length changes.new.items % 2 ≡ 0 }
+    ensures same { pixels painted changes.new.items ≡ pixels painted changes.old.items }
+    ensures left { result ≡ false → changes.new.items ≡ changes.old.items }
+    ensures space { vec_capacity changes.new ≡ vec_capacity changes.old }
+{
+    if changes.len() % 2 == 0 {
+        return true;
+    }
+    if changes.capacity() - changes.len() == 0 {
+        return false;
+    }
+    turn_at(changes, painted);
+    true
+}
+
+/// Prepares a front for `context`: a change at the front's end is removed.
+#[inline(always)]
+pub(crate) fn lay_down(changes: &mut Vec<u32>, painted: u32)
+    requires { AreChanges (painted + 1) changes.old.items }
+    ensures lawful { AreChanges painted changes.new.items }
+    ensures same { pixels painted changes.new.items ≡ pixels painted changes.old.items }
+    ensures space { vec_capacity changes.new ≡ vec_capacity changes.old }
+    ensures few { vec_len changes.old ≤ vec_len changes.new + 1 }
+{
+    if changes.is_empty() {
+        return;
+    }
+    let last = changes.take_last();
+    if last == painted {
+        return;
+    }
+    changes.push_reserved(last);
+}

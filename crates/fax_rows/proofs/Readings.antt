@@ -1,0 +1,9 @@
+pub mod FirstGaps
+pub mod GapsPassed
+pub mod LinesRead
+pub mod RowByRow
+pub mod RowsAgain
+pub mod RowsPushed
+pub mod RowsTried
+pub mod WhiteRowsPushed
+pub mod WhiteRowsRead

@@ -1,0 +1,24 @@
+use Rattle.fax_rows.proofs.Names.{◌≡◌, ◌≤◌, ◌-◌, length}
+use Rattle.fax_rows.proofs.Readings.WhiteRowsPushed.{HasPushedWhite}
+use Rattle.fax_lines.specs.WhiteLines.{ArePlacedLines}
+use Rattle.fax_rows.proofs.push_rows.push_white_words.Given as goal
+
+-- white rows were read, and the sink means them
+abbrev pub invariant-many : goal.invariant-many
+invariant-many g l = record {
+  pushed : HasPushedWhite (g.D.Decoder.step (g.D.Decoder.width l.fn.decoder))
+      l.fn.lines l.fn.dropped l.most l.count l.start l.fn.rows
+      l.fn.ctx l.fn.reader l.words.at (g.D.Decoder.meaning l.fn.decoder) (g.D.Decoder.meaning l.decoder);
+  rows : l.rows ≡ l.fn.rows;
+  ctx : l.ctx ≡ l.fn.ctx;
+  reader : l.reader ≡ l.fn.reader;
+  placed : ArePlacedLines l.words.order l.fn.lines l.placed;
+  bits : l.words.at.bits ≡ l.fn.reader.bits;
+  within : l.start ≤ length l.fn.reader.bits;
+  width : g.D.Decoder.width l.decoder ≡ g.D.Decoder.width l.fn.decoder;
+  unrefused : g.D.Decoder.has_refused l.decoder ≡ g.D.Decoder.has_refused l.fn.decoder;
+}
+
+-- the rows that are left
+abbrev pub decreases-many : goal.decreases-many
+decreases-many g l = l.most - l.count

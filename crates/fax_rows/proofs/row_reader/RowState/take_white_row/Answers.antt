@@ -1,0 +1,17 @@
+use Rattle.fax_rows.proofs.Names.{common_steps}
+use Rattle.fax_rows.proofs.Names.{arith}
+use Rattle.fax_rows.proofs.Readings.RowsAgain.{not_at_limit}
+use Rattle.fax_rows.proofs.row_reader.RowState.take_white_row.Goals as goal
+
+pub take_row_again-requires : goal.take_row_again-requires
+take_row_again-requires c = grind (arith, common_steps, c.requires.follow c.if-not-repeats.false)
+
+pub returns-clause-taken : goal.returns-clause-taken
+returns-clause-taken c e =
+    grind (
+      arith,
+      common_steps,
+      not_at_limit,
+      c.requires.follow c.if-not-repeats.false,
+      c.pass_line.ensures.passed c.if-not-pass_line.false,
+    )

@@ -1,0 +1,6 @@
+pub mod Contract
+pub mod RowCursors
+pub mod RowsRead
+pub mod RowsTried
+pub mod TakenRows
+pub mod WhiteRows

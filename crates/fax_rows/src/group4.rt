@@ -1,0 +1,39 @@
+//! Group 4: every line is two-dimensional (T.6).
+
+ghost use Rattle.std.specs.Prelude.{◌≡◌, ◌<◌, ◌≤◌, OnErr, false, max};
+ghost use Rattle.fax_bits.specs.Bits.{here};
+ghost use Rattle.fax_rows.specs.Contract.{BeginsRows};
+ghost use Rattle.fax_reading.specs.Decoding.{DecodesRows, FailsHere, leaving};
+ghost use Rattle.fax_reading.specs.Space.{most_room};
+
+use crate::push_rows::push_rows;
+use fax_bits::bit_reader::BitReader;
+use fax_bits::{EncodingMode, Result};
+use fax_lines::Decoder;
+use fax_lines::context::DecoderContext;
+
+/// Decodes the rows of Group 4 data until EOFB (with `end_of_block`), the row limit or the end of the data.
+///
+/// # Errors
+///
+/// Those of a line, and `Refused` if the sink refuses a row.
+pub fn decode<D: Decoder>(
+    ctx: &mut DecoderContext,
+    reader: &mut BitReader<'_>,
+    decoder: &mut D,
+) -> Result<()>
+    requires encoding { ctx.old.held.settings.encoding ≡ EncodingMode.Group4 }
+    requires begins { BeginsRows ctx.old reader.old }
+    requires width { ctx.old.held.settings.columns ≤ D.width decoder.old }
+    ensures width { D.width decoder.new ≡ D.width decoder.old }
+    ensures rows { DecodesRows reader.old.bits (D.step (D.width decoder.old))
+        (record { meaning = D.meaning decoder.old; refused = D.has_refused decoder.old; refuses = D.refuses decoder.old })
+        (record { meaning = D.meaning decoder.new; refused = D.has_refused decoder.new; refuses = D.refuses decoder.new })
+        ctx.old ctx.new (leaving result (here reader.new)) }
+    ensures fails { OnErr result (FailsHere ctx.old.held.settings reader.old.bits ctx.new.held.taken (here reader.new)) }
+    ensures no_eols { ctx.new.held.has_eols ≡ false }
+    ensures same_bits { reader.new.bits ≡ reader.old.bits }
+    ensures space { ctx.new.space ≤ max ctx.old.space (most_room ctx.old.held.settings reader.old.bits) }
+{
+    push_rows(ctx, reader, decoder) // Each line is two-dimensional.
+}

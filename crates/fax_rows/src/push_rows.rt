@@ -1,0 +1,223 @@
+//! Decoding into a sink: the rows of a reading one at a time, each passed to the sink.
+
+ghost use Rattle.std.specs.Prelude.{◌≡◌, ◌<◌, ◌≤◌, ◌+◌, ◌-◌, ◌^◌, OnErr, false, true, length, max};
+ghost use Rattle.fax_bits.specs.Bits.{here};
+ghost use Rattle.fax_rows.specs.Contract.{BeginsRows};
+ghost use Rattle.fax_reading.specs.Decoding.{DecodesRows, FailsHere, leaving};
+ghost use Rattle.fax_reading.specs.Space.{most_room};
+ghost use Rattle.fax_lines.specs.WhiteLines.{MayFollow};
+ghost use Rattle.fax_rows.specs.WhiteRows.{PushesWhite};
+
+use crate::row_reader::{RowState, first_stand, has_ended};
+use fax_bits::bit_reader::{
+    BitOrder, BitReader, WordsAhead, at_bit, bit_len, go_on_at, words_ahead,
+};
+use fax_bits::{EncodingMode, Result};
+use fax_lines::Decoder;
+use fax_lines::context::{
+    DecoderContext, no_white_lines, reference_row, take_back_row, white_is_next,
+};
+use fax_lines::white_lines::{WhiteLines, may_follow, pass_placed_line, placed_lines};
+
+/// Of lines with fewer bits many are in the window of a reader, which passes them as fast.
+const LEAST_BITS: usize = 8;
+
+/// Returns how many more rows come before the row limit.
+#[inline(always)]
+fn rows_left(limit: u64, rows: u64) -> u64
+    ensures { result ≡ limit - rows }
+{
+    limit.saturating_sub(rows)
+}
+
+/// Reads each line that is one of these white lines, from words of eight bytes as they stand, and passes its row to the sink, up to
+/// the row limit and the last eight bytes. After `Refused` that row was read.
+#[inline(always)]
+fn push_white_words<D: Decoder>(
+    mut words: WordsAhead<'_>,
+    lines: &WhiteLines,
+    dropped: usize,
+    rows: &mut RowState,
+    ctx: &mut DecoderContext,
+    reader: &mut BitReader<'_>,
+    decoder: &mut D,
+) -> Result<()>
+    requires here { words.at ≡ reader.old }
+    requires follow { MayFollow ctx.old.held.settings ctx.old.held.has_eols ctx.old.held.reference lines.now }
+    requires fits { dropped + length reader.old.bits + 64 < 2 ^ 64 }
+    ensures width { D.width decoder.new ≡ D.width decoder.old }
+    ensures pushes { PushesWhite (D.step (D.width decoder.old)) lines.now dropped
+        (record { meaning = D.meaning decoder.old; refused = D.has_refused decoder.old; refuses = D.refuses decoder.old })
+        (record { meaning = D.meaning decoder.new; refused = D.has_refused decoder.new; refuses = D.refuses decoder.new })
+        rows.old rows.new ctx.old ctx.new reader.old reader.new result }
+{
+    let placed = placed_lines(lines, &words);
+    let most = rows_left(lines.limit, ctx.decoded_rows());
+    let mut count = 0;
+    let mut start = words.passed();
+    'many: while count < most {
+        let place = words.passed();
+        if !pass_placed_line(&placed, &mut words) {
+            break 'many;
+        }
+        start = place;
+        count += 1;
+        if let Err(refusal) = decoder.push_row(&[]) {
+            rows.take_white_rows(count, dropped + start + lines.gap, ctx);
+            go_on_at(reader, &words);
+            return Err(refusal);
+        }
+    }
+    if count > 0 {
+        rows.take_white_rows(count, dropped + start + lines.gap, ctx);
+        go_on_at(reader, &words);
+    }
+    Ok(())
+}
+
+/// Reads lines and passes their rows as `push_white_words` does, in either order of bits.
+#[inline(always)]
+fn push_white_in_order<D: Decoder>(
+    lines: &WhiteLines,
+    dropped: usize,
+    rows: &mut RowState,
+    ctx: &mut DecoderContext,
+    reader: &mut BitReader<'_>,
+    decoder: &mut D,
+) -> Result<()>
+    requires follow { MayFollow ctx.old.held.settings ctx.old.held.has_eols ctx.old.held.reference lines.now }
+    requires fits { dropped + length reader.old.bits + 64 < 2 ^ 64 }
+    ensures width { D.width decoder.new ≡ D.width decoder.old }
+    ensures pushes { PushesWhite (D.step (D.width decoder.old)) lines.now dropped
+        (record { meaning = D.meaning decoder.old; refused = D.has_refused decoder.old; refuses = D.refuses decoder.old })
+        (record { meaning = D.meaning decoder.new; refused = D.has_refused decoder.new; refuses = D.refuses decoder.new })
+        rows.old rows.new ctx.old ctx.new reader.old reader.new result }
+{
+    if let Some(words) = words_ahead(reader, BitOrder::HighestFirst) {
+        return push_white_words(words, lines, dropped, rows, ctx, reader, decoder);
+    }
+    if let Some(words) = words_ahead(reader, BitOrder::LowestFirst) {
+        return push_white_words(words, lines, dropped, rows, ctx, reader, decoder);
+    }
+    Ok(())
+}
+
+/// The same by a call, so that registers hold what each row needs.
+#[inline(never)]
+fn push_white_by_call<D: Decoder>(
+    lines: &WhiteLines,
+    dropped: usize,
+    rows: &mut RowState,
+    ctx: &mut DecoderContext,
+    reader: &mut BitReader<'_>,
+    decoder: &mut D,
+) -> Result<()>
+    requires follow { MayFollow ctx.old.held.settings ctx.old.held.has_eols ctx.old.held.reference lines.now }
+    requires fits { dropped + length reader.old.bits + 64 < 2 ^ 64 }
+    ensures width { D.width decoder.new ≡ D.width decoder.old }
+    ensures pushes { PushesWhite (D.step (D.width decoder.old)) lines.now dropped
+        (record { meaning = D.meaning decoder.old; refused = D.has_refused decoder.old; refuses = D.refuses decoder.old })
+        (record { meaning = D.meaning decoder.new; refused = D.has_refused decoder.new; refuses = D.refuses decoder.new })
+        rows.old rows.new ctx.old ctx.new reader.old reader.new result }
+{
+    push_white_in_order(lines, dropped, rows, ctx, reader, decoder)
+}
+
+/// If a white row repeats whose line isn't short, reads lines and passes their rows as `push_white_words` does; of data in pieces
+/// also short lines. Some bits of the data come before these.
+#[inline(always)]
+pub fn push_white_rows<D: Decoder>(
+    repeats: bool,
+    lines: &WhiteLines,
+    in_pieces: bool,
+    dropped: usize,
+    rows: &mut RowState,
+    ctx: &mut DecoderContext,
+    reader: &mut BitReader<'_>,
+    decoder: &mut D,
+) -> Result<()>
+    requires follow { repeats ≡ true
+        → MayFollow ctx.old.held.settings ctx.old.held.has_eols ctx.old.held.reference lines.now }
+    requires fits { dropped + length reader.old.bits + 64 < 2 ^ 64 }
+    ensures width { D.width decoder.new ≡ D.width decoder.old }
+    ensures pushes { PushesWhite (D.step (D.width decoder.old)) lines.now dropped
+        (record { meaning = D.meaning decoder.old; refused = D.has_refused decoder.old; refuses = D.refuses decoder.old })
+        (record { meaning = D.meaning decoder.new; refused = D.has_refused decoder.new; refuses = D.refuses decoder.new })
+        rows.old rows.new ctx.old ctx.new reader.old reader.new result }
+{
+    if !repeats {
+        return Ok(());
+    }
+    let least = if in_pieces { 0 } else { LEAST_BITS };
+    if !may_follow(lines, reader, least) {
+        return Ok(());
+    }
+    if in_pieces {
+        return push_white_by_call(lines, dropped, rows, ctx, reader, decoder);
+    }
+    push_white_in_order(lines, dropped, rows, ctx, reader, decoder)
+}
+
+/// Reads the rows of an image and passes each to the sink, in every encoding, until EOFB or RTC (with `end_of_block`), the row
+/// limit or the end of the data. The errors are those of a line that isn't repaired, `InvalidCode` if strict data misses an
+/// EOL, and `Refused` if the sink refuses a row; the reader is then where the line begins that has no row, or where the EOL is
+/// missing.
+pub(crate) fn push_rows<D: Decoder>(
+    ctx: &mut DecoderContext,
+    reader: &mut BitReader<'_>,
+    decoder: &mut D,
+) -> Result<()>
+    requires begins { BeginsRows ctx.old reader.old }
+    requires width { ctx.old.held.settings.columns ≤ D.width decoder.old }
+    ensures width { D.width decoder.new ≡ D.width decoder.old }
+    ensures rows { DecodesRows reader.old.bits (D.step (D.width decoder.old))
+        (record { meaning = D.meaning decoder.old; refused = D.has_refused decoder.old; refuses = D.refuses decoder.old })
+        (record { meaning = D.meaning decoder.new; refused = D.has_refused decoder.new; refuses = D.refuses decoder.new })
+        ctx.old ctx.new (leaving result (here reader.new)) }
+    ensures fails { OnErr result (FailsHere ctx.old.held.settings reader.old.bits ctx.new.held.taken (here reader.new)) }
+    ensures no_eols { ctx.old.held.settings.encoding ≡ EncodingMode.Group4 → ctx.new.held.has_eols ≡ false }
+    ensures same_bits { reader.new.bits ≡ reader.old.bits }
+    ensures space { ctx.new.space ≤ max ctx.old.space (most_room ctx.old.held.settings reader.old.bits) }
+{
+    let mut lines = no_white_lines(ctx);
+    let mut rows = RowState::new(first_stand(ctx, reader));
+    if has_ended(rows.stand) {
+        return Ok(());
+    }
+    'rows: loop {
+        let damaged_rows = ctx.damaged_rows();
+        let cut_rows = ctx.cut_rows();
+        rows.read_line(ctx, reader)?;
+        if let Err(refusal) = decoder.push_row(reference_row(ctx)) {
+            take_back_row(ctx, damaged_rows, cut_rows);
+            *reader = at_bit(reader, rows.started_at);
+            return Err(refusal);
+        }
+        let repeats = white_is_next(ctx, &mut lines, reader);
+        // The number of bits is known to be small once it is read.
+        let _length = bit_len(reader);
+        if let Err(refusal) = push_white_rows(
+            repeats, &lines, false, 0, &mut rows, ctx, reader, decoder,
+        ) {
+            let repaired = ctx.damaged_rows();
+            let cut = ctx.cut_rows();
+            take_back_row(ctx, repaired, cut);
+            let begin = rows.started_at;
+            *reader = at_bit(reader, begin);
+            return Err(refusal);
+        }
+        'white: while rows.take_white_row(repeats, lines, reader.bit_pos(), ctx, reader) {
+            if let Err(refusal) = decoder.push_row(&[]) {
+                let damage = ctx.damaged_rows();
+                let cuts = ctx.cut_rows();
+                take_back_row(ctx, damage, cuts);
+                let start = rows.started_at;
+                *reader = at_bit(reader, start);
+                return Err(refusal);
+            }
+        }
+        if !rows.come_to_line(ctx, reader)? {
+            return Ok(());
+        }
+    }
+}

@@ -1,5 +1,0 @@
-use Rattle.hayro_ccitt.proofs.Names.{rules}
-use Rattle.hayro_ccitt.proofs.group3.recover.Goals as goal
-
-pub returns-clause-put_back : goal.returns-clause-put_back
-returns-clause-put_back c = search rules

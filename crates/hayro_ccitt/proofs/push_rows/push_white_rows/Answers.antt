@@ -1,8 +1,0 @@
-use Rattle.hayro_ccitt.proofs.Readings.WhiteRowsPushed.{no_white_read}
-use Rattle.hayro_ccitt.proofs.push_rows.push_white_rows.Goals as goal
-
-pub returns-then-not-repeats-clause-pushes : goal.returns-then-not-repeats-clause-pushes
-returns-then-not-repeats-clause-pushes g c = no_white_read
-
-pub returns-then-not-may_follow-clause-pushes : goal.returns-then-not-may_follow-clause-pushes
-returns-then-not-may_follow-clause-pushes g c = no_white_read

@@ -1,9 +1,0 @@
--- What a call leaves of a context.
-use Rattle.std.specs.Prelude.{◌≡◌, ◌≤◌}
-use Rattle.hayro_ccitt.specs.Context.{Context}
-
--- It holds what it held, in lists that have as much room, and counts no fewer ticks.
-pub record OnlyCounts (before after : Context) : Type 0 where
-  pub held : after.held ≡ before.held
-  pub counts : before.ticks ≤ after.ticks
-  pub space : after.space ≡ before.space
