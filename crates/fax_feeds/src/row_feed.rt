@@ -16,6 +16,7 @@ ghost use Rattle.fax_reading.specs.Continuations.{is_short};
 ghost use Rattle.fax_feeds.specs.RowFeeds.{IsPartOf1d, line_of_feed, says_short, some_line};
 ghost use Rattle.fax_feeds.specs.RowFeeds.{CountsRow, Feeding, FeedsRow, PushesRows, unused};
 ghost use Rattle.fax_reading.specs.Rows.{AreChanges, changes};
+ghost use Rattle.fax_lines.specs.SinkStates.{state_of};
 
 use crate::gap_look::{
     GapLook, GapRules, GapStage, first_rules, is_settled_at_once, rules_behind_row,
@@ -839,9 +840,7 @@ impl RowFeed {
         requires none_kept { self.old.part ≡ None }
         ensures width { D.width decoder.new ≡ D.width decoder.old }
         ensures pushes { PushesRows (D.step (D.width decoder.old))
-            (record { meaning = D.meaning decoder.old; refused = D.has_refused decoder.old; refuses = D.refuses decoder.old })
-            (record { meaning = D.meaning decoder.new; refused = D.has_refused decoder.new; refuses = D.refuses decoder.new })
-            self.old self.new result }
+            (state_of D.Decoder decoder.old) (state_of D.Decoder decoder.new) self.old self.new result }
     {
         let mut reader = placed_at(&self.data, self.order, self.place);
         let mut lines = no_white_lines(&self.ctx);
@@ -920,9 +919,7 @@ impl RowFeed {
         requires width { self.old.ctx.held.settings.columns ≤ D.width decoder.old }
         ensures width { D.width decoder.new ≡ D.width decoder.old }
         ensures pushes { PushesRows (D.step (D.width decoder.old))
-            (record { meaning = D.meaning decoder.old; refused = D.has_refused decoder.old; refuses = D.refuses decoder.old })
-            (record { meaning = D.meaning decoder.new; refused = D.has_refused decoder.new; refuses = D.refuses decoder.new })
-            self.old self.new result }
+            (state_of D.Decoder decoder.old) (state_of D.Decoder decoder.new) self.old self.new result }
     {
         let fed = self.next_row();
         if !is_row(&fed) {
@@ -960,9 +957,7 @@ impl RowFeed {
         requires width { self.old.ctx.held.settings.columns ≤ D.width decoder.old }
         ensures width { D.width decoder.new ≡ D.width decoder.old }
         ensures pushes { PushesRows (D.step (D.width decoder.old))
-            (record { meaning = D.meaning decoder.old; refused = D.has_refused decoder.old; refuses = D.refuses decoder.old })
-            (record { meaning = D.meaning decoder.new; refused = D.has_refused decoder.new; refuses = D.refuses decoder.new })
-            self.old self.new result }
+            (state_of D.Decoder decoder.old) (state_of D.Decoder decoder.new) self.old self.new result }
     {
         if self.begun && is_behind_row(self.rows.stand) && self.part.is_none() {
             return self.push_on(decoder);

@@ -11,6 +11,7 @@ ghost use Rattle.fax_reading.specs.Decoding.{DecodesRows, FailsHere, leaving, ga
 ghost use Rattle.fax_reading.specs.PlainReading.{gap_behind_row};
 ghost use Rattle.fax_reading.specs.Rows.{changes};
 ghost use Rattle.fax_rows.specs.RowsTried.{LacksEol, PassesGap};
+ghost use Rattle.fax_lines.specs.SinkStates.{state_of};
 ghost use Rattle.fax_reading.specs.Space.{most_room, room_for};
 ghost use Rattle.fax_bits.specs.Ticks.{looked, looked_ahead};
 
@@ -115,9 +116,7 @@ pub fn decode_1d<D: Decoder>(
     requires width { ctx.old.held.settings.columns ≤ D.width decoder.old }
     ensures width { D.width decoder.new ≡ D.width decoder.old }
     ensures rows { DecodesRows reader.old.bits (D.step (D.width decoder.old))
-        (record { meaning = D.meaning decoder.old; refused = D.has_refused decoder.old; refuses = D.refuses decoder.old })
-        (record { meaning = D.meaning decoder.new; refused = D.has_refused decoder.new; refuses = D.refuses decoder.new })
-        ctx.old ctx.new (leaving result (here reader.new)) }
+        (state_of D.Decoder decoder.old) (state_of D.Decoder decoder.new) ctx.old ctx.new (leaving result (here reader.new)) }
     ensures fails { OnErr result (FailsHere ctx.old.held.settings reader.old.bits ctx.new.held.taken (here reader.new)) }
     ensures same_bits { reader.new.bits ≡ reader.old.bits }
     ensures space { ctx.new.space ≤ max ctx.old.space (most_room ctx.old.held.settings reader.old.bits) }
@@ -142,9 +141,7 @@ pub fn decode_2d<D: Decoder>(
     requires width { ctx.old.held.settings.columns ≤ D.width decoder.old }
     ensures width { D.width decoder.new ≡ D.width decoder.old }
     ensures rows { DecodesRows reader.old.bits (D.step (D.width decoder.old))
-        (record { meaning = D.meaning decoder.old; refused = D.has_refused decoder.old; refuses = D.refuses decoder.old })
-        (record { meaning = D.meaning decoder.new; refused = D.has_refused decoder.new; refuses = D.refuses decoder.new })
-        ctx.old ctx.new (leaving result (here reader.new)) }
+        (state_of D.Decoder decoder.old) (state_of D.Decoder decoder.new) ctx.old ctx.new (leaving result (here reader.new)) }
     ensures fails { OnErr result (FailsHere ctx.old.held.settings reader.old.bits ctx.new.held.taken (here reader.new)) }
     ensures same_bits { reader.new.bits ≡ reader.old.bits }
     ensures space { ctx.new.space ≤ max ctx.old.space (most_room ctx.old.held.settings reader.old.bits) }

@@ -4,6 +4,7 @@ ghost use Rattle.std.specs.Prelude.{◌≡◌, ◌<◌, ◌≤◌, ◌+◌, ◌-
 ghost use Rattle.fax_bits.specs.Bits.{here};
 ghost use Rattle.fax_rows.specs.Contract.{BeginsRows};
 ghost use Rattle.fax_reading.specs.Decoding.{DecodesRows, FailsHere, leaving};
+ghost use Rattle.fax_lines.specs.SinkStates.{state_of};
 ghost use Rattle.fax_reading.specs.Space.{most_room};
 ghost use Rattle.fax_lines.specs.WhiteLines.{MayFollow};
 ghost use Rattle.fax_rows.specs.WhiteRows.{PushesWhite};
@@ -47,9 +48,8 @@ fn push_white_words<D: Decoder>(
     requires fits { dropped + length reader.old.bits + 64 < 2 ^ 64 }
     ensures width { D.width decoder.new ≡ D.width decoder.old }
     ensures pushes { PushesWhite (D.step (D.width decoder.old)) lines.now dropped
-        (record { meaning = D.meaning decoder.old; refused = D.has_refused decoder.old; refuses = D.refuses decoder.old })
-        (record { meaning = D.meaning decoder.new; refused = D.has_refused decoder.new; refuses = D.refuses decoder.new })
-        rows.old rows.new ctx.old ctx.new reader.old reader.new result }
+        (state_of D.Decoder decoder.old) (state_of D.Decoder decoder.new) rows.old rows.new ctx.old ctx.new reader.old
+        reader.new result }
 {
     let placed = placed_lines(lines, &words);
     let most = rows_left(lines.limit, ctx.decoded_rows());
@@ -89,9 +89,8 @@ fn push_white_in_order<D: Decoder>(
     requires fits { dropped + length reader.old.bits + 64 < 2 ^ 64 }
     ensures width { D.width decoder.new ≡ D.width decoder.old }
     ensures pushes { PushesWhite (D.step (D.width decoder.old)) lines.now dropped
-        (record { meaning = D.meaning decoder.old; refused = D.has_refused decoder.old; refuses = D.refuses decoder.old })
-        (record { meaning = D.meaning decoder.new; refused = D.has_refused decoder.new; refuses = D.refuses decoder.new })
-        rows.old rows.new ctx.old ctx.new reader.old reader.new result }
+        (state_of D.Decoder decoder.old) (state_of D.Decoder decoder.new) rows.old rows.new ctx.old ctx.new reader.old
+        reader.new result }
 {
     if let Some(words) = words_ahead(reader, BitOrder::HighestFirst) {
         return push_white_words(words, lines, dropped, rows, ctx, reader, decoder);
@@ -116,9 +115,8 @@ fn push_white_by_call<D: Decoder>(
     requires fits { dropped + length reader.old.bits + 64 < 2 ^ 64 }
     ensures width { D.width decoder.new ≡ D.width decoder.old }
     ensures pushes { PushesWhite (D.step (D.width decoder.old)) lines.now dropped
-        (record { meaning = D.meaning decoder.old; refused = D.has_refused decoder.old; refuses = D.refuses decoder.old })
-        (record { meaning = D.meaning decoder.new; refused = D.has_refused decoder.new; refuses = D.refuses decoder.new })
-        rows.old rows.new ctx.old ctx.new reader.old reader.new result }
+        (state_of D.Decoder decoder.old) (state_of D.Decoder decoder.new) rows.old rows.new ctx.old ctx.new reader.old
+        reader.new result }
 {
     push_white_in_order(lines, dropped, rows, ctx, reader, decoder)
 }
@@ -141,9 +139,8 @@ pub fn push_white_rows<D: Decoder>(
     requires fits { dropped + length reader.old.bits + 64 < 2 ^ 64 }
     ensures width { D.width decoder.new ≡ D.width decoder.old }
     ensures pushes { PushesWhite (D.step (D.width decoder.old)) lines.now dropped
-        (record { meaning = D.meaning decoder.old; refused = D.has_refused decoder.old; refuses = D.refuses decoder.old })
-        (record { meaning = D.meaning decoder.new; refused = D.has_refused decoder.new; refuses = D.refuses decoder.new })
-        rows.old rows.new ctx.old ctx.new reader.old reader.new result }
+        (state_of D.Decoder decoder.old) (state_of D.Decoder decoder.new) rows.old rows.new ctx.old ctx.new reader.old
+        reader.new result }
 {
     if !repeats {
         return Ok(());
@@ -171,9 +168,7 @@ pub(crate) fn push_rows<D: Decoder>(
     requires width { ctx.old.held.settings.columns ≤ D.width decoder.old }
     ensures width { D.width decoder.new ≡ D.width decoder.old }
     ensures rows { DecodesRows reader.old.bits (D.step (D.width decoder.old))
-        (record { meaning = D.meaning decoder.old; refused = D.has_refused decoder.old; refuses = D.refuses decoder.old })
-        (record { meaning = D.meaning decoder.new; refused = D.has_refused decoder.new; refuses = D.refuses decoder.new })
-        ctx.old ctx.new (leaving result (here reader.new)) }
+        (state_of D.Decoder decoder.old) (state_of D.Decoder decoder.new) ctx.old ctx.new (leaving result (here reader.new)) }
     ensures fails { OnErr result (FailsHere ctx.old.held.settings reader.old.bits ctx.new.held.taken (here reader.new)) }
     ensures no_eols { ctx.old.held.settings.encoding ≡ EncodingMode.Group4 → ctx.new.held.has_eols ≡ false }
     ensures same_bits { reader.new.bits ≡ reader.old.bits }

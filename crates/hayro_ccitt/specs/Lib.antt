@@ -31,6 +31,7 @@ pub use Rattle.fax_lines.specs.ContextSteps
 pub use Rattle.fax_lines.specs.ContextView
 pub use Rattle.fax_lines.specs.Counting
 pub use Rattle.fax_lines.specs.Lending
+pub use Rattle.fax_lines.specs.SinkStates
 pub use Rattle.fax_lines.specs.WhiteLines
 pub use Rattle.fax_reading.specs.Answers
 pub use Rattle.fax_reading.specs.Context

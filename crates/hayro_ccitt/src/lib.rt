@@ -15,6 +15,7 @@ ghost use Rattle.hayro_ccitt.specs.Bits.{AreWholeBytes, BitsFit, bits_in, bits_o
 ghost use Rattle.fax_rows.specs.Contract.{BeginsRows, Decodes};
 ghost use Rattle.hayro_ccitt.specs.Decoding.{DecodesRows, FailsHere, leaving};
 ghost use Rattle.hayro_ccitt.specs.PlainReading.{plain};
+ghost use Rattle.hayro_ccitt.specs.SinkStates.{state_of};
 ghost use Rattle.hayro_ccitt.specs.Space.{most_room};
 ghost use Rattle.hayro_ccitt.specs.Work.{CountsWork};
 
@@ -75,9 +76,7 @@ fn decode_rows<D: Decoder>(
     requires width { ctx.old.held.settings.columns ≤ D.width decoder.old }
     ensures width { D.width decoder.new ≡ D.width decoder.old }
     ensures rows { DecodesRows reader.old.bits (D.step (D.width decoder.old))
-        (record { meaning = D.meaning decoder.old; refused = D.has_refused decoder.old; refuses = D.refuses decoder.old })
-        (record { meaning = D.meaning decoder.new; refused = D.has_refused decoder.new; refuses = D.refuses decoder.new })
-        ctx.old ctx.new (leaving result (here reader.new)) }
+        (state_of D.Decoder decoder.old) (state_of D.Decoder decoder.new) ctx.old ctx.new (leaving result (here reader.new)) }
     ensures fails { OnErr result (FailsHere ctx.old.held.settings reader.old.bits ctx.new.held.taken (here reader.new)) }
     ensures no_eols { ctx.old.held.settings.encoding ≡ EncodingMode.Group4 → ctx.new.held.has_eols ≡ false }
     ensures same_bits { reader.new.bits ≡ reader.old.bits }
@@ -115,9 +114,7 @@ fn decode_bits<D: Decoder>(
     ensures settings { ctx.new.held.settings ≡ ctx.old.held.settings }
     ensures within { IfOk result (λ n. 8 * n ≤ length reader.old.bits) }
     ensures decodes { Decodes ctx.old.held.settings reader.old.bits (D.step (D.width decoder.old))
-        (record { meaning = D.meaning decoder.old; refused = D.has_refused decoder.old; refuses = D.refuses decoder.old })
-        (record { meaning = D.meaning decoder.new; refused = D.has_refused decoder.new; refuses = D.refuses decoder.new })
-        ctx.new.held ctx.new.ticks result }
+        (state_of D.Decoder decoder.old) (state_of D.Decoder decoder.new) ctx.new.held ctx.new.ticks result }
     ensures space { ctx.new.space ≤ max ctx.old.space (most_room ctx.old.held.settings reader.old.bits) }
 {
     restart(ctx);
@@ -187,9 +184,7 @@ pub fn decode<D: Decoder>(data: &[u8], decoder: &mut D, ctx: &mut DecoderContext
 
     // All that it leaves, over the bits in this order, is stated field by field in `specs/Contract.antt`.
     ensures decodes { Decodes ctx.old.held.settings (bits_of «data».now) (D.step (D.width decoder.old))
-        (record { meaning = D.meaning decoder.old; refused = D.has_refused decoder.old; refuses = D.refuses decoder.old })
-        (record { meaning = D.meaning decoder.new; refused = D.has_refused decoder.new; refuses = D.refuses decoder.new })
-        ctx.new.held ctx.new.ticks result }
+        (state_of D.Decoder decoder.old) (state_of D.Decoder decoder.new) ctx.new.held ctx.new.ticks result }
 {
     decode_bits(&mut BitReader::new(data), decoder, ctx)
 }
@@ -220,9 +215,7 @@ pub fn decode_low_first<D: Decoder>(
 
     // All that it leaves, over the bits in this order, is stated field by field in `specs/Contract.antt`.
     ensures decodes { Decodes ctx.old.held.settings (low_first_bits_of «data».now) (D.step (D.width decoder.old))
-        (record { meaning = D.meaning decoder.old; refused = D.has_refused decoder.old; refuses = D.refuses decoder.old })
-        (record { meaning = D.meaning decoder.new; refused = D.has_refused decoder.new; refuses = D.refuses decoder.new })
-        ctx.new.held ctx.new.ticks result }
+        (state_of D.Decoder decoder.old) (state_of D.Decoder decoder.new) ctx.new.held ctx.new.ticks result }
 {
     decode_bits(&mut BitReader::new_low_first(data), decoder, ctx)
 }
@@ -248,9 +241,7 @@ pub fn decode_in<D: Decoder>(
 
     // All that it leaves, over the bits in this order, is stated field by field in `specs/Contract.antt`.
     ensures decodes { Decodes ctx.old.held.settings (bits_in order «data».now) (D.step (D.width decoder.old))
-        (record { meaning = D.meaning decoder.old; refused = D.has_refused decoder.old; refuses = D.refuses decoder.old })
-        (record { meaning = D.meaning decoder.new; refused = D.has_refused decoder.new; refuses = D.refuses decoder.new })
-        ctx.new.held ctx.new.ticks result }
+        (state_of D.Decoder decoder.old) (state_of D.Decoder decoder.new) ctx.new.held ctx.new.ticks result }
 {
     match order {
         BitOrder::HighestFirst => decode(data, decoder, ctx),

@@ -3,6 +3,7 @@
 ghost use Rattle.std.specs.Prelude.{◌≤◌};
 ghost use Rattle.hayro_ccitt_c.specs.Packing.{bytes_of_row};
 ghost use Rattle.hayro_ccitt_c.specs.RowsTold.{IsToldStill};
+ghost use Rattle.hayro_ccitt.specs.SinkStates.{state_of};
 
 use crate::fed_status::{is_fed_row, needs_more, status_behind, status_of_fed};
 use crate::listed_rows::ListedRows;
@@ -196,9 +197,7 @@ impl Feeding {
         requires width { D.width sink.old ≡ self.old.rows.ctx.held.settings.columns }
         requires unrefused { D.has_refused sink.old ≡ false }
         ensures width { D.width sink.new ≡ D.width sink.old }
-        ensures passes { PassesAll (D.step (D.width sink.old))
-            (record { meaning = D.meaning sink.old; refused = D.has_refused sink.old; refuses = D.refuses sink.old })
-            (record { meaning = D.meaning sink.new; refused = D.has_refused sink.new; refuses = D.refuses sink.new })
+        ensures passes { PassesAll (D.step (D.width sink.old)) (state_of D.Decoder sink.old) (state_of D.Decoder sink.new)
             self.old self.new result }
     {
         self.told = None;

@@ -1,6 +1,6 @@
 use Rattle.fax_rows.proofs.Names.{common_steps, ◌≡◌, ◌∙◌, ◌-◌, Bool, Result, Ok, Err, refl, sym, ap, subst, arith, true}
 use Rattle.fax_rows.proofs.Names.{err_from_is_err_and, length, DecodeError, DecodeSettings, Bits, BitsAt, Context}
-use Rattle.fax_rows.proofs.Names.{SinkState, here, failed_at, IsStanding, IsStandingAtLine, ReachesNextLine, ReadsNext, seen}
+use Rattle.fax_rows.proofs.Names.{here, failed_at, IsStanding, IsStandingAtLine, ReachesNextLine, ReadsNext, seen}
 use Rattle.fax_rows.proofs.Names.{row_came, plain, ℕ, StandsAtLine, [], ◌≤◌, false, List, max, most_room}
 use Rattle.fax_rows.proofs.Names.{◌+◌}
 use Rattle.fax_reading.proofs.PixelRows.ChangesAndPixels.{AreChanges-wider}
@@ -8,6 +8,7 @@ use Rattle.fax_rows.proofs.Readings.RowByRow.{at_line_stands, few, reader_fails_
 use Rattle.fax_rows.proofs.Readings.RowsPushed.{decodes_rows, ends_unfailed, means_pushed, none_missed, of_same, rows_ended}
 use Rattle.fax_rows.proofs.Readings.RowsPushed.{rows_refused, run_is_over}
 use Rattle.fax_rows.specs.WhiteRows.{Pushed, PushesWhite, RefusesWhite, ReadsWhite}
+use Rattle.fax_lines.specs.SinkStates.{state_of}
 use Rattle.fax_lines.specs.WhiteLines.{AreKnown, MayFollow}
 use Rattle.fax_lines.specs.declared.white_lines.WhiteLines.{WhiteLines}
 use Rattle.fax_rows.proofs.Readings.WhiteRowsRead.{IsBehindRows, some_on, white_comes}
@@ -165,14 +166,6 @@ behind_before g c =
 pub push_white_rows-requires-clause-fits : goal.push_white_rows-requires-clause-fits
 push_white_rows-requires-clause-fits g c = omega (arith, c.bit_len-length.ensures.fit)
 
--- what is known of the sink
-abbrev rows_sink : (g : Over) → g.row.D.Denot → SinkState g.D.Decoder.Meaning
-rows_sink g d = record {
-  meaning = g.D.Decoder.meaning d;
-  refused = g.D.Decoder.has_refused d;
-  refuses = g.D.Decoder.refuses d;
-}
-
 -- white rows were read
 module _ (g : Over) (c : After-push_white_rows g) where
   abbrev step_here : g.D.Decoder.Meaning → List ℕ → g.D.Decoder.Meaning
@@ -181,10 +174,11 @@ module _ (g : Over) (c : After-push_white_rows g) where
   abbrev lines_here : WhiteLines
   lines_here = c.white_is_next-repeats.new.lines
 
-  pushes_white : PushesWhite step_here lines_here 0 (rows_sink g c.push_row.new.self) (rows_sink g c.push_white_rows.new.decoder)
+  pushes_white : PushesWhite step_here lines_here 0 (state_of g.D.Decoder c.push_row.new.self)
+      (state_of g.D.Decoder c.push_white_rows.new.decoder)
       c.read_line.new.self c.push_white_rows.new.rows
       c.read_line.new.ctx c.push_white_rows.new.ctx c.read_line.new.reader c.push_white_rows.new.reader c.push_white_rows.result
-  pushes_white = grind (arith, common_steps, lines_here, rows_sink g)
+  pushes_white = grind (arith, common_steps, lines_here)
 
   behind_mid : IsBehindRows step_here c.args.ctx.now.ticks c.args.ctx.now.held.settings c.args.reader.now.bits
       (g.D.Decoder.meaning c.args.decoder.now) pushes_white.mid
@@ -329,7 +323,7 @@ abbrev row_refused : (g : Over) → In-Err-push_row g → After-take_white_row g
 row_refused g c = c.before.before.before.before.before.before
 
 refused_in_white : (g : Over) (c : In-Err-push_row g) → RefusesWhite c.white_is_next-repeats.new.lines 0
-    (rows_sink g c.push_row-in-white.new.self) (white_rows g (row_refused g c))
+    (state_of g.D.Decoder c.push_row-in-white.new.self) (white_rows g (row_refused g c))
     (one_more g (row_refused g c) (g.D.Decoder.meaning c.push_row-in-white.new.self)) c.in-Err-push_row.refusal
 refused_in_white g c = record {
   reads = row_taken g (row_refused g c) (g.D.Decoder.meaning c.push_row-in-white.new.self) c.white-test.true;

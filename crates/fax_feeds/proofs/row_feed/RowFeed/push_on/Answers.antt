@@ -15,10 +15,11 @@ use Rattle.fax_bits.proofs.BitReading.BitLists.{length-bits_in}
 use Rattle.fax_feeds.proofs.Names.{length}
 use Rattle.fax_feeds.specs.GapsSeen.{nothing_seen}
 use Rattle.fax_feeds.specs.RowFeeds.{FeedsRow, PassesRows, ReadsInFeed, fed_row, feeding_of}
+use Rattle.fax_lines.specs.SinkStates.{state_of}
 use Rattle.fax_rows.specs.RowsTried.{IsLeft}
 use Rattle.fax_rows.specs.WhiteRows.{Pushed, PushesWhite}
 use Rattle.fax_lines.specs.declared.white_lines.WhiteLines.{WhiteLines}
-use Rattle.fax_feeds.proofs.Names.{List, SinkState}
+use Rattle.fax_feeds.proofs.Names.{List}
 use Rattle.fax_feeds.proofs.Readings.WhiteRowsFed.{IsFedTo, fed_to, some_fed, white_fed_by, white_fed_empty, white_fed_row}
 use Rattle.fax_rows.proofs.Readings.WhiteRowsRead.{came_behind, counted_now, white_read}
 use Rattle.fax_rows.proofs.Readings.WhiteRowsRead.{refused_behind}
@@ -183,14 +184,6 @@ module _ (g : Over) (here : After-is_read g) (is : here.try_line-row.result ≡ 
   fresh_before : gap_there.look ≡ nothing_seen
   fresh_before = (gap_by g (gap_here g here)).kept.line (line_is_here g here)
 
--- what is known of the sink
-abbrev feed_sink : (g : Over) → g.row.D.Denot → SinkState g.D.Decoder.Meaning
-feed_sink g d = record {
-  meaning = g.D.Decoder.meaning d;
-  refused = g.D.Decoder.has_refused d;
-  refuses = g.D.Decoder.refuses d;
-}
-
 -- white rows were read
 module _ (g : Over) (c : After-push_white_rows g) where
   abbrev gap_before : Inside
@@ -212,10 +205,10 @@ module _ (g : Over) (c : After-push_white_rows g) where
     meaning = g.D.Decoder.meaning c.push_row.new.self;
   }
 
-  pushes_white : PushesWhite step_here lines_here gap_before.dropped (feed_sink g c.push_row.new.self)
-      (feed_sink g c.push_white_rows.new.decoder) c.try_line-row.new.rows c.push_white_rows.new.rows c.try_line-row.new.ctx
+  pushes_white : PushesWhite step_here lines_here gap_before.dropped (state_of g.D.Decoder c.push_row.new.self)
+      (state_of g.D.Decoder c.push_white_rows.new.decoder) c.try_line-row.new.rows c.push_white_rows.new.rows c.try_line-row.new.ctx
       c.push_white_rows.new.ctx c.try_line-row.new.reader c.push_white_rows.new.reader c.push_white_rows.result
-  pushes_white = grind (arith, common_steps, lines_here, gap_before, feed_sink g)
+  pushes_white = grind (arith, common_steps, lines_here, gap_before)
 
   module _ (fed : IsFedTo step_here c.args.self.now (g.D.Decoder.meaning c.args.decoder.now) gap_before read_before)
       (fresh : gap_before.look ≡ nothing_seen) where
