@@ -102,6 +102,12 @@ module _ {A : Type 0} where
     pub capacity : vec_capacity longer ≡ vec_capacity row
     pub count : vec_len row ≤ vec_len longer
 
+  -- Drawing goes on from one stroke to another, of the same bits, in the room that the row has.
+  pub record DrawsOn (line : CodingLine) (stroke : Stroke) (hand : AtHand) (row : Vec ℕ A) (ticks : ℕ)
+      (next : Stroke) (rest : AtHand) (longer : Vec ℕ A) (now : ℕ) : Type 0 where
+    pub drawn : Draws line stroke hand row ticks next rest longer now
+    pub kept : KeepsRoom hand row rest longer
+
   -- If there is a next stroke, a mode is drawn up to it; if there is none, nothing is drawn.
   abbrev pub DrawsSome : CodingLine → Stroke → AtHand → Vec ℕ A → ℕ → Option Stroke → AtHand → Vec ℕ A → ℕ → Type 0
   DrawsSome line stroke hand row ticks None rest longer now = DrawsNothing hand row ticks rest longer now

@@ -7,7 +7,7 @@ ghost use Rattle.std.specs.Prelude.{◌++◌, ◌∷◌, [], ◌^◌};
 ghost use Rattle.fax_lines.specs.DrawnModes.{AreModesHere, IsFirstMode, LeadFrom, first_clear};
 ghost use Rattle.fax_bits.specs.ModeGroups.{AreNextWords, words_of};
 ghost use Rattle.fax_lines.specs.RegularModes.{AreSet};
-ghost use Rattle.fax_lines.specs.DrawnModes.{IsNextMode, CanDraw, Draws, DrawsMode, DrawsSome, KeepsRoom, line_start};
+ghost use Rattle.fax_lines.specs.DrawnModes.{IsNextMode, CanDraw, Draws, DrawsMode, DrawsOn, DrawsSome, KeepsRoom, line_start};
 ghost use Rattle.fax_reading.specs.Rows.{AreChanges, pixels, opposite};
 ghost use Rattle.fax_reading.specs.Space.{room_for};
 ghost use Rattle.fax_reading.specs.UsualModes.{AreEnded, changes_in, IsNear, IsB1, TurnsFrom};
@@ -1017,10 +1017,7 @@ fn draw_bits(
     ticks: &mut Ticks,
 ) -> Stroke
     requires can { CanDraw line.now stroke hand.old row.old }
-    ensures drawn { Draws line.now stroke hand.old row.old ticks.old result hand.new row.new ticks.new }
-    ensures same_bits { hand.new.at.bits ≡ hand.old.at.bits }
-    ensures longer { vec_len row.old ≤ vec_len row.new }
-    ensures space { vec_capacity row.new ≡ vec_capacity row.old }
+    ensures { DrawsOn line.now stroke hand.old row.old ticks.old result hand.new row.new ticks.new }
 {
     let mut now = stroke;
     'modes: loop {
@@ -1058,10 +1055,7 @@ fn draw_groups(
     ticks: &mut Ticks,
 ) -> Stroke
     requires can { CanDraw line.now stroke hand.old row.old }
-    ensures drawn { Draws line.now stroke hand.old row.old ticks.old result hand.new row.new ticks.new }
-    ensures same_bits { hand.new.at.bits ≡ hand.old.at.bits }
-    ensures longer { vec_len row.old ≤ vec_len row.new }
-    ensures space { vec_capacity row.new ≡ vec_capacity row.old }
+    ensures { DrawsOn line.now stroke hand.old row.old ticks.old result hand.new row.new ticks.new }
 {
     let mut bits = hand.copy();
     let reached = draw_bits(&mut bits, row, line, stroke, ticks);
@@ -1121,13 +1115,10 @@ fn draw_in_color(
     ticks: &mut Ticks,
 ) -> (Stroke, bool)
     requires can { CanDraw line.now stroke hand.old row.old }
-    ensures drawn { Draws line.now stroke hand.old row.old ticks.old result.0 hand.new row.new ticks.new }
-    ensures same_bits { hand.new.at.bits ≡ hand.old.at.bits }
+    ensures on { DrawsOn line.now stroke hand.old row.old ticks.old result.0 hand.new row.new ticks.new }
     ensures onward { hand.old.at.place ≤ hand.new.at.place }
     ensures turned { result.1 ≡ false → (result.0.color ≡ opposite stroke.color) × (CanDraw line.now result.0 hand.new row.new)
         × (hand.old.at.place < hand.new.at.place) × (hand.old.at.place < length hand.old.at.bits) }
-    ensures longer { vec_len row.old ≤ vec_len row.new }
-    ensures space { vec_capacity row.new ≡ vec_capacity row.old }
 {
     let mut now = stroke;
     'modes: loop {
@@ -1164,11 +1155,8 @@ fn draw_to_white(
     ticks: &mut Ticks,
 ) -> (Stroke, bool)
     requires can { CanDraw line.now stroke hand.old row.old }
-    ensures drawn { Draws line.now stroke hand.old row.old ticks.old result.0 hand.new row.new ticks.new }
-    ensures same_bits { hand.new.at.bits ≡ hand.old.at.bits }
+    ensures on { DrawsOn line.now stroke hand.old row.old ticks.old result.0 hand.new row.new ticks.new }
     ensures turned { result.1 ≡ false → (result.0.color ≡ Color.White) × (CanDraw line.now result.0 hand.new row.new) }
-    ensures longer { vec_len row.old ≤ vec_len row.new }
-    ensures space { vec_capacity row.new ≡ vec_capacity row.old }
 {
     match stroke.color {
         Color::White => (stroke, false),
@@ -1186,10 +1174,7 @@ fn draw_turns(
     ticks: &mut Ticks,
 ) -> Stroke
     requires can { CanDraw line.now stroke hand.old row.old }
-    ensures drawn { Draws line.now stroke hand.old row.old ticks.old result hand.new row.new ticks.new }
-    ensures same_bits { hand.new.at.bits ≡ hand.old.at.bits }
-    ensures longer { vec_len row.old ≤ vec_len row.new }
-    ensures space { vec_capacity row.new ≡ vec_capacity row.old }
+    ensures { DrawsOn line.now stroke hand.old row.old ticks.old result hand.new row.new ticks.new }
 {
     // A copy of the window, so that its fields are values of this call.
     let mut bits = hand.copy();
@@ -1234,10 +1219,7 @@ fn draw_own_row(
     ticks: &mut Ticks,
 ) -> Stroke
     requires can { CanDraw line.now stroke hand.old row.old }
-    ensures drawn { Draws line.now stroke hand.old row.old ticks.old result hand.new row.new ticks.new }
-    ensures same_bits { hand.new.at.bits ≡ hand.old.at.bits }
-    ensures longer { vec_len row.old ≤ vec_len row.new }
-    ensures space { vec_capacity row.new ≡ vec_capacity row.old }
+    ensures { DrawsOn line.now stroke hand.old row.old ticks.old result hand.new row.new ticks.new }
 {
     let mut own = Vec::new(*row.allocator());
     mem::swap(row, &mut own);

@@ -11,7 +11,7 @@ use Rattle.fax_lines.proofs.Names.{Turn, Row, AreChanges, pixels, is_black, oppo
 use Rattle.fax_lines.proofs.Names.{TurnsFrom, IsNear, IsB1, GoesOn2d, IsStroke, TwoRuns, AreTwoRunsHere, IsRunHere, pen_at}
 use Rattle.fax_lines.proofs.Names.{moved, row_in, changes_in, AtHand, CanDraw, CodingLine, Stroke, Draws}
 use Rattle.std.specs.Prelude.{Vec, vec_len, vec_capacity}
-use Rattle.fax_lines.specs.DrawnModes.{DrawsMode, IsAtStroke, IsNextMode, pen_here}
+use Rattle.fax_lines.specs.DrawnModes.{DrawsMode, DrawsOn, IsAtStroke, IsNextMode, KeepsRoom, pen_here}
 use Rattle.fax_reading.proofs.PixelRows.ReferencePlaces.{end_within}
 use Rattle.fax_bits.proofs.Repetition.Repeated.{after_turn}
 use Rattle.fax_reading.proofs.DrawingLines.CountedLines.{IsCountedSoFar, found_2d_from, found_after, found_2d_on, words_run}
@@ -42,6 +42,24 @@ pub draws_on : {A : Type 0} {line : CodingLine} {a b c : Stroke} {hand hand2 sam
     → Draws line b same even n c rest longer o → Draws line a hand row m c rest longer o
 draws_on first at items second =
     record { drawn = twice_2d first.drawn (rw (at, items) at second.drawn); reached = second.reached }
+
+-- the room stays, and stays from there on
+pub keeps_on : {A : Type 0} {hand mid same rest : AtHand} {row more longer : Vec ℕ A} → KeepsRoom hand row mid more
+    → same.at ≡ mid.at → KeepsRoom same more rest longer → KeepsRoom hand row rest longer
+keeps_on first at second = record {
+  same_bits = second.same_bits ∙ ap (λ (b : BitsAt). b.bits) at ∙ first.same_bits;
+  capacity = second.capacity ∙ first.capacity;
+  count = omega (arith, first.count, second.count);
+}
+
+-- and in the row's room
+pub goes_on : {A : Type 0} {line : CodingLine} {a b c : Stroke} {hand hand2 same rest : AtHand} {row row2 even longer : Vec ℕ A}
+    {m n o : ℕ} → DrawsOn line a hand row m b hand2 row2 n → same.at ≡ hand2.at → even.items ≡ row2.items
+    → Draws line b same even n c rest longer o → KeepsRoom same row2 rest longer → DrawsOn line a hand row m c rest longer o
+goes_on first at items second kept = record {
+  drawn = draws_on first.drawn at items second;
+  kept = keeps_on first.kept at kept;
+}
 
 -- what is drawn is of the changes alone, and not of their room
 pub same_row_drawn : {A : Type 0} {line : CodingLine} {a b : Stroke} {hand rest : AtHand} {row longer even : Vec ℕ A} {m n : ℕ}

@@ -1,18 +1,14 @@
-use Rattle.std.specs.Prelude.{vec_len, vec_capacity}
-use Rattle.fax_lines.specs.DrawnModes.{CanDraw, Draws}
+use Rattle.fax_lines.specs.DrawnModes.{CanDraw, DrawsOn}
 use Rattle.fax_lines.proofs.Names.{◌≡◌, ◌-◌, ◌≤◌, length}
 use Rattle.fax_lines.proofs.modes.draw_in_color.Given as goal
 
 -- what is drawn so far, in one colour, and that the row isn't full
 abbrev pub invariant-modes : goal.invariant-modes
 invariant-modes l = record {
-  drawn : Draws l.line l.stroke l.fn.hand l.fn.row l.fn.ticks l.now l.hand l.row l.ticks;
+  on : DrawsOn l.line l.stroke l.fn.hand l.fn.row l.fn.ticks l.now l.hand l.row l.ticks;
   can : CanDraw l.line l.now l.hand l.row;
   color : l.now.color ≡ l.stroke.color;
-  same_bits : l.hand.at.bits ≡ l.fn.hand.at.bits;
   onward : l.fn.hand.at.place ≤ l.hand.at.place;
-  longer : vec_len l.fn.row ≤ vec_len l.row;
-  space : vec_capacity l.row ≡ vec_capacity l.fn.row;
 }
 
 abbrev pub decreases-modes : goal.decreases-modes

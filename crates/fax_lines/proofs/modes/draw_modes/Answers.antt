@@ -14,8 +14,8 @@ rooms-preserved c =
     record {
       drawn = on;
       can = grind (arith, common_steps);
-      same_bits = own.ensures.same_bits ∙ c.rooms.invariant.same_bits;
-      space = omega (arith, len, made.space, own.ensures.space, own.ensures.longer, c.rooms.invariant.space);
+      same_bits = own.ensures.kept.same_bits ∙ c.rooms.invariant.same_bits;
+      space = omega (arith, len, made.space, own.ensures.kept.capacity, own.ensures.kept.count, c.rooms.invariant.space);
     }
 
 pub returns-then-reached-line-clause-drawn : goal.returns-then-reached-line-clause-drawn

@@ -1,17 +1,13 @@
-use Rattle.std.specs.Prelude.{vec_len, vec_capacity}
-use Rattle.fax_lines.specs.DrawnModes.{CanDraw, Draws}
-use Rattle.fax_lines.proofs.Names.{◌≡◌, ◌-◌, ◌≤◌, length, White}
+use Rattle.fax_lines.specs.DrawnModes.{CanDraw, DrawsOn}
+use Rattle.fax_lines.proofs.Names.{◌≡◌, ◌-◌, length, White}
 use Rattle.fax_lines.proofs.modes.draw_turns.Given as goal
 
 -- what is drawn so far, white next, and that the row isn't full
 abbrev pub invariant-turns : goal.invariant-turns
 invariant-turns l = record {
-  drawn : Draws l.line l.fn.stroke l.fn.hand l.fn.row l.fn.ticks l.white l.bits l.row l.ticks;
+  on : DrawsOn l.line l.fn.stroke l.fn.hand l.fn.row l.fn.ticks l.white l.bits l.row l.ticks;
   can : CanDraw l.line l.white l.bits l.row;
   color : l.white.color ≡ White;
-  same_bits : l.bits.at.bits ≡ l.fn.hand.at.bits;
-  longer : vec_len l.fn.row ≤ vec_len l.row;
-  space : vec_capacity l.row ≡ vec_capacity l.fn.row;
 }
 
 abbrev pub decreases-turns : goal.decreases-turns
