@@ -1,12 +1,14 @@
 -- What the calls of a context leave that draw a line or a part of one.
-use Rattle.std.specs.Prelude.{◌≡◌, ◌+◌, ◌≤◌, ℕ, suc, max, List, length, Bool, false, [], Result, OnOk}
+use Rattle.std.specs.Prelude.{◌≡◌, ◌+◌, ◌≤◌, ◌↔◌, ◌⊎◌, ◌||◌, ℕ, suc, max, List, length, Bool, false, [], Result, Ok, Err, OnOk}
+use Rattle.std.specs.Prelude.{OnErr, IfErr}
 use Rattle.fax_bits.specs.declared.codes.Color.TheVariants.{White}
 use Rattle.fax_bits.specs.declared.codes.Mode.{Mode}
 use Rattle.fax_bits.specs.declared.error.DecodeError.{DecodeError}
-use Rattle.fax_reading.specs.Answers.{OnAnswer, TellsCut, pen_of, strict_step_of_mode, words_of_mode}
+use Rattle.fax_bits.specs.declared.error.DecodeError.TheVariants.{OutOfMemory}
+use Rattle.fax_reading.specs.Answers.{OnAnswer, StoresChange, TellsCut, pen_of, strict_step_of_mode, words_of_mode}
 use Rattle.fax_bits.specs.Bits.{BitsAt, here}
-use Rattle.fax_reading.specs.Context.{ArePassed, Context, passed_changes, redrawn}
-use Rattle.fax_reading.specs.Rows.{changes}
+use Rattle.fax_reading.specs.Context.{ArePassed, Context, exceeds, painted_front, passed_changes, redrawn}
+use Rattle.fax_reading.specs.Rows.{changes, too_many_pixels}
 use Rattle.fax_reading.specs.Space.{room_for}
 use Rattle.fax_reading.specs.UsualModes.{GoesOn2d}
 use Rattle.fax_reading.specs.UsualRuns.{GoesOn}
@@ -43,6 +45,23 @@ pub record SeeksB1 (old new : Context) : Type 0 where
   pub forward : old.passed ≤ new.passed
   pub work : new.ticks + old.passed ≡ old.ticks + new.passed + 1
   pub space : new.space ≡ old.space
+
+-- What a call leaves that paints pixels of the present colour at the end of the front. Those that the row has no room for are cut
+-- off, and that is kept; strict data may not have them. A change is stored only if the last pixel has another colour, and after an
+-- error nothing has changed (T.4, 4.1.1).
+pub record PushesPixels (count : ℕ) (old new : Context) (answer : Result (Unit {0}) DecodeError) : Type 0 where
+  pub painted : OnOk answer (painted_front old.held count ≡ Ok new.held.front)
+  pub frame : OnOk answer (new ≡ record old {
+    held = redrawn old.held new.held.front old.held.color;
+    cut = old.cut || exceeds old.held count;
+    space = new.space;
+  })
+  pub too_many : (answer ≡ Err too_many_pixels) ↔ (painted_front old.held count ≡ Err too_many_pixels)
+  pub memory : answer ≡ Err OutOfMemory → StoresChange old.held count
+  pub only : IfErr answer (λ e. (e ≡ too_many_pixels) ⊎ (e ≡ OutOfMemory))
+  pub unchanged : OnErr answer (new ≡ old)
+  pub few : length (changes new.held.front) ≤ suc (length (changes old.held.front))
+  pub space : new.space ≤ max old.space (room_for (length (changes old.held.front)))
 
 -- What a call changes that draws: of what the context holds, the front and the colour; and of the data, the place.
 pub record OnlyDraws (old new : Context) (before after : BitsAt) : Type 0 where

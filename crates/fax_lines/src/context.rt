@@ -13,6 +13,7 @@ ghost use Rattle.fax_reading.specs.Context.{redrawn, painted_front, taken_row, a
 ghost use Rattle.fax_bits.specs.CodeReading.{read_code};
 ghost use Rattle.fax_lines.specs.ContextSteps.{CountsWords, DrawsAtOnce, DrawsOneMode, DrawsUsualModes, DrawsUsualRuns};
 ghost use Rattle.fax_lines.specs.ContextSteps.{IsAtStart, IsWidth, OnlyDraws, PassesChanges, SeeksB1};
+ghost use Rattle.fax_lines.specs.ContextSteps.{PushesPixels};
 ghost use Rattle.fax_lines.specs.PassedRows.{PassesRow};
 ghost use Rattle.fax_lines.specs.Counting.{OnlyCounts};
 ghost use Rattle.fax_reading.specs.Context.{ArePassed, exceeds, right_of_painted, with_cut};
@@ -315,18 +316,7 @@ impl DecoderContext {
     /// stored, so only if the last pixel has another colour. After an error nothing has changed.
     #[inline(always)]
     pub fn push_pixels(&mut self, count: u32) -> Result<()>
-        ensures painted { OnOk result (painted_front self.old.held count ≡ Ok self.new.held.front) }
-        ensures frame { OnOk result (self.new ≡ record self.old {
-          held = redrawn self.old.held self.new.held.front self.old.held.color;
-          cut = self.old.cut || exceeds self.old.held count;
-          space = self.new.space;
-        }) }
-        ensures too_many { (result ≡ Err too_many_pixels) ↔ (painted_front self.old.held count ≡ Err too_many_pixels) }
-        ensures memory { result ≡ Err DecodeError.OutOfMemory → StoresChange self.old.held count }
-        ensures only { IfErr result (λ e. (e ≡ too_many_pixels) ⊎ (e ≡ DecodeError.OutOfMemory)) }
-        ensures unchanged { OnErr result (self.new ≡ self.old) }
-        ensures few { length (changes self.new.held.front) ≤ suc (length (changes self.old.held.front)) }
-        ensures space { self.new.space ≤ max self.old.space (room_for (length (changes self.old.held.front))) }
+        ensures { PushesPixels count self.old self.new result }
     {
         let painted = self.pixels_decoded;
         if count > self.settings.columns - painted {
@@ -340,31 +330,18 @@ impl DecoderContext {
     /// The same by a call, for more pixels than the row has room for: that is rare.
     #[cold]
     #[inline(never)]
-    fn push_and_cut(&mut self, count: u32) -> Result<()>
-        ensures painted { OnOk result (painted_front self.old.held count ≡ Ok self.new.held.front) }
-        ensures frame { OnOk result (self.new ≡ record self.old {
-          held = redrawn self.old.held self.new.held.front self.old.held.color;
-          cut = self.old.cut || exceeds self.old.held count;
-          space = self.new.space;
-        }) }
-        ensures too_many { (result ≡ Err too_many_pixels) ↔ (painted_front self.old.held count ≡ Err too_many_pixels) }
-        ensures memory { result ≡ Err DecodeError.OutOfMemory → StoresChange self.old.held count }
-        ensures only { IfErr result (λ e. (e ≡ too_many_pixels) ⊎ (e ≡ DecodeError.OutOfMemory)) }
-        ensures unchanged { OnErr result (self.new ≡ self.old) }
-        ensures few { length (changes self.new.held.front) ≤ suc (length (changes self.old.held.front)) }
-        ensures space { self.new.space ≤ max self.old.space (room_for (length (changes self.old.held.front))) }
+    fn push_and_cut(&mut self, _count: u32) -> Result<()>
+        requires more { exceeds self.old.held _count ≡ true }
+        ensures { PushesPixels _count self.old self.new result }
     {
-        let painted = self.pixels_decoded;
-        let room = self.settings.columns - painted;
-        let fitting = count.min(room);
-        if fitting < count && self.settings.strict {
+        if self.settings.strict {
             return Err(DecodeError::InvalidCode);
         }
-        append_pixels(&mut self.coding_changes, painted, self.color, fitting)?;
-        self.pixels_decoded = painted + fitting;
-        if fitting < count {
-            self.is_cut = true;
-        }
+        let painted = self.pixels_decoded;
+        let room = self.settings.columns - painted;
+        append_pixels(&mut self.coding_changes, painted, self.color, room)?;
+        self.pixels_decoded = painted + room;
+        self.is_cut = true;
         Ok(())
     }
 
