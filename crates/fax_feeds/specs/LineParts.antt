@@ -2,16 +2,17 @@
 use Rattle.std.specs.Prelude.{◌≡◌, ◌≤◌, ◌<◌, ◌+◌, ◌*◌, ℕ, Bool, true, false, ◌++◌, length, Option, None, Some}
 use Rattle.fax_bits.specs.declared.settings.DecodeSettings.{DecodeSettings}
 use Rattle.fax_bits.specs.declared.codes.Color.{Color}
+use Rattle.fax_bits.specs.declared.codes.Mode.{Mode}
 use Rattle.std.specs.Prelude.{Ok}
 use Rattle.fax_feeds.specs.declared.line_parts.KeptPart.{KeptPart}
 use Rattle.fax_bits.specs.declared.codes.Color.TheVariants.{White}
 use Rattle.fax_feeds.specs.declared.line_parts.RunStep.{RunStep}
 use Rattle.fax_feeds.specs.declared.line_parts.Word.{Word}
 use Rattle.fax_bits.specs.Bits.{Bits, BitsAt, here}
-use Rattle.fax_reading.specs.Context.{ArePassed, Context}
+use Rattle.fax_reading.specs.Context.{ArePassed, Context, Held}
 use Rattle.fax_reading.specs.Continuations.{is_short}
 use Rattle.fax_reading.specs.Lines.{Line, Pen}
-use Rattle.fax_reading.specs.LinesGoOn.{LinePart, OpenRun, line_from_part, read_on}
+use Rattle.fax_reading.specs.LinesGoOn.{LinePart, OpenRun, line_from_part, mode_added, read_on}
 use Rattle.fax_reading.specs.PlainReading.{line_here}
 use Rattle.fax_bits.specs.Repetition.{Turn}
 use Rattle.fax_reading.specs.Rows.{Row, changes, opposite, paint}
@@ -81,6 +82,18 @@ pub record GoesOnBy (settings : DecodeSettings) (reference : Row) (turn_of : Row
     (rest : Bits) (word : Word) : Type 0 where
   pub leads : (front : Row) → length front ≡ old.painted → Leads word new rest (turn_of front)
   pub lawful : IsLawfulPart settings reference new
+
+-- it goes on behind this mode (T.4, 4.2.1.3)
+abbrev pub GoesOnByMode : Mode → Held → KeptPart → KeptPart → Word → Type 0
+GoesOnByMode mode held old new word = (rest : Bits) → GoesOnBy held.settings held.reference
+    (λ front. (mode_added held.settings.strict held.settings.columns held.reference (pen_of_part old front rest) mode).turn)
+    old new rest word
+
+-- A call that goes on behind a mode counts a tick for each change that it passes, and at most one more.
+pub record CountsMode (old new : KeptPart) (ctx now : Context) : Type 0 where
+  pub frame : now ≡ record ctx { ticks = now.ticks }
+  pub counts : ctx.ticks ≤ now.ticks
+  pub work : now.ticks + old.passed ≤ ctx.ticks + new.passed + 1
 
 -- twice the bits that are left, and one more before a step, as it may read none
 abbrev pub left_to_read : Bool → Bits → ℕ

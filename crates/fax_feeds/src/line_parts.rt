@@ -5,11 +5,11 @@ ghost use Rattle.fax_bits.specs.Bits.{Bits, here};
 ghost use Rattle.fax_reading.specs.Context.{right_of_painted};
 ghost use Rattle.fax_reading.specs.Continuations.{is_short};
 ghost use Rattle.fax_bits.specs.Faults.{misses_end};
-ghost use Rattle.fax_feeds.specs.LineParts.{ContinuesLine, GoesOnBy, IsInRun, IsLawfulPart, IsPartOf, Leads};
+ghost use Rattle.fax_feeds.specs.LineParts.{ContinuesLine, CountsMode, GoesOnByMode, IsInRun, IsLawfulPart, IsPartOf, Leads};
 ghost use Rattle.fax_feeds.specs.LineParts.{OnlyPaints, PaintsTo, PassesRun};
 ghost use Rattle.fax_feeds.specs.LineParts.{ReadsWord, StepsInRun, first_kept, is_missing, left_to_read, pen_of_part};
 ghost use Rattle.fax_feeds.specs.LineParts.{run_of_part};
-ghost use Rattle.fax_reading.specs.LinesGoOn.{OpenRun, mode_added, word_added};
+ghost use Rattle.fax_reading.specs.LinesGoOn.{OpenRun, word_added};
 ghost use Rattle.fax_reading.specs.PlainReading.{line_here};
 ghost use Rattle.fax_reading.specs.Rows.{Row, opposite, paint, too_many_pixels};
 
@@ -89,12 +89,8 @@ fn pass(ctx: &mut DecoderContext, part: &mut KeptPart) -> Word
     requires lawful { IsLawfulPart ctx.old.held.settings ctx.old.held.reference part.old }
     requires run { part.old.in_run ≡ false }
     requires mode { part.old.is_2d ≡ true }
-    ensures goes { (rest : Bits) → GoesOnBy ctx.old.held.settings ctx.old.held.reference
-        (λ front. (mode_added ctx.old.held.settings.strict ctx.old.held.settings.columns ctx.old.held.reference
-        (pen_of_part part.old front rest) Mode.Pass).turn) part.old part.new rest result }
-    ensures frame { ctx.new ≡ record ctx.old { ticks = ctx.new.ticks } }
-    ensures counts { ctx.old.ticks ≤ ctx.new.ticks }
-    ensures work { ctx.new.ticks + part.old.passed ≤ ctx.old.ticks + part.new.passed + 1 }
+    ensures goes { GoesOnByMode Mode.Pass ctx.old.held part.old part.new result }
+    ensures counts { CountsMode part.old part.new ctx.old ctx.new }
     ensures known { result ≢ Word.Missing }
 {
     let (_, b2) = places_behind(ctx, part.painted, part.color, &mut part.passed);
@@ -110,12 +106,8 @@ fn turn(ctx: &mut DecoderContext, part: &mut KeptPart, offset: i8) -> Word
     requires lawful { IsLawfulPart ctx.old.held.settings ctx.old.held.reference part.old }
     requires run { part.old.in_run ≡ false }
     requires mode { part.old.is_2d ≡ true }
-    ensures goes { (rest : Bits) → GoesOnBy ctx.old.held.settings ctx.old.held.reference
-        (λ front. (mode_added ctx.old.held.settings.strict ctx.old.held.settings.columns ctx.old.held.reference
-        (pen_of_part part.old front rest) (Mode.Vertical offset)).turn) part.old part.new rest result }
-    ensures frame { ctx.new ≡ record ctx.old { ticks = ctx.new.ticks } }
-    ensures counts { ctx.old.ticks ≤ ctx.new.ticks }
-    ensures work { ctx.new.ticks + part.old.passed ≤ ctx.old.ticks + part.new.passed + 1 }
+    ensures goes { GoesOnByMode (Mode.Vertical offset) ctx.old.held part.old part.new result }
+    ensures counts { CountsMode part.old part.new ctx.old ctx.new }
     ensures known { result ≢ Word.Missing }
 {
     let (b1, _) = places_behind(ctx, part.painted, part.color, &mut part.passed);
@@ -135,12 +127,8 @@ fn turn_below(ctx: &mut DecoderContext, part: &mut KeptPart)
     requires lawful { IsLawfulPart ctx.old.held.settings ctx.old.held.reference part.old }
     requires run { part.old.in_run ≡ false }
     requires mode { part.old.is_2d ≡ true }
-    ensures goes { (rest : Bits) → GoesOnBy ctx.old.held.settings ctx.old.held.reference
-        (λ front. (mode_added ctx.old.held.settings.strict ctx.old.held.settings.columns ctx.old.held.reference
-        (pen_of_part part.old front rest) (Mode.Vertical (pos 0))).turn) part.old part.new rest Word.GoesOn }
-    ensures frame { ctx.new ≡ record ctx.old { ticks = ctx.new.ticks } }
-    ensures counts { ctx.old.ticks ≤ ctx.new.ticks }
-    ensures work { ctx.new.ticks + part.old.passed ≤ ctx.old.ticks + part.new.passed + 1 }
+    ensures goes { GoesOnByMode (Mode.Vertical (pos 0)) ctx.old.held part.old part.new Word.GoesOn }
+    ensures counts { CountsMode part.old part.new ctx.old ctx.new }
 {
     let (b1, _) = places_behind(ctx, part.painted, part.color, &mut part.passed);
     part.painted = b1;
@@ -153,12 +141,8 @@ fn add_mode(ctx: &mut DecoderContext, part: &mut KeptPart, mode: Mode) -> Word
     requires lawful { IsLawfulPart ctx.old.held.settings ctx.old.held.reference part.old }
     requires run { part.old.in_run ≡ false }
     requires mode { part.old.is_2d ≡ true }
-    ensures goes { (rest : Bits) → GoesOnBy ctx.old.held.settings ctx.old.held.reference
-        (λ front. (mode_added ctx.old.held.settings.strict ctx.old.held.settings.columns ctx.old.held.reference
-        (pen_of_part part.old front rest) mode).turn) part.old part.new rest result }
-    ensures frame { ctx.new ≡ record ctx.old { ticks = ctx.new.ticks } }
-    ensures counts { ctx.old.ticks ≤ ctx.new.ticks }
-    ensures work { ctx.new.ticks + part.old.passed ≤ ctx.old.ticks + part.new.passed + 1 }
+    ensures goes { GoesOnByMode mode ctx.old.held part.old part.new result }
+    ensures counts { CountsMode part.old part.new ctx.old ctx.new }
     ensures known { result ≢ Word.Missing }
 {
     match mode {

@@ -713,10 +713,7 @@ impl RowFeed {
         requires begun { self.old.begun ≡ true }
         requires unended { ended self.old.rows.stand ≡ None }
         requires none_kept { self.old.part ≡ None }
-        ensures reads { (whole : Bits) (tried : ℕ) → IsFeedOf whole tried self.old
-            → FeedsNext whole tried self.old self.new result }
-        ensures keeps { KeepsBits self.old self.new }
-        ensures counts { CountsRow self.old self.new result }
+        ensures { FeedsRow self.old self.new result }
     {
         let mut reader = placed_at(&self.data, self.order, self.place);
         let gap_start = self.dropped + self.place;

@@ -26,11 +26,11 @@ returns-in-Ok c =
               (omega (arith, is, c.requires.open)) reads)) (goes.leads front is);
           lawful = record { within = goes.lawful.within; passed = goes.lawful.passed };
         };
-        frame = c.add_mode.ensures.frame;
+        frame = c.add_mode.ensures.counts.frame;
         same_bits = c.next_mode.ensures.same_bits;
         missing = λ e. absurd (c.add_mode.ensures.known e);
-        counts = omega (arith, c.add_mode.ensures.counts, c.next_mode.ensures.ticks, c.ticks.ensures.value);
-        work = omega (arith, c.add_mode.ensures.work, c.next_mode.ensures.ticks, c.ticks.ensures.value);
-        paid = λ e. omega (arith, c.add_mode.ensures.work, c.next_mode.ensures.ticks, c.ticks.ensures.value, shorter);
+        counts = omega (arith, c.add_mode.ensures.counts.counts, c.next_mode.ensures.ticks, c.ticks.ensures.value);
+        work = omega (arith, c.add_mode.ensures.counts.work, c.next_mode.ensures.ticks, c.ticks.ensures.value);
+        paid = λ e. omega (arith, c.add_mode.ensures.counts.work, c.next_mode.ensures.ticks, c.ticks.ensures.value, shorter);
       };
     }

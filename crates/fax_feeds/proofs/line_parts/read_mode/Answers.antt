@@ -28,12 +28,12 @@ returns-then-pass_v0 c =
               (omega (arith, is, c.requires.open)) reads)) (goes.leads front is);
           lawful = record { within = goes.lawful.within; passed = goes.lawful.passed };
         };
-        frame = c.turn_below.ensures.frame;
+        frame = c.turn_below.ensures.counts.frame;
         same_bits = c.pass_v0.ensures.same_bits;
         missing = λ e. cc;
-        counts = omega (arith, c.turn_below.ensures.counts, c.tick.ensures, c.ticks.ensures.value);
-        work = omega (arith, c.turn_below.ensures.work, c.tick.ensures, c.ticks.ensures.value);
-        paid = λ e. omega (arith, c.turn_below.ensures.work, c.tick.ensures, c.ticks.ensures.value, shorter);
+        counts = omega (arith, c.turn_below.ensures.counts.counts, c.tick.ensures, c.ticks.ensures.value);
+        work = omega (arith, c.turn_below.ensures.counts.work, c.tick.ensures, c.ticks.ensures.value);
+        paid = λ e. omega (arith, c.turn_below.ensures.counts.work, c.tick.ensures, c.ticks.ensures.value, shorter);
       };
     }
 

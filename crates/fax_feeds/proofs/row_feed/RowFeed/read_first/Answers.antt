@@ -20,4 +20,4 @@ returns-clause-reads c whole tried feed =
     (ap (λ (f : Feeding). is_some (ended f.rows.stand)) (sym c.self.view_is) ∙ sym c.has_ended.ensures ∙ c.if-has_ended.false)
     (begins.passes whole tried c.if-not-begin.false feed))
     (begins.reaches whole tried c.if-not-begin.false feed)
-    (c.read_from_gap.ensures.reads whole _ (begins.stands whole tried feed))
+    (c.read_from_gap.ensures.reads whole _ (grind (arith, common_steps)) (begins.stands whole tried feed))

@@ -40,12 +40,12 @@ come_to_settled_line-line-requires-clause-line c = c.self.invariant.line
 pub invariant_of-self : goal.invariant_of-self
 invariant_of-self c = (gap_kept (goal.at.invariant_of-self c).After-is_some_line).kept
 
-pub returns-then-not-is_some_line-clause-reads : goal.returns-then-not-is_some_line-clause-reads
-returns-then-not-is_some_line-clause-reads c =
-    let here = (goal.at.returns-then-not-is_some_line-clause-reads c).After-is_some_line in
-    let row = gap_row (feed_by here) c.bit_pos-self-inside.ensures.place c.come_to_settled_line-line.ensures (unended_feed here)
-    (c.is_some_line.ensures.none c.if-not-is_some_line.true) in
-    rw (← c.self.view_is) (λ whole tried feed. rw c.fed_none.ensures (row.reads whole tried (unended_feed here) feed))
+pub returns-then-not-is_some_line : goal.returns-then-not-is_some_line
+returns-then-not-is_some_line c =
+    let here = (goal.at.returns-then-not-is_some_line c).After-is_some_line in
+    rw (← c.self.view_is, c.fed_none.ensures)
+    (gap_row (feed_by here) c.bit_pos-self-inside.ensures.place c.come_to_settled_line-line.ensures (unended_feed here)
+    (c.is_some_line.ensures.none c.if-not-is_some_line.true))
 
 -- ---- The line
 
@@ -53,13 +53,13 @@ pub invariant_of-self-then-not-can_take_row : goal.invariant_of-self-then-not-ca
 invariant_of-self-then-not-can_take_row c =
     (gap_kept (goal.at.invariant_of-self-then-not-can_take_row c).After-is_some_line).kept
 
-pub returns-then-not-can_take_row-clause-reads : goal.returns-then-not-can_take_row-clause-reads
-returns-then-not-can_take_row-clause-reads c =
-    let here = (goal.at.returns-then-not-can_take_row-clause-reads c).After-is_some_line in
-    let row = full_row (feed_by here) c.bit_pos-self-inside.ensures.place c.come_to_settled_line-line.ensures (unended_feed here)
+pub returns-then-not-can_take_row : goal.returns-then-not-can_take_row
+returns-then-not-can_take_row c =
+    let here = (goal.at.returns-then-not-can_take_row c).After-is_some_line in
+    rw (← c.self.view_is)
+    (full_row (feed_by here) c.bit_pos-self-inside.ensures.place c.come_to_settled_line-line.ensures (unended_feed here)
     (c.is_some_line.ensures.here c.if-not-is_some_line.false)
-    (λ fits few. false≢true (sym c.if-not-can_take_row.true ∙ c.can_take_row.ensures.room fits few)) _ in
-    rw (← c.self.view_is) (λ whole tried feed. row.reads whole tried (unended_feed here) feed)
+    (λ fits few. false≢true (sym c.if-not-can_take_row.true ∙ c.can_take_row.ensures.room fits few)) _)
 
 pub overflow_add-line_start : goal.overflow_add-line_start
 overflow_add-line_start c =
@@ -114,24 +114,12 @@ short_feeds c {new} is keeps =
     (ap (λ (b : BitsAt). drop b.place b.bits) (gap_kept (here_gap c)).is ∙ end) is
     ∙ ap (λ (x : Context). x.ticks) c.begin_line.ensures.frame) keeps still)
 
-pub returns-clause-reads : goal.returns-clause-reads
-returns-clause-reads c =
-    let here = (goal.at.returns-clause-reads c).After-is_unsettled in
-    rw (← c.self.view_is) (λ whole tried feed. rw c.fed_row.ensures (elim c.if-is_unsettled.branch [
-      | then-is_unsettled w ↦
-          let row = short_feeds here (c.is_unsettled.ensures.short w.if-is_unsettled.true) w.keep_part.ensures in
-          rw w.self-is (row.reads whole tried (unended_feed (here_gap here)) feed)
-      | else-is_unsettled w ↦
-          let row = whole_feeds here (c.is_unsettled.ensures.other w.if-is_unsettled.false) in
-          rw w.self-is (row.reads whole tried (unended_feed (here_gap here)) feed)
-    ]))
-
-pub returns-clause-counts : goal.returns-clause-counts
-returns-clause-counts c =
-    let here = (goal.at.returns-clause-counts c).After-is_unsettled in
+pub returns : goal.returns
+returns c =
+    let here = (goal.at.returns c).After-is_unsettled in
     rw (← c.self.view_is, c.fed_row.ensures) (elim c.if-is_unsettled.branch [
       | then-is_unsettled w ↦
-          rw w.self-is (short_feeds here (c.is_unsettled.ensures.short w.if-is_unsettled.true) w.keep_part.ensures).counts
+          rw w.self-is (short_feeds here (c.is_unsettled.ensures.short w.if-is_unsettled.true) w.keep_part.ensures)
       | else-is_unsettled w ↦
-          rw w.self-is (whole_feeds here (c.is_unsettled.ensures.other w.if-is_unsettled.false)).counts
+          rw w.self-is (whole_feeds here (c.is_unsettled.ensures.other w.if-is_unsettled.false))
     ])
