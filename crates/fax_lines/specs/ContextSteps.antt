@@ -46,9 +46,9 @@ pub record SeeksB1 (old new : Context) : Type 0 where
   pub work : new.ticks + old.passed ≡ old.ticks + new.passed + 1
   pub space : new.space ≡ old.space
 
--- What a call leaves that paints pixels of the present colour at the end of the front. Those that the row has no room for are cut
--- off, and that is kept; strict data may not have them. A change is stored only if the last pixel has another colour, and after an
--- error nothing has changed (T.4, 4.1.1).
+-- What a call leaves that paints pixels of the present colour at the end of the front. Those that the row has no room for are
+-- cut off, and that is kept; strict data may not have them. A change is stored only if the last pixel has another colour, and
+-- after an error nothing has changed (T.4, 4.1.1).
 pub record PushesPixels (count : ℕ) (old new : Context) (answer : Result (Unit {0}) DecodeError) : Type 0 where
   pub painted : OnOk answer (painted_front old.held count ≡ Ok new.held.front)
   pub frame : OnOk answer (new ≡ record old {

@@ -206,8 +206,9 @@ module _ (g : Over) (c : After-push_white_rows g) where
   }
 
   pushes_white : PushesWhite step_here lines_here gap_before.dropped (state_of g.D.Decoder c.push_row.new.self)
-      (state_of g.D.Decoder c.push_white_rows.new.decoder) c.try_line-row.new.rows c.push_white_rows.new.rows c.try_line-row.new.ctx
-      c.push_white_rows.new.ctx c.try_line-row.new.reader c.push_white_rows.new.reader c.push_white_rows.result
+      (state_of g.D.Decoder c.push_white_rows.new.decoder) c.try_line-row.new.rows c.push_white_rows.new.rows
+      c.try_line-row.new.ctx c.push_white_rows.new.ctx c.try_line-row.new.reader c.push_white_rows.new.reader
+      c.push_white_rows.result
   pushes_white = grind (arith, common_steps, lines_here, gap_before)
 
   module _ (fed : IsFedTo step_here c.args.self.now (g.D.Decoder.meaning c.args.decoder.now) gap_before read_before)
