@@ -1,8 +1,14 @@
 -- A row that is being painted.
-use Rattle.std.specs.Prelude.{◌≡◌, ◌+◌, ◌-◌, ◌*◌, ◌%◌, ◌^◌, ◌<◌, ◌≤◌, ℕ, zero, suc, List, [], ◌∷◌, ◌++◌, Bool, true, false, not}
-use Rattle.std.specs.Prelude.{length, map, take, replicate}
+use Rattle.std.specs.Prelude.{◌≡◌, ◌+◌, ◌-◌, ◌*◌, ◌/◌, ◌%◌, ◌^◌, ◌<◌, ◌≤◌, ℕ, zero, suc, List, [], ◌∷◌, ◌++◌, Bool, true, false}
+use Rattle.std.specs.Prelude.{length, map, not, take, replicate}
 use Rattle.hayro_ccitt.specs.Bits.{Bits, bit_of, bits_of, low_bits}
+use Rattle.hayro_ccitt.specs.Rows.{AreChanges}
 use Rattle.fax_encode.specs.declared.painting.Brush.{Brush}
+
+-- memory has as many bytes as a row that has these changes (T.4, 4.1.1)
+pub record FitsRow (columns : ℕ) (row memory : List ℕ) : Type 0 where
+  pub changes : AreChanges columns row
+  pub room : length memory ≡ (columns + 7) / 8
 
 -- the pixels painted so far: the bytes before the word, and the word
 abbrev pub under : Brush → List ℕ → Bits

@@ -4,7 +4,7 @@ ghost use Rattle.std.specs.Prelude.{◌≡◌, ◌+◌, ◌-◌, ◌*◌, ◌/�
 ghost use Rattle.hayro_ccitt.specs.Bits.{Bits, bits_of};
 ghost use Rattle.hayro_ccitt.specs.Rows.{AreChanges, pixels};
 ghost use Rattle.fax_encode.specs.Chosen.{filled_up};
-ghost use Rattle.fax_encode.specs.Painting.{TurnsBlack, then_white};
+ghost use Rattle.fax_encode.specs.Painting.{FitsRow, TurnsBlack, then_white};
 
 use crate::pixel_words::{fill_all, fill_bytes, first_pixels, ones_before, put_pixels};
 
@@ -95,8 +95,7 @@ fn paint_black(row: &mut [u8], from: u32, to: u32)
 /// Paints a row of zeros by its black runs.
 #[inline(always)]
 fn paint_runs(row: &mut [u8], columns: u32, changes: &[u32])
-    requires changes { AreChanges columns changes.now }
-    requires room { length row.old ≡ (columns + 7) / 8 }
+    requires fits { FitsRow columns changes.now row.old }
     requires long { 8 ≤ length row.old }
     requires white { row.old ≡ replicate (length row.old) 0 }
     ensures painted { bits_of row.new ≡ filled_up (pixels columns changes.now) }
@@ -114,8 +113,7 @@ fn paint_runs(row: &mut [u8], columns: u32, changes: &[u32])
 /// Paints a row of zeros by its black runs. It is a function of its own, so that their loop has all registers.
 #[inline(never)]
 fn paint_many_runs(row: &mut [u8], columns: u32, changes: &[u32])
-    requires changes { AreChanges columns changes.now }
-    requires room { length row.old ≡ (columns + 7) / 8 }
+    requires fits { FitsRow columns changes.now row.old }
     requires long { 8 ≤ length row.old }
     requires white { row.old ≡ replicate (length row.old) 0 }
     ensures painted { bits_of row.new ≡ filled_up (pixels columns changes.now) }
@@ -140,9 +138,8 @@ fn end_of_first(columns: u32, changes: &[u32]) -> u32
 /// call but the last, and so no room for what is kept over a call.
 #[inline(never)]
 pub fn paint_cleared(row: &mut [u8], columns: u32, changes: &[u32])
-    requires changes { AreChanges columns changes.now }
+    requires fits { FitsRow columns changes.now row.old }
     requires some { 0 < length changes.now }
-    requires room { length row.old ≡ (columns + 7) / 8 }
     requires long { 8 ≤ length row.old }
     requires white { row.old ≡ replicate (length row.old) 0 }
     ensures painted { bits_of row.new ≡ filled_up (pixels columns changes.now) }
@@ -158,8 +155,7 @@ pub fn paint_cleared(row: &mut [u8], columns: u32, changes: &[u32])
 /// loop has all registers.
 #[inline(never)]
 pub fn paint_apart(row: &mut [u8], columns: u32, changes: &[u32])
-    requires changes { AreChanges columns changes.now }
-    requires room { length row.old ≡ (columns + 7) / 8 }
+    requires fits { FitsRow columns changes.now row.old }
     requires long { 8 ≤ length row.old }
     ensures painted { bits_of row.new ≡ filled_up (pixels columns changes.now) }
 {

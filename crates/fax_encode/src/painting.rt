@@ -5,7 +5,7 @@ ghost use Rattle.hayro_ccitt.specs.BitOrder.TheVariants.{HighestFirst};
 ghost use Rattle.hayro_ccitt.specs.Bits.{Bits, bits_of, bits_of_byte, low_bits};
 ghost use Rattle.hayro_ccitt.specs.Rows.{AreChanges, pixels};
 ghost use Rattle.fax_encode.specs.Chosen.{filled_up};
-ghost use Rattle.fax_encode.specs.Painting.{under, MovesTo, StandsAt};
+ghost use Rattle.fax_encode.specs.Painting.{FitsRow, under, MovesTo, StandsAt};
 
 use crate::black_runs::{paint_apart, paint_cleared};
 use crate::pixel_words::{
@@ -133,8 +133,7 @@ fn finish(row: &mut [u8], brush: Brush)
 /// Paints a row by its changes, from the left to the right, so that each byte is written once.
 #[inline(always)]
 fn paint_from_left(row: &mut [u8], columns: u32, changes: &[u32], are_far: bool)
-    requires changes { AreChanges columns changes.now }
-    requires room { length row.old ≡ (columns + 7) / 8 }
+    requires fits { FitsRow columns changes.now row.old }
     ensures painted { bits_of row.new ≡ filled_up (pixels columns changes.now) }
 {
     let mut brush = Brush {
@@ -171,8 +170,7 @@ fn paint_from_left(row: &mut [u8], columns: u32, changes: &[u32], are_far: bool)
 /// Paints a row by its changes, a word at a time. That is fast where changes are many.
 #[inline(never)]
 fn paint_changes(row: &mut [u8], columns: u32, changes: &[u32])
-    requires changes { AreChanges columns changes.now }
-    requires room { length row.old ≡ (columns + 7) / 8 }
+    requires fits { FitsRow columns changes.now row.old }
     ensures painted { bits_of row.new ≡ filled_up (pixels columns changes.now) }
 {
     paint_from_left(row, columns, changes, false);
@@ -181,8 +179,7 @@ fn paint_changes(row: &mut [u8], columns: u32, changes: &[u32])
 /// Paints a row by its changes, and fills the words between them. That is fast where a wide row has few changes.
 #[inline(never)]
 fn paint_wide(row: &mut [u8], columns: u32, changes: &[u32])
-    requires changes { AreChanges columns changes.now }
-    requires room { length row.old ≡ (columns + 7) / 8 }
+    requires fits { FitsRow columns changes.now row.old }
     ensures painted { bits_of row.new ≡ filled_up (pixels columns changes.now) }
 {
     paint_from_left(row, columns, changes, true);
@@ -218,8 +215,7 @@ pub fn put_first(row: &mut [u8], word: u64)
 /// Paints a row of less than eight bytes: it is the first part of a word.
 #[inline(always)]
 fn paint_narrow(row: &mut [u8], columns: u32, changes: &[u32])
-    requires changes { AreChanges columns changes.now }
-    requires room { length row.old ≡ (columns + 7) / 8 }
+    requires fits { FitsRow columns changes.now row.old }
     requires narrow { length row.old < 8 }
     ensures painted { bits_of row.new ≡ filled_up (pixels columns changes.now) }
 {
@@ -268,8 +264,7 @@ fn has_long_run(columns: u32, changes: &[u32]) -> bool {
 /// Paints a row that has too many bytes to be painted by words that are turned apart.
 #[inline(never)]
 fn paint_long(row: &mut [u8], columns: u32, changes: &[u32])
-    requires changes { AreChanges columns changes.now }
-    requires room { length row.old ≡ (columns + 7) / 8 }
+    requires fits { FitsRow columns changes.now row.old }
     requires long { 8 ≤ length row.old }
     ensures painted { bits_of row.new ≡ filled_up (pixels columns changes.now) }
 {
@@ -283,8 +278,7 @@ fn paint_long(row: &mut [u8], columns: u32, changes: &[u32])
 /// Paints a row that isn't best cleared first.
 #[inline(never)]
 pub fn paint_over(row: &mut [u8], columns: u32, changes: &[u32])
-    requires changes { AreChanges columns changes.now }
-    requires room { length row.old ≡ (columns + 7) / 8 }
+    requires fits { FitsRow columns changes.now row.old }
     ensures painted { bits_of row.new ≡ filled_up (pixels columns changes.now) }
 {
     if row.len() < 8 {
@@ -304,8 +298,7 @@ pub fn paint_over(row: &mut [u8], columns: u32, changes: &[u32])
 /// the last byte. It takes time in proportion to the bytes and the changes.
 #[inline(always)]
 pub fn paint_row(row: &mut [u8], columns: u32, changes: &[u32])
-    requires changes { AreChanges columns changes.now }
-    requires room { length row.old ≡ (columns + 7) / 8 }
+    requires fits { FitsRow columns changes.now row.old }
     ensures painted { bits_of row.new ≡ filled_up (pixels columns changes.now) }
 {
     if changes.is_empty() || changes.len() > most_cleared_first(row.len()) {

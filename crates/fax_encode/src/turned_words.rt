@@ -6,7 +6,7 @@ ghost use Rattle.std.specs.Prelude.{◌≡◌, ◌+◌, ◌-◌, ◌*◌, ◌/�
 ghost use Rattle.hayro_ccitt.specs.Bits.{bit_of, bits_of, low_bits};
 ghost use Rattle.hayro_ccitt.specs.Rows.{AreChanges, pixels};
 ghost use Rattle.fax_encode.specs.Chosen.{filled_up};
-ghost use Rattle.fax_encode.specs.Painting.{joined_pixels, plain_pixels, turned_after, turned_at_all, turned_from};
+ghost use Rattle.fax_encode.specs.Painting.{FitsRow, joined_pixels, plain_pixels, turned_after, turned_at_all, turned_from};
 
 use crate::painting::put_first;
 use crate::pixel_words::{ones_from, put_pixels};
@@ -109,8 +109,7 @@ fn put_words(row: &mut [u8], words: &[u64])
 /// Paints a row of less than 512 bytes by words that are turned apart.
 #[inline(never)]
 pub fn paint_by_words(row: &mut [u8], columns: u32, changes: &[u32])
-    requires changes { AreChanges columns changes.now }
-    requires room { length row.old ≡ (columns + 7) / 8 }
+    requires fits { FitsRow columns changes.now row.old }
     requires few { length row.old ≤ 511 }
     ensures painted { bits_of row.new ≡ filled_up (pixels columns changes.now) }
 {

@@ -4,6 +4,7 @@ ghost use Rattle.std.specs.Prelude.{◌≡◌, ◌+◌, ◌/◌, ◌<◌, ◌≤
 ghost use Rattle.hayro_ccitt.specs.BitOrder.TheVariants.{HighestFirst};
 ghost use Rattle.hayro_ccitt.specs.Bits.{bits_of, bits_of_byte};
 ghost use Rattle.hayro_ccitt.specs.Rows.{AreChanges, pixels};
+ghost use Rattle.fax_encode.specs.Painting.{FitsRow};
 ghost use Rattle.hayro_ccitt_c.specs.Packing.{packed_row, packing_up_to, spaced, white_byte};
 
 use crate::change_count::counted;
@@ -71,8 +72,7 @@ fn white_byte(black_is_0: bool) -> u8
 /// Packs a row with 0 for black: with 1, and then all bits are inverted.
 #[inline(always)]
 fn pack_inverted(row: &mut [u8], columns: u32, changes: &[u32])
-    requires changes { AreChanges columns changes.now }
-    requires room { length row.old ≡ (columns + 7) / 8 }
+    requires fits { FitsRow columns changes.now row.old }
     ensures packed { bits_of row.new ≡ packed_row true (pixels columns changes.now) }
 {
     paint_row(row, columns, changes);
@@ -82,8 +82,7 @@ fn pack_inverted(row: &mut [u8], columns: u32, changes: &[u32])
 /// Packs a row with 0 for black.
 #[inline(never)]
 fn pack_black_as_0(row: &mut [u8], columns: u32, changes: &[u32])
-    requires changes { AreChanges columns changes.now }
-    requires room { length row.old ≡ (columns + 7) / 8 }
+    requires fits { FitsRow columns changes.now row.old }
     ensures packed { bits_of row.new ≡ packed_row true (pixels columns changes.now) }
 {
     if changes.is_empty() {
@@ -112,8 +111,7 @@ fn last_waiting(bitmap: &[u8], bytes: usize, layout: Layout) -> usize
 /// Packs a row: its pixels from the left, in each byte from the highest bit on, and white ones up to the end of the last byte.
 #[inline(always)]
 pub(crate) fn pack_row(row: &mut [u8], columns: u32, changes: &[u32], black_is_0: bool)
-    requires changes { AreChanges columns changes.now }
-    requires room { length row.old ≡ (columns + 7) / 8 }
+    requires fits { FitsRow columns changes.now row.old }
     ensures packed { bits_of row.new ≡ packed_row black_is_0 (pixels columns changes.now) }
 {
     if black_is_0 {
@@ -126,8 +124,7 @@ pub(crate) fn pack_row(row: &mut [u8], columns: u32, changes: &[u32], black_is_0
 /// Packs a row that isn't best cleared first.
 #[inline(always)]
 fn pack_uncleared(row: &mut [u8], columns: u32, changes: &[u32], black_is_0: bool)
-    requires changes { AreChanges columns changes.now }
-    requires room { length row.old ≡ (columns + 7) / 8 }
+    requires fits { FitsRow columns changes.now row.old }
     ensures packed { bits_of row.new ≡ packed_row black_is_0 (pixels columns changes.now) }
 {
     if black_is_0 {

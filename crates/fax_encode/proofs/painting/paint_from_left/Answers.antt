@@ -11,7 +11,7 @@ word-init c =
     let changes : List ℕ = c.args.changes.now in
     let done : ℕ = c.runs.done in
     let is = c.runs.invariant in
-    let room : columns ≤ 8 * length c.runs.row = omega (arith, is.room, c.requires.room) in
+    let room : columns ≤ 8 * length c.runs.row = omega (arith, is.room, c.requires.fits.room) in
     let at = c.move_to.ensures in
     let turned = c.turned-brush.ensures in
     let wide : columns ≤ 8 * length c.move_to.new.row = omega (arith, at.long, room) in
@@ -40,7 +40,7 @@ word-preserved c =
     record {
       painted = run_at_hand c.args.columns c.args.changes.now c.word.done c.word.brush c.turned.result
           c.turned-brush-in-word.result c.move_to-in-runs.new.row c.word-test.true
-          (omega (arith, is.room, c.requires.room)) is.painted c.if-changes-done.true one.start one.color one.word two.start
+          (omega (arith, is.room, c.requires.fits.room)) is.painted c.if-changes-done.true one.start one.color one.word two.start
           two.color two.word;
       within = omega (arith, c.word-test.true);
       further = omega (arith, is.further);
@@ -66,11 +66,11 @@ returns c =
     let changes : List ℕ = c.args.changes.now in
     let done : ℕ = c.runs.done in
     let is = c.runs.invariant in
-    let room : columns ≤ 8 * length c.runs.row = omega (arith, is.room, c.requires.room) in
+    let room : columns ≤ 8 * length c.runs.row = omega (arith, is.room, c.requires.fits.room) in
     let last = c.move_to-at.ensures in
     let row : List ℕ = c.move_to-at.new.row in
     let before : length c.if-done-changes.row ≡ length c.runs.row = c.if-done-changes.auto.row in
-    let bytes : length row ≡ (columns + 7) / 8 = last.long ∙ before ∙ is.room ∙ c.requires.room in
+    let bytes : length row ≡ (columns + 7) / 8 = last.long ∙ before ∙ is.room ∙ c.requires.fits.room in
     let wide : columns ≤ 8 * length row = omega arith in
     let n : ℕ = 8 * c.move_to-at.result.start + 64 - columns in
     let painted : under c.move_to-at.result row ≡ pixels columns changes ++ replicate n c.move_to-at.result.is_black =
@@ -93,11 +93,11 @@ returns c =
     let white : under c.if-at.at row ≡ pixels columns changes ++ replicate n false = elim c.if-at.branch [
       | then-at w ↦
           ap (λ (b : Brush). under b row) w.at-is ∙ ends_white columns changes row c.move_to-at.result w.turned-at.result
-          c.requires.changes wide last.stands painted w.if-at.true w.turned-at.ensures.start w.turned-at.ensures.word
+          c.requires.fits.changes wide last.stands painted w.if-at.true w.turned-at.ensures.start w.turned-at.ensures.word
       | else-at w ↦
           ap (λ (b : Brush). under b row) w.at-is ∙ painted ∙ ap (λ b. pixels columns changes ++ replicate n b) w.if-at.false
     ] in
     record {
-      painted = filled columns n changes row c.finish.new.row (under c.if-at.at row) c.requires.changes bytes
+      painted = filled columns n changes row c.finish.new.row (under c.if-at.at row) c.requires.fits.changes bytes
           (omega (arith, last.stands.below, last.stands.begun)) c.finish.ensures white;
     }

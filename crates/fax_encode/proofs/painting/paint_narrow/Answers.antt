@@ -18,11 +18,11 @@ changes-preserved c =
     let there : StandsAt c.changes.brush (get_or changes done 0) = record {
       begun = omega (arith, is.at_start);
       from = omega (arith, is.at_start);
-      below = omega (arith, right, is.at_start, c.requires.room, c.requires.narrow);
+      below = omega (arith, right, is.at_start, c.requires.fits.room, c.requires.narrow);
     } in
     record {
       painted = change_at_hand columns changes done c.changes.brush c.turned-brush.result c.args.row.now more
-          (omega (arith, c.requires.room)) is.painted there turned.start turned.color turned.word;
+          (omega (arith, c.requires.fits.room)) is.painted there turned.start turned.color turned.word;
       at_start = turned.start ∙ is.at_start;
       within = omega (arith, more);
     }
@@ -35,11 +35,11 @@ returns c =
     let brush = c.changes.brush in
     let is = c.changes.invariant in
     let n : ℕ = 8 * brush.start + 64 - columns in
-    let wide : columns ≤ 8 * length row = omega (arith, c.requires.room) in
+    let wide : columns ≤ 8 * length row = omega (arith, c.requires.fits.room) in
     let there : StandsAt brush columns = record {
       begun = omega (arith, is.at_start);
       from = omega (arith, is.at_start);
-      below = omega (arith, is.at_start, c.requires.room, c.requires.narrow);
+      below = omega (arith, is.at_start, c.requires.fits.room, c.requires.narrow);
     } in
     let painted : under brush row ≡ pixels columns changes ++ replicate n brush.is_black =
     all_painted columns changes c.changes.done brush brush row row (omega (arith, c.changes-test.false)) is.painted there
@@ -47,7 +47,7 @@ returns c =
     let white : under c.if-brush.brush row ≡ pixels columns changes ++ replicate n false = elim c.if-brush.branch [
       | then-brush w ↦
           ap (λ (b : Brush). under b row) w.brush-is ∙ ends_white columns changes row brush w.turned-brush-then-brush.result
-          c.requires.changes wide there painted w.if-brush.true w.turned-brush-then-brush.ensures.start
+          c.requires.fits.changes wide there painted w.if-brush.true w.turned-brush-then-brush.ensures.start
           w.turned-brush-then-brush.ensures.word
       | else-brush w ↦
           ap (λ (b : Brush). under b row) w.brush-is ∙ painted
@@ -61,7 +61,7 @@ returns c =
     let first : low_bits 64 c.if-brush.brush.word ≡ under c.if-brush.brush row =
     sym (ap (λ (k : ℕ). bits_of (take k row) ++ low_bits 64 c.if-brush.brush.word) begun) in
     record {
-      painted = filled columns n changes row c.put_first.new.row (under c.if-brush.brush row) c.requires.changes c.requires.room
-          (omega (arith, is.at_start, c.requires.room, c.requires.narrow))
+      painted = filled columns n changes row c.put_first.new.row (under c.if-brush.brush row) c.requires.fits.changes
+          c.requires.fits.room (omega (arith, is.at_start, c.requires.fits.room, c.requires.narrow))
           (c.put_first.ensures ∙ ap (take (8 * length row)) first) white;
     }

@@ -6,6 +6,6 @@ pub returns-then-is_empty : goal.returns-then-is_empty
 returns-then-is_empty c =
     let none : length c.args.changes.now ≡ 0 = search rules in
     record {
-      painted = white c.args.columns c.args.changes.now c.args.row.now c.fill_apart.new.bytes none c.requires.room
+      painted = white c.args.columns c.args.changes.now c.args.row.now c.fill_apart.new.bytes none c.requires.fits.room
           c.fill_apart.ensures;
     }

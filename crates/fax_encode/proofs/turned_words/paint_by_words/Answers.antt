@@ -5,6 +5,6 @@ use Rattle.fax_encode.proofs.turned_words.paint_by_words.Goals as goal
 pub returns : goal.returns
 returns c = record {
   painted = filled c.args.columns (4096 - c.args.columns) c.args.changes.now c.args.row.now c.put_words.new.row _
-      c.requires.changes c.requires.room (omega (arith, c.requires.room, c.requires.few)) c.put_words.ensures
+      c.requires.fits.changes c.requires.fits.room (omega (arith, c.requires.fits.room, c.requires.few)) c.put_words.ensures
       c.turn_at_changes.ensures.painted;
 }

@@ -7,5 +7,5 @@ returns-then-is_empty c =
     let none : length c.args.changes.now ≡ 0 = search rules in
     record {
       packed = white_bytes true c.args.columns c.args.changes.now c.args.row.now c.fill_apart.new.bytes c.white_byte.result
-          none c.requires.room c.white_byte.ensures c.fill_apart.ensures;
+          none c.requires.fits.room c.white_byte.ensures c.fill_apart.ensures;
     }
