@@ -1,11 +1,12 @@
 //! Encoding for callers in C: the settings that they pass, and what is returned. `c/fax_encode.h` declares it.
 
-ghost use Rattle.std.specs.Prelude.{◌≡◌, ◌≢◌, ◌<◌, ◌≤◌, ◌↔◌, ◌&&◌, ℕ, false, true, length, nat_le, nat_lt, Err, IfOk, IfSome};
+ghost use Rattle.std.specs.Prelude.{◌≡◌, ◌<◌, ◌≤◌, ◌↔◌, ◌&&◌, false, length, nat_le, nat_lt, Err, IfOk, IfSome};
 ghost use Rattle.std.specs.Prelude.{IsOk, IsOkUnless, IsTrue, OnOk};
 ghost use Rattle.hayro_ccitt.specs.Bits.{bits_in, bits_of};
 ghost use Rattle.fax_encode.specs.RowByRow.{with_row, with_rows};
-ghost use Rattle.fax_encode.specs.Settings.{names_encoding, needs_row};
-ghost use Rattle.hayro_ccitt_c.specs.Encoding.{asked, bits_asked, can_encode, encoder_of, layout_asked, of_rows, rows_asked};
+ghost use Rattle.fax_encode.specs.Settings.{names_encoding};
+ghost use Rattle.hayro_ccitt_c.specs.Encoding.{EncodesRows, asked, bits_asked, can_encode, encoder_of, layout_asked, of_rows};
+ghost use Rattle.hayro_ccitt_c.specs.Encoding.{rows_asked};
 ghost use Rattle.hayro_ccitt_c.specs.Packing.{are_whole_rows, bytes_of_row, row_read, rows_read, together};
 
 use crate::packed_rows::Layout;
@@ -164,12 +165,7 @@ fn encode_spread(
 ) -> Result<Vec<u8>, EncodeError>
     requires some { 0 < columns }
     requires reaches { bytes_of_row columns ≤ layout.stride }
-    ensures no_encoding { (result ≡ Err EncodeError.NoEncoding) ↔ (names_encoding settings ≡ false) }
-    ensures no_rows { (result ≡ Err EncodeError.NoRows) ↔ ((names_encoding settings ≡ true)
-        × (needs_row settings.encoding settings.end_of_block ≡ true) × (length bitmap.now < bytes_of_row columns)) }
-    ensures others { (result ≢ Err EncodeError.NoColumns) × ((k : ℕ) → result ≢ Err (EncodeError.NotARow k)) }
-    ensures encoded { IfOk result (λ bytes. bits_in settings.order bytes.items
-        ≡ bits_asked settings columns (rows_read layout columns bitmap.now)) }
+    ensures { EncodesRows settings layout columns bitmap.now result }
 {
     let mut encoder = Encoder::new(alloc, columns, settings)?;
     push_rows(&mut encoder, columns, bitmap, layout)?;
@@ -193,12 +189,7 @@ fn encode_rows(
 ) -> Result<Vec<u8>, EncodeError>
     requires some { 0 < columns }
     requires reaches { bytes_of_row columns ≤ layout.stride }
-    ensures no_encoding { (result ≡ Err EncodeError.NoEncoding) ↔ (names_encoding settings ≡ false) }
-    ensures no_rows { (result ≡ Err EncodeError.NoRows) ↔ ((names_encoding settings ≡ true)
-        × (needs_row settings.encoding settings.end_of_block ≡ true) × (length bitmap.now < bytes_of_row columns)) }
-    ensures others { (result ≢ Err EncodeError.NoColumns) × ((k : ℕ) → result ≢ Err (EncodeError.NotARow k)) }
-    ensures encoded { IfOk result (λ bytes. bits_in settings.order bytes.items
-        ≡ bits_asked settings columns (rows_read layout columns bitmap.now)) }
+    ensures { EncodesRows settings layout columns bitmap.now result }
 {
     if are_together(columns, layout) {
         encode_bitmap(alloc, columns, bitmap, settings)

@@ -1,4 +1,5 @@
-use Rattle.std.proofs.Common.{◌≡◌, ℕ, true, List, sym, ap, subst, ◌∙◌, rules, IfOk}
+use Rattle.std.proofs.lemmas.Grind.{common_steps}
+use Rattle.std.proofs.Common.{arith, ◌≡◌, ℕ, true, List, sym, ap, subst, ◌∙◌, rules, IfOk}
 use Rattle.hayro_ccitt.specs.Bits.{Bits, bits_in}
 use Rattle.hayro_ccitt.specs.Rows.{Row}
 use Rattle.fax_encode.specs.Chosen.{filled_up}
@@ -10,8 +11,8 @@ use Rattle.hayro_ccitt_c.proofs.SpreadRows.{settings_are, lines_are, none_wanted
 use Rattle.hayro_ccitt_c.proofs.SpreadRows.{rows_read-none}
 use Rattle.hayro_ccitt_c.proofs.encoding.encode_spread.Goals as goal
 
-pub returns-clause-no_rows : goal.returns-clause-no_rows
-returns-clause-no_rows c =
+pub returns : goal.returns
+returns c =
     let settings : EncoderSettings = c.args.settings in
     let columns : ℕ = c.args.columns in
     let rows : List Row = rows_read c.args.layout columns c.args.bitmap.now in
@@ -19,31 +20,27 @@ returns-clause-no_rows c =
     let is : now ≡ with_rows (no_rows settings columns) rows = c.in_ok-push_rows.ensures.pushed
     ∙ ap (λ (r : RowsEncoded). with_rows r rows) c.in_ok-encoder.ensures.made in
     let same = settings_are settings columns rows now is in
-    let named : names_encoding settings ≡ true = search rules in (
-      λ refused.
-          let told = c.finish.ensures.no_rows.0 refused in
-          let none = none_counted settings columns rows now is told.1 in (
-            named,
-            subst (λ (s : EncoderSettings). needs_row s.encoding s.end_of_block ≡ true) same told.2,
-            few_if_none c.args.layout columns c.args.bitmap.now c.requires.some c.requires.reaches none,
-          ),
-      λ given.
-          c.finish.ensures.no_rows.1 (
-            none_wanted settings columns rows now is,
-            none_there settings columns rows now is (rows_read-none c.args.layout columns c.args.bitmap.now given.2),
-            subst (λ (s : EncoderSettings). needs_row s.encoding s.end_of_block ≡ true) (sym same) given.1,
-          ),
-    )
-
-pub returns-clause-encoded : goal.returns-clause-encoded
-returns-clause-encoded c =
-    let settings : EncoderSettings = c.args.settings in
-    let columns : ℕ = c.args.columns in
-    let rows : List Row = rows_read c.args.layout columns c.args.bitmap.now in
-    let now : RowsEncoded = c.push_rows.new.encoder in
-    let is : now ≡ with_rows (no_rows settings columns) rows = c.in_ok-push_rows.ensures.pushed
-    ∙ ap (λ (r : RowsEncoded). with_rows r rows) c.in_ok-encoder.ensures.made in
-    subst (λ (s : EncoderSettings). IfOk c.finish.result
-    (λ bytes. bits_in s.order bytes.items ≡ filled_up (chosen settings columns rows))) (settings_are settings columns rows now is)
-    (subst (λ (b : Bits). IfOk c.finish.result (λ bytes. bits_in now.settings.order bytes.items ≡ filled_up b))
-    (lines_are settings columns rows now is) c.finish.ensures.encoded)
+    let named : names_encoding settings ≡ true = search rules in
+    record {
+      no_encoding = grind (arith, common_steps);
+      no_rows = (
+        λ refused.
+            let told = c.finish.ensures.no_rows.0 refused in
+            let none = none_counted settings columns rows now is told.1 in (
+              named,
+              subst (λ (s : EncoderSettings). needs_row s.encoding s.end_of_block ≡ true) same told.2,
+              few_if_none c.args.layout columns c.args.bitmap.now c.requires.some c.requires.reaches none,
+            ),
+        λ given.
+            c.finish.ensures.no_rows.1 (
+              none_wanted settings columns rows now is,
+              none_there settings columns rows now is (rows_read-none c.args.layout columns c.args.bitmap.now given.2),
+              subst (λ (s : EncoderSettings). needs_row s.encoding s.end_of_block ≡ true) (sym same) given.1,
+            ),
+      );
+      others = grind (arith, common_steps);
+      encoded = subst (λ (s : EncoderSettings). IfOk c.finish.result
+          (λ bytes. bits_in s.order bytes.items ≡ filled_up (chosen settings columns rows))) same
+          (subst (λ (b : Bits). IfOk c.finish.result (λ bytes. bits_in now.settings.order bytes.items ≡ filled_up b))
+          (lines_are settings columns rows now is) c.finish.ensures.encoded);
+    }
