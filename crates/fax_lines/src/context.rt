@@ -608,19 +608,6 @@ impl DecoderContext {
         is_white
     }
 
-    /// Returns whether one of the two runs after the next `skip` bits, the first of this colour, is likely to begin with a make-up
-    /// word.
-    #[inline(always)]
-    fn has_makeup_behind(&self, reader: &BitReader<'_>, skip: u8, color: Color) -> bool {
-        let first = self.entry_ahead(reader, u32::from(skip), color);
-        if first & LOOKUP_INVALID >= 64 {
-            return true;
-        }
-        let behind = u32::from(skip) + u32::from(first >> 12);
-        let second = self.entry_ahead(reader, behind, color.opposite());
-        second & LOOKUP_INVALID >= 64
-    }
-
     /// Returns whether plain calls are likely to draw the next runs of this row at less cost: it has few more, or is white, or the
     /// next ones may have three words or more.
     #[inline(always)]
@@ -781,36 +768,61 @@ impl DecoderContext {
         self.draw_usual_runs(reader);
     }
 
-    /// Returns whether a row as wide as to have runs of three words or more is likely to have them in its first two modes: plain
-    /// calls draw them.
+    /// Returns whether two short runs after the next `skip` bits, the first of this colour, are followed by horizontal mode with
+    /// another one: such a row is likely to have many.
     #[inline(always)]
-    fn begins_with_long_runs(&self, reader: &BitReader<'_>) -> bool {
+    fn has_short_runs(&self, reader: &BitReader<'_>, skip: u8, color: Color) -> bool {
+        let first = self.entry_ahead(reader, u32::from(skip), color);
+        if first & LOOKUP_INVALID >= 64 {
+            return false;
+        }
+        let middle = u32::from(skip) + u32::from(first >> 12);
+        let second = self.entry_ahead(reader, middle, color.opposite());
+        if second & LOOKUP_INVALID >= 64 {
+            return false;
+        }
+        let behind = (middle + u32::from(second >> 12)) % 32;
+        if reader.peek_u32() << behind >> 29 != 1 {
+            return false;
+        }
+        self.entry_ahead(reader, behind + 3, color) & LOOKUP_INVALID < 64
+    }
+
+    /// Returns whether a wide row below one of few changes, which has a horizontal mode that ends after the next `skip` bits, is
+    /// likely to have few modes, so that plain calls draw it at less cost. This is a call, so that other lines cost nothing for it.
+    #[inline(never)]
+    fn has_few_modes(&self, reader: &BitReader<'_>, skip: u8) -> bool {
+        let is_dense = if skip % 2 == 0 {
+            self.has_short_runs(reader, skip, Color::Black)
+        } else {
+            self.has_short_runs(reader, skip, Color::White)
+        };
+        !is_dense
+    }
+
+    /// Returns whether a row that begins in horizontal mode is wide and likely to have few modes: plain calls draw it.
+    #[inline(always)]
+    fn begins_few_modes(&self, reader: &BitReader<'_>) -> bool {
         if self.settings.columns <= 2623 {
             return false;
         }
-        let skip = horizontal_ends(reader);
-        if skip == 0 {
-            return false;
-        }
-        is_long_behind_modes(reader, skip, &self.tables)
+        self.has_few_modes(reader, 3)
     }
 
     /// Returns whether plain calls are likely to draw a wide row at less cost: one that seems to have runs of three words or more in
-    /// its first two modes, or runs of two below a row of few changes, as longer ones are likely to follow.
+    /// its first two modes, or few modes below a row of few changes.
     #[inline(always)]
-    fn has_long_runs(&self, reader: &BitReader<'_>) -> bool {
+    fn suits_plain_calls_of_modes(&self, reader: &BitReader<'_>) -> bool {
         let skip = horizontal_ends(reader);
-        if skip == 0 {
-            return false;
-        }
         if self.ref_changes.len() < 4 {
-            return if skip % 2 == 0 {
-                self.has_makeup_behind(reader, skip, Color::Black)
-            } else {
-                self.has_makeup_behind(reader, skip, Color::White)
-            };
+            let bits = reader.peek_u32();
+            // Pass mode is first, or horizontal mode after V0 twice.
+            if bits >> 28 == 1 || bits >> 27 == 25 {
+                return true;
+            }
+            return skip != 0 && self.has_few_modes(reader, skip);
         }
-        is_long_behind_modes(reader, skip, &self.tables)
+        skip != 0 && is_long_behind_modes(reader, skip, &self.tables)
     }
 
     /// The same, without a call where the row isn't as wide as to have such runs.
@@ -819,7 +831,7 @@ impl DecoderContext {
         if self.settings.columns <= 2623 {
             return false;
         }
-        self.has_long_runs(reader)
+        self.suits_plain_calls_of_modes(reader)
     }
 
     /// Draws modes from the start of a line as long as they are usual.
@@ -1068,7 +1080,7 @@ impl DecoderContext {
         requires { IsAtStart self.old }
         ensures { DrawsUsualModes self.old self.new reader.old reader.new }
     {
-        if self.is_filled_by_runs || self.begins_with_long_runs(reader) {
+        if self.is_filled_by_runs || self.begins_few_modes(reader) {
             return;
         }
         self.draw_modes_of(reader);
