@@ -26,7 +26,7 @@ ghost use Rattle.fax_reading.specs.Lines.{line_1d, line_2d};
 ghost use Rattle.fax_reading.specs.Space.{room_for, most_stored};
 
 use crate::Decoder;
-use crate::changes::{append_pixels, b1_index, change_or_end, vertical_place};
+use crate::changes::{append_pixels, b1_index, change_or_end, make_room, vertical_place};
 use crate::modes::{
     CodingLine, draw_modes, has_mode, has_no_room, is_white_row, lay_down_row, next_color,
     put_ends, repeat_changes, take_ends,
@@ -806,7 +806,9 @@ impl DecoderContext {
         if self.settings.columns <= 2623 {
             return false;
         }
-        self.has_few_modes(reader, 3)
+        // Most often the first run has a make-up word.
+        let first = self.entry_ahead(reader, 3, Color::White);
+        first & LOOKUP_INVALID >= 64 || self.has_few_modes(reader, 3)
     }
 
     /// Returns whether plain calls are likely to draw a wide row at less cost: one that seems to have runs of three words or more in
@@ -1153,7 +1155,17 @@ impl DecoderContext {
         }
     }
 
-    /// The same where the row has no room for a change.
+    /// Makes room for more changes of this row, if it can be had.
+    #[inline(always)]
+    fn seek_room(&mut self)
+        ensures frame { self.new ≡ record self.old { space = self.new.space } }
+        ensures space { self.new.space ≤ max self.old.space (room_for (length (changes self.old.held.front))) }
+    {
+        let _ = make_room(&mut self.coding_changes);
+    }
+
+    /// The same where the row has no room for a change. It is made here, if it can be, so that the next modes have it: also those that
+    /// store nothing, as in a white row.
     #[cold]
     #[inline(never)]
     fn draw_mode_without_room(&mut self, mode: Mode, reader: &mut BitReader<'_>) -> Result<()>
@@ -1161,6 +1173,7 @@ impl DecoderContext {
             result (pen_of self.new.held (here reader.new)) }
         ensures leaves { DrawsOneMode mode self.old self.new result reader.old reader.new }
     {
+        self.seek_room();
         self.draw_other_mode(mode, reader)
     }
 
