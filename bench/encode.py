@@ -53,7 +53,7 @@ def main():
     ratios_of = {mode: [] for mode in MODES}
     with tempfile.TemporaryDirectory() as folder:
         program = f"{folder}/encode"
-        run.subprocess.run(["gcc", "-O2", "-Wall", "-o", program, "bench/encode.c", "c/heap.c", run.LIBRARY, "-ltiff"], check=True)
+        run.subprocess.run(["gcc", "-O2", "-Wall", "-o", program, "bench/encode.c", "c/heap.c", run.library(folder), "-ltiff"], check=True)
         for name, columns, bitmap in pictures(sys.argv[1:]):
             with open(f"{folder}/bitmap", "wb") as file:
                 file.write(bitmap)

@@ -26,7 +26,6 @@ LOW_FIRST = 16
 MILLISECONDS = "1000"
 # each byte with its bits in the other order
 MIRRORED = bytes(int(f"{byte:08b}"[::-1], 2) for byte in range(256))
-LIBRARY = "crates/hayro_ccitt_c/out/libhayro_ccitt_c.a"
 MODES = {"g4": ("0", "1"), "1d": ("1", "3"), "2d": ("2", "3")}  # encoding, and flags: closed, with EOLs
 CARGO = """[package]
 name = "bench"
@@ -52,8 +51,15 @@ def crate_library(folder, crate):
     return f"{folder}/crate/target/release/libbench.a"
 
 
+def library(folder):
+    """The library as `rt lib` built it, its functions placed by the Makefile."""
+    made = f"{folder}/libhayro_ccitt_c.a"
+    subprocess.run(["make", "-s", "RT=true", f"BUILD={folder}", made], check=True)
+    return made
+
+
 def driver(folder, crate):
-    command = ["gcc", "-O2", "-Wall", "-DWITH_TIFF", "-o", f"{folder}/driver", "bench/driver.c", "bench/tiff.c", "c/heap.c", LIBRARY]
+    command = ["gcc", "-O2", "-Wall", "-DWITH_TIFF", "-o", f"{folder}/driver", "bench/driver.c", "bench/tiff.c", "c/heap.c", library(folder)]
     if crate:
         command += ["-DWITH_CRATE", crate_library(folder, crate)]
     subprocess.run([*command, "-ltiff", "-lm", "-lpthread", "-ldl"], check=True)

@@ -258,13 +258,13 @@ def debian_package(build, version, told, epoch, work):
     return package, read(f"{work}/{package}")
 
 
-def cargo_package(told, epoch):
-    """The package of bindings/rust, with the library as the kit made it."""
+def cargo_package(build, told, epoch):
+    """The package of bindings/rust, with the library as the kit made it, its functions placed by the Makefile."""
     files = {name.removeprefix("bindings/rust/"): read(name) for name in tracked() if name.startswith("bindings/rust/")}
     # The tests read the repository's corpus.
     files = {name: data for name, data in files.items() if not name.startswith("tests/") and name != ".gitignore"}
     files |= {
-        "proved/libhayro_ccitt_c.a": read("crates/hayro_ccitt_c/out/libhayro_ccitt_c.a"),
+        "proved/libhayro_ccitt_c.a": read(f"{build}/libhayro_ccitt_c.a"),
         "proved/heap.c": read("c/heap.c"),
         "proved/hayro_ccitt_heap.h": read("c/hayro_ccitt_heap.h"),
         "PROVENANCE": told.encode(),
@@ -325,7 +325,7 @@ def source_tarball(build, version, told, epoch, work):
 def main(build, version):
     if not re.search(rf"^## {re.escape(version)}\b", read("CHANGELOG.md").decode(), re.MULTILINE):
         fail(f"CHANGELOG.md has no version {version}")
-    needed = ["proved.o", "libhayro_ccitt.a", f"libhayro_ccitt.so.{version}", "faxrows", "faxpack"]
+    needed = ["libhayro_ccitt_c.a", "proved.o", "libhayro_ccitt.a", f"libhayro_ccitt.so.{version}", "faxrows", "faxpack"]
     if missing := [name for name in needed if not os.path.exists(f"{build}/{name}")]:
         fail(f"{build} has no {missing[0]}: run `make` first")
     if lacking := [tool for tool in ("dpkg-deb", "objdump", "strip") if not shutil.which(tool)]:
@@ -336,7 +336,7 @@ def main(build, version):
         packages = [
             binary_tarball(build, version, told, epoch, work),
             debian_package(build, version, told, epoch, work),
-            cargo_package(told, epoch),
+            cargo_package(build, told, epoch),
             wheel(build, version, told, epoch),
             source_tarball(build, version, told, epoch, work),
         ]
