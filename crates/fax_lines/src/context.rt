@@ -15,6 +15,7 @@ ghost use Rattle.fax_lines.specs.ContextSteps.{CountsWords, DrawsAtOnce, DrawsOn
 ghost use Rattle.fax_lines.specs.ContextSteps.{IsAtStart, IsWidth, OnlyDraws, PassesChanges, SeeksB1};
 ghost use Rattle.fax_lines.specs.ContextSteps.{PushesPixels};
 ghost use Rattle.fax_lines.specs.PassedRows.{PassesRow};
+ghost use Rattle.fax_lines.specs.SinkStates.{state_of};
 ghost use Rattle.fax_lines.specs.Counting.{OnlyCounts};
 ghost use Rattle.fax_reading.specs.Context.{ArePassed, exceeds, right_of_painted, with_cut};
 ghost use Rattle.fax_lines.specs.WhiteLines.{AreKnown, MayFollow};
@@ -443,10 +444,8 @@ impl DecoderContext {
     fn hand_over<D: Decoder>(&self, decoder: &mut D) -> Result<()>
         requires { self.now.held.settings.columns ≤ D.width decoder.old }
         ensures width { D.width decoder.new ≡ D.width decoder.old }
-        ensures passes { PassesRow (D.step (D.width decoder.old))
-            (record { meaning = D.meaning decoder.old; refused = D.has_refused decoder.old; refuses = D.refuses decoder.old })
-            (record { meaning = D.meaning decoder.new; refused = D.has_refused decoder.new; refuses = D.refuses decoder.new })
-            (changes (taken_row self.now.held)) result }
+        ensures passes { PassesRow (D.step (D.width decoder.old)) (state_of D.Decoder decoder.old)
+            (state_of D.Decoder decoder.new) (changes (taken_row self.now.held)) result }
     {
         decoder.push_row(self.coding_changes.as_slice())
     }
@@ -463,10 +462,8 @@ impl DecoderContext {
         requires width { self.old.held.settings.columns ≤ D.width decoder.old }
         requires rows { self.old.held.taken + 1 < 2 ^ 64 }
         ensures width { D.width decoder.new ≡ D.width decoder.old }
-        ensures passes { PassesRow (D.step (D.width decoder.old))
-            (record { meaning = D.meaning decoder.old; refused = D.has_refused decoder.old; refuses = D.refuses decoder.old })
-            (record { meaning = D.meaning decoder.new; refused = D.has_refused decoder.new; refuses = D.refuses decoder.new })
-            (changes (taken_row self.old.held)) result }
+        ensures passes { PassesRow (D.step (D.width decoder.old)) (state_of D.Decoder decoder.old)
+            (state_of D.Decoder decoder.new) (changes (taken_row self.old.held)) result }
         ensures frame { OnOk result (self.new ≡ record self.old { held = after_taking self.old.held; passed = 0; cut = false }) }
         ensures unchanged { OnErr result (self.new ≡ self.old) }
     {
@@ -769,7 +766,7 @@ impl DecoderContext {
     }
 
     /// Returns whether two short runs after the next `skip` bits, the first of this colour, are followed by horizontal mode with
-    /// another one: such a row is likely to have many.
+    /// another one, and that by no run of 1,792 pixels or more: such a row is likely to have many modes.
     #[inline(always)]
     fn has_short_runs(&self, reader: &BitReader<'_>, skip: u8, color: Color) -> bool {
         let first = self.entry_ahead(reader, u32::from(skip), color);
@@ -781,11 +778,18 @@ impl DecoderContext {
         if second & LOOKUP_INVALID >= 64 {
             return false;
         }
+        let bits = reader.peek_u32();
         let behind = (middle + u32::from(second >> 12)) % 32;
-        if reader.peek_u32() << behind >> 29 != 1 {
+        if bits << behind >> 29 != 1 {
             return false;
         }
-        self.entry_ahead(reader, behind + 3, color) & LOOKUP_INVALID < 64
+        let third = self.entry_ahead(reader, behind + 3, color);
+        if third & LOOKUP_INVALID >= 64 {
+            return false;
+        }
+        // The words of so long runs begin with seven zeros.
+        let last = (behind + 3 + u32::from(third >> 12)) % 32;
+        bits << last >> 25 != 0
     }
 
     /// Returns whether a wide row below one of few changes, which has a horizontal mode that ends after the next `skip` bits, is
@@ -815,14 +819,15 @@ impl DecoderContext {
     /// its first two modes, or few modes below a row of few changes.
     #[inline(always)]
     fn suits_plain_calls_of_modes(&self, reader: &BitReader<'_>) -> bool {
-        let skip = horizontal_ends(reader);
+        let bits = reader.peek_u32();
+        let skip = if bits >> 27 == 25 {
+            5 // V0, V0 and horizontal mode
+        } else {
+            horizontal_ends(reader)
+        };
         if self.ref_changes.len() < 4 {
-            let bits = reader.peek_u32();
-            // Pass mode is first, or horizontal mode after V0 twice.
-            if bits >> 28 == 1 || bits >> 27 == 25 {
-                return true;
-            }
-            return skip != 0 && self.has_few_modes(reader, skip);
+            // Pass mode, or horizontal mode and few others.
+            return bits >> 28 == 1 || skip != 0 && self.has_few_modes(reader, skip);
         }
         skip != 0 && is_long_behind_modes(reader, skip, &self.tables)
     }
