@@ -923,8 +923,8 @@ impl DecoderContext {
         requires { IsAtStart self.old }
         ensures { DrawsAtOnce self.old self.new reader.old reader.new result }
     {
-        // Most lines that begin otherwise aren't looked at further.
-        if reader.peek_u32() >> 31 == 0 {
+        // Below a change such a line begins with two ones. Most others aren't looked at further.
+        if reader.peek_u32() < 3 << 30 {
             return false;
         }
         let count = self.ref_changes.len();
@@ -1067,14 +1067,13 @@ impl DecoderContext {
         self.draw_from_right(reader)
     }
 
-    /// The same, without a call if the line begins with V0, or with VL1 and another mode than V0: no such line does.
+    /// The same, without a call if the line begins with VL1 and another mode than V0: no such line does.
     #[inline(always)]
     fn draw_whole_line(&mut self, reader: &mut BitReader<'_>) -> bool
         requires { IsAtStart self.old }
         ensures { DrawsAtOnce self.old self.new reader.old reader.new result }
     {
-        let bits = reader.peek_u32() >> 28;
-        if bits > 7 || bits == 4 {
+        if reader.peek_u32() >> 28 == 4 {
             return false;
         }
         self.draw_short_line(reader)
@@ -1108,12 +1107,15 @@ impl DecoderContext {
             if is_white_row(&self.ref_changes) && has_no_room(&self.coding_changes) {
                 return;
             }
-            if reader.peek_u32() >> 29 == 1 {
-                self.draw_from_horizontal(reader);
-                return;
-            }
-            if self.draw_whole_line(reader) {
-                return;
+            // No line that begins with V0 is of these.
+            if reader.peek_u32() >> 31 == 0 {
+                if reader.peek_u32() >> 29 == 1 {
+                    self.draw_from_horizontal(reader);
+                    return;
+                }
+                if self.draw_whole_line(reader) {
+                    return;
+                }
             }
         }
         if self.draw_same_line(reader) {
