@@ -65,11 +65,11 @@ pub fn vertical_place(b1: u32, painted: u32, offset: i8) -> Option<u32>
     ensures none { IfNone result (place_from painted (pos b1 +ℤ offset) ≡ Err DecodeError.Overflow) }
     ensures right { IfSome result (λ place. painted ≤ place) }
 {
-    let right = i64::from(b1) + i64::from(offset) - i64::from(painted);
-    if right < 0 || right > i64::from(u32::MAX - painted) {
+    let place = i64::from(b1) + i64::from(offset);
+    if place < i64::from(painted) || place > i64::from(u32::MAX) {
         return None;
     }
-    Some(painted + right as u32)
+    Some(place as u32)
 }
 
 /// Makes room for as many changes again, and for at least 64 more, and for no more than that; returns whether there is.
