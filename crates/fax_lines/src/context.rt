@@ -27,7 +27,7 @@ ghost use Rattle.fax_reading.specs.Lines.{line_1d, line_2d};
 ghost use Rattle.fax_reading.specs.Space.{room_for, most_stored};
 
 use crate::Decoder;
-use crate::changes::{append_pixels, b1_index, change_or_end, make_room, vertical_place};
+use crate::changes::{append_pixels, b1_index, change_or_end, vertical_place};
 use crate::modes::{
     CodingLine, draw_modes, has_mode, has_no_room, is_white_row, lay_down_row, next_color,
     put_ends, repeat_changes, take_ends,
@@ -832,10 +832,11 @@ impl DecoderContext {
         skip != 0 && is_long_behind_modes(reader, skip, &self.tables)
     }
 
-    /// The same, without a call where the row isn't as wide as to have such runs.
+    /// The same, without a call where the row isn't as wide as to have such runs. Where there is no room, usual modes make it once, and
+    /// plain calls would ask for it at each mode.
     #[inline(always)]
     fn suits_plain_modes(&self, reader: &BitReader<'_>) -> bool {
-        if self.settings.columns <= 2623 {
+        if self.settings.columns <= 2623 || has_no_room(&self.coding_changes) {
             return false;
         }
         self.suits_plain_calls_of_modes(reader)
@@ -1162,17 +1163,7 @@ impl DecoderContext {
         }
     }
 
-    /// Makes room for more changes of this row, if it can be had.
-    #[inline(always)]
-    fn seek_room(&mut self)
-        ensures frame { self.new ≡ record self.old { space = self.new.space } }
-        ensures space { self.new.space ≤ max self.old.space (room_for (length (changes self.old.held.front))) }
-    {
-        let _ = make_room(&mut self.coding_changes);
-    }
-
-    /// The same where the row has no room for a change. It is made here, if it can be, so that the next modes have it: also those that
-    /// store nothing, as in a white row.
+    /// The same where the row has no room for a change.
     #[cold]
     #[inline(never)]
     fn draw_mode_without_room(&mut self, mode: Mode, reader: &mut BitReader<'_>) -> Result<()>
@@ -1180,7 +1171,6 @@ impl DecoderContext {
             result (pen_of self.new.held (here reader.new)) }
         ensures leaves { DrawsOneMode mode self.old self.new result reader.old reader.new }
     {
-        self.seek_room();
         self.draw_other_mode(mode, reader)
     }
 
