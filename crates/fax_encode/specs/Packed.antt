@@ -1,7 +1,7 @@
 -- Packed rows: bitmaps of one bit a pixel.
-use Rattle.std.specs.Prelude.{ℕ, zero, suc, ◌+◌, ◌/◌, Bool, true, false, not, List, [], ◌∷◌, ◌++◌, length, map, take, drop}
-use Rattle.std.specs.Prelude.{flat_map}
-use Rattle.hayro_ccitt.specs.Bits.{Bits, bits_of}
+use Rattle.std.specs.Prelude.{◌≡◌, ℕ, zero, suc, ◌+◌, ◌/◌, Bool, true, false, not, List, [], ◌∷◌, ◌++◌, length, map, take, drop}
+use Rattle.std.specs.Prelude.{flat_map, replicate}
+use Rattle.hayro_ccitt.specs.Bits.{Bits, bits_of, low_bits}
 use Rattle.hayro_ccitt.specs.Rows.{Row, pixels}
 use Rattle.fax_encode.specs.Chosen.{filled_up}
 
@@ -12,6 +12,14 @@ packed rows = flat_map filled_up rows
 -- packed rows, and after them the row that turns at these positions
 abbrev pub with_packed_row : ℕ → Bits → List ℕ → Bits
 with_packed_row columns bits places = bits ++ filled_up (pixels columns places)
+
+-- bytes are the packed row that turns at these positions
+abbrev pub IsPackedRow : ℕ → List ℕ → List ℕ → Type 0
+IsPackedRow columns places bytes = bits_of bytes ≡ filled_up (pixels columns places)
+
+-- a word is the first 64 pixels of bytes, the leftmost in the highest bit, and white ones if there are fewer
+abbrev pub AreFirstPixels : List ℕ → ℕ → Type 0
+AreFirstPixels bytes word = low_bits 64 word ≡ take 64 (bits_of bytes ++ replicate 64 false)
 
 -- bits in which 0 stands for black, if it does: those in which 1 does, inverted
 abbrev pub in_black : Bool → Bits → Bits

@@ -1,6 +1,12 @@
 -- Bits that are written one after another.
-use Rattle.std.specs.Prelude.{◌≡◌, ℕ, ◌^◌, ◌<◌, ◌≤◌, List, ◌++◌}
+use Rattle.std.specs.Prelude.{◌≡◌, ℕ, ◌%◌, ◌^◌, ◌<◌, ◌≤◌, List, ◌++◌, length, false, true}
 use Rattle.hayro_ccitt.specs.Bits.{Bits, bits_of, low_bits}
+use Rattle.hayro_ccitt.specs.Color.{Color}
+use Rattle.hayro_ccitt.specs.Mode.TheVariants.{Horizontal}
+use Rattle.hayro_ccitt.specs.Rows.{opposite}
+use Rattle.fax_encode.specs.Chosen.{chosen_run, word_of_mode}
+use Rattle.fax_encode.specs.Settings.{has_eols}
+use Rattle.fax_encode.specs.declared.settings.EncodeSettings.{EncodeSettings}
 use Rattle.fax_encode.specs.declared.words.Word.{Word}
 
 -- the whole bytes, and the bits after them, fewer than 64
@@ -11,6 +17,16 @@ pub record Written : Type 0 where
 -- all bits that were written
 abbrev pub all_bits : Written → Bits
 all_bits written = bits_of written.bytes ++ written.rest
+
+-- horizontal mode and its two runs are written, the first of this colour (T.4, 4.2.1.3.1)
+abbrev pub WritesHorizontal : Color → ℕ → ℕ → Written → Written → Type 0
+WritesHorizontal color first second old new = all_bits new
+    ≡ all_bits old ++ (word_of_mode Horizontal ++ (chosen_run color first ++ chosen_run (opposite color) second))
+
+-- where lines have no EOLs and are aligned, what is written ends at a whole byte
+abbrev pub EndsWhereAligned : EncodeSettings → Written → Type 0
+EndsWhereAligned settings written = has_eols settings.encoding settings.end_of_line ≡ false
+    → settings.rows_are_byte_aligned ≡ true → length (all_bits written) % 8 ≡ 0
 
 -- what a writer had: the number of bytes, and the bits after them
 pub record Marked : Type 0 where

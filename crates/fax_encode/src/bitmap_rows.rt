@@ -5,7 +5,7 @@ ghost use Rattle.std.specs.Prelude.{IfOk, OnOk, get_or, slice_index, vec_capacit
 ghost use Rattle.hayro_ccitt.specs.Bits.{bits_of, bit_of, low_bits};
 ghost use Rattle.hayro_ccitt.specs.Rows.{AreChanges, pixels};
 ghost use Rattle.fax_encode.specs.Chosen.{rows_of};
-ghost use Rattle.fax_encode.specs.Packed.{bytes_of_row, in_black, shown};
+ghost use Rattle.fax_encode.specs.Packed.{AreFirstPixels, bytes_of_row, in_black, shown};
 ghost use Rattle.fax_encode.specs.Refusals.{AreRows};
 ghost use Rattle.fax_encode.specs.Scanning.{differences, ones_from};
 
@@ -21,7 +21,7 @@ fn byte_or_white(bytes: &[u8], index: usize) -> u8
 
 /// Returns the first 64 pixels of bytes, the leftmost in the highest bit, and white ones if there are fewer.
 fn pixels_or_white(bytes: &[u8]) -> u64
-    ensures { low_bits 64 result ≡ take 64 (bits_of bytes.now ++ replicate 64 false) }
+    ensures { AreFirstPixels bytes.now result }
 {
     let mut first = [0; 8];
     for index in 0..8usize {
@@ -98,7 +98,7 @@ fn push_ones(list: &mut Vec<u32>, first: u32, count: u32, word: u64) -> Result<(
 /// Returns the first 64 pixels of bytes, the leftmost in the highest bit, and white ones if there are fewer.
 #[inline(always)]
 fn word_of(bytes: &[u8]) -> u64
-    ensures { low_bits 64 result ≡ take 64 (bits_of bytes.now ++ replicate 64 false) }
+    ensures { AreFirstPixels bytes.now result }
 {
     if bytes.len() >= 8 {
         first_pixels(bytes)

@@ -3,7 +3,7 @@
 ghost use Rattle.std.specs.Prelude.{◌≡◌, ◌+◌, ◌-◌, ◌*◌, ◌/◌, ◌^◌, ◌≤◌, ◌<◌, ◌++◌, true, drop, get_or, length, replicate, take};
 ghost use Rattle.hayro_ccitt.specs.Bits.{Bits, bits_of};
 ghost use Rattle.hayro_ccitt.specs.Rows.{AreChanges, pixels};
-ghost use Rattle.fax_encode.specs.Chosen.{filled_up};
+ghost use Rattle.fax_encode.specs.Packed.{IsPackedRow};
 ghost use Rattle.fax_encode.specs.Painting.{FitsRow, TurnsBlack, then_white};
 
 use crate::pixel_words::{fill_all, fill_bytes, first_pixels, ones_before, put_pixels};
@@ -98,7 +98,7 @@ fn paint_runs(row: &mut [u8], columns: u32, changes: &[u32])
     requires fits { FitsRow columns changes.now row.old }
     requires long { 8 ≤ length row.old }
     requires white { row.old ≡ replicate (length row.old) 0 }
-    ensures painted { bits_of row.new ≡ filled_up (pixels columns changes.now) }
+    ensures painted { IsPackedRow columns changes.now row.new }
 {
     let mut done = 0;
     'runs: while done + 1 < changes.len() {
@@ -116,7 +116,7 @@ fn paint_many_runs(row: &mut [u8], columns: u32, changes: &[u32])
     requires fits { FitsRow columns changes.now row.old }
     requires long { 8 ≤ length row.old }
     requires white { row.old ≡ replicate (length row.old) 0 }
-    ensures painted { bits_of row.new ≡ filled_up (pixels columns changes.now) }
+    ensures painted { IsPackedRow columns changes.now row.new }
 {
     paint_runs(row, columns, changes);
 }
@@ -142,7 +142,7 @@ pub fn paint_cleared(row: &mut [u8], columns: u32, changes: &[u32])
     requires some { 0 < length changes.now }
     requires long { 8 ≤ length row.old }
     requires white { row.old ≡ replicate (length row.old) 0 }
-    ensures painted { bits_of row.new ≡ filled_up (pixels columns changes.now) }
+    ensures painted { IsPackedRow columns changes.now row.new }
 {
     if changes.len() > 2 {
         paint_many_runs(row, columns, changes);
@@ -157,7 +157,7 @@ pub fn paint_cleared(row: &mut [u8], columns: u32, changes: &[u32])
 pub fn paint_apart(row: &mut [u8], columns: u32, changes: &[u32])
     requires fits { FitsRow columns changes.now row.old }
     requires long { 8 ≤ length row.old }
-    ensures painted { bits_of row.new ≡ filled_up (pixels columns changes.now) }
+    ensures painted { IsPackedRow columns changes.now row.new }
 {
     fill_all(row, 0);
     paint_runs(row, columns, changes);

@@ -1,10 +1,10 @@
 //! Encoding by settings: pictures of lists of changes, and of a bitmap.
 
-ghost use Rattle.std.specs.Prelude.{◌≡◌, ◌≢◌, ◌<◌, ◌≤◌, ◌↔◌, ℕ, [], true, false, map, length, Err, IfOk, OnOk};
+ghost use Rattle.std.specs.Prelude.{◌≡◌, ◌≢◌, ◌<◌, ◌≤◌, ◌↔◌, ℕ, [], true, map, length, Err, IfOk, OnOk};
 ghost use Rattle.hayro_ccitt.specs.Bits.{bits_in};
 ghost use Rattle.fax_encode.specs.Chosen.{filled_up, rows_of};
 ghost use Rattle.fax_encode.specs.Packed.{bytes_of_row, shown};
-ghost use Rattle.fax_encode.specs.Refusals.{AreRows, IsFirstUnlawful};
+ghost use Rattle.fax_encode.specs.Refusals.{AreRows, IsFirstUnlawful, RefusesSettings};
 ghost use Rattle.fax_encode.specs.Settings.{chosen, names_encoding, needs_row, with_end};
 ghost use Rattle.fax_encode.specs.Writing.{all_bits};
 
@@ -97,8 +97,7 @@ pub fn encode(
     rows: &[Vec<u32>],
     settings: EncodeSettings,
 ) -> std::result::Result<Vec<u8>, EncodeError>
-    ensures no_encoding { (result ≡ Err EncodeError.NoEncoding) ↔ (names_encoding settings ≡ false) }
-    ensures no_columns { (result ≡ Err EncodeError.NoColumns) ↔ ((names_encoding settings ≡ true) × (columns ≡ 0)) }
+    ensures refused { RefusesSettings settings columns result }
     ensures no_rows { (result ≡ Err EncodeError.NoRows) ↔ ((names_encoding settings ≡ true) × (0 < columns)
         × (needs_row settings.encoding settings.end_of_block ≡ true) × (length rows.now ≡ 0)) }
     ensures not_a_row { (k : ℕ) → (result ≡ Err (EncodeError.NotARow k)) ↔ ((names_encoding settings ≡ true) × (0 < columns)
@@ -201,8 +200,7 @@ pub fn encode_bitmap(
     bitmap: &[u8],
     settings: EncodeSettings,
 ) -> std::result::Result<Vec<u8>, EncodeError>
-    ensures no_encoding { (result ≡ Err EncodeError.NoEncoding) ↔ (names_encoding settings ≡ false) }
-    ensures no_columns { (result ≡ Err EncodeError.NoColumns) ↔ ((names_encoding settings ≡ true) × (columns ≡ 0)) }
+    ensures refused { RefusesSettings settings columns result }
     ensures no_rows { (result ≡ Err EncodeError.NoRows) ↔ ((names_encoding settings ≡ true) × (0 < columns)
         × (needs_row settings.encoding settings.end_of_block ≡ true) × (length bitmap.now < bytes_of_row columns)) }
     ensures not_a_row { (k : ℕ) → result ≢ Err (EncodeError.NotARow k) }

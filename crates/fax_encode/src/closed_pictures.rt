@@ -4,7 +4,7 @@ ghost use Rattle.std.specs.Prelude.{◌≡◌, ◌≢◌, ◌<◌, ◌↔◌, �
 ghost use Rattle.hayro_ccitt.specs.Bits.{bits_of};
 ghost use Rattle.fax_encode.specs.Chosen.{chosen_t4, chosen_t6, filled_up, rows_of};
 ghost use Rattle.fax_encode.specs.Packed.{bytes_of_row, shown};
-ghost use Rattle.fax_encode.specs.Refusals.{AreRows, IsFirstUnlawful};
+ghost use Rattle.fax_encode.specs.Refusals.{AreRows, RefusesFirstUnlawful};
 ghost use Rattle.fax_encode.specs.Settings.{group3_settings, group4_settings};
 
 use crate::{Effort, EncodeError, EncodeSettings, encode, encode_bitmap};
@@ -61,8 +61,7 @@ pub fn encode_g4(
 ) -> std::result::Result<Vec<u8>, EncodeError>
     ensures no_columns { (result ≡ Err EncodeError.NoColumns) ↔ (columns ≡ 0) }
     ensures no_encoding { result ≢ Err EncodeError.NoEncoding }
-    ensures not_a_row { (k : ℕ) → (result ≡ Err (EncodeError.NotARow k))
-        ↔ ((0 < columns) × IsFirstUnlawful columns (map (λ row. row.items) rows.now) k) }
+    ensures not_a_row { RefusesFirstUnlawful columns (map (λ row. row.items) rows.now) result }
     ensures no_rows { result ≢ Err EncodeError.NoRows }
     ensures rows { IfOk result (λ _. AreRows columns (map (λ row. row.items) rows.now)) }
     ensures encoded { IfOk result (λ bytes. bits_of bytes.items
@@ -86,8 +85,7 @@ pub fn encode_1d(
     ensures no_columns { (result ≡ Err EncodeError.NoColumns) ↔ (columns ≡ 0) }
     ensures no_encoding { result ≢ Err EncodeError.NoEncoding }
     ensures no_rows { (result ≡ Err EncodeError.NoRows) ↔ ((0 < columns) × (length rows.now ≡ 0)) }
-    ensures not_a_row { (k : ℕ) → (result ≡ Err (EncodeError.NotARow k))
-        ↔ ((0 < columns) × IsFirstUnlawful columns (map (λ row. row.items) rows.now) k) }
+    ensures not_a_row { RefusesFirstUnlawful columns (map (λ row. row.items) rows.now) result }
     ensures rows { IfOk result (λ _. AreRows columns (map (λ row. row.items) rows.now)) }
     ensures encoded { IfOk result (λ bytes. bits_of bytes.items
         ≡ filled_up (chosen_t4 (rows_of columns (map (λ row. row.items) rows.now)))) }

@@ -5,6 +5,7 @@ ghost use Rattle.hayro_ccitt.specs.Bits.{bits_in, bits_of};
 ghost use Rattle.hayro_ccitt.specs.Rows.{AreChanges, pixels, white_row};
 ghost use Rattle.fax_encode.specs.Chosen.{filled_up};
 ghost use Rattle.fax_encode.specs.Packed.{bytes_of_row, in_black};
+ghost use Rattle.fax_encode.specs.Refusals.{FailsToPush, RefusesSettings};
 ghost use Rattle.fax_encode.specs.RowByRow.{KeepsSettings, no_rows, with_row};
 ghost use Rattle.fax_encode.specs.Settings.{names_encoding, needs_row, with_end};
 
@@ -44,12 +45,11 @@ pub struct Encoder {
 }
 
 impl Model for Encoder {
-    ghost use Rattle.std.specs.Prelude.{◌≡◌, ◌≢◌, ◌<◌, ◌%◌, true, false, length, IfSome};
+    ghost use Rattle.std.specs.Prelude.{◌≡◌, ◌≢◌, ◌<◌, true, false, length, IfSome};
     ghost use Rattle.hayro_ccitt.specs.Rows.{AreChanges, pixels};
     ghost use Rattle.fax_encode.specs.RowByRow.{RowsEncoded};
-    ghost use Rattle.fax_encode.specs.Settings.{has_eols};
     ghost use Rattle.fax_encode.specs.WhiteRows.{AreWhiteLines};
-    ghost use Rattle.fax_encode.specs.Writing.{all_bits};
+    ghost use Rattle.fax_encode.specs.Writing.{all_bits, EndsWhereAligned};
 
     ghost Value = { RowsEncoded };
 
@@ -63,9 +63,8 @@ impl Model for Encoder {
       wants_memory = e.wants_memory;
     } };
 
-    ghost invariant = { λ e. (AreChanges e.columns e.reference.items) × ((e.wants_memory ≡ false
-        → has_eols e.settings.encoding e.settings.end_of_line ≡ false → e.settings.rows_are_byte_aligned ≡ true
-        → length (all_bits e.writer) % 8 ≡ 0) × IfSome e.lines (λ made. AreWhiteLines e.settings e.columns made)) };
+    ghost invariant = { λ e. (AreChanges e.columns e.reference.items)
+        × ((e.wants_memory ≡ false → EndsWhereAligned e.settings e.writer) × IfSome e.lines (λ made. AreWhiteLines e.settings e.columns made)) };
 }
 
 impl Encoder {
@@ -79,8 +78,7 @@ impl Encoder {
         columns: u32,
         settings: EncodeSettings,
     ) -> std::result::Result<Encoder, EncodeError>
-        ensures no_encoding { (result ≡ Err EncodeError.NoEncoding) ↔ (names_encoding settings ≡ false) }
-        ensures no_columns { (result ≡ Err EncodeError.NoColumns) ↔ ((names_encoding settings ≡ true) × (columns ≡ 0)) }
+        ensures refused { RefusesSettings settings columns result }
         ensures made { IfOk result (λ encoder. encoder ≡ no_rows settings columns) }
         ensures succeeds { IsOk result ↔ ((names_encoding settings ≡ true) × (0 < columns)) }
     {
@@ -188,10 +186,7 @@ impl Encoder {
         ensures lawful { OnOk result (AreChanges self.old.columns changes.now) }
         ensures not_a_row { (k : ℕ) → (result ≡ Err (EncodeError.NotARow k))
             ↔ ((self.old.wants_memory ≡ false) × (AreChanges self.old.columns changes.now → ⊥) × (k ≡ self.old.count)) }
-        ensures kept { (k : ℕ) → result ≡ Err (EncodeError.NotARow k) → self.new ≡ self.old }
-        ensures others { (result ≢ Err EncodeError.NoEncoding) × (result ≢ Err EncodeError.NoColumns) × (result ≢ Err EncodeError.NoRows) }
-        ensures wanted { self.old.wants_memory ≡ true → result ≡ Err EncodeError.OutOfMemory }
-        ensures wants { result ≡ Err EncodeError.OutOfMemory → self.new.wants_memory ≡ true }
+        ensures fails { FailsToPush self.old self.new result }
         ensures same { KeepsSettings self.old self.new }
     {
         if self.wants_memory {
@@ -263,10 +258,7 @@ impl Encoder {
         ensures whole { OnOk result (bytes_of_row self.old.columns ≤ length row.now) }
         ensures not_a_row { (k : ℕ) → (result ≡ Err (EncodeError.NotARow k))
             ↔ ((self.old.wants_memory ≡ false) × (length row.now < bytes_of_row self.old.columns) × (k ≡ self.old.count)) }
-        ensures kept { (k : ℕ) → result ≡ Err (EncodeError.NotARow k) → self.new ≡ self.old }
-        ensures others { (result ≢ Err EncodeError.NoEncoding) × (result ≢ Err EncodeError.NoColumns) × (result ≢ Err EncodeError.NoRows) }
-        ensures wanted { self.old.wants_memory ≡ true → result ≡ Err EncodeError.OutOfMemory }
-        ensures wants { result ≡ Err EncodeError.OutOfMemory → self.new.wants_memory ≡ true }
+        ensures fails { FailsToPush self.old self.new result }
         ensures same { KeepsSettings self.old self.new }
     {
         if self.wants_memory {
@@ -294,10 +286,7 @@ impl Encoder {
         ensures whole { OnOk result (bytes_of_row self.old.columns ≤ length row.now) }
         ensures not_a_row { (k : ℕ) → (result ≡ Err (EncodeError.NotARow k))
             ↔ ((self.old.wants_memory ≡ false) × (length row.now < bytes_of_row self.old.columns) × (k ≡ self.old.count)) }
-        ensures kept { (k : ℕ) → result ≡ Err (EncodeError.NotARow k) → self.new ≡ self.old }
-        ensures others { (result ≢ Err EncodeError.NoEncoding) × (result ≢ Err EncodeError.NoColumns) × (result ≢ Err EncodeError.NoRows) }
-        ensures wanted { self.old.wants_memory ≡ true → result ≡ Err EncodeError.OutOfMemory }
-        ensures wants { result ≡ Err EncodeError.OutOfMemory → self.new.wants_memory ≡ true }
+        ensures fails { FailsToPush self.old self.new result }
         ensures same { KeepsSettings self.old self.new }
     {
         if !black_is_0 {

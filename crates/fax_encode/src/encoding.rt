@@ -1,11 +1,11 @@
 //! Encoding by settings: what belongs to each line, and what follows the last one.
 
-ghost use Rattle.std.specs.Prelude.{◌≡◌, ◌%◌, ◌++◌, [], false, true, ◌∷◌, length, nat_le, IfOk, OnOk, if◌then◌else◌};
+ghost use Rattle.std.specs.Prelude.{◌≡◌, ◌++◌, [], false, true, ◌∷◌, length, nat_le, IfOk, OnOk, if◌then◌else◌};
 ghost use Rattle.hayro_ccitt.specs.Rows.{AreChanges, pixels};
 ghost use Rattle.fax_encode.specs.Settings.{chosen_line, chosen_part, has_eols, left_after, line_1d, line_2d, names_encoding};
 ghost use Rattle.fax_encode.specs.Settings.{names_group3};
 ghost use Rattle.fax_encode.specs.Settings.{with_end};
-ghost use Rattle.fax_encode.specs.Writing.{all_bits};
+ghost use Rattle.fax_encode.specs.Writing.{all_bits, EndsWhereAligned};
 
 use crate::bit_writer::BitWriter;
 use crate::group3::{put_closing_eols, put_eol, put_filled_eol};
@@ -231,14 +231,12 @@ pub fn put_part(
 ) -> Result<u32, AllocError>
     requires reference { AreChanges columns reference.now }
     requires changes { AreChanges columns changes.now }
-    requires whole { has_eols settings.encoding settings.end_of_line ≡ false → settings.rows_are_byte_aligned ≡ true
-        → length (all_bits writer.old) % 8 ≡ 0 }
+    requires whole { EndsWhereAligned settings writer.old }
     ensures written { OnOk result (all_bits writer.new ≡ all_bits writer.old
         ++ chosen_part settings (length (all_bits writer.old)) left (pixels columns reference.now) (pixels columns changes.now)) }
     ensures left { IfOk result (λ after. after
         ≡ left_after settings.effort settings.encoding settings.k left (pixels columns reference.now) (pixels columns changes.now)) }
-    ensures whole { OnOk result (has_eols settings.encoding settings.end_of_line ≡ false → settings.rows_are_byte_aligned ≡ true
-        → length (all_bits writer.new) % 8 ≡ 0) }
+    ensures whole { OnOk result (EndsWhereAligned settings writer.new) }
 {
     if eols_precede_lines(settings) {
         put_filled_eol(writer, settings.eols_end_at_bytes)?;

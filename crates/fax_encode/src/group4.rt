@@ -3,14 +3,13 @@
 ghost use Rattle.std.specs.Prelude.{◌≡◌, ◌≢◌, ◌+◌, ◌<◌, ◌≤◌, ◌++◌, [], length};
 ghost use Rattle.std.specs.Prelude.{get_or, IfOk, OnOk, MatchOption, if◌then◌else◌, true};
 ghost use Rattle.std.specs.Prelude.{false};
-ghost use Rattle.hayro_ccitt.specs.Mode.TheVariants.{Horizontal};
 ghost use Rattle.hayro_ccitt.specs.Rows.{AreChanges, pixels, opposite, b1, b2};
 ghost use Rattle.hayro_ccitt.specs.Encodings.{padding};
 ghost use Rattle.fax_encode.specs.Chosen.{bits_at, chosen_from, place_after, chosen_mode};
-ghost use Rattle.fax_encode.specs.Chosen.{chosen_run, word_of_mode, chosen_line_2d, is_near};
+ghost use Rattle.fax_encode.specs.Chosen.{word_of_mode, chosen_line_2d, is_near};
 ghost use Rattle.fax_encode.specs.Chosen.{vertical_mode};
 ghost use Rattle.fax_encode.specs.Coding.{AreAllLeft, AreBelow, IsAbove, IsCodedTo, IsNear, place_of, color_after};
-ghost use Rattle.fax_encode.specs.Writing.{all_bits};
+ghost use Rattle.fax_encode.specs.Writing.{all_bits, WritesHorizontal};
 
 use crate::bit_writer::BitWriter;
 use crate::runs::{put_code_word, put_joined, put_runs};
@@ -145,8 +144,7 @@ fn put_short_horizontal(
     second: u32,
 ) -> Result<(), AllocError>
     requires { (first < 64) × (second < 64) }
-    ensures { OnOk result (all_bits writer.new ≡ all_bits writer.old
-        ++ (word_of_mode Horizontal ++ (chosen_run color first ++ chosen_run (opposite color) second))) }
+    ensures { OnOk result (WritesHorizontal color first second writer.old writer.new) }
 {
     let mode = one_word(horizontal_word());
     let one = with_word(mode, terminating_word(color, first));
@@ -162,8 +160,7 @@ fn put_long_horizontal(
     first: u32,
     second: u32,
 ) -> Result<(), AllocError>
-    ensures { OnOk result (all_bits writer.new ≡ all_bits writer.old
-        ++ (word_of_mode Horizontal ++ (chosen_run color first ++ chosen_run (opposite color) second))) }
+    ensures { OnOk result (WritesHorizontal color first second writer.old writer.new) }
 {
     put_code_word(writer, horizontal_word())?;
     put_runs(writer, color, first, second)
@@ -177,8 +174,7 @@ fn put_horizontal(
     first: u32,
     second: u32,
 ) -> Result<(), AllocError>
-    ensures { OnOk result (all_bits writer.new ≡ all_bits writer.old
-        ++ (word_of_mode Horizontal ++ (chosen_run color first ++ chosen_run (opposite color) second))) }
+    ensures { OnOk result (WritesHorizontal color first second writer.old writer.new) }
 {
     if first < 64 && second < 64 {
         return put_short_horizontal(writer, color, first, second);

@@ -4,7 +4,7 @@ ghost use Rattle.std.specs.Prelude.{◌≡◌, ◌+◌, ◌-◌, ◌*◌, ◌/�
 ghost use Rattle.hayro_ccitt.specs.BitOrder.TheVariants.{HighestFirst};
 ghost use Rattle.hayro_ccitt.specs.Bits.{Bits, bits_of, bits_of_byte, low_bits};
 ghost use Rattle.hayro_ccitt.specs.Rows.{AreChanges, pixels};
-ghost use Rattle.fax_encode.specs.Chosen.{filled_up};
+ghost use Rattle.fax_encode.specs.Packed.{IsPackedRow};
 ghost use Rattle.fax_encode.specs.Painting.{FitsRow, under, MovesTo, StandsAt};
 
 use crate::black_runs::{paint_apart, paint_cleared};
@@ -134,7 +134,7 @@ fn finish(row: &mut [u8], brush: Brush)
 #[inline(always)]
 fn paint_from_left(row: &mut [u8], columns: u32, changes: &[u32], are_far: bool)
     requires fits { FitsRow columns changes.now row.old }
-    ensures painted { bits_of row.new ≡ filled_up (pixels columns changes.now) }
+    ensures painted { IsPackedRow columns changes.now row.new }
 {
     let mut brush = Brush {
         start: 0,
@@ -171,7 +171,7 @@ fn paint_from_left(row: &mut [u8], columns: u32, changes: &[u32], are_far: bool)
 #[inline(never)]
 fn paint_changes(row: &mut [u8], columns: u32, changes: &[u32])
     requires fits { FitsRow columns changes.now row.old }
-    ensures painted { bits_of row.new ≡ filled_up (pixels columns changes.now) }
+    ensures painted { IsPackedRow columns changes.now row.new }
 {
     paint_from_left(row, columns, changes, false);
 }
@@ -180,7 +180,7 @@ fn paint_changes(row: &mut [u8], columns: u32, changes: &[u32])
 #[inline(never)]
 fn paint_wide(row: &mut [u8], columns: u32, changes: &[u32])
     requires fits { FitsRow columns changes.now row.old }
-    ensures painted { bits_of row.new ≡ filled_up (pixels columns changes.now) }
+    ensures painted { IsPackedRow columns changes.now row.new }
 {
     paint_from_left(row, columns, changes, true);
 }
@@ -217,7 +217,7 @@ pub fn put_first(row: &mut [u8], word: u64)
 fn paint_narrow(row: &mut [u8], columns: u32, changes: &[u32])
     requires fits { FitsRow columns changes.now row.old }
     requires narrow { length row.old < 8 }
-    ensures painted { bits_of row.new ≡ filled_up (pixels columns changes.now) }
+    ensures painted { IsPackedRow columns changes.now row.new }
 {
     let mut brush = Brush {
         start: 0,
@@ -266,7 +266,7 @@ fn has_long_run(columns: u32, changes: &[u32]) -> bool {
 fn paint_long(row: &mut [u8], columns: u32, changes: &[u32])
     requires fits { FitsRow columns changes.now row.old }
     requires long { 8 ≤ length row.old }
-    ensures painted { bits_of row.new ≡ filled_up (pixels columns changes.now) }
+    ensures painted { IsPackedRow columns changes.now row.new }
 {
     if row.len() > MOST_FILLED && changes.len() <= FEW_FAR && has_long_run(columns, changes) {
         paint_wide(row, columns, changes);
@@ -279,7 +279,7 @@ fn paint_long(row: &mut [u8], columns: u32, changes: &[u32])
 #[inline(never)]
 pub fn paint_over(row: &mut [u8], columns: u32, changes: &[u32])
     requires fits { FitsRow columns changes.now row.old }
-    ensures painted { bits_of row.new ≡ filled_up (pixels columns changes.now) }
+    ensures painted { IsPackedRow columns changes.now row.new }
 {
     if row.len() < 8 {
         paint_narrow(row, columns, changes);
@@ -299,7 +299,7 @@ pub fn paint_over(row: &mut [u8], columns: u32, changes: &[u32])
 #[inline(always)]
 pub fn paint_row(row: &mut [u8], columns: u32, changes: &[u32])
     requires fits { FitsRow columns changes.now row.old }
-    ensures painted { bits_of row.new ≡ filled_up (pixels columns changes.now) }
+    ensures painted { IsPackedRow columns changes.now row.new }
 {
     if changes.is_empty() || changes.len() > most_cleared_first(row.len()) {
         paint_over(row, columns, changes);

@@ -3,6 +3,7 @@
 ghost use Rattle.std.specs.Prelude.{◌≡◌, ◌+◌, ◌-◌, ◌^◌, ◌<◌, ◌≤◌, ◌++◌, true, false, length, get_or, replicate, take, drop};
 ghost use Rattle.hayro_ccitt.specs.BitOrder.TheVariants.{HighestFirst};
 ghost use Rattle.hayro_ccitt.specs.Bits.{bits_of, bits_of_byte, low_bits};
+ghost use Rattle.fax_encode.specs.Packed.{AreFirstPixels};
 
 /// Returns a word of pixels of one colour.
 #[inline(always)]
@@ -80,7 +81,7 @@ pub fn ones_before(zeros: usize) -> u64
 #[inline(always)]
 pub fn first_pixels(bytes: &[u8]) -> u64
     requires { 8 ≤ length bytes.now }
-    ensures { low_bits 64 result ≡ take 64 (bits_of bytes.now ++ replicate 64 false) }
+    ensures { AreFirstPixels bytes.now result }
 {
     u64::from_be_bytes([
         bytes[0], bytes[1], bytes[2], bytes[3], bytes[4], bytes[5], bytes[6], bytes[7],

@@ -5,7 +5,7 @@ ghost use Rattle.hayro_ccitt.specs.Bits.{bits_of};
 ghost use Rattle.hayro_ccitt.specs.Pictures.{IsClosedPicture};
 ghost use Rattle.fax_encode.specs.Chosen.{rows_of};
 ghost use Rattle.fax_encode.specs.Packed.{packed};
-ghost use Rattle.fax_encode.specs.Refusals.{AreRows, IsFirstUnlawful};
+ghost use Rattle.fax_encode.specs.Refusals.{AreRows, RefusesFirstUnlawful};
 
 use crate::{BitmapSink, EncodeError, encode_1d, encode_g4};
 use hayro_ccitt::{DecodeSettings, DecoderContext, EncodingMode, bits_fit, decode};
@@ -71,8 +71,7 @@ pub fn bitmap_by_group4(
 ) -> std::result::Result<BitmapSink, EncodeError>
     ensures no_columns { (result ≡ Err EncodeError.NoColumns) ↔ (columns ≡ 0) }
     ensures no_encoding { result ≢ Err EncodeError.NoEncoding }
-    ensures not_a_row { (k : ℕ) → (result ≡ Err (EncodeError.NotARow k))
-        ↔ ((0 < columns) × IsFirstUnlawful columns (map (λ row. row.items) rows.now) k) }
+    ensures not_a_row { RefusesFirstUnlawful columns (map (λ row. row.items) rows.now) result }
     ensures no_rows { result ≢ Err EncodeError.NoRows }
     ensures packed { IfOk result (λ sink. bits_of sink.bytes ≡ packed (rows_of columns (map (λ row. row.items) rows.now))) }
 {
@@ -96,8 +95,7 @@ pub fn bitmap_by_group3(
     ensures no_columns { (result ≡ Err EncodeError.NoColumns) ↔ (columns ≡ 0) }
     ensures no_encoding { result ≢ Err EncodeError.NoEncoding }
     ensures no_rows { (result ≡ Err EncodeError.NoRows) ↔ ((0 < columns) × (length rows.now ≡ 0)) }
-    ensures not_a_row { (k : ℕ) → (result ≡ Err (EncodeError.NotARow k))
-        ↔ ((0 < columns) × IsFirstUnlawful columns (map (λ row. row.items) rows.now) k) }
+    ensures not_a_row { RefusesFirstUnlawful columns (map (λ row. row.items) rows.now) result }
 {
     let encoded = encode_1d(alloc, columns, rows)?;
     let settings = settings_to_the_end(columns, EncodingMode::Group3_1D, false);

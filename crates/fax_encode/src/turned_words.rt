@@ -5,7 +5,7 @@
 ghost use Rattle.std.specs.Prelude.{◌≡◌, ◌+◌, ◌-◌, ◌*◌, ◌/◌, ◌%◌, ◌<◌, ◌≤◌, ◌++◌, false, drop, length, map, replicate, take};
 ghost use Rattle.hayro_ccitt.specs.Bits.{bit_of, bits_of, low_bits};
 ghost use Rattle.hayro_ccitt.specs.Rows.{AreChanges, pixels};
-ghost use Rattle.fax_encode.specs.Chosen.{filled_up};
+ghost use Rattle.fax_encode.specs.Packed.{IsPackedRow};
 ghost use Rattle.fax_encode.specs.Painting.{FitsRow, joined_pixels, plain_pixels, turned_after, turned_at_all, turned_from};
 
 use crate::painting::put_first;
@@ -111,7 +111,7 @@ fn put_words(row: &mut [u8], words: &[u64])
 pub fn paint_by_words(row: &mut [u8], columns: u32, changes: &[u32])
     requires fits { FitsRow columns changes.now row.old }
     requires few { length row.old ≤ 511 }
-    ensures painted { bits_of row.new ≡ filled_up (pixels columns changes.now) }
+    ensures painted { IsPackedRow columns changes.now row.new }
 {
     let mut words = [0; WORDS];
     turn_at_changes(&mut words, columns, changes);

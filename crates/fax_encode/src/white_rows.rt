@@ -1,12 +1,12 @@
 //! White rows below white ones: they are counted by their bytes, and their lines are words that are made once.
 
-ghost use Rattle.std.specs.Prelude.{◌≡◌, ◌*◌, ◌%◌, ◌^◌, ◌<◌, ◌≤◌, ◌++◌, List};
-ghost use Rattle.std.specs.Prelude.{true, false, length, replicate, take, IfOk, IfSome, OnOk};
+ghost use Rattle.std.specs.Prelude.{◌≡◌, ◌*◌, ◌^◌, ◌<◌, ◌≤◌, ◌++◌, List};
+ghost use Rattle.std.specs.Prelude.{false, length, replicate, take, IfOk, IfSome, OnOk};
 ghost use Rattle.hayro_ccitt.specs.Bits.{bits_of};
 ghost use Rattle.hayro_ccitt.specs.Rows.{Row, white_row};
-ghost use Rattle.fax_encode.specs.Settings.{chosen_part, has_eols, left_after, lines_left};
+ghost use Rattle.fax_encode.specs.Settings.{chosen_part, left_after, lines_left};
 ghost use Rattle.fax_encode.specs.WhiteRows.{IsWhiteLine, AreWhiteLines};
-ghost use Rattle.fax_encode.specs.Writing.{all_bits};
+ghost use Rattle.fax_encode.specs.Writing.{all_bits, EndsWhereAligned};
 
 use crate::EncodeSettings;
 use crate::bit_writer::BitWriter;
@@ -157,15 +157,13 @@ pub fn put_white_line(
     left: u32,
     lines: Option<WhiteLines>,
 ) -> Result<u32, AllocError>
-    requires whole { has_eols settings.encoding settings.end_of_line ≡ false → settings.rows_are_byte_aligned ≡ true
-        → length (all_bits writer.old) % 8 ≡ 0 }
+    requires whole { EndsWhereAligned settings writer.old }
     requires lines { IfSome lines (λ made. AreWhiteLines settings columns made) }
     ensures written { OnOk result (all_bits writer.new ≡ all_bits writer.old
         ++ chosen_part settings (length (all_bits writer.old)) left (white_row columns) (white_row columns)) }
     ensures left { IfOk result (λ after. after
         ≡ left_after settings.effort settings.encoding settings.k left (white_row columns) (white_row columns)) }
-    ensures whole { OnOk result (has_eols settings.encoding settings.end_of_line ≡ false → settings.rows_are_byte_aligned ≡ true
-        → length (all_bits writer.new) % 8 ≡ 0) }
+    ensures whole { OnOk result (EndsWhereAligned settings writer.new) }
 {
     match lines {
         Some(made) => put_words(writer, columns, settings, left, made),
@@ -185,15 +183,13 @@ pub fn put_white_lines(
     lines: Option<WhiteLines>,
     count: usize,
 ) -> Result<u32, AllocError>
-    requires whole { has_eols settings.encoding settings.end_of_line ≡ false → settings.rows_are_byte_aligned ≡ true
-        → length (all_bits writer.old) % 8 ≡ 0 }
+    requires whole { EndsWhereAligned settings writer.old }
     requires lines { IfSome lines (λ made. AreWhiteLines settings columns made) }
     ensures written { IfOk result (λ after. (below : List Row)
         → all_bits writer.new ++ lines_left settings (length (all_bits writer.new)) after (white_row columns) below
         ≡ all_bits writer.old ++ lines_left settings (length (all_bits writer.old)) left (white_row columns)
         (replicate count (white_row columns) ++ below)) }
-    ensures whole { OnOk result (has_eols settings.encoding settings.end_of_line ≡ false → settings.rows_are_byte_aligned ≡ true
-        → length (all_bits writer.new) % 8 ≡ 0) }
+    ensures whole { OnOk result (EndsWhereAligned settings writer.new) }
 {
     let mut rows = count;
     let mut now = left;
