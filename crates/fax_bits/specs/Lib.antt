@@ -6,6 +6,7 @@ pub mod Faults
 pub mod LookUps
 pub mod ModeGroups
 pub mod Ones
+pub mod ReaderSteps
 pub mod Repetition
 pub mod Runs
 pub mod Texts

@@ -8,6 +8,7 @@ ghost use Rattle.fax_bits.specs.Bits.{at_end, aligned, low_bits};
 ghost use Rattle.fax_bits.specs.Window.{place_in_word, ArePlaced, AtHand, HoldsNext, PassesPlaced, WordsAt, moved};
 ghost use Rattle.fax_bits.specs.LookUps.{index_bits, lookup_bits, padded, seven_bits, twelve_bits};
 ghost use Rattle.fax_bits.specs.ModeGroups.{ten_bits};
+ghost use Rattle.fax_bits.specs.ReaderSteps.{AreThere, HasBitsFrom, HasFirstBits, at_offset};
 
 use crate::codes::Color;
 use crate::{DecodeError, Result};
@@ -90,7 +91,7 @@ fn in_order(word: u64, order: BitOrder) -> u64
 #[inline(always)]
 fn whole_word(bytes: &[u8], order: BitOrder) -> u64
     requires { 8 ≤ length bytes.now }
-    ensures { (k : ℕ) → k < 64 → bit_of result (63 - k) ≡ get_or (bits_in order bytes.now) k false }
+    ensures { HasFirstBits (bits_in order bytes.now) result }
 {
     let word = u64::from_be_bytes([
         bytes[0], bytes[1], bytes[2], bytes[3], bytes[4], bytes[5], bytes[6], bytes[7],
@@ -108,7 +109,7 @@ fn byte_or_zero(bytes: &[u8], index: usize) -> u8
 /// Returns the bits of the first eight bytes, the first in the highest position, with zeros after the last one.
 #[inline(always)]
 fn few_bytes(bytes: &[u8], order: BitOrder) -> u64
-    ensures { (k : ℕ) → k < 64 → bit_of result (63 - k) ≡ get_or (bits_in order bytes.now) k false }
+    ensures { HasFirstBits (bits_in order bytes.now) result }
 {
     let last = u64::from_be_bytes([
         byte_or_zero(bytes, 0),
@@ -127,7 +128,7 @@ fn few_bytes(bytes: &[u8], order: BitOrder) -> u64
 #[cold]
 #[inline(never)]
 fn last_word(bytes: &[u8], order: BitOrder) -> u64
-    ensures { (k : ℕ) → k < 64 → bit_of result (63 - k) ≡ get_or (bits_in order bytes.now) k false }
+    ensures { HasFirstBits (bits_in order bytes.now) result }
 {
     few_bytes(bytes, order)
 }
@@ -139,7 +140,7 @@ fn near_end(data: &[u8], order: BitOrder, byte: usize) -> u64
     requires whole { 8 ≤ length «data».now }
     requires within { byte ≤ length «data».now }
     requires near { length «data».now < byte + 8 }
-    ensures { (k : ℕ) → k < 64 → bit_of result (63 - k) ≡ get_or (bits_in order «data».now) (8 * byte + k) false }
+    ensures { HasBitsFrom (bits_in order «data».now) (8 * byte) result }
 {
     let start = data.len() - 8;
     // How many of the last eight bytes come before them: one at least.
@@ -150,7 +151,7 @@ fn near_end(data: &[u8], order: BitOrder, byte: usize) -> u64
 /// Returns the 64 bits from a byte on, the first in the highest position, with zeros past the end.
 fn word_at(data: &[u8], order: BitOrder, byte: usize) -> u64
     requires { byte ≤ length «data».now }
-    ensures { (k : ℕ) → k < 64 → bit_of result (63 - k) ≡ get_or (bits_in order «data».now) (8 * byte + k) false }
+    ensures { HasBitsFrom (bits_in order «data».now) (8 * byte) result }
 {
     let rest = &data[byte..];
     if rest.len() >= 8 {
@@ -387,7 +388,7 @@ pub fn starting_at<'a>(data: &'a [u8], place: usize) -> BitReader<'a>
 pub fn placed_at<'a>(data: &'a [u8], order: BitOrder, place: usize) -> BitReader<'a>
     requires fit { BitsFit «data».now }
     requires within { place ≤ 8 * length «data».now }
-    ensures { result ≡ record { bits = bits_in order «data».now; place = place } }
+    ensures { result ≡ at_offset order «data».now place }
 {
     let edge = place / 8;
     let ahead = word_at(data, order, edge);
@@ -407,7 +408,7 @@ pub fn placed_at<'a>(data: &'a [u8], order: BitOrder, place: usize) -> BitReader
 pub fn at_place<'a>(data: &'a [u8], order: BitOrder, place: usize) -> BitReader<'a>
     requires fit { BitsFit «data».now }
     requires within { place ≤ 8 * length «data».now }
-    ensures { result ≡ record { bits = bits_in order «data».now; place = place } }
+    ensures { result ≡ at_offset order «data».now place }
 {
     placed_at(data, order, place)
 }
@@ -786,7 +787,7 @@ impl<'a> BitsAtHand<'a> {
     pub(crate) fn run_index(&self, skip: usize, color: Color) -> usize
         requires within { skip + 13 ≤ self.now.left }
         ensures few { result < 2 ^ lookup_bits color }
-        ensures there { self.now.at.place + self.now.left ≤ length self.now.at.bits }
+        ensures there { AreThere self.now }
         ensures bits { index_bits (lookup_bits color) result ≡ padded (lookup_bits color) (here (moved skip self.now.at)) }
     {
         (self.window << skip >> (64 - color.lookup_bits())) as usize
@@ -797,7 +798,7 @@ impl<'a> BitsAtHand<'a> {
     pub fn twelve(&self, skip: usize) -> usize
         requires within { skip + 12 ≤ self.now.left }
         ensures few { result < 4096 }
-        ensures there { self.now.at.place + self.now.left ≤ length self.now.at.bits }
+        ensures there { AreThere self.now }
         ensures bits { twelve_bits result ≡ padded 12 (here (moved skip self.now.at)) }
     {
         (self.window << skip >> 52) as usize
@@ -808,7 +809,7 @@ impl<'a> BitsAtHand<'a> {
     pub fn ten(&self) -> usize
         requires within { 10 ≤ self.now.left }
         ensures few { result < 1024 }
-        ensures there { self.now.at.place + self.now.left ≤ length self.now.at.bits }
+        ensures there { AreThere self.now }
         ensures bits { ten_bits result ≡ padded 10 (here self.now.at) }
     {
         (self.window >> 54) as usize
@@ -833,7 +834,7 @@ impl<'a> BitsAtHand<'a> {
     pub fn seven(&self) -> u32
         requires within { 7 ≤ self.now.left }
         ensures few { result < 128 }
-        ensures there { self.now.at.place + self.now.left ≤ length self.now.at.bits }
+        ensures there { AreThere self.now }
         ensures bits { seven_bits result ≡ padded 7 (here self.now.at) }
     {
         (self.window >> 57) as u32
@@ -890,8 +891,8 @@ impl<'a> Model for BitScanner<'a> {
 fn scanner_over<'a>(data: &'a [u8], order: BitOrder, place: usize, word: u64) -> BitScanner<'a>
     requires fit { BitsFit «data».now }
     requires within { place ≤ 8 * length «data».now }
-    requires word { (k : ℕ) → k < 64 → bit_of word (63 - k) ≡ get_or (bits_in order «data».now) (8 * (place / 8) + k) false }
-    ensures { result ≡ record { bits = bits_in order «data».now; place = place } }
+    requires word { HasBitsFrom (bits_in order «data».now) (8 * (place / 8)) word }
+    ensures { result ≡ at_offset order «data».now place }
 {
     let end = data.len() * 8;
     let limit = (place / 8 * 8 + 64).min(end);
@@ -912,8 +913,7 @@ fn last_bits(data: &[u8], order: BitOrder, left: usize) -> u64
     requires few { left ≤ 64 }
     requires within { left ≤ 8 * length «data».now }
     requires fit { BitsFit «data».now }
-    ensures { (k : ℕ) → k < 64
-        → bit_of result (63 - k) ≡ get_or (bits_in order «data».now) (8 * length «data».now - left + k) false }
+    ensures { HasBitsFrom (bits_in order «data».now) (8 * length «data».now - left) result }
 {
     if data.len() < 8 {
         return later_word(data, order, 0) << (data.len() * 8 - left);
@@ -926,7 +926,7 @@ fn last_bits(data: &[u8], order: BitOrder, left: usize) -> u64
 pub fn scanner_near_end<'a>(data: &'a [u8], order: BitOrder, place: usize) -> Option<BitScanner<'a>>
     requires fit { BitsFit «data».now }
     requires within { place ≤ 8 * length «data».now }
-    ensures same { IfSome result (λ scanner. scanner ≡ record { bits = bits_in order «data».now; place = place }) }
+    ensures same { IfSome result (λ scanner. scanner ≡ at_offset order «data».now place) }
 {
     let end = data.len() * 8;
     let left = end - place;
@@ -949,8 +949,7 @@ fn last_bits_here(data: &[u8], order: BitOrder, left: usize) -> u64
     requires few { left ≤ 63 }
     requires within { left ≤ 8 * length «data».now }
     requires fit { BitsFit «data».now }
-    ensures { (k : ℕ) → k < 64
-        → bit_of result (63 - k) ≡ get_or (bits_in order «data».now) (8 * length «data».now - left + k) false }
+    ensures { HasBitsFrom (bits_in order «data».now) (8 * length «data».now - left) result }
 {
     if data.len() < 8 {
         return few_bytes(data, order) << (data.len() * 8 - left);
@@ -964,8 +963,7 @@ fn last_bits_here(data: &[u8], order: BitOrder, left: usize) -> u64
 pub fn scanner_of_last<'a>(data: &'a [u8], order: BitOrder, left: usize) -> Option<BitScanner<'a>>
     requires fit { BitsFit «data».now }
     requires within { left ≤ 8 * length «data».now }
-    ensures same { IfSome result (λ scanner. scanner
-        ≡ record { bits = bits_in order «data».now; place = 8 * length «data».now - left }) }
+    ensures same { IfSome result (λ scanner. scanner ≡ at_offset order «data».now (8 * length «data».now - left)) }
 {
     if left > 63 {
         return None;
@@ -985,7 +983,7 @@ pub fn scanner_of_last<'a>(data: &'a [u8], order: BitOrder, left: usize) -> Opti
 pub fn scanner_at<'a>(data: &'a [u8], order: BitOrder, place: usize) -> BitScanner<'a>
     requires fit { BitsFit «data».now }
     requires within { place ≤ 8 * length «data».now }
-    ensures { result ≡ record { bits = bits_in order «data».now; place = place } }
+    ensures { result ≡ at_offset order «data».now place }
 {
     if let Some(scanner) = scanner_near_end(data, order, place) {
         return scanner;
@@ -999,7 +997,7 @@ pub fn scanner_at<'a>(data: &'a [u8], order: BitOrder, place: usize) -> BitScann
 #[inline(never)]
 fn later_word(data: &[u8], order: BitOrder, byte: usize) -> u64
     requires { byte ≤ length «data».now }
-    ensures { (k : ℕ) → k < 64 → bit_of result (63 - k) ≡ get_or (bits_in order «data».now) (8 * byte + k) false }
+    ensures { HasBitsFrom (bits_in order «data».now) (8 * byte) result }
 {
     word_at(data, order, byte)
 }

@@ -13,6 +13,7 @@ ghost use Rattle.fax_bits.specs.EndOfLine.{after_eol, eols, all_eols, next_eol, 
 ghost use Rattle.fax_bits.specs.EndOfLine.{tagged_eols};
 ghost use Rattle.fax_bits.specs.Ones.{holds_one};
 ghost use Rattle.fax_bits.specs.LookUps.{entry_of, lookup_bits, mode_told, padded, seven_bits};
+ghost use Rattle.fax_bits.specs.ReaderSteps.{CountsBits, CountsBitsAtLeast, CountsNoEol, Reads};
 ghost use Rattle.fax_bits.specs.Runs.{codes_of, opposite, read_run, run_from};
 ghost use Rattle.fax_bits.specs.WordsHere.{IsWordHere, RunGoesOn};
 ghost use Rattle.fax_bits.specs.Window.{moved};
@@ -188,9 +189,7 @@ impl<'a> BitReader<'a> {
     /// Reads a word of a colour's list, which is one tick.
     #[inline(always)]
     fn decode_word(&mut self, color: Color, tables: &Tables, ticks: &mut Ticks) -> Result<u16>
-        ensures word { MatchResult result
-            (λ n. read_code (codes_of color) (here self.old) ≡ Ok (n, here self.new))
-            (λ e. read_code (codes_of color) (here self.old) ≡ Err e) }
+        ensures word { Reads (read_code (codes_of color)) self.old self.new result }
         ensures fault { IfErr result IsFault }
         ensures same_bits { self.new.bits ≡ self.old.bits }
         ensures ticks { ticks.new ≡ ticks.old + 1 }
@@ -330,9 +329,7 @@ impl<'a> BitReader<'a> {
     /// exceeds 32 bits. The offset is then unspecified.
     #[inline(always)]
     pub fn decode_run(&mut self, color: Color, tables: &Tables, ticks: &mut Ticks) -> Result<u32>
-        ensures run { MatchResult result
-            (λ n. read_run color (here self.old) ≡ Ok (n, here self.new))
-            (λ e. read_run color (here self.old) ≡ Err e) }
+        ensures run { Reads (read_run color) self.old self.new result }
         ensures fault { IfErr result IsFault }
         ensures same_bits { self.new.bits ≡ self.old.bits }
         ensures ticks { ticks.new ≡ ticks.old + length (run_found color (0, here self.old)) + missed result }
@@ -392,9 +389,7 @@ impl<'a> BitReader<'a> {
     /// `UnexpectedEof` if the data ends inside a word, and `InvalidCode` if there is none.
     #[inline(always)]
     pub fn decode_mode(&mut self, ticks: &mut Ticks) -> Result<Mode>
-        ensures mode { MatchResult result
-            (λ m. read_code mode_codes (here self.old) ≡ Ok (m, here self.new))
-            (λ e. read_code mode_codes (here self.old) ≡ Err e) }
+        ensures mode { Reads (read_code mode_codes) self.old self.new result }
         ensures fault { IfErr result IsFault }
         ensures same_bits { self.new.bits ≡ self.old.bits }
         ensures ticks { ticks.new ≡ ticks.old + 1 }
@@ -409,9 +404,7 @@ impl<'a> BitReader<'a> {
     /// Reads any mode, as `decode_mode` does.
     #[inline(always)]
     fn read_mode(&mut self, ticks: &mut Ticks) -> Result<Mode>
-        ensures mode { MatchResult result
-            (λ m. read_code mode_codes (here self.old) ≡ Ok (m, here self.new))
-            (λ e. read_code mode_codes (here self.old) ≡ Err e) }
+        ensures mode { Reads (read_code mode_codes) self.old self.new result }
         ensures fault { IfErr result IsFault }
         ensures same_bits { self.new.bits ≡ self.old.bits }
         ensures ticks { ticks.new ≡ ticks.old + 1 }
@@ -549,7 +542,7 @@ impl<'a> BitReader<'a> {
         ensures onward { length (here self.new) ≤ length (here self.old) }
         ensures unchanged { result ≡ false → self.new ≡ self.old }
         ensures same_bits { self.new.bits ≡ self.old.bits }
-        ensures ticks { ticks.new + length (here self.new) ≡ ticks.old + length (here self.old) }
+        ensures ticks { CountsBits self.old self.new ticks.old ticks.new }
     {
         if self.peek_u32() >> 20 != 1 {
             return false;
@@ -604,7 +597,7 @@ impl<'a> BitReader<'a> {
         ensures onward { length (here self.new) ≤ length (here self.old) }
         ensures fewer { result ≡ true → length (here self.new) < length (here self.old) }
         ensures same_bits { self.new.bits ≡ self.old.bits }
-        ensures ticks { ticks.new + length (here self.new) ≡ ticks.old + length (here self.old) }
+        ensures ticks { CountsBits self.old self.new ticks.old ticks.new }
     {
         let next = self.peek_u32() >> 21;
         if next == 0 {
@@ -707,10 +700,10 @@ impl<'a> BitReader<'a> {
     fn read_eols_with_tags(&mut self, ticks: &mut Ticks) -> usize
         ensures eols { eols_with_tags (length (here self.old)) (here self.old) ≡ (result, here self.new) }
         ensures same_bits { self.new.bits ≡ self.old.bits }
-        ensures at_least { ticks.old + length (here self.old) ≤ ticks.new + length (here self.new) }
+        ensures at_least { CountsBitsAtLeast self.old self.new ticks.old ticks.new }
         ensures at_most { ticks.new + 2 * length (here self.new)
             ≤ ticks.old + 2 * length (here self.old) + looked_at_tag (here self.new) + looked (here self.new) }
-        ensures none { result ≡ 0 → ticks.new ≡ ticks.old + looked (here self.old) }
+        ensures none { CountsNoEol self.old result ticks.old ticks.new }
     {
         let mut count = 0;
         'eols: while !self.at_end() {
@@ -731,7 +724,7 @@ impl<'a> BitReader<'a> {
         ensures onward { length (here self.new) ≤ length (here self.old) }
         ensures unchanged { result ≡ false → self.new ≡ self.old }
         ensures same_bits { self.new.bits ≡ self.old.bits }
-        ensures ticks { ticks.new + length (here self.new) ≡ ticks.old + length (here self.old) }
+        ensures ticks { CountsBits self.old self.new ticks.old ticks.new }
     {
         // A one among the ten bits after the tag is near, seen from the tag and from the bit after it.
         let is_single = (self.peek_u32() >> 9) % 1024 != 0;
@@ -744,10 +737,10 @@ impl<'a> BitReader<'a> {
     pub fn read_tagged_eols(&mut self, ticks: &mut Ticks) -> usize
         ensures eols { tagged_eols (here self.old) ≡ (result, here self.new) }
         ensures same_bits { self.new.bits ≡ self.old.bits }
-        ensures at_least { ticks.old + length (here self.old) ≤ ticks.new + length (here self.new) }
+        ensures at_least { CountsBitsAtLeast self.old self.new ticks.old ticks.new }
         ensures at_most { ticks.new + 2 * length (here self.new)
             ≤ ticks.old + 2 * length (here self.old) + 3 + looked (drop 1 (here self.new)) }
-        ensures none { result ≡ 0 → ticks.new ≡ ticks.old + looked (here self.old) }
+        ensures none { CountsNoEol self.old result ticks.old ticks.new }
     {
         // The usual cases are no EOL, and one without fill that no other follows, nor a tag and another.
         if self.is_near_one(ticks) {
@@ -764,10 +757,10 @@ impl<'a> BitReader<'a> {
     fn read_all_tagged_eols(&mut self, ticks: &mut Ticks) -> usize
         ensures eols { tagged_eols (here self.old) ≡ (result, here self.new) }
         ensures same_bits { self.new.bits ≡ self.old.bits }
-        ensures at_least { ticks.old + length (here self.old) ≤ ticks.new + length (here self.new) }
+        ensures at_least { CountsBitsAtLeast self.old self.new ticks.old ticks.new }
         ensures at_most { ticks.new + 2 * length (here self.new)
             ≤ ticks.old + 2 * length (here self.old) + 3 + looked (drop 1 (here self.new)) }
-        ensures none { result ≡ 0 → ticks.new ≡ ticks.old + looked (here self.old) }
+        ensures none { CountsNoEol self.old result ticks.old ticks.new }
     {
         let count = self.read_eols_with_tags(ticks);
         self.pass_last_tag(count, ticks);
@@ -791,9 +784,7 @@ impl<'a> BitScanner<'a> {
     /// `UnexpectedEof` if the data ends inside a word: then the offset is the same. `InvalidCode` if there is none.
     #[inline(always)]
     pub fn read_word(&mut self, color: Color, tables: &Tables, ticks: &mut Ticks) -> Result<u16>
-        ensures word { MatchResult result
-            (λ n. read_code (codes_of color) (here self.old) ≡ Ok (n, here self.new))
-            (λ e. read_code (codes_of color) (here self.old) ≡ Err e) }
+        ensures word { Reads (read_code (codes_of color)) self.old self.new result }
         ensures same_bits { self.new.bits ≡ self.old.bits }
         ensures onward { self.old.place ≤ self.new.place }
         ensures lacking { result ≡ Err DecodeError.UnexpectedEof → self.new ≡ self.old }
@@ -841,9 +832,7 @@ impl<'a> BitScanner<'a> {
     /// `UnexpectedEof` if the data ends inside a word, and `InvalidCode` if there is none.
     #[inline(always)]
     pub fn next_mode(&mut self, ticks: &mut Ticks) -> Result<Mode>
-        ensures mode { MatchResult result
-            (λ m. read_code mode_codes (here self.old) ≡ Ok (m, here self.new))
-            (λ e. read_code mode_codes (here self.old) ≡ Err e) }
+        ensures mode { Reads (read_code mode_codes) self.old self.new result }
         ensures same_bits { self.new.bits ≡ self.old.bits }
         ensures ticks { ticks.new ≡ ticks.old + 1 }
     {
@@ -857,9 +846,7 @@ impl<'a> BitScanner<'a> {
     /// Reads any mode, as `next_mode` does.
     #[inline(always)]
     fn mode_here(&mut self, ticks: &mut Ticks) -> Result<Mode>
-        ensures mode { MatchResult result
-            (λ m. read_code mode_codes (here self.old) ≡ Ok (m, here self.new))
-            (λ e. read_code mode_codes (here self.old) ≡ Err e) }
+        ensures mode { Reads (read_code mode_codes) self.old self.new result }
         ensures same_bits { self.new.bits ≡ self.old.bits }
         ensures ticks { ticks.new ≡ ticks.old + 1 }
     {

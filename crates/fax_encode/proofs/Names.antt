@@ -22,7 +22,7 @@ pub use Rattle.fax_encode.specs.Settings.{decode_settings_for, fill_of, group3_s
 pub use Rattle.fax_encode.specs.Settings.{lines_by, lines_left}
 pub use Rattle.fax_encode.specs.Settings.{is_two_dimensional, left_after, line_1d, line_2d, names_encoding, needs_row, with_end}
 pub use Rattle.fax_encode.specs.WhiteRows.{AreWhiteLines, IsWhiteLine}
-pub use Rattle.fax_encode.specs.Writing.{IsWord, Marked, Written, all_bits}
+pub use Rattle.fax_encode.specs.Writing.{EndsWhereAligned, IsWord, Marked, Written, all_bits}
 pub use Rattle.fax_encode.specs.declared.bit_order.TheConstants.{TURNED}
 pub use Rattle.fax_encode.specs.declared.painting.Brush.{Brush}
 pub use Rattle.fax_encode.specs.declared.pixel_words.TheConstants.{ONES_BEFORE, ONES_FROM}

@@ -97,7 +97,7 @@ pub fn encode(
     rows: &[Vec<u32>],
     settings: EncodeSettings,
 ) -> std::result::Result<Vec<u8>, EncodeError>
-    ensures refused { RefusesSettings settings columns result }
+    ensures refusals { RefusesSettings settings columns result }
     ensures no_rows { (result ≡ Err EncodeError.NoRows) ↔ ((names_encoding settings ≡ true) × (0 < columns)
         × (needs_row settings.encoding settings.end_of_block ≡ true) × (length rows.now ≡ 0)) }
     ensures not_a_row { (k : ℕ) → (result ≡ Err (EncodeError.NotARow k)) ↔ ((names_encoding settings ≡ true) × (0 < columns)
@@ -200,7 +200,7 @@ pub fn encode_bitmap(
     bitmap: &[u8],
     settings: EncodeSettings,
 ) -> std::result::Result<Vec<u8>, EncodeError>
-    ensures refused { RefusesSettings settings columns result }
+    ensures refusals { RefusesSettings settings columns result }
     ensures no_rows { (result ≡ Err EncodeError.NoRows) ↔ ((names_encoding settings ≡ true) × (0 < columns)
         × (needs_row settings.encoding settings.end_of_block ≡ true) × (length bitmap.now < bytes_of_row columns)) }
     ensures not_a_row { (k : ℕ) → result ≢ Err (EncodeError.NotARow k) }

@@ -78,7 +78,7 @@ impl Encoder {
         columns: u32,
         settings: EncodeSettings,
     ) -> std::result::Result<Encoder, EncodeError>
-        ensures refused { RefusesSettings settings columns result }
+        ensures refusals { RefusesSettings settings columns result }
         ensures made { IfOk result (λ encoder. encoder ≡ no_rows settings columns) }
         ensures succeeds { IsOk result ↔ ((names_encoding settings ≡ true) × (0 < columns)) }
     {

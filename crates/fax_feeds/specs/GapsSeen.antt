@@ -108,3 +108,7 @@ LooksOn rules old new here = (rest : Bits) × LooksTo rules old new here rest
 -- the gap that begins some bits was looked at so far
 abbrev pub IsSeen : GapRules → GapLook → Bits → Type 0
 IsSeen rules look here = LooksOn rules nothing_seen look here
+
+-- each bit that was looked at is a tick
+abbrev pub CountsLooks : GapLook → GapLook → ℕ → ℕ → Type 0
+CountsLooks old new before after = after + old.bits ≡ before + new.bits

@@ -6,7 +6,7 @@ ghost use Rattle.std.specs.Prelude.{IfOk, IfErr, OnErr, OnOk, IsOkUnless, Result
 ghost use Rattle.fax_bits.specs.Bits.{AreWholeBytes, Bits, bits_in, here};
 ghost use Rattle.fax_reading.specs.Context.{fresh, redrawn};
 ghost use Rattle.fax_reading.specs.GapsContinued.{first_gap_is_settled, gap_is_settled};
-ghost use Rattle.fax_feeds.specs.GapsSeen.{IsSeen, is_settled, nothing_seen, rules_for, stage_behind};
+ghost use Rattle.fax_feeds.specs.GapsSeen.{CountsLooks, IsSeen, is_settled, nothing_seen, rules_for, stage_behind};
 ghost use Rattle.fax_rows.specs.RowsRead.{at_end_of_rows, ended, is_at_line};
 ghost use Rattle.fax_rows.specs.RowsTried.{IsLeft};
 ghost use Rattle.fax_feeds.specs.RowFeeds.{Begins, ComeNext, ComesInFeed, DropsRead, ReadsInFeed, ComesOn, FeedsNext};
@@ -85,7 +85,7 @@ fn look_waits(
     requires seen { IsSeen rules.now look.old (here reader.now) }
     ensures waits { result ≡ (not is_last && not (is_settled (stage_behind rules.now GapStage.Start 0 (here reader.now)))) }
     ensures held { ctx.new.held ≡ ctx.old.held }
-    ensures looked { ctx.new.ticks + look.old.bits ≡ ctx.old.ticks + look.new.bits }
+    ensures looked { CountsLooks look.old look.new ctx.old.ticks ctx.new.ticks }
     ensures onward { look.old.bits ≤ look.new.bits }
     ensures unlooked { is_last ≡ true → ctx.new.ticks ≡ ctx.old.ticks }
     ensures seen { IsSeen rules.now look.new (here reader.now) }
@@ -110,7 +110,7 @@ fn gap_waits(
     ensures waits { result ≡ (not is_last && not (gap_is_settled ctx.old.held.settings ctx.old.held.taken ctx.old.held.has_eols
         (here reader.now))) }
     ensures held { ctx.new.held ≡ ctx.old.held }
-    ensures looked { ctx.new.ticks + look.old.bits ≡ ctx.old.ticks + look.new.bits }
+    ensures looked { CountsLooks look.old look.new ctx.old.ticks ctx.new.ticks }
     ensures onward { look.old.bits ≤ look.new.bits }
     ensures unlooked { is_last ≡ true → ctx.new.ticks ≡ ctx.old.ticks }
     ensures seen { IsSeen (rules_for true ctx.old.held) look.new (here reader.now) }
@@ -131,7 +131,7 @@ fn front_waits(
     ensures waits { result ≡ (not is_last && not (first_gap_is_settled ctx.old.held.settings.encoding ctx.old.held.settings
         (here reader.now))) }
     ensures held { ctx.new.held ≡ ctx.old.held }
-    ensures looked { ctx.new.ticks + look.old.bits ≡ ctx.old.ticks + look.new.bits }
+    ensures looked { CountsLooks look.old look.new ctx.old.ticks ctx.new.ticks }
     ensures onward { look.old.bits ≤ look.new.bits }
     ensures unlooked { is_last ≡ true → ctx.new.ticks ≡ ctx.old.ticks }
     ensures seen { IsSeen (rules_for false ctx.old.held) look.new (here reader.now) }

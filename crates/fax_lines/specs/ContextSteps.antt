@@ -1,15 +1,16 @@
--- What the calls of a context leave that draw a line or a part of one.
+-- What the calls of a context leave: those that draw a line or a part of one, and those that read lines.
 use Rattle.std.specs.Prelude.{◌≡◌, ◌+◌, ◌≤◌, ◌↔◌, ◌⊎◌, ◌||◌, ℕ, suc, max, List, length, Bool, false, [], Result, Ok, Err, OnOk}
 use Rattle.std.specs.Prelude.{OnErr, IfErr}
 use Rattle.fax_bits.specs.declared.codes.Color.TheVariants.{White}
 use Rattle.fax_bits.specs.declared.codes.Mode.{Mode}
 use Rattle.fax_bits.specs.declared.error.DecodeError.{DecodeError}
 use Rattle.fax_bits.specs.declared.error.DecodeError.TheVariants.{OutOfMemory}
+use Rattle.fax_bits.specs.declared.settings.EncodingMode.TheVariants.{Group4}
 use Rattle.fax_reading.specs.Answers.{OnAnswer, StoresChange, TellsCut, pen_of, strict_step_of_mode, words_of_mode}
-use Rattle.fax_bits.specs.Bits.{BitsAt, here}
+use Rattle.fax_bits.specs.Bits.{Bits, BitsAt, here}
 use Rattle.fax_reading.specs.Context.{ArePassed, Context, exceeds, painted_front, passed_changes, redrawn}
-use Rattle.fax_reading.specs.Rows.{changes, too_many_pixels}
-use Rattle.fax_reading.specs.Space.{room_for}
+use Rattle.fax_reading.specs.Rows.{changes, pixels, too_many_pixels}
+use Rattle.fax_reading.specs.Space.{most_room, room_for}
 use Rattle.fax_reading.specs.UsualModes.{GoesOn2d}
 use Rattle.fax_reading.specs.UsualRuns.{GoesOn}
 
@@ -79,6 +80,22 @@ pub record StaysFull (old new : List ℕ) (room room_after : ℕ) : Type 0 where
   pub full : room ≤ length old
   pub unchanged : new ≡ old
   pub left : room_after ≡ room
+
+-- A list has no more room than before, or than one of this many changes has once it has grown (auxiliary).
+abbrev pub GrowsFor : ℕ → ℕ → ℕ → Type 0
+GrowsFor stored before after = after ≤ max before (room_for stored)
+
+-- The lists have no more room than before, or than they have once they have grown while these bits were read (auxiliary).
+abbrev pub GrowsForBits : Bits → Context → Context → Type 0
+GrowsForBits bits old new = new.space ≤ max old.space (most_room old.held.settings bits)
+
+-- Lists of changes show the same pixels.
+abbrev pub ShowSame : ℕ → List ℕ → List ℕ → Type 0
+ShowSame painted old new = pixels painted new ≡ pixels painted old
+
+-- In Group 4 no EOLs are expected (T.6, 2.2).
+abbrev pub ExpectsNoEols : Context → Context → Type 0
+ExpectsNoEols old new = old.held.settings.encoding ≡ Group4 → new.held.has_eols ≡ false
 
 -- What a call leaves that draws a mode, besides the pen: a tick for each word of its runs, one for each change that is passed,
 -- and at most three more (T.4, 4.2.1.3; T.6, 2.2).

@@ -4,9 +4,8 @@ ghost use Rattle.std.specs.Prelude.{vec_len, vec_capacity, ◌≡◌, ◌≢◌,
 ghost use Rattle.std.specs.Prelude.{get_or, ◌++◌, ◌∷◌, [], replicate, true, max, IfSome, IfNone, Ok, pos, ◌+ℤ◌};
 ghost use Rattle.fax_reading.specs.Rows.{AreChanges, pixels, b1, b2, is_black, last_pixel};
 ghost use Rattle.fax_reading.specs.Lines.{place_from};
-ghost use Rattle.fax_lines.specs.ContextSteps.{PassesChanges, StaysFull};
+ghost use Rattle.fax_lines.specs.ContextSteps.{GrowsFor, PassesChanges, StaysFull};
 ghost use Rattle.fax_reading.specs.Context.{right_of_painted, ArePassed, passed_changes};
-ghost use Rattle.fax_reading.specs.Space.{room_for};
 
 use fax_bits::codes::{Color, Ticks};
 use fax_bits::{DecodeError, Result};
@@ -79,7 +78,7 @@ pub(crate) fn make_room(changes: &mut Vec<u32>) -> bool
     ensures room { result ≡ true → vec_len changes.new + 64 ≤ vec_capacity changes.new }
     ensures same { changes.new.items ≡ changes.old.items }
     ensures full { result ≡ false → vec_capacity changes.old < vec_len changes.old + max 64 (vec_len changes.old) }
-    ensures space { vec_capacity changes.new ≤ max (vec_capacity changes.old) (room_for (vec_len changes.old)) }
+    ensures space { GrowsFor (vec_len changes.old) (vec_capacity changes.old) (vec_capacity changes.new) }
     ensures left { result ≡ false → vec_capacity changes.new ≡ vec_capacity changes.old }
 {
     let more = changes.len().max(64);
@@ -97,7 +96,7 @@ fn push_change(changes: &mut Vec<u32>, place: u32) -> Result<()>
     ensures full { OnErr result (StaysFull changes.old.items changes.new.items (vec_capacity changes.old)
         (vec_capacity changes.new)) }
     ensures only_memory { IsOkUnless result DecodeError.OutOfMemory }
-    ensures space { vec_capacity changes.new ≤ max (vec_capacity changes.old) (room_for (vec_len changes.old)) }
+    ensures space { GrowsFor (vec_len changes.old) (vec_capacity changes.old) (vec_capacity changes.new) }
 {
     if changes.len() == changes.capacity() {
         if !make_room(changes) {
@@ -126,7 +125,7 @@ pub fn append_pixels(changes: &mut Vec<u32>, painted: u32, color: Color, count: 
         (vec_capacity changes.new)) }
     ensures only_memory { IsOkUnless result DecodeError.OutOfMemory }
     ensures few { length changes.new.items ≤ length changes.old.items + 1 }
-    ensures space { vec_capacity changes.new ≤ max (vec_capacity changes.old) (room_for (vec_len changes.old)) }
+    ensures space { GrowsFor (vec_len changes.old) (vec_capacity changes.old) (vec_capacity changes.new) }
 {
     // The colours of a row alternate, so after an odd number of changes its last pixel is black.
     let last_is_white = changes.len().is_multiple_of(2);

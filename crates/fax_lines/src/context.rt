@@ -1,18 +1,19 @@
 //! What a decoder keeps from line to line, and the lines themselves.
 
 ghost use Rattle.std.specs.Prelude.{◌≡◌, ◌+◌, ◌-◌, ◌*◌, ◌^◌, ◌<◌, ◌≤◌, ◌⊎◌, ◌↔◌, ℕ, Ok, Err, OnOk, OnErr, IfOk, IfErr, true};
-ghost use Rattle.std.specs.Prelude.{false, suc, max, vec_capacity, MatchResult};
+ghost use Rattle.std.specs.Prelude.{false, suc, max, vec_capacity};
 ghost use Rattle.std.specs.Prelude.{◌||◌, IsOkUnless, IsTrue, if◌then◌else◌, is_some, option_map, length, get_or, []};
 ghost use Rattle.fax_reading.specs.LocalityByK.{behind_mode};
 ghost use Rattle.fax_bits.specs.Ticks.{run_found};
 ghost use Rattle.fax_reading.specs.Work.{mode_found};
+ghost use Rattle.fax_bits.specs.ReaderSteps.{Reads};
 ghost use Rattle.fax_bits.specs.Runs.{codes_of, read_run};
 ghost use Rattle.fax_reading.specs.Rows.{AreChanges, right_of, b1, b2, changes, opposite, too_many_pixels};
 ghost use Rattle.fax_bits.specs.Bits.{here};
 ghost use Rattle.fax_reading.specs.Context.{redrawn, painted_front, taken_row, after_repair, after_taking, fresh, with_missed};
 ghost use Rattle.fax_bits.specs.CodeReading.{read_code};
 ghost use Rattle.fax_lines.specs.ContextSteps.{CountsWords, DrawsAtOnce, DrawsOneMode, DrawsUsualModes, DrawsUsualRuns};
-ghost use Rattle.fax_lines.specs.ContextSteps.{IsAtStart, IsWidth, OnlyDraws, PassesChanges, SeeksB1};
+ghost use Rattle.fax_lines.specs.ContextSteps.{GrowsFor, IsAtStart, IsWidth, OnlyDraws, PassesChanges, SeeksB1};
 ghost use Rattle.fax_lines.specs.ContextSteps.{PushesPixels};
 ghost use Rattle.fax_lines.specs.PassedRows.{PassesRow};
 ghost use Rattle.fax_lines.specs.SinkStates.{state_of};
@@ -24,7 +25,7 @@ ghost use Rattle.fax_reading.specs.Answers.{words_from_2d, StoresChange, RepairS
 ghost use Rattle.fax_reading.specs.Answers.{line_from_1d, line_from_2d, front_of, is_broken, strict_step_of_run};
 ghost use Rattle.fax_reading.specs.Answers.{TellsCut};
 ghost use Rattle.fax_reading.specs.Lines.{line_1d, line_2d};
-ghost use Rattle.fax_reading.specs.Space.{room_for, most_stored};
+ghost use Rattle.fax_reading.specs.Space.{most_stored};
 
 use crate::Decoder;
 use crate::changes::{append_pixels, b1_index, change_or_end, vertical_place};
@@ -357,7 +358,7 @@ impl DecoderContext {
         ensures memory { result ≡ Err DecodeError.OutOfMemory → RepairStoresChange self.old.held }
         ensures only_memory { IsOkUnless result DecodeError.OutOfMemory }
         ensures unchanged { OnErr result (self.new ≡ self.old) }
-        ensures space { self.new.space ≤ max self.old.space (room_for (length (changes self.old.held.front))) }
+        ensures space { GrowsFor (length (changes self.old.held.front)) self.old.space self.new.space }
     {
         let rest = self.settings.columns - self.pixels_decoded;
         append_pixels(
@@ -497,7 +498,7 @@ impl DecoderContext {
             (pen_of self.new.held (here reader.new)) self.old.cut self.new.cut) }
         ensures passed { self.new.passed ≡ self.old.passed }
         ensures few { length (changes self.new.held.front) ≤ suc (length (changes self.old.held.front)) }
-        ensures space { self.new.space ≤ max self.old.space (room_for (length (changes self.old.held.front))) }
+        ensures space { GrowsFor (length (changes self.old.held.front)) self.old.space self.new.space }
     {
         let run = reader.decode_run(self.color, &self.tables, &mut self.ticks)?;
         self.push_pixels(run)?;
@@ -1423,9 +1424,7 @@ pub fn take_back_row(ctx: &mut DecoderContext, damaged_rows: u64, cut_rows: u64)
 /// Reads a word of a run of a colour without drawing it.
 #[inline(always)]
 pub fn read_word(ctx: &mut DecoderContext, color: Color, reader: &mut BitScanner<'_>) -> Result<u16>
-    ensures word { MatchResult result
-        (λ n. read_code (codes_of color) (here reader.old) ≡ Ok (n, here reader.new))
-        (λ e. read_code (codes_of color) (here reader.old) ≡ Err e) }
+    ensures word { Reads (read_code (codes_of color)) reader.old reader.new result }
     ensures same_bits { reader.new.bits ≡ reader.old.bits }
     ensures onward { reader.old.place ≤ reader.new.place }
     ensures lacking { result ≡ Err DecodeError.UnexpectedEof → reader.new ≡ reader.old }
@@ -1532,8 +1531,8 @@ pub fn decode_1d_line(ctx: &mut DecoderContext, reader: &mut BitReader<'_>) -> R
     ensures at_least { OnAnswer result (ctx.old.ticks
         + length (words_from_1d ctx.old.held (here reader.old)) ≤ ctx.new.ticks) }
     ensures at_most { ctx.new.ticks ≤ ctx.old.ticks + length (words_from_1d ctx.old.held (here reader.old)) + 1 }
-    ensures space { ctx.new.space ≤ max ctx.old.space (room_for
-        (length (changes (front_of (line_from_1d ctx.old.held (here reader.old)))))) }
+    ensures space { GrowsFor (length (changes (front_of (line_from_1d ctx.old.held (here reader.old)))))
+        ctx.old.space ctx.new.space }
 {
     begin_line(ctx); // The first run is white.
     ctx.draw_first_runs(reader);
@@ -1565,8 +1564,8 @@ pub fn decode_2d_line(ctx: &mut DecoderContext, reader: &mut BitReader<'_>) -> R
     ensures at_most { ctx.new.ticks ≤ ctx.old.ticks + 4 * length (words_from_2d ctx.old.held (here reader.old)) + 1
         + length (changes ctx.old.held.reference) }
     ensures no_words { length (words_from_2d ctx.old.held (here reader.old)) ≡ 0 → ctx.new.ticks ≤ ctx.old.ticks + 1 }
-    ensures space { ctx.new.space ≤ max ctx.old.space (room_for
-        (most_stored ctx.old.held.reference (line_from_2d ctx.old.held (here reader.old)))) }
+    ensures space { GrowsFor (most_stored ctx.old.held.reference (line_from_2d ctx.old.held (here reader.old)))
+        ctx.old.space ctx.new.space }
 {
     begin_line(ctx); // The place a0 is left of the row.
     ctx.draw_usual_modes(reader);

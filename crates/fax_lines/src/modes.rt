@@ -2,14 +2,14 @@
 //! others.
 
 ghost use Rattle.std.specs.Prelude.{vec_len, vec_capacity, get_or, ◌≡◌, ◌≢◌, ◌+◌, ◌-◌, ◌%◌, ◌<◌, ◌≤◌, ◌⊎◌, ℕ, Some, IfSome};
-ghost use Rattle.std.specs.Prelude.{max, IfNone, IsTrue, ◌↔◌, true, false, pos, negsuc, length, replicate, take, drop};
+ghost use Rattle.std.specs.Prelude.{IfNone, IsTrue, ◌↔◌, true, false, pos, negsuc, length, replicate, take, drop};
 ghost use Rattle.std.specs.Prelude.{◌++◌, ◌∷◌, [], ◌^◌};
 ghost use Rattle.fax_lines.specs.DrawnModes.{AreModesHere, IsFirstMode, LeadFrom, first_clear};
 ghost use Rattle.fax_bits.specs.ModeGroups.{AreNextWords, words_of};
 ghost use Rattle.fax_lines.specs.RegularModes.{AreSet};
 ghost use Rattle.fax_lines.specs.DrawnModes.{IsNextMode, CanDraw, Draws, DrawsMode, DrawsOn, DrawsSome, KeepsRoom, line_start};
 ghost use Rattle.fax_reading.specs.Rows.{AreChanges, pixels, opposite};
-ghost use Rattle.fax_reading.specs.Space.{room_for};
+ghost use Rattle.fax_lines.specs.ContextSteps.{GrowsFor, ShowSame};
 ghost use Rattle.fax_reading.specs.UsualModes.{AreEnded, changes_in, IsNear, IsB1, TurnsFrom};
 ghost use Rattle.fax_lines.specs.TwoRunsHere.{AreTwoRunsHere};
 ghost use Rattle.fax_bits.specs.Window.{moved, AtHand};
@@ -73,7 +73,7 @@ pub(crate) fn has_mode(hand: &mut BitsAtHand<'_>, row: &mut Vec<u32>) -> bool
     ensures same_row { row.new.items ≡ row.old.items }
     ensures enough { result ≡ true → 32 ≤ hand.new.left }
     ensures room { result ≡ true → vec_len row.new + hand.new.left ≤ vec_capacity row.new }
-    ensures space { vec_capacity row.new ≤ max (vec_capacity row.old) (room_for (vec_len row.old)) }
+    ensures space { GrowsFor (vec_len row.old) (vec_capacity row.old) (vec_capacity row.new) }
 {
     if hand.left() >= 32 {
         return true;
@@ -1244,7 +1244,7 @@ pub(crate) fn draw_modes(
     requires can { CanDraw line.now line_start hand.old row.old }
     ensures drawn { Draws line.now line_start hand.old row.old ticks.old result hand.new row.new ticks.new }
     ensures same_bits { hand.new.at.bits ≡ hand.old.at.bits }
-    ensures space { vec_capacity row.new ≤ max (vec_capacity row.old) (room_for (vec_len row.new)) }
+    ensures space { GrowsFor (vec_len row.new) (vec_capacity row.old) (vec_capacity row.new) }
 {
     let mut now = Stroke {
         painted: 0,
@@ -1278,7 +1278,7 @@ pub(crate) fn lay_down_row(changes: &mut Vec<u32>, painted: u32, columns: u32)
     requires lawful { AreChanges (painted + 1) changes.old.items }
     requires whole { columns ≤ painted → AreChanges painted changes.old.items }
     ensures lawful { AreChanges painted changes.new.items }
-    ensures same { pixels painted changes.new.items ≡ pixels painted changes.old.items }
+    ensures same { ShowSame painted changes.old.items changes.new.items }
     ensures few { vec_len changes.old ≤ vec_len changes.new + 1 }
     ensures space { vec_capacity changes.new ≡ vec_capacity changes.old }
 {
@@ -1301,7 +1301,7 @@ fn has_room_for_ends(changes: &Vec<u32>) -> bool
 pub(crate) fn put_ends(changes: &mut Vec<u32>, columns: u32) -> bool
     ensures ended { result ≡ true → changes.new.items ≡ changes.old.items ++ replicate 6 columns }
     ensures unchanged { result ≡ false → changes.new.items ≡ changes.old.items }
-    ensures space { vec_capacity changes.new ≤ max (vec_capacity changes.old) (room_for (vec_len changes.old)) }
+    ensures space { GrowsFor (vec_len changes.old) (vec_capacity changes.old) (vec_capacity changes.new) }
 {
     if !has_room_for_ends(changes) && !make_room(changes) {
         return false;

@@ -6,6 +6,7 @@ ghost use Rattle.std.specs.Prelude.{IfNone};
 ghost use Rattle.std.specs.Prelude.{min, true, false, length, ◌++◌, ◌∷◌, []};
 ghost use Rattle.fax_bits.specs.Bits.{here};
 ghost use Rattle.fax_bits.specs.LookUps.{AreEntriesOf};
+ghost use Rattle.fax_lines.specs.ContextSteps.{ShowSame};
 ghost use Rattle.fax_lines.specs.DrawnModes.{DrawsNothing};
 ghost use Rattle.fax_reading.specs.Rows.{AreChanges, pixels, opposite};
 ghost use Rattle.fax_reading.specs.UsualModes.{AreEnded, changes_in, IsNear, IsB1};
@@ -389,7 +390,7 @@ pub(crate) fn take_up(changes: &mut Vec<u32>, painted: u32) -> bool
     requires { AreChanges painted changes.old.items }
     ensures lawful { result ≡ true → AreChanges (painted + 1) changes.new.items }
     ensures even { result ≡ true → length changes.new.items % 2 ≡ 0 }
-    ensures same { pixels painted changes.new.items ≡ pixels painted changes.old.items }
+    ensures same { ShowSame painted changes.old.items changes.new.items }
     ensures left { result ≡ false → changes.new.items ≡ changes.old.items }
     ensures space { vec_capacity changes.new ≡ vec_capacity changes.old }
 {
@@ -408,7 +409,7 @@ pub(crate) fn take_up(changes: &mut Vec<u32>, painted: u32) -> bool
 pub(crate) fn lay_down(changes: &mut Vec<u32>, painted: u32)
     requires { AreChanges (painted + 1) changes.old.items }
     ensures lawful { AreChanges painted changes.new.items }
-    ensures same { pixels painted changes.new.items ≡ pixels painted changes.old.items }
+    ensures same { ShowSame painted changes.old.items changes.new.items }
     ensures space { vec_capacity changes.new ≡ vec_capacity changes.old }
     ensures few { vec_len changes.old ≤ vec_len changes.new + 1 }
 {

@@ -15,6 +15,10 @@ pub record MovesBehindRow (before after : Context) (from to : BitsAt) : Type 0 w
   pub count : after.ticks ≡ before.ticks
   pub space : after.space ≡ before.space
 
+-- The row that is drawn is full.
+abbrev pub IsFull : Held → Type 0
+IsFull held = held.settings.columns ≤ length held.front
+
 -- One more row can be counted, also as damaged.
 pub record CanTakeRow (held : Held) : Type 0 where
   pub rows : held.taken + 1 < 2 ^ 64

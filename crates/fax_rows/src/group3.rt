@@ -1,7 +1,7 @@
 //! Group 3: EOLs at the start of the data, between the lines and at the end, and repair of damaged lines (T.4).
 
 ghost use Rattle.std.specs.Prelude.{◌≡◌, ◌≢◌, ◌↔◌, ◌<◌, ◌≤◌, ◌+◌, ◌*◌, Err, OnOk, OnErr, IfOk, IfErr, IsOkUnless, IsTrue, true};
-ghost use Rattle.std.specs.Prelude.{nat_lt, ◌||◌, length, max};
+ghost use Rattle.std.specs.Prelude.{nat_lt, ◌||◌, length};
 ghost use Rattle.fax_reading.specs.Answers.{IsFault, IsRepairable, RepairStoresChange};
 ghost use Rattle.fax_bits.specs.Bits.{here};
 ghost use Rattle.fax_reading.specs.Context.{after_repair};
@@ -11,8 +11,8 @@ ghost use Rattle.fax_reading.specs.Decoding.{DecodesRows, FailsHere, leaving, ga
 ghost use Rattle.fax_reading.specs.PlainReading.{gap_behind_row};
 ghost use Rattle.fax_reading.specs.Rows.{changes};
 ghost use Rattle.fax_rows.specs.RowsTried.{LacksEol, PassesGap};
+ghost use Rattle.fax_lines.specs.ContextSteps.{GrowsFor, GrowsForBits};
 ghost use Rattle.fax_lines.specs.SinkStates.{state_of};
-ghost use Rattle.fax_reading.specs.Space.{most_room, room_for};
 ghost use Rattle.fax_bits.specs.Ticks.{looked, looked_ahead};
 
 use crate::push_rows::push_rows;
@@ -51,7 +51,7 @@ pub fn recover<'a>(
         → RepairStoresChange ctx.old.held }
     ensures otherwise { (IsRepairable ctx.old.held error → ⊥) → result ≡ Err error }
     ensures unchanged { OnErr result ((ctx.new ≡ ctx.old) × (reader.new ≡ reader.old)) }
-    ensures space { ctx.new.space ≤ max ctx.old.space (room_for (length (changes ctx.old.held.front))) }
+    ensures space { GrowsFor (length (changes ctx.old.held.front)) ctx.old.space ctx.new.space }
 {
     if ctx.settings().strict || !ctx.has_eols() || !is_fault(error) {
         return Err(error);
@@ -119,7 +119,7 @@ pub fn decode_1d<D: Decoder>(
         (state_of D.Decoder decoder.old) (state_of D.Decoder decoder.new) ctx.old ctx.new (leaving result (here reader.new)) }
     ensures fails { OnErr result (FailsHere ctx.old.held.settings reader.old.bits ctx.new.held.taken (here reader.new)) }
     ensures same_bits { reader.new.bits ≡ reader.old.bits }
-    ensures space { ctx.new.space ≤ max ctx.old.space (most_room ctx.old.held.settings reader.old.bits) }
+    ensures space { GrowsForBits reader.old.bits ctx.old ctx.new }
 {
     push_rows(ctx, reader, decoder) // No line has a tag.
 }
@@ -144,7 +144,7 @@ pub fn decode_2d<D: Decoder>(
         (state_of D.Decoder decoder.old) (state_of D.Decoder decoder.new) ctx.old ctx.new (leaving result (here reader.new)) }
     ensures fails { OnErr result (FailsHere ctx.old.held.settings reader.old.bits ctx.new.held.taken (here reader.new)) }
     ensures same_bits { reader.new.bits ≡ reader.old.bits }
-    ensures space { ctx.new.space ≤ max ctx.old.space (most_room ctx.old.held.settings reader.old.bits) }
+    ensures space { GrowsForBits reader.old.bits ctx.old ctx.new }
 {
     push_rows(ctx, reader, decoder) // Each line has its tag.
 }

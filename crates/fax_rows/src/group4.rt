@@ -1,11 +1,11 @@
 //! Group 4: every line is two-dimensional (T.6).
 
-ghost use Rattle.std.specs.Prelude.{◌≡◌, ◌<◌, ◌≤◌, OnErr, false, max};
+ghost use Rattle.std.specs.Prelude.{◌≡◌, ◌<◌, ◌≤◌, OnErr, false};
 ghost use Rattle.fax_bits.specs.Bits.{here};
 ghost use Rattle.fax_rows.specs.Contract.{BeginsRows};
 ghost use Rattle.fax_reading.specs.Decoding.{DecodesRows, FailsHere, leaving};
+ghost use Rattle.fax_lines.specs.ContextSteps.{GrowsForBits};
 ghost use Rattle.fax_lines.specs.SinkStates.{state_of};
-ghost use Rattle.fax_reading.specs.Space.{most_room};
 
 use crate::push_rows::push_rows;
 use fax_bits::bit_reader::BitReader;
@@ -32,7 +32,7 @@ pub fn decode<D: Decoder>(
     ensures fails { OnErr result (FailsHere ctx.old.held.settings reader.old.bits ctx.new.held.taken (here reader.new)) }
     ensures no_eols { ctx.new.held.has_eols ≡ false }
     ensures same_bits { reader.new.bits ≡ reader.old.bits }
-    ensures space { ctx.new.space ≤ max ctx.old.space (most_room ctx.old.held.settings reader.old.bits) }
+    ensures space { GrowsForBits reader.old.bits ctx.old ctx.new }
 {
     push_rows(ctx, reader, decoder) // Each line is two-dimensional.
 }

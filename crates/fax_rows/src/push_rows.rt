@@ -1,11 +1,11 @@
 //! Decoding into a sink: the rows of a reading one at a time, each passed to the sink.
 
-ghost use Rattle.std.specs.Prelude.{◌≡◌, ◌<◌, ◌≤◌, ◌+◌, ◌-◌, ◌^◌, OnErr, false, true, length, max};
+ghost use Rattle.std.specs.Prelude.{◌≡◌, ◌<◌, ◌≤◌, ◌+◌, ◌-◌, ◌^◌, OnErr, false, true, length};
 ghost use Rattle.fax_bits.specs.Bits.{here};
 ghost use Rattle.fax_rows.specs.Contract.{BeginsRows};
 ghost use Rattle.fax_reading.specs.Decoding.{DecodesRows, FailsHere, leaving};
+ghost use Rattle.fax_lines.specs.ContextSteps.{ExpectsNoEols, GrowsForBits};
 ghost use Rattle.fax_lines.specs.SinkStates.{state_of};
-ghost use Rattle.fax_reading.specs.Space.{most_room};
 ghost use Rattle.fax_lines.specs.WhiteLines.{MayFollow};
 ghost use Rattle.fax_rows.specs.WhiteRows.{PushesWhite};
 
@@ -170,9 +170,9 @@ pub(crate) fn push_rows<D: Decoder>(
     ensures rows { DecodesRows reader.old.bits (D.step (D.width decoder.old))
         (state_of D.Decoder decoder.old) (state_of D.Decoder decoder.new) ctx.old ctx.new (leaving result (here reader.new)) }
     ensures fails { OnErr result (FailsHere ctx.old.held.settings reader.old.bits ctx.new.held.taken (here reader.new)) }
-    ensures no_eols { ctx.old.held.settings.encoding ≡ EncodingMode.Group4 → ctx.new.held.has_eols ≡ false }
+    ensures no_eols { ExpectsNoEols ctx.old ctx.new }
     ensures same_bits { reader.new.bits ≡ reader.old.bits }
-    ensures space { ctx.new.space ≤ max ctx.old.space (most_room ctx.old.held.settings reader.old.bits) }
+    ensures space { GrowsForBits reader.old.bits ctx.old ctx.new }
 {
     let mut lines = no_white_lines(ctx);
     let mut rows = RowState::new(first_stand(ctx, reader));

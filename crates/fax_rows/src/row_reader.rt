@@ -8,7 +8,8 @@ ghost use Rattle.fax_reading.specs.Context.{fresh};
 ghost use Rattle.fax_reading.specs.Rows.{changes};
 ghost use Rattle.fax_reading.specs.Damage.{repairs_by_line, cuts_by_line, misses_by_line};
 ghost use Rattle.fax_reading.specs.PlainReading.{line_here};
-ghost use Rattle.fax_reading.specs.Space.{most_room, most_stored, room_for};
+ghost use Rattle.fax_lines.specs.ContextSteps.{ExpectsNoEols, GrowsFor, GrowsForBits};
+ghost use Rattle.fax_reading.specs.Space.{most_room, most_stored};
 ghost use Rattle.fax_reading.specs.Work.{CountsWork};
 ghost use Rattle.fax_rows.specs.RowsRead.{start_after, ReaderStands, IsPaid};
 ghost use Rattle.fax_reading.specs.Decoding.{damage_since, cut_since, missed_since};
@@ -126,7 +127,7 @@ pub fn first_stand(ctx: &mut DecoderContext, reader: &mut BitReader<'_>) -> Stan
     ensures takes_none { TakesNone ctx.old ctx.new reader.old reader.new }
     ensures unfailed { (error : DecodeError) → ended result ≢ Some (Err error) }
     ensures at_line { is_some (ended result) ≡ false → is_at_line result ≡ true }
-    ensures no_eols { ctx.old.held.settings.encoding ≡ EncodingMode.Group4 → ctx.new.held.has_eols ≡ false }
+    ensures no_eols { ExpectsNoEols ctx.old ctx.new }
 {
     // An offset is known to be within the data once it is read.
     let _start = reader.bit_pos();
@@ -275,8 +276,8 @@ impl RowState {
         ensures put_back { OnErr result (reader.new ≡ reader.old) }
         ensures started { (self.new.started_at ≡ reader.old.place) × (reader.old.place ≤ length reader.old.bits) }
         ensures has_eols { ctx.new.held.has_eols ≡ ctx.old.held.has_eols }
-        ensures space { ctx.new.space ≤ max ctx.old.space (room_for (most_stored ctx.old.held.reference
-            (line_here ctx.old.held.settings ctx.old.held.reference (here reader.old)))) }
+        ensures space { GrowsFor (most_stored ctx.old.held.reference
+            (line_here ctx.old.held.settings ctx.old.held.reference (here reader.old))) ctx.old.space ctx.new.space }
     {
         let line_start = reader.bit_pos();
         let damaged_rows = ctx.damaged_rows();
@@ -357,8 +358,7 @@ impl RowState {
         ensures stands { IsStanding 0 self.old ctx.old reader.old → IsStanding 0 self.new ctx.new reader.new }
         ensures settings { ctx.new.held.settings ≡ ctx.old.held.settings }
         ensures same_bits { reader.new.bits ≡ reader.old.bits }
-        ensures space { IsStanding 0 self.old ctx.old reader.old
-            → ctx.new.space ≤ max ctx.old.space (most_room ctx.old.held.settings reader.old.bits) }
+        ensures space { IsStanding 0 self.old ctx.old reader.old → GrowsForBits reader.old.bits ctx.old ctx.new }
         ensures most { ctx.new.space ≤ max ctx.old.space (2 * ctx.old.held.settings.columns + 66) }
     {
         if !self.come_to_line(ctx, reader)? {

@@ -2,7 +2,8 @@
 
 ghost use Rattle.std.specs.Prelude.{false, ◌≡◌, ◌≢◌, ◌<◌, ◌≤◌, ◌+◌, ◌*◌, Err, OnOk, OnErr, IfOk, IfErr, IsOkUnless, true, ◌||◌};
 ghost use Rattle.std.specs.Prelude.{Ok};
-ghost use Rattle.std.specs.Prelude.{[], length, ◌^◌, max};
+ghost use Rattle.std.specs.Prelude.{[], length, ◌^◌};
+ghost use Rattle.fax_lines.specs.ContextSteps.{GrowsFor};
 ghost use Rattle.fax_lines.specs.Counting.{OnlyCounts};
 ghost use Rattle.fax_reading.specs.Answers.{IsFault, IsRepairable, RepairStoresChange};
 ghost use Rattle.fax_bits.specs.Bits.{BitsAt, here};
@@ -13,8 +14,7 @@ ghost use Rattle.fax_reading.specs.PlainReading.{behind_row, limit_met, line_her
 ghost use Rattle.fax_reading.specs.Rows.{changes};
 ghost use Rattle.fax_rows.specs.RowsRead.{row_came};
 ghost use Rattle.fax_rows.specs.RowsTried.{LacksEol, PassesGap, ReadsRow, TriesRow, lacks_memory, needs_more};
-ghost use Rattle.fax_reading.specs.Space.{room_for, most_stored};
-ghost use Rattle.fax_rows.specs.TakenRows.{MovesBehindRow, FailsToRepair, CanTakeRow};
+ghost use Rattle.fax_rows.specs.TakenRows.{CanTakeRow, FailsToRepair, IsFull, MovesBehindRow};
 ghost use Rattle.fax_bits.specs.Ticks.{looked, looked_ahead, tag_tests};
 ghost use Rattle.fax_reading.specs.Work.{found_here};
 
@@ -48,7 +48,7 @@ fn align_row(ctx: &DecoderContext, reader: &mut BitReader<'_>)
 /// Makes the full row that was drawn the reference row, and moves to where the next line, or its EOL, begins.
 #[inline(always)]
 fn take_row(ctx: &mut DecoderContext, reader: &mut BitReader<'_>)
-    requires full { ctx.old.held.settings.columns ≤ length ctx.old.held.front }
+    requires full { IsFull ctx.old.held }
     requires rows { ctx.old.held.taken + 1 < 2 ^ 64 }
     ensures taken { ctx.new.held ≡ with_row_taken ctx.old.held ctx.old.held.front }
     ensures moves { MovesBehindRow ctx.old ctx.new reader.old reader.new }
@@ -60,7 +60,7 @@ fn take_row(ctx: &mut DecoderContext, reader: &mut BitReader<'_>)
 /// Takes the row of a whole line, as `take_row` does, and counts it if a run of it was cut.
 #[inline(always)]
 fn take_whole_row(ctx: &mut DecoderContext, reader: &mut BitReader<'_>)
-    requires full { ctx.old.held.settings.columns ≤ length ctx.old.held.front }
+    requires full { IsFull ctx.old.held }
     requires rows { ctx.old.held.taken + 1 < 2 ^ 64 }
     ensures taken { ctx.new.held ≡ record (with_row_taken ctx.old.held ctx.old.held.front) {
       repairs = cuts_with ctx.old.cut ctx.old.held.taken ctx.old.held.repairs;
@@ -76,7 +76,7 @@ fn take_whole_row(ctx: &mut DecoderContext, reader: &mut BitReader<'_>)
 /// Takes the row of a line that was repaired after this fault, as `take_row` does, and counts it as damaged.
 #[inline(never)]
 fn take_damaged_row(ctx: &mut DecoderContext, reader: &mut BitReader<'_>, fault: DecodeError)
-    requires full { ctx.old.held.settings.columns ≤ length ctx.old.held.front }
+    requires full { IsFull ctx.old.held }
     requires room { CanTakeRow ctx.old.held }
     ensures taken { ctx.new.held ≡ record (with_row_taken ctx.old.held ctx.old.held.front) {
       repairs = record ctx.old.held.repairs {
@@ -242,7 +242,7 @@ fn recover_from(
     ensures put_back { reader.new ≡ record reader.old { place = line_start } }
     ensures fails { FailsToRepair ctx.old.held error result }
     ensures unchanged { OnErr result (ctx.new ≡ ctx.old) }
-    ensures space { ctx.new.space ≤ max ctx.old.space (room_for (length (changes ctx.old.held.front))) }
+    ensures space { GrowsFor (length (changes ctx.old.held.front)) ctx.old.space ctx.new.space }
 {
     *reader = at_bit(reader, line_start);
     let start = copy(reader);
@@ -260,7 +260,7 @@ fn settle_row(
 ) -> Result<()>
     requires room { CanTakeRow ctx.old.held }
     requires within { line_start ≤ length reader.old.bits }
-    requires full { OnOk line (ctx.old.held.settings.columns ≤ length ctx.old.held.front) }
+    requires full { OnOk line (IsFull ctx.old.held) }
     ensures row { (before : Context) (start : BitsAt) → start ≡ record reader.old { place = line_start }
         → ReadsLine before.held.settings.encoding 2 before ctx.old line start reader.old
         → ReadsRow before ctx.new result (here start) (here reader.new) }

@@ -9,14 +9,14 @@
 //! program reads it.
 #![tactic(auto)]
 
-ghost use Rattle.std.specs.Prelude.{◌≡◌, ◌*◌, ◌≤◌, ◌-◌, false, None, Some, Ok, OnOk, OnErr, IfOk, length, max};
+ghost use Rattle.std.specs.Prelude.{◌≡◌, ◌*◌, ◌≤◌, ◌-◌, false, None, Some, Ok, OnOk, OnErr, IfOk, length};
 ghost use Rattle.hayro_ccitt.specs.Answers.{OnAnswer};
 ghost use Rattle.hayro_ccitt.specs.Bits.{AreWholeBytes, BitsFit, bits_in, bits_of, low_first_bits_of, here};
 ghost use Rattle.fax_rows.specs.Contract.{BeginsRows, Decodes};
 ghost use Rattle.hayro_ccitt.specs.Decoding.{DecodesRows, FailsHere, leaving};
 ghost use Rattle.hayro_ccitt.specs.PlainReading.{plain};
+ghost use Rattle.hayro_ccitt.specs.ContextSteps.{ExpectsNoEols, GrowsForBits};
 ghost use Rattle.hayro_ccitt.specs.SinkStates.{state_of};
-ghost use Rattle.hayro_ccitt.specs.Space.{most_room};
 ghost use Rattle.hayro_ccitt.specs.Work.{CountsWork};
 
 /// The bits of a slice of bytes, read from the start.
@@ -78,9 +78,9 @@ fn decode_rows<D: Decoder>(
     ensures rows { DecodesRows reader.old.bits (D.step (D.width decoder.old))
         (state_of D.Decoder decoder.old) (state_of D.Decoder decoder.new) ctx.old ctx.new (leaving result (here reader.new)) }
     ensures fails { OnErr result (FailsHere ctx.old.held.settings reader.old.bits ctx.new.held.taken (here reader.new)) }
-    ensures no_eols { ctx.old.held.settings.encoding ≡ EncodingMode.Group4 → ctx.new.held.has_eols ≡ false }
+    ensures no_eols { ExpectsNoEols ctx.old ctx.new }
     ensures same_bits { reader.new.bits ≡ reader.old.bits }
-    ensures space { ctx.new.space ≤ max ctx.old.space (most_room ctx.old.held.settings reader.old.bits) }
+    ensures space { GrowsForBits reader.old.bits ctx.old ctx.new }
 {
     match ctx.settings().encoding {
         EncodingMode::Group4 => group4::decode(ctx, reader, decoder),
@@ -115,7 +115,7 @@ fn decode_bits<D: Decoder>(
     ensures within { IfOk result (λ n. 8 * n ≤ length reader.old.bits) }
     ensures decodes { Decodes ctx.old.held.settings reader.old.bits (D.step (D.width decoder.old))
         (state_of D.Decoder decoder.old) (state_of D.Decoder decoder.new) ctx.new.held ctx.new.ticks result }
-    ensures space { ctx.new.space ≤ max ctx.old.space (most_room ctx.old.held.settings reader.old.bits) }
+    ensures space { GrowsForBits reader.old.bits ctx.old ctx.new }
 {
     restart(ctx);
     if ctx.settings().columns == 0 {
@@ -180,7 +180,7 @@ pub fn decode<D: Decoder>(data: &[u8], decoder: &mut D, ctx: &mut DecoderContext
 
     // Each of the context's two lists has room for no more changes than before, or than twice the columns, or the bits if these
     // are fewer, and 66.
-    ensures space { ctx.new.space ≤ max ctx.old.space (most_room ctx.old.held.settings (bits_of «data».now)) }
+    ensures space { GrowsForBits (bits_of «data».now) ctx.old ctx.new }
 
     // All that it leaves, over the bits in this order, is stated field by field in `specs/Contract.antt`.
     ensures decodes { Decodes ctx.old.held.settings (bits_of «data».now) (D.step (D.width decoder.old))
@@ -211,7 +211,7 @@ pub fn decode_low_first<D: Decoder>(
     ensures count { IfOk result (λ n. (plain ctx.old.held.settings (low_first_bits_of «data».now)).outcome ≡ Ok n) }
     ensures row_number { OnAnswer result (ctx.new.held.taken
         ≡ length (plain ctx.old.held.settings (low_first_bits_of «data».now)).rows) }
-    ensures space { ctx.new.space ≤ max ctx.old.space (most_room ctx.old.held.settings (low_first_bits_of «data».now)) }
+    ensures space { GrowsForBits (low_first_bits_of «data».now) ctx.old ctx.new }
 
     // All that it leaves, over the bits in this order, is stated field by field in `specs/Contract.antt`.
     ensures decodes { Decodes ctx.old.held.settings (low_first_bits_of «data».now) (D.step (D.width decoder.old))
@@ -237,7 +237,7 @@ pub fn decode_in<D: Decoder>(
     ensures width { D.width decoder.new ≡ D.width decoder.old }
     ensures settings { ctx.new.held.settings ≡ ctx.old.held.settings }
     ensures within { IfOk result (λ n. n ≤ length «data».now) }
-    ensures space { ctx.new.space ≤ max ctx.old.space (most_room ctx.old.held.settings (bits_in order «data».now)) }
+    ensures space { GrowsForBits (bits_in order «data».now) ctx.old ctx.new }
 
     // All that it leaves, over the bits in this order, is stated field by field in `specs/Contract.antt`.
     ensures decodes { Decodes ctx.old.held.settings (bits_in order «data».now) (D.step (D.width decoder.old))

@@ -1,13 +1,13 @@
 //! Whether damage to a line stays in that line.
 
 ghost use Rattle.std.specs.Prelude.{◌≡◌, ◌≢◌, ◌+◌, ◌-◌, ◌*◌, ◌≤◌, ◌⊎◌, ◌↔◌, Err, Some, IsTrue, IfOk, IfSome, IsOkUnless, is_some};
-ghost use Rattle.std.specs.Prelude.{max, option_map, false, length, take, drop, replicate};
+ghost use Rattle.std.specs.Prelude.{option_map, false, length, take, drop, replicate};
 ghost use Rattle.hayro_ccitt.specs.Answers.{HasBlack, front_of};
 ghost use Rattle.hayro_ccitt.specs.Bits.{BitsFit, bits_of};
 ghost use Rattle.hayro_ccitt.specs.EndOfLine.{after_eol, next_eol};
 ghost use Rattle.hayro_ccitt.specs.Lines.{line_1d, found_1d};
 ghost use Rattle.hayro_ccitt.specs.Locality.{IsLocal, IsEolAt, EndsBefore};
-ghost use Rattle.hayro_ccitt.specs.Space.{most_room};
+ghost use Rattle.hayro_ccitt.specs.ContextSteps.{GrowsForBits};
 ghost use Rattle.hayro_ccitt.specs.Ticks.{looked};
 ghost use Rattle.hayro_ccitt.specs.Work.{most_for_body};
 
@@ -114,7 +114,7 @@ fn line_ends_before(data: &[u8], ctx: &mut DecoderContext, from: usize, end: usi
     ensures counts { ctx.old.ticks ≤ ctx.new.ticks }
     ensures at_most { ctx.new.ticks ≤ ctx.old.ticks
         + length (found_1d ctx.old.held.settings.strict ctx.old.held.settings.columns (drop from (bits_of «data».now))) + 1 }
-    ensures space { ctx.new.space ≤ max ctx.old.space (most_room ctx.old.held.settings (bits_of «data».now)) }
+    ensures space { GrowsForBits (bits_of «data».now) ctx.old ctx.new }
 {
     ctx.reset();
     let mut reader = starting_at(data, from);
@@ -150,7 +150,7 @@ pub fn body_is_local(data: &[u8], ctx: &mut DecoderContext, from: usize, to: usi
     ensures counts { ctx.old.ticks ≤ ctx.new.ticks }
     ensures at_most { ctx.new.ticks
         ≤ ctx.old.ticks + most_for_body ctx.old.held.settings (bits_of «data».now) from to }
-    ensures space { ctx.new.space ≤ max ctx.old.space (most_room ctx.old.held.settings (bits_of «data».now)) }
+    ensures space { GrowsForBits (bits_of «data».now) ctx.old ctx.new }
 {
     if !is_lenient_1d(ctx.settings()) || from > to || to > data.len() * 8 {
         return Ok(false);

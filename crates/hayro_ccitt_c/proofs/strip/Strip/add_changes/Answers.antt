@@ -9,4 +9,4 @@ returns-in-Rows c =
     rw (c.in-Rows.is, c.status_of_adding.ensures)
     (takes_next rows c.push_changes.new.self (AreChanges rows.columns c.args.changes.now)
     (¬ AreChanges rows.columns c.args.changes.now) (pixels rows.columns c.args.changes.now) c.push_changes.result (λ no. no)
-    (λ no. no) e.taken e.lawful e.not_a_row e.kept e.others e.wanted e.wants)
+    (λ no. no) e.taken e.lawful e.not_a_row e.fails.kept e.fails.others e.fails.wanted e.fails.wants)

@@ -15,7 +15,7 @@ returns-then-black_is_0 c =
     (length row < bytes_of_row rows.columns) (row_read true rows.columns (bits_of row)) c.push_row_by_polarity.result
     (λ short whole. absurd (omega (arith, short, whole)))
     (λ no. elim (cases_lt (length row) (bytes_of_row rows.columns)) [ inl short ↦ short | inr whole ↦ absurd (no whole) ])
-    e.taken e.whole e.not_a_row e.kept e.others e.wanted e.wants)
+    e.taken e.whole e.not_a_row e.fails.kept e.fails.others e.fails.wanted e.fails.wants)
 
 pub returns-else-black_is_0 : goal.returns-else-black_is_0
 returns-else-black_is_0 c =
@@ -27,4 +27,4 @@ returns-else-black_is_0 c =
     (length row < bytes_of_row rows.columns) (take rows.columns (bits_of row)) c.push_packed_row.result
     (λ short whole. absurd (omega (arith, short, whole)))
     (λ no. elim (cases_lt (length row) (bytes_of_row rows.columns)) [ inl short ↦ short | inr whole ↦ absurd (no whole) ])
-    e.taken e.whole e.not_a_row e.kept e.others e.wanted e.wants)
+    e.taken e.whole e.not_a_row e.fails.kept e.fails.others e.fails.wanted e.fails.wants)
