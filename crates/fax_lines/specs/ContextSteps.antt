@@ -89,7 +89,7 @@ GrowsFor stored before after = after ≤ max before (room_for stored)
 abbrev pub GrowsForBits : Bits → Context → Context → Type 0
 GrowsForBits bits old new = new.space ≤ max old.space (most_room old.held.settings bits)
 
--- Lists of changes show the same pixels.
+-- Lists of changes show the same pixels (auxiliary).
 abbrev pub ShowSame : ℕ → List ℕ → List ℕ → Type 0
 ShowSame painted old new = pixels painted new ≡ pixels painted old
 

@@ -15,7 +15,7 @@ pub record MovesBehindRow (before after : Context) (from to : BitsAt) : Type 0 w
   pub count : after.ticks ≡ before.ticks
   pub space : after.space ≡ before.space
 
--- The row that is drawn is full.
+-- The row that is drawn is full (T.4, 4.1.1).
 abbrev pub IsFull : Held → Type 0
 IsFull held = held.settings.columns ≤ length held.front
 

@@ -7,6 +7,7 @@ pub use Rattle.fax_bits.specs.Faults
 pub use Rattle.fax_bits.specs.LookUps
 pub use Rattle.fax_bits.specs.ModeGroups
 pub use Rattle.fax_bits.specs.Ones
+pub use Rattle.fax_bits.specs.ReaderSteps
 pub use Rattle.fax_bits.specs.Repetition
 pub use Rattle.fax_bits.specs.Runs
 pub use Rattle.fax_bits.specs.Texts
