@@ -1,7 +1,7 @@
 //! What a decoder keeps from line to line, and the lines themselves.
 
 ghost use Rattle.std.specs.Prelude.{◌≡◌, ◌+◌, ◌-◌, ◌*◌, ◌^◌, ◌<◌, ◌≤◌, ◌⊎◌, ◌↔◌, ℕ, Ok, Err, OnOk, OnErr, IfOk, IfErr, true};
-ghost use Rattle.std.specs.Prelude.{false, suc, max, vec_capacity};
+ghost use Rattle.std.specs.Prelude.{false, suc, max, pos, vec_capacity};
 ghost use Rattle.std.specs.Prelude.{◌||◌, IsOkUnless, IsTrue, if◌then◌else◌, is_some, option_map, length, get_or, []};
 ghost use Rattle.fax_reading.specs.LocalityByK.{behind_mode};
 ghost use Rattle.fax_bits.specs.Ticks.{run_found};
@@ -598,7 +598,7 @@ impl DecoderContext {
     fn seems_white_below_few(&mut self, reader: &BitReader<'_>) -> bool
         ensures { self.new ≡ self.old }
     {
-        if self.is_unlikely_white {
+        if self.is_unlikely_white || reference_row(self).len() > 6 {
             return false;
         }
         let is_white = self.seems_white(reader);
@@ -606,15 +606,12 @@ impl DecoderContext {
         is_white
     }
 
-    /// Returns whether plain calls are likely to draw the next runs of this row at less cost: it has few more, or is white, or the
-    /// next ones may have three words or more.
+    /// Returns whether plain calls are likely to draw the next runs of this row, wider than 64 pixels, at less cost: it has few more, or
+    /// is white, or the next ones may have three words or more.
     #[inline(always)]
-    fn suits_plain_calls(&mut self, reader: &BitReader<'_>) -> bool
+    fn suits_plain_calls_if_not_narrow(&mut self, reader: &BitReader<'_>) -> bool
         ensures { self.new ≡ self.old }
     {
-        if self.settings.columns <= 64 {
-            return false;
-        }
         if self.settings.columns > 2623 {
             return self.suits_plain_calls_if_wide(reader);
         }
@@ -623,7 +620,15 @@ impl DecoderContext {
             self.is_unlikely_white = false;
             return self.coding_changes.len() < 6;
         }
-        before < 7 && self.seems_white_below_few(reader)
+        self.seems_white_below_few(reader)
+    }
+
+    /// The same for a row of any width.
+    #[inline(always)]
+    fn suits_plain_calls(&mut self, reader: &BitReader<'_>) -> bool
+        ensures { self.new ≡ self.old }
+    {
+        self.settings.columns > 64 && self.suits_plain_calls_if_not_narrow(reader)
     }
 
     /// The same, without a call where the row is full or black is next.
@@ -741,6 +746,16 @@ impl DecoderContext {
         true
     }
 
+    /// Draws the first runs of a row wider than 64 pixels as long as they are usual, by a call; or none, if plain calls suit.
+    #[inline(always)]
+    fn draw_first_runs_if_not_narrow(&mut self, reader: &mut BitReader<'_>)
+        ensures { DrawsUsualRuns self.old self.new reader.old reader.new }
+    {
+        if !self.suits_plain_calls_if_not_narrow(reader) {
+            self.draw_runs_of(reader);
+        }
+    }
+
     /// Draws the first runs of a line as long as they are usual. Those of a narrow row below one of fewer than four changes are
     /// drawn from the reader's own window, without a call, and so is a white row below a white one. If the first run of such a
     /// narrow row isn't usual, and the row before has fewer than two changes, it is left to the plain calls.
@@ -750,10 +765,12 @@ impl DecoderContext {
         ensures { DrawsUsualRuns self.old self.new reader.old reader.new }
     {
         if self.settings.columns > 64 {
-            if self.draw_white_row(reader) {
-                return;
+            if !self.draw_white_row(reader) {
+                self.draw_first_runs_if_not_narrow(reader);
             }
-        } else if self.ref_changes.len() < 4 {
+            return;
+        }
+        if self.ref_changes.len() < 4 {
             self.draw_window_of(reader);
             if self.pixels_decoded == self.settings.columns {
                 return;
@@ -948,7 +965,7 @@ impl DecoderContext {
 
     /// Draws a line of VL and V0 below a row of one change or none from the reader's own window: a row of one change. Returns whether
     /// there is one here; otherwise nothing changes.
-    #[inline(always)]
+    #[inline(never)]
     fn draw_left_change(&mut self, reader: &mut BitReader<'_>) -> bool
         requires { IsAtStart self.old }
         ensures { DrawsAtOnce self.old self.new reader.old reader.new result }
@@ -997,7 +1014,7 @@ impl DecoderContext {
 
     /// Draws a line of VR alone below a row of which only the last one, two or three pixels are black, from the reader's own window: a
     /// white row. Returns whether there is one here; otherwise nothing changes.
-    #[inline(always)]
+    #[inline(never)]
     fn draw_white_below_last(&mut self, reader: &mut BitReader<'_>) -> bool
         requires { IsAtStart self.old }
         ensures { DrawsAtOnce self.old self.new reader.old reader.new result }
@@ -1018,7 +1035,7 @@ impl DecoderContext {
 
     /// Draws a line of pass mode alone below a row of one change or none from the reader's own window: a white row. Returns whether
     /// there is one here; otherwise nothing changes.
-    #[inline(always)]
+    #[inline(never)]
     fn draw_passed_row(&mut self, reader: &mut BitReader<'_>) -> bool
         requires { IsAtStart self.old }
         ensures { DrawsAtOnce self.old self.new reader.old reader.new result }
@@ -1035,8 +1052,43 @@ impl DecoderContext {
         true
     }
 
-    /// Draws a line of VR, or of VR and V0, below a row of one change. Returns whether there is one here; otherwise nothing changes.
+    /// Draws a line of pass mode and V0 below a row of two changes from the reader's own window: a white row. Returns whether there is
+    /// one here; otherwise nothing changes.
+    #[inline(never)]
+    fn draw_white_below_run(&mut self, reader: &mut BitReader<'_>) -> bool
+        requires { IsAtStart self.old }
+        ensures { DrawsAtOnce self.old self.new reader.old reader.new result }
+    {
+        let columns = self.settings.columns;
+        if columns == 0 || self.ref_changes.len() != 2 || !pass_bits(reader, 3, 5) {
+            return false;
+        }
+        // Of each mode one tick is its own, and one that of b1.
+        tick_times(&mut self.ticks, 4);
+        self.pixels_decoded = columns;
+        self.color = Color::Black;
+        true
+    }
+
+    /// Draws a line of V0 alone, or a white one below a row of two changes. Returns whether there is one here; otherwise nothing
+    /// changes.
     #[inline(always)]
+    fn draw_line_at_once(&mut self, reader: &mut BitReader<'_>) -> bool
+        requires { IsAtStart self.old }
+        ensures { DrawsAtOnce self.old self.new reader.old reader.new result }
+    {
+        if self.draw_same_line(reader) {
+            return true;
+        }
+        // No other line begins so.
+        if reader.peek_u32() >> 27 != 3 {
+            return false;
+        }
+        self.draw_white_below_run(reader)
+    }
+
+    /// Draws a line of VR, or of VR and V0, below a row of one change. Returns whether there is one here; otherwise nothing changes.
+    #[inline(never)]
     fn draw_from_right(&mut self, reader: &mut BitReader<'_>) -> bool
         requires { IsAtStart self.old }
         ensures { DrawsAtOnce self.old self.new reader.old reader.new result }
@@ -1054,19 +1106,24 @@ impl DecoderContext {
         requires { IsAtStart self.old }
         ensures { DrawsAtOnce self.old self.new reader.old reader.new result }
     {
-        let bits = reader.peek_u32() >> 28;
-        // No other such line begins with pass mode.
-        if bits == 1 {
+        // No vertical mode has more bits.
+        let bits = reader.peek_u32() >> 25;
+        if bits >> 3 == 1 {
             return self.draw_passed_row(reader);
         }
-        // No line of VL begins with VR1.
-        if bits >> 1 == 3 {
+        // VR1 and another mode than V0
+        if bits >> 3 == 6 {
+            return self.draw_white_below_last(reader);
+        }
+        // VR1, VR2 or VR3
+        if bits >> 3 == 7 || bits >> 1 == 3 || bits == 3 {
             return self.draw_from_right(reader);
         }
-        if self.draw_left_change(reader) {
-            return true;
+        // VL2 or VL3 and another mode than V0
+        if bits == 4 || reader.peek_u32() >> 24 == 4 {
+            return false;
         }
-        self.draw_from_right(reader)
+        self.draw_left_change(reader)
     }
 
     /// The same, without a call if the line begins with VL1 and another mode than V0: no such line does.
@@ -1120,7 +1177,7 @@ impl DecoderContext {
                 }
             }
         }
-        if self.draw_same_line(reader) {
+        if self.draw_line_at_once(reader) {
             return;
         }
         if self.suits_plain_modes(reader) {
@@ -1175,6 +1232,14 @@ impl DecoderContext {
         self.draw_other_mode(mode, reader)
     }
 
+    /// Notes that plain calls draw a mode that isn't horizontal.
+    #[inline(always)]
+    fn note_other_mode(&mut self)
+        ensures { self.new ≡ self.old }
+    {
+        self.is_filled_by_runs = false;
+    }
+
     /// The same by a call, which calls nothing if the row has room for a change.
     #[inline(never)]
     fn draw_mode_by_call(&mut self, mode: Mode, reader: &mut BitReader<'_>) -> Result<()>
@@ -1182,18 +1247,25 @@ impl DecoderContext {
             result (pen_of self.new.held (here reader.new)) }
         ensures leaves { DrawsOneMode mode self.old self.new result reader.old reader.new }
     {
+        self.note_other_mode();
         if self.coding_changes.len() >= self.coding_changes.capacity() {
             return self.draw_mode_without_room(mode, reader);
         }
         self.draw_other_mode(mode, reader)
     }
 
-    /// Notes that plain calls draw a mode that isn't horizontal.
-    #[inline(always)]
-    fn note_other_mode(&mut self)
-        ensures { self.new ≡ self.old }
+    /// Draws V0 by a call (T.4, 4.2.1.3): this is compiled for it alone.
+    #[inline(never)]
+    fn draw_v0_by_call(&mut self, reader: &mut BitReader<'_>) -> Result<()>
+        ensures step { DrawsStep (step_of_mode self.old.held (here reader.old) (Mode.Vertical (pos 0)))
+            result (pen_of self.new.held (here reader.new)) }
+        ensures leaves { DrawsOneMode (Mode.Vertical (pos 0)) self.old self.new result reader.old reader.new }
     {
-        self.is_filled_by_runs = false;
+        self.note_other_mode();
+        if self.coding_changes.len() >= self.coding_changes.capacity() {
+            return self.draw_mode_without_room(Mode::Vertical(0), reader);
+        }
+        self.draw_other_mode(Mode::Vertical(0), reader)
     }
 
     /// Draws a mode (T.4, 4.2.1.3).
@@ -1205,10 +1277,8 @@ impl DecoderContext {
     {
         match mode {
             Mode::Horizontal => self.draw_both_runs(reader),
-            other => {
-                self.note_other_mode();
-                self.draw_mode_by_call(other, reader)
-            }
+            Mode::Vertical(0) => self.draw_v0_by_call(reader),
+            other => self.draw_mode_by_call(other, reader),
         }
     }
 }

@@ -1,10 +1,10 @@
 -- Lines of one mode, or of a vertical mode and V0, below a row of one change or none, to a row of one change or none.
 use Rattle.fax_lines.proofs.Names.{◌≡◌, ℕ, zero, suc, ◌+◌, ◌-◌, ◌<◌, ◌≤◌, ◌++◌, ◌∷◌, [], Bool, true, List, length, get_or, drop}
 use Rattle.fax_lines.proofs.Names.{Ok, pos, negsuc, refl, sym, ap, subst, ◌∙◌, arith, drop-drop, Bits, BitsAt, here, moved}
-use Rattle.fax_lines.proofs.Names.{White, Black, mode_codes, read_code, Vertical, AreChanges, pixels, GoesOn2d, IsStroke}
+use Rattle.fax_lines.proofs.Names.{White, Black, mode_codes, read_code, Pass, Vertical, AreChanges, pixels, GoesOn2d, IsStroke}
 use Rattle.fax_lines.proofs.Names.{pen_at, ℤ, ◌+ℤ◌}
 use Rattle.fax_reading.proofs.PixelRows.ReferencePlaces.{end_within}
-use Rattle.fax_lines.proofs.DrawingLines.UsualModes.{twice_2d, vertical_on, pass_on, start_stroke, named_left, named_right}
+use Rattle.fax_lines.proofs.DrawingLines.UsualModes.{twice_2d, vertical_on, pass_on, pass_stroke, start_stroke, named_left, named_right}
 use Rattle.fax_lines.proofs.DrawingLines.UsualStrokes.{pixels-pending}
 use Rattle.fax_bits.specs.Bits.{low_bits}
 use Rattle.fax_lines.specs.ContextSteps.{IsWidth}
@@ -149,6 +149,47 @@ white_below_last strict columns place distance width at ticks ascend fits end fe
     vertical_on ascend (omega (arith, inside)) (start_stroke columns (place ∷ []) ascend) {strict = strict} at 0 width
     {ticks = ticks} {now = ticks + 2} fits (vr_here at distance width (omega (arith, inside, end)) few is there)
     (named_right place columns distance end) (omega arith) (omega arith) (omega arith) (omega arith)
+
+-- the second of two changes is inside the row, and there is no third
+second_within : (columns : ℕ) (places : List ℕ) → AreChanges columns places → length places ≡ 2 → get_or places 1 columns < columns
+second_within columns [] ascend two = absurd (omega (arith, two))
+second_within columns (p ∷ []) ascend two = absurd (omega (arith, two))
+second_within columns (p ∷ q ∷ row) ascend two = ascend.2.1
+
+third_is_end : (columns : ℕ) (places : List ℕ) → length places ≡ 2 → get_or places 2 columns ≡ columns
+third_is_end columns [] two = refl
+third_is_end columns (p ∷ []) two = refl
+third_is_end columns (p ∷ q ∷ []) two = refl
+third_is_end columns (p ∷ q ∷ r ∷ row) two = absurd (omega (arith, two))
+
+pass_and_v0 : (at : BitsAt) → here at ≡ low_bits 5 3 ++ here (moved 5 at)
+    → (read_code mode_codes (here at) ≡ Ok (Pass, here (moved 4 at)))
+    × (read_code mode_codes (here (moved 4 at)) ≡ Ok (Vertical (pos 0), here (moved 1 (moved 4 at))))
+pass_and_v0 at there =
+    let rest : Bits = here (moved 5 at) in
+    let one : here (moved 4 at) ≡ true ∷ rest = sym (drop-drop 4 at.place at.bits) ∙ ap (drop 4) there in
+    let behind : here (moved 1 (moved 4 at)) ≡ rest = ap (λ (n : ℕ). here (record at { place = n })) (omega arith) in (
+      ap (read_code mode_codes) there ∙ ap (λ (b : Bits). Ok (Pass, b)) (sym one),
+      ap (read_code mode_codes) one ∙ ap (λ (b : Bits). Ok (Vertical (pos 0), b)) (sym behind),
+    )
+
+-- pass mode and V0, below a row of two changes
+pub white_below_run : (strict : Bool) (columns : ℕ) (places : List ℕ) (at : BitsAt) (ticks : ℕ) → AreChanges columns places
+    → columns ≤ 4294967295 → length places ≡ 2 → here at ≡ low_bits 5 3 ++ here (moved 5 at)
+    → GoesOn2d strict columns (pixels columns places) (pen_at 0 [] White at) (pen_at columns [] Black (moved 5 at))
+    ticks (ticks + 4) 0 0
+white_below_run strict columns places at ticks ascend fits two there =
+    let inside = second_within columns places ascend two in
+    let reads = pass_and_v0 at there in
+    let begun = start_stroke columns places ascend in
+    let passed = pass_on ascend (omega (arith, inside)) begun {strict = strict} at 2 4 {ticks = ticks} {now = ticks + 2} reads.0
+    (omega arith) (omega arith) in
+    let reached = pass_stroke ascend (omega (arith, inside)) begun inside in
+    let last = vertical_on ascend inside reached {strict = strict} (moved 4 at) {place = columns} 1 1 {ticks = ticks + 2}
+    {now = ticks + 4} fits reads.1 (named_right (get_or places 2 columns) columns 0 (omega (arith, third_is_end columns places two)))
+    (omega (arith, inside)) (omega arith) (omega arith) (omega arith) in
+    let sum : at.place + 4 + 1 ≡ at.place + 5 = omega arith in
+    twice_2d passed (rw sum at last)
 
 -- a list of one change
 pub one_change : (row : List ℕ) (place : ℕ) → length row ≡ 1 → place ≡ get_or row 0 place → row ≡ place ∷ []
