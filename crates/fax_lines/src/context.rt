@@ -844,8 +844,9 @@ impl DecoderContext {
             horizontal_ends(reader)
         };
         if self.ref_changes.len() < 4 {
-            // Pass mode, or horizontal mode and few others.
-            return bits >> 28 == 1 || skip != 0 && self.has_few_modes(reader, skip);
+            // Pass mode, or VL1 or VR1, pass and horizontal mode, or horizontal mode and few others.
+            let passes = bits >> 28 == 1 || bits >> 22 | 128 == 393;
+            return passes || skip != 0 && self.has_few_modes(reader, skip);
         }
         skip != 0 && is_long_behind_modes(reader, skip, &self.tables)
     }
