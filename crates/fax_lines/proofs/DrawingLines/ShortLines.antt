@@ -4,7 +4,8 @@ use Rattle.fax_lines.proofs.Names.{Ok, pos, negsuc, refl, sym, ap, subst, ◌∙
 use Rattle.fax_lines.proofs.Names.{White, Black, mode_codes, read_code, Pass, Vertical, AreChanges, pixels, GoesOn2d, IsStroke}
 use Rattle.fax_lines.proofs.Names.{pen_at, ℤ, ◌+ℤ◌}
 use Rattle.fax_reading.proofs.PixelRows.ReferencePlaces.{end_within}
-use Rattle.fax_lines.proofs.DrawingLines.UsualModes.{twice_2d, vertical_on, pass_on, pass_stroke, start_stroke, named_left, named_right}
+use Rattle.fax_lines.proofs.DrawingLines.UsualModes.{twice_2d, vertical_on, pass_on, pass_stroke, start_stroke}
+use Rattle.fax_lines.proofs.DrawingLines.UsualModes.{named_left, named_right}
 use Rattle.fax_lines.proofs.DrawingLines.UsualStrokes.{pixels-pending}
 use Rattle.fax_bits.specs.Bits.{low_bits}
 use Rattle.fax_lines.specs.ContextSteps.{IsWidth}
@@ -151,7 +152,8 @@ white_below_last strict columns place distance width at ticks ascend fits end fe
     (named_right place columns distance end) (omega arith) (omega arith) (omega arith) (omega arith)
 
 -- the second of two changes is inside the row, and there is no third
-second_within : (columns : ℕ) (places : List ℕ) → AreChanges columns places → length places ≡ 2 → get_or places 1 columns < columns
+second_within : (columns : ℕ) (places : List ℕ) → AreChanges columns places → length places ≡ 2
+    → get_or places 1 columns < columns
 second_within columns [] ascend two = absurd (omega (arith, two))
 second_within columns (p ∷ []) ascend two = absurd (omega (arith, two))
 second_within columns (p ∷ q ∷ row) ascend two = ascend.2.1
@@ -186,8 +188,9 @@ white_below_run strict columns places at ticks ascend fits two there =
     (omega arith) (omega arith) in
     let reached = pass_stroke ascend (omega (arith, inside)) begun inside in
     let last = vertical_on ascend inside reached {strict = strict} (moved 4 at) {place = columns} 1 1 {ticks = ticks + 2}
-    {now = ticks + 4} fits reads.1 (named_right (get_or places 2 columns) columns 0 (omega (arith, third_is_end columns places two)))
-    (omega (arith, inside)) (omega arith) (omega arith) (omega arith) in
+    {now = ticks + 4} fits reads.1
+    (named_right (get_or places 2 columns) columns 0 (omega (arith, third_is_end columns places two))) (omega (arith, inside))
+    (omega arith) (omega arith) (omega arith) in
     let sum : at.place + 4 + 1 ≡ at.place + 5 = omega arith in
     twice_2d passed (rw sum at last)
 
