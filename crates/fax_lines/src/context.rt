@@ -33,7 +33,7 @@ use crate::modes::{
     CodingLine, draw_modes, has_mode, has_no_room, is_white_row, lay_down_row, next_color,
     put_ends, repeat_changes, take_ends,
 };
-use crate::usual::{draw_runs, draw_two_runs, lay_down, pass_white_row, take_up, turn_at};
+use crate::usual::{draw_few_runs, draw_runs, draw_two_runs, lay_down, pass_white_row, take_up, turn_at};
 use crate::white_lines::{WhiteLines, may_follow, none_known, white_lines};
 use fax_bits::bit_reader::{
     BitOrder, BitReader, BitScanner, BitsAtHand, at_hand, go_to, none_at_hand, pass_bits,
@@ -144,9 +144,6 @@ pub struct DecoderContext {
     /// Whether the last line that began in horizontal mode, below a row of one change or none, seemed to have no other mode. It
     /// decides nothing but which code draws the next such line.
     is_filled_by_runs: bool,
-    /// Whether the last row below one of four to six changes wasn't white, and none came below fewer changes since. It decides nothing
-    /// but which code draws the next runs of a one-dimensional line.
-    is_unlikely_white: bool,
     ticks: Ticks,
 }
 
@@ -200,7 +197,6 @@ impl DecoderContext {
             tables: Tables::new(alloc)?,
             suits_groups: false,
             is_filled_by_runs: true,
-            is_unlikely_white: false,
             ticks: Ticks::new(),
         })
     }
@@ -585,49 +581,19 @@ impl DecoderContext {
         entries.get(index as usize).copied().unwrap_or(0)
     }
 
-    /// Returns whether this row, wider than 64 pixels, seems to be white: its next word, if it is one of white, is a make-up word as
-    /// long as that of a white row.
-    #[inline(always)]
-    fn seems_white(&self, reader: &BitReader<'_>) -> bool {
-        let run = u32::from(self.entry_ahead(reader, 0, Color::White) & LOOKUP_INVALID);
-        run >= 64 && run + 63 >= self.settings.columns
-    }
-
-    /// The same below a row of four to six changes: if such a row wasn't white, it isn't asked again until one is below fewer changes.
-    #[inline(always)]
-    fn seems_white_below_few(&mut self, reader: &BitReader<'_>) -> bool
-        ensures { self.new ≡ self.old }
-    {
-        if self.is_unlikely_white || reference_row(self).len() > 6 {
-            return false;
-        }
-        let is_white = self.seems_white(reader);
-        self.is_unlikely_white = !is_white;
-        is_white
-    }
-
     /// Returns whether plain calls are likely to draw the next runs of this row, wider than 64 pixels, at less cost: it has few more, or
-    /// is white, or the next ones may have three words or more.
+    /// the next ones may have three words or more.
     #[inline(always)]
-    fn suits_plain_calls_if_not_narrow(&mut self, reader: &BitReader<'_>) -> bool
-        ensures { self.new ≡ self.old }
-    {
+    fn suits_plain_calls_if_not_narrow(&self, reader: &BitReader<'_>) -> bool {
         if self.settings.columns > 2623 {
             return self.suits_plain_calls_if_wide(reader);
         }
-        let before = reference_row(self).len();
-        if before < 4 {
-            self.is_unlikely_white = false;
-            return self.coding_changes.len() < 6;
-        }
-        self.seems_white_below_few(reader)
+        reference_row(self).len() < 7 && self.coding_changes.len() < 6
     }
 
     /// The same for a row of any width.
     #[inline(always)]
-    fn suits_plain_calls(&mut self, reader: &BitReader<'_>) -> bool
-        ensures { self.new ≡ self.old }
-    {
+    fn suits_plain_calls(&self, reader: &BitReader<'_>) -> bool {
         self.settings.columns > 64 && self.suits_plain_calls_if_not_narrow(reader)
     }
 
@@ -746,11 +712,60 @@ impl DecoderContext {
         true
     }
 
-    /// Draws the first runs of a row wider than 64 pixels as long as they are usual, by a call; or none, if plain calls suit.
+    /// Draws pairs of runs of a row of few changes as long as they are usual, from a white one on.
+    #[inline(always)]
+    fn draw_few_by_twos(&mut self, hand: &mut BitsAtHand<'_>)
+        ensures { DrawsUsualRuns self.old self.new hand.old.at hand.new.at }
+    {
+        if !self.color.is_white() {
+            return;
+        }
+        if self.pixels_decoded == self.settings.columns {
+            return;
+        }
+        if !take_up(&mut self.coding_changes, self.pixels_decoded) {
+            return;
+        }
+        let ticks = &mut self.ticks;
+        let (place, color) = draw_few_runs(
+            hand,
+            &mut self.coding_changes,
+            self.pixels_decoded,
+            self.settings,
+            &self.tables,
+            ticks,
+        );
+        lay_down(&mut self.coding_changes, place);
+        self.pixels_decoded = place;
+        self.color = color;
+    }
+
+    /// The same for a reader, in whichever order its bits are, without a call.
+    #[inline(always)]
+    fn draw_few_runs_of(&mut self, reader: &mut BitReader<'_>)
+        ensures { DrawsUsualRuns self.old self.new reader.old reader.new }
+    {
+        let mut hand = none_at_hand(reader);
+        self.draw_few_by_twos(&mut hand);
+        go_to(reader, &hand);
+    }
+
+    /// Returns whether a row wider than 64 pixels is likely to have few runs, and these one or two words each.
+    #[inline(always)]
+    fn has_few_usual_runs(&self) -> bool {
+        self.settings.columns <= 2623 && reference_row(self).len() < 7
+    }
+
+    /// Draws the first runs of a row wider than 64 pixels as long as they are usual, few of them without a call; or none, if plain calls
+    /// suit.
     #[inline(always)]
     fn draw_first_runs_if_not_narrow(&mut self, reader: &mut BitReader<'_>)
         ensures { DrawsUsualRuns self.old self.new reader.old reader.new }
     {
+        if self.has_few_usual_runs() {
+            self.draw_few_runs_of(reader);
+            return;
+        }
         if !self.suits_plain_calls_if_not_narrow(reader) {
             self.draw_runs_of(reader);
         }
@@ -1081,7 +1096,7 @@ impl DecoderContext {
         if self.draw_same_line(reader) {
             return true;
         }
-        // No other line begins so.
+        // Such a line begins with these five bits.
         if reader.peek_u32() >> 27 != 3 {
             return false;
         }

@@ -355,6 +355,39 @@ pub(crate) fn draw_runs(
     reached
 }
 
+/// Draws the runs of a row of few changes in pairs while they are of the usual kind, each word by a look-up of its own. Returns how
+/// far the row reaches then, and the colour in which it continues.
+#[inline(always)]
+pub(crate) fn draw_few_runs(
+    hand: &mut BitsAtHand<'_>,
+    row: &mut Vec<u32>,
+    painted: u32,
+    settings: DecodeSettings,
+    tables: &Tables,
+    ticks: &mut Ticks,
+) -> (u32, Color)
+    requires open { IsOpen settings.columns painted row.old.items }
+    ensures drawn { DrawsRuns settings painted hand.old row.old ticks.old result.0 result.1 hand.new row.new ticks.new }
+    ensures forward { painted ≤ result.0 }
+    ensures kept { MovesOn hand.old row.old hand.new row.new }
+{
+    let mut place = painted;
+    'runs: loop {
+        if !has_two_runs(hand) {
+            return (place, Color::White);
+        }
+        match draw_two_runs(hand, row, place, settings, tables, ticks) {
+            None => return (place, Color::White),
+            Some((next, color)) => {
+                if next == settings.columns {
+                    return (next, color);
+                }
+                place = next;
+            }
+        }
+    }
+}
+
 /// Passes a white row: one run as long as the row. Returns whether there is one in the window; otherwise nothing changes.
 #[inline(always)]
 pub(crate) fn pass_white_row(
