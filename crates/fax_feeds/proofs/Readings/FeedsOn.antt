@@ -30,7 +30,7 @@ use Rattle.fax_reading.proofs.Work.WordsPay.{found_within}
 use Rattle.fax_reading.proofs.Work.TurnsPaid.{row_shorter}
 use Rattle.fax_feeds.proofs.Names.{append-nil, row_of_line}
 use Rattle.fax_feeds.specs.RowFeeds.{Begins, CallGoesOn, DrawsRow, ReachesLine, line_of_feed, most_to_find}
-use Rattle.fax_feeds.proofs.Names.{and_parts}
+use Rattle.fax_feeds.proofs.Names.{IfErr, and_parts}
 use Rattle.fax_feeds.specs.declared.line_parts.KeptPart.{KeptPart}
 use Rattle.fax_bits.specs.declared.error.DecodeError.TheVariants.{InvalidCode, OutOfMemory}
 use Rattle.fax_feeds.specs.declared.row_feed.Fed.{Fed}
@@ -663,69 +663,49 @@ line_goes_on {whole} {tried} {old} {new} answer reads begun line feed = record {
     line_unkept (Ok false) reads away = grind (arith, common_steps, false≢true)
     line_unkept (Err error) reads away = reads.done (λ e. cc)
 
+-- what the answers are of a line, and of its call
+no_end : (answer : Result Bool DecodeError) → fed_row answer ≢ Ok Fed.End
+no_end answer e = grind (arith, common_steps)
+
+line_failed : (answer : Result Bool DecodeError) → fed_row answer ≡ Err OutOfMemory → answer ≡ Err OutOfMemory
+line_failed answer e = grind (arith, common_steps)
+
+row_of_line_read : {old new : RowsRead} (answer : Result Bool DecodeError) → answer ≡ Ok true
+    → ((IsLeft answer → ⊥) → ReadsNext old new answer) → ReadsNext old new (Ok true)
+row_of_line_read {old} {new} answer is reads = subst (ReadsNext old new) is (reads (λ left. grind (arith, common_steps)))
+
+line_fault : {old new : RowsRead} (answer : Result Bool DecodeError) → ((IsLeft answer → ⊥) → ReadsNext old new answer)
+    → IfErr (fed_row answer) (λ e. e ≢ OutOfMemory → ReadsNext old new (Err e))
+line_fault (Ok true) reads = tt
+line_fault (Ok false) reads = tt
+line_fault (Err error) reads = reads
+
 -- the line is read, or left
 pub line_feeds : {whole : Bits} {tried : ℕ} {old new : Feeding} (answer : Result Bool DecodeError) → ReadsInFeed old new answer
     → (answer ≡ Ok false → old.part ≡ None → new.part ≡ None → (new.ctx.ticks ≡ old.ctx.ticks)
     ⊎ ((old.tried_at ≢ new.dropped + new.place) × (new.tried_at ≡ new.dropped + new.place))) → old.begun ≡ true
     → is_at_line old.rows.stand ≡ true → IsFeedOf whole tried old → FeedsNext whole tried old new
     (fed_row answer)
-line_feeds {whole} {tried} {old} {new} (Ok true) reads unread begun line feed = record {
-  row = λ e. reads.reads whole tried (λ left. cc) feed;
-  end = λ e. cc;
-  fault = tt;
-  none = λ left. cc;
-  unsettled = λ e. cc;
-  memory = λ e. cc;
-  paints = λ e. cc;
-  extra = reads.extra;
-  line_extra = reads.extra;
-  extra_is = omega arith;
-  line_work = line_paid (Ok true) reads unread line;
-  goes_on = line_goes_on (Ok true) reads begun line feed;
-  stands = reads.stands whole tried feed;
-  gap = 0;
-  looks = none_looked old.finished (old.begun && is_at_line old.rows.stand) old.looked (drop old.place old.kept);
-  looked = λ e. cc;
-}
-line_feeds {whole} {tried} {old} {new} (Ok false) reads unread begun line feed = record {
-  row = λ e. cc;
-  end = λ e. cc;
-  fault = tt;
-  none = λ left. line_left (Ok false) reads refl line;
-  unsettled = λ e. grind (arith, common_steps, open_line, next_is, reads.unsettled refl, reads.left refl);
-  memory = λ e. cc;
-  paints = λ e. cc;
-  extra = reads.extra;
-  line_extra = reads.extra;
-  extra_is = omega arith;
-  line_work = line_paid (Ok false) reads unread line;
-  goes_on = line_goes_on (Ok false) reads begun line feed;
-  stands = reads.stands whole tried feed;
-  gap = 0;
-  looks = none_looked old.finished (old.begun && is_at_line old.rows.stand) old.looked (drop old.place old.kept);
-  looked = λ e away. absurd (false≢true (sym away ∙ ap (λ (r : RowState). is_at_line r.stand) (reads.left refl).0 ∙ line));
-}
-line_feeds {whole} {tried} {old} {new} (Err error) reads unread begun line feed = record {
-  row = λ e. cc;
-  end = λ e. cc;
-  fault = λ other. reads.reads whole tried other feed;
-  none = λ left. line_left (Err error) reads left line;
-  unsettled = λ e. cc;
+line_feeds {whole} {tried} {old} {new} answer reads unread begun line feed = record {
+  row = λ e. row_of_line_read answer (line_was_read answer e) (λ whole_line. reads.reads whole tried whole_line feed);
+  end = λ e. absurd (no_end answer e);
+  fault = line_fault answer (λ other. reads.reads whole tried other feed);
+  none = λ left. line_left answer reads (left_as_none answer left) line;
+  unsettled = λ e. grind (arith, common_steps, open_line, next_is);
   memory = λ e.
-      let is : error ≡ OutOfMemory = cc in
       subst (λ (b : Bits). HasBlack (front_of (line_here new.ctx.held.settings new.ctx.held.reference b)))
-      (next_is reads.keeps (reads.left is).1) (reads.memory (ap (λ (x : DecodeError). Err x) is));
-  paints = λ e.
-      let is : error ≡ OutOfMemory = cc in reads.paints whole tried (ap (λ (x : DecodeError). Err x) is) feed;
+      (next_is reads.keeps (reads.left (left_as_none answer (subst HasNone (sym e) refl))).1)
+      (reads.memory (line_failed answer e));
+  paints = λ e. reads.paints whole tried (line_failed answer e) feed;
   extra = reads.extra;
   line_extra = reads.extra;
   extra_is = omega arith;
-  line_work = line_paid (Err error) reads unread line;
-  goes_on = line_goes_on (Err error) reads begun line feed;
+  line_work = line_paid answer reads unread line;
+  goes_on = line_goes_on answer reads begun line feed;
   stands = reads.stands whole tried feed;
   gap = 0;
   looks = none_looked old.finished (old.begun && is_at_line old.rows.stand) old.looked (drop old.place old.kept);
-  looked = λ e. cc;
+  looked = λ e away. grind (arith, common_steps, false≢true);
 }
 
 -- without a line nothing is counted for it
@@ -789,12 +769,10 @@ gap_feeds {whole} {tried} {old} {new} (Err error) comes other begun unended unke
   row = λ e. cc;
   end = λ e. cc;
   fault = λ other. none_behind (Err error) (λ is. cc) (comes.comes whole tried (λ is. cc) feed);
-  none = λ left. let never : InvalidCode ≡ OutOfMemory = sym comes.only_code ∙ left in absurd cc;
+  none = λ left. absurd (unlike left);
   unsettled = λ e. cc;
-  memory = λ e. let is : error ≡ OutOfMemory = cc in
-      let never : InvalidCode ≡ OutOfMemory = sym comes.only_code ∙ is in absurd cc;
-  paints = λ e. let is : error ≡ OutOfMemory = cc in
-      let never : InvalidCode ≡ OutOfMemory = sym comes.only_code ∙ is in absurd cc;
+  memory = λ e. absurd (unlike cc);
+  paints = λ e. absurd (unlike cc);
   extra = comes.extra;
   line_extra = 0;
   extra_is = omega arith;
@@ -805,6 +783,9 @@ gap_feeds {whole} {tried} {old} {new} (Err error) comes other begun unended unke
   looks = looks_begun old.begun begun comes.looks;
   looked = λ e. cc;
 }
+  where
+    unlike : error ≢ OutOfMemory
+    unlike left = let never : InvalidCode ≡ OutOfMemory = sym comes.only_code ∙ left in cc
 
 -- there is room for the row of a line
 pub row_fits : {whole : Bits} {tried : ℕ} {feed : Feeding} → feed.begun ≡ true → is_at_line feed.rows.stand ≡ true
