@@ -720,6 +720,44 @@ gap_ended : {old new : Feeding} {answer : Result Fed DecodeError} {extra : ℕ} 
 gap_ended {new = new} {answer = answer} counts space unkept over some other none begun within =
     grind (arith, common_steps, none_paid, false≢true)
 
+-- no row is read where no line is reached
+pub none_row : (line : Result (Option Bool) DecodeError) → fed_none line ≢ Ok Fed.Row
+none_row (Ok None) e = cc
+none_row (Ok (Some line)) e = cc
+none_row (Err error) e = cc
+
+gap_end : {old new : RowsRead} (answer : Result (Option Bool) DecodeError) → answer ≢ Ok (Some true)
+    → fed_none answer ≡ Ok Fed.End → ReachesNextLine old new (came answer) → ReadsNext old new (Ok false)
+gap_end (Ok None) other e reached = absurd cc
+gap_end (Ok (Some true)) other e reached = absurd (other refl)
+gap_end (Ok (Some false)) other e reached = none_behind (Ok false) (λ is. cc) reached
+gap_end (Err error) other e reached = absurd cc
+
+-- the reading ends before a line
+over_feeds : {whole : Bits} {tried : ℕ} {old new : Feeding} (answer : Result (Option Bool) DecodeError) (more : ℕ)
+    → answer ≢ Ok None → answer ≢ Ok (Some true) → answer ≢ Err OutOfMemory
+    → ReachesNextLine (fed_over whole old) (fed_over whole new) (came answer) → IsFeedOf whole (tried + more) new
+    → LooksAhead old.finished (old.begun && is_at_line old.rows.stand) old.looked (drop old.place old.kept) more
+    → old.part ≡ None → CallGoesOn old new (fed_none answer) more more → FeedsNext whole tried old new (fed_none answer)
+over_feeds {whole} {tried} {old} {new} answer more waits line memory reached stands looks unkept goes_on = record {
+  row = λ e. absurd (none_row answer e);
+  end = λ e. gap_end answer line e reached;
+  fault = grind (arith, common_steps, none_behind);
+  none = λ left. grind (arith, common_steps);
+  unsettled = λ e. grind (arith, common_steps);
+  memory = λ e. grind (arith, common_steps);
+  paints = λ e. grind (arith, common_steps);
+  extra = more;
+  line_extra = 0;
+  extra_is = omega arith;
+  line_work = no_line_paid unkept;
+  goes_on = goes_on;
+  stands = stands;
+  gap = more;
+  looks = looks;
+  looked = λ e. grind (arith, common_steps);
+}
+
 -- no line is reached: more data is needed, or it is the end
 pub gap_feeds : {whole : Bits} {tried : ℕ} {old new : Feeding} (answer : Result (Option Bool) DecodeError)
     → ComesInFeed old new answer
@@ -747,45 +785,15 @@ gap_feeds {whole} {tried} {old} {new} (Ok None) comes other begun unended unkept
       looked = λ e away. comes.looked refl;
     }
 gap_feeds {whole} {tried} {old} {new} (Ok (Some true)) comes other begun unended unkept none feed = absurd (other refl)
-gap_feeds {whole} {tried} {old} {new} (Ok (Some false)) comes other begun unended unkept none feed = record {
-  row = λ e. cc;
-  end = λ e. none_behind (Ok false) (λ is. cc) (comes.comes whole tried (λ is. cc) feed);
-  fault = tt;
-  none = λ left. cc;
-  unsettled = λ e. cc;
-  memory = λ e. cc;
-  paints = λ e. cc;
-  extra = comes.extra;
-  line_extra = 0;
-  extra_is = omega arith;
-  line_work = no_line_paid unkept;
-  goes_on = grind (arith, common_steps, gap_ended);
-  stands = comes.stands whole tried (λ is. cc) feed;
-  gap = comes.extra;
-  looks = looks_begun old.begun begun comes.looks;
-  looked = λ e. cc;
-}
-gap_feeds {whole} {tried} {old} {new} (Err error) comes other begun unended unkept none feed = record {
-  row = λ e. cc;
-  end = λ e. cc;
-  fault = λ other. none_behind (Err error) (λ is. cc) (comes.comes whole tried (λ is. cc) feed);
-  none = λ left. absurd (unlike left);
-  unsettled = λ e. cc;
-  memory = λ e. absurd (unlike cc);
-  paints = λ e. absurd (unlike cc);
-  extra = comes.extra;
-  line_extra = 0;
-  extra_is = omega arith;
-  line_work = no_line_paid unkept;
-  goes_on = grind (arith, common_steps, gap_ended);
-  stands = comes.stands whole tried (λ is. cc) feed;
-  gap = comes.extra;
-  looks = looks_begun old.begun begun comes.looks;
-  looked = λ e. cc;
-}
-  where
-    unlike : error ≢ OutOfMemory
-    unlike left = let never : InvalidCode ≡ OutOfMemory = sym comes.only_code ∙ left in cc
+gap_feeds {whole} {tried} {old} {new} (Ok (Some false)) comes other begun unended unkept none feed =
+    over_feeds (Ok (Some false)) comes.extra (λ e. cc) (λ e. cc) (λ e. cc) (comes.comes whole tried (λ is. cc) feed)
+    (comes.stands whole tried (λ is. cc) feed) (looks_begun old.begun begun comes.looks) unkept
+    (grind (arith, common_steps, gap_ended))
+gap_feeds {whole} {tried} {old} {new} (Err error) comes other begun unended unkept none feed =
+    over_feeds (Err error) comes.extra (λ e. cc) (λ e. cc)
+    (λ e. let never : InvalidCode ≡ OutOfMemory = sym comes.only_code ∙ cc in cc) (comes.comes whole tried (λ is. cc) feed)
+    (comes.stands whole tried (λ is. cc) feed) (looks_begun old.begun begun comes.looks) unkept
+    (grind (arith, common_steps, gap_ended))
 
 -- there is room for the row of a line
 pub row_fits : {whole : Bits} {tried : ℕ} {feed : Feeding} → feed.begun ≡ true → is_at_line feed.rows.stand ≡ true
@@ -873,24 +881,9 @@ pub front_ends_feeds : {whole : Bits} {tried : ℕ} {old new : Feeding} → Begi
 front_ends_feeds {whole} {tried} {old} {new} begins unbegun unkept none over feed =
     let reached = subst (ReachesNextLine (fed_over whole old) (fed_over whole new))
     (first_line_ends new.rows.stand over (begins.unfailed refl)) (begins.passes whole tried refl feed) in
-    record {
-      row = λ e. cc;
-      end = λ e. none_behind (Ok false) (λ is. cc) reached;
-      fault = tt;
-      none = λ left. cc;
-      unsettled = λ e. cc;
-      memory = λ e. cc;
-      paints = λ e. cc;
-      extra = begins.extra;
-      line_extra = 0;
-      extra_is = omega arith;
-      line_work = no_line_paid unkept;
-      stands = begins.stands whole tried feed;
-      gap = begins.extra;
-      looks = unbegun_looks old.begun (is_at_line old.rows.stand) unbegun begins.looks;
-      looked = λ e. cc;
-      goes_on = grind (arith, common_steps, gap_ended, begins.reaches whole tried refl feed, reached.end refl);
-    }
+    over_feeds (Ok (Some false)) begins.extra (λ e. cc) (λ e. cc) (λ e. cc) reached (begins.stands whole tried feed)
+    (unbegun_looks old.begun (is_at_line old.rows.stand) unbegun begins.looks) unkept
+    (grind (arith, common_steps, gap_ended, begins.reaches whole tried refl feed, reached.end refl))
 
 -- ---- More data
 
