@@ -100,7 +100,7 @@ broken_stays : (n : ℕ) (front others : Row) (fault : DecodeError) (more : Bits
     → n ≤ length more
 broken_stays n front others fault more e = absurd cc
 
--- the body from bit 29 on, in which there is no EOL, and which these twelve bits are before
+-- a body that begins at bit 29 is local, by the tests of the bits
 local_of : (bits : Bits) (to : ℕ) → 29 ≤ to → to ≤ length bits → after_eol 0 (drop 17 bits) ≡ Some (drop 29 bits)
     → take (to - 29) (drop 29 bits) ≢ replicate (to - 29) false → next_eol (take (to - 29) (drop 29 bits)) ≡ None
     → (after : Bits) × (after_eol 0 (drop to bits) ≡ Some after) × EndsBefore 8 after (drop 29 bits)
