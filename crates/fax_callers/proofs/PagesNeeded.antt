@@ -26,7 +26,8 @@ use Rattle.hayro_ccitt.proofs.Readings.OpenBits.{open_bits_of_gap}
 use Rattle.hayro_ccitt.proofs.Readings.Repeated.{not_next}
 use Rattle.hayro_ccitt.proofs.Readings.RowsAndGaps.{after_damage-is, unless_over, unmissed}
 use Rattle.hayro_ccitt.proofs.Readings.TurnsMoveOn.{unless_over_next}
-use Rattle.fax_callers.proofs.ReadsOnward.{EndsWithin, Leads, Leaves, behind_row_shorter, counted_on, gap_lead, gap_leaves}
+use Rattle.hayro_ccitt.proofs.Work.TurnsPaid.{behind_shorter}
+use Rattle.fax_callers.proofs.ReadsOnward.{EndsWithin, Leads, Leaves, counted_on, gap_lead, gap_leaves}
 use Rattle.fax_callers.proofs.ReadsOnward.{reached_lead}
 
 -- ---- What a turn leads to
@@ -158,7 +159,7 @@ module _ (settings : DecodeSettings) (wide : 0 < settings.columns) (four : setti
           = ap (row_of_line unaligned false (seen ++ more)) (ap (line_here settings reference) (sym split) ∙ e) in
           elim (short_row unaligned false reference seen more rest row short there) [
             | inl le ↦ gap_leaves settings (with_row run row (behind_row settings run.has_eols rest)) (length more + 12)
-                (omega (arith, le, behind_row_shorter settings run.has_eols rest))
+                (omega (arith, le, behind_shorter settings run.has_eols rest))
             | inr back ↦ absurd (false≢true back.0)
           ]
 

@@ -1,11 +1,11 @@
 -- A reading ends no earlier than where it stands.
-use Rattle.hayro_ccitt.proofs.Names.{◌≡◌, ◌≢◌, ◌⊎◌, inl, inr, ℕ, suc, ◌+◌, ◌-◌, ◌*◌, ◌/◌, ◌<◌, ◌≤◌, ◌&&◌, ◌||◌, ◌∙◌, Bool, true}
-use Rattle.hayro_ccitt.proofs.Names.{false, []}
+use Rattle.hayro_ccitt.proofs.Names.{◌≡◌, ◌≢◌, ◌⊎◌, inl, inr, ℕ, suc, ◌+◌, ◌-◌, ◌*◌, ◌/◌, ◌<◌, ◌≤◌, ◌||◌, ◌∙◌, Bool, true, false}
+use Rattle.hayro_ccitt.proofs.Names.{[]}
 use Rattle.hayro_ccitt.proofs.Names.{Option, None, Some, Result, Ok, Err, refl, sym, ap, subst, arith, length, drop, cond, not}
 use Rattle.hayro_ccitt.proofs.Names.{min}
-use Rattle.hayro_ccitt.proofs.Names.{length-drop, Bits, Row, Line, DecodeError, DecodeSettings, OutOfMemory, ◌%◌}
+use Rattle.hayro_ccitt.proofs.Names.{length-drop, Bits, Row, Line, DecodeError, DecodeSettings, OutOfMemory}
 use Rattle.hayro_ccitt.proofs.Names.{Ending, Progress, Turn, Reaches, HasFailed}
-use Rattle.hayro_ccitt.proofs.Names.{aligned, add_row, end_of, eols_here, first_gap, is_over, misses_eol, next_eol}
+use Rattle.hayro_ccitt.proofs.Names.{add_row, end_of, eols_here, first_gap, is_over, misses_eol, next_eol}
 use Rattle.hayro_ccitt.proofs.Names.{line_here, move_on, plain, row_before, whole_reading, with_row, ended}
 use Rattle.hayro_ccitt.proofs.Names.{ReaderStands}
 use Rattle.hayro_ccitt.specs.PlainReading.{Move, after_line, behind_row, bytes_before, ends_with, ending_behind, pass_gap}
@@ -15,13 +15,14 @@ use Rattle.hayro_ccitt.specs.DecodeError.TheVariants.{UnexpectedEof}
 use Rattle.hayro_ccitt.specs.Stand.{Stand}
 use Rattle.hayro_ccitt.specs.Stand.TheVariants.{AtLine, BehindRow, AtEnd, AtFault}
 use Rattle.hayro_ccitt.proofs.ErrorKinds.{by_kind}
-use Rattle.hayro_ccitt.proofs.BitReading.ConsecutiveEols.{cond_le, next_eol_found}
+use Rattle.hayro_ccitt.proofs.BitReading.ConsecutiveEols.{next_eol_found}
 use Rattle.hayro_ccitt.proofs.DrawingLines.ReadLines.{TookBits}
 use Rattle.hayro_ccitt.proofs.Readings.Repeated.{after_turn, repeated_keeps, repeated_same, repeated_turn}
 use Rattle.hayro_ccitt.proofs.Readings.PlainAnswers.{some_columns}
 use Rattle.hayro_ccitt.proofs.Readings.RowsAndGaps.{after_damage-is, after_row, pass_gap-is, seek_eol}
 use Rattle.hayro_ccitt.proofs.Readings.RowsAndGaps.{seek_from, unless_over}
 use Rattle.hayro_ccitt.proofs.Readings.TurnsMoveOn.{eols_here_counted, left_below, left_to_read, line_by_took, move_shrinks}
+use Rattle.hayro_ccitt.proofs.Work.TurnsPaid.{behind_shorter}
 
 -- ---- What is left behind a turn
 
@@ -75,21 +76,15 @@ row_leaves settings run n le =
 pub gap_leaves : (settings : DecodeSettings) (run : Progress) (n : ℕ) → length run.rest ≤ n → Leaves n (pass_gap settings run)
 gap_leaves settings run n le = subst (Leaves n) (sym (pass_gap-is settings run)) (row_leaves settings run n le)
 
-pub behind_row_shorter : (settings : DecodeSettings) (has_eols : Bool) (rest : Bits)
-    → length (behind_row settings has_eols rest) ≤ length rest
-behind_row_shorter settings has_eols rest =
-    cond_le (settings.rows_are_byte_aligned && not has_eols) (aligned rest) rest (length rest)
-    (omega (arith, length-drop (length rest % 8) rest)) (omega arith)
-
 line_leaves : (settings : DecodeSettings) (run : Progress) (line : Line) → TookBits (length run.rest) line
     → Leaves (length run.rest) (after_line settings run line)
 line_leaves settings run (Line.whole row rest) took =
     gap_leaves settings (with_row run row (behind_row settings run.has_eols rest)) (length run.rest)
-    (omega (arith, took, behind_row_shorter settings run.has_eols rest))
+    (omega (arith, took, behind_shorter settings run.has_eols rest))
 line_leaves settings run (Line.broken front fault) took =
     subst (Leaves (length run.rest)) (sym (after_damage-is settings run front fault))
     (cond_leaves (length run.rest) (settings.strict || not run.has_eols) _ _ tt
-    (row_leaves settings _ (length run.rest) (behind_row_shorter settings run.has_eols run.rest)))
+    (row_leaves settings _ (length run.rest) (behind_shorter settings run.has_eols run.rest)))
 
 module _ (settings : DecodeSettings) (wide : 0 < settings.columns) where
   move_leaves : (run : Progress) → Leaves (length run.rest) (move_on settings run)

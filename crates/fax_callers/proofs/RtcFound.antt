@@ -3,14 +3,15 @@ use Rattle.hayro_ccitt.proofs.Names.{◌≡◌, ◌≢◌, ℕ, zero, suc, ◌+�
 use Rattle.hayro_ccitt.proofs.Names.{Option, Some, None, [], ◌∷◌, ◌++◌, List, length, replicate, refl, ap, ◌∙◌}
 use Rattle.hayro_ccitt.proofs.Names.{append_assoc, append-nil, arith, inl, inr, cases_lt, le-leb, lt-ltb, le-ltb, cond-false}
 use Rattle.hayro_ccitt.proofs.Names.{cond-true, All-head, All-tail, Bits, Color, White, Row, HaveWidth}
-use Rattle.hayro_ccitt.proofs.Names.{EncodesLine, EncodesLine1D, EncodesRowsWithEols, Spells, eol, opposite}
+use Rattle.hayro_ccitt.proofs.Names.{EncodesLine, EncodesLine1D, EncodesRowsWithEols, Spells, eol}
 use Rattle.std.proofs.lemmas.Bool.{and_right, lt-leb}
 use Rattle.hayro_ccitt.specs.EncodingMode.{EncodingMode}
 use Rattle.hayro_ccitt.specs.EncodingMode.TheVariants.{Group4, Group3_1D, Group3_2D}
 use Rattle.hayro_ccitt.specs.Encodings.{ClosesWithEols, PictureT4, tag_of}
 use Rattle.hayro_ccitt.specs.Rows.{white_row}
 use Rattle.hayro_ccitt.proofs.BitReading.ZerosInWords.{scan, holds_a_one, word_one}
-use Rattle.hayro_ccitt.proofs.DamagedLines.AnyReference.{Quiet, quiet_append, quiet_run, quiet_line}
+use Rattle.hayro_ccitt.proofs.DamagedLines.AnyReference.{quiet_line}
+use Rattle.hayro_ccitt.proofs.DamagedLines.EncodedBodies.{quiet_1d}
 use Rattle.fax_callers.specs.Rtc.{behind_rtc, is_rtc, none_seen, one_more_up_to, with_one}
 use Rattle.fax_callers.specs.declared.rtc.EolsSeen.{EolsSeen}
 
@@ -165,11 +166,6 @@ run_holds_one color n bits (Spells.terminating m word has small) = word_one bits
 run_holds_one color n bits (Spells.makeup m word {n = k} {bits = next} has large rest) =
     one_stays word next (word_one word (inl (color, m, has)))
 
-quiet_line_1d : (color : Color) (row : Row) (bits : Bits) → EncodesLine1D color row bits → Quiet bits
-quiet_line_1d color row bits EncodesLine1D.over = λ n le. (n, refl, le)
-quiet_line_1d color row bits (EncodesLine1D.run n word {row = others} {bits = next} spells some maximal rest) =
-    quiet_append word next (quiet_run color n word spells) (quiet_line_1d (opposite color) others next rest)
-
 line_1d_holds_one : (color : Color) (row : Row) (bits : Bits) → EncodesLine1D color row bits → 0 < length row
     → holds_a_one bits ≡ true
 line_1d_holds_one color row bits EncodesLine1D.over some = absurd (omega arith)
@@ -183,12 +179,12 @@ encoded_passed : (encoding : EncodingMode) (above row : Row) (line rest : Bits) 
     ≡ behind_rtc (tags_in encoding) (seen_with 0 zeros false) rest)
 encoded_passed Group4 above row line rest three is some = absurd (three refl)
 encoded_passed Group3_1D above row line rest three is some =
-    let quiet = quiet_line_1d White row line is 0 (omega arith) in (
+    let quiet = quiet_1d White row line is 0 (omega arith) in (
       quiet.0,
       line_passed false 1 0 quiet.0 line rest (omega arith) (omega arith) quiet.1 (line_1d_holds_one White row line is some),
     )
 encoded_passed Group3_2D above row line rest three (words, inl (tagged, is)) some =
-    let quiet = quiet_line_1d White row words is 0 (omega arith) in (
+    let quiet = quiet_1d White row words is 0 (omega arith) in (
       quiet.0,
       ap (λ (b : Bits). goes_on true (seen_with 1 0 true) (b ++ rest)) tagged
           ∙ line_passed true 1 0 quiet.0 words rest (omega arith) (omega arith) quiet.1

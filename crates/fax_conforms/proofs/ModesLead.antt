@@ -19,7 +19,7 @@ painted_on at place color = record {
   color = color;
 }
 
-other_pixel : (color : Color) → is_black (opposite color) ≡ not (is_black color)
+pub other_pixel : (color : Color) → is_black (opposite color) ≡ not (is_black color)
 other_pixel color = grind (arith, common_steps)
 
 up_to : (p : ℕ) (row : Row) → take (suc p - 1) row ≡ take p row

@@ -4,12 +4,12 @@ use Rattle.hayro_ccitt.proofs.Names.{length}
 use Rattle.hayro_ccitt.proofs.Names.{replicate, Ok, refl, ap, sym, ◌∙◌, append_assoc, arith, inl, inr, cases_lt}
 use Rattle.hayro_ccitt.proofs.Names.{length-append}
 use Rattle.hayro_ccitt.proofs.Names.{length-replicate, append_cancel_left, append-nil, Color, Bits, Row, is_black, opposite}
-use Rattle.hayro_ccitt.proofs.Names.{run_from, EncodesLine1D, common_steps}
+use Rattle.hayro_ccitt.proofs.Names.{run_from, EncodesLine1D}
+use Rattle.hayro_ccitt.proofs.EncodedPictures.EncodedLines.{run_read}
 use Rattle.hayro_ccitt.proofs.PixelRows.ReferencePlaces.{opposite_twice}
 use Rattle.fax_conforms.specs.Standing.{Spot, RunsFrom, Leads}
-use Rattle.fax_conforms.proofs.ModesLead.{painted_on}
+use Rattle.fax_conforms.proofs.ModesLead.{other_pixel, painted_on}
 use Rattle.fax_conforms.proofs.SpelledRuns.{run_is_spelled, same_run}
-use Rattle.fax_conforms.proofs.StandingSteps.{run_read_again}
 
 -- the first run of the pixels that are left, and the runs behind it
 pub record HasRun (at : Spot) (here : Bits) (row : Row) (rest : Bits) : Type 0 where
@@ -31,9 +31,6 @@ neither (false ∷ row) false mine other = absurd (mine row refl)
 neither (true ∷ row) true mine other = absurd (mine row refl)
 neither (false ∷ row) true mine other = absurd (other row refl)
 neither (true ∷ row) false mine other = absurd (other row refl)
-
-opposite_pixel : (color : Color) → is_black (opposite color) ≡ not (is_black color)
-opposite_pixel color = grind (arith, common_steps)
 
 begins_with : (n : ℕ) (c d : Bool) (others more : Row) → 0 < n → replicate n c ++ others ≡ d ∷ more → c ≡ d
 begins_with zero c d others more lt e = absurd (omega arith)
@@ -63,7 +60,7 @@ has_run at here row rest columns row_len small open_end
       others = behind;
       behind = next ++ rest;
       read = ap (λ (x : Bits). run_from at.color (0, x)) (is ∙ append_assoc word next rest)
-          ∙ run_read_again at.color n word (next ++ rest) spells (omega (arith, few, row_len, small));
+          ∙ run_read at.color n word (next ++ rest) spells (omega (arith, few, row_len, small));
       row_is = row_is;
       some = some;
       maximal = maximal;
@@ -97,7 +94,7 @@ module _ (columns : ℕ) (at : Spot) (here : Bits) (small : columns ≤ 42949672
               let only : stands.0 ≡ has.others = append_cancel_left at.front stands.0 has.others
               (sym stands.2 ∙ has.row_is ∙ ap (λ (n : ℕ). at.front ++ (replicate n (is_black at.color) ++ has.others)) none) in
               absurd (let empty = neither has.others (is_black at.color) has.maximal (λ more e.
-              stands.3 begun more (only ∙ e ∙ ap (λ (b : Bool). b ∷ more) (sym (opposite_pixel at.color)))) in
+              stands.3 begun more (only ∙ e ∙ ap (λ (b : Bool). b ∷ more) (sym (other_pixel at.color)))) in
               let some : 0 < has.run + length has.others = has.some in omega (arith, some, empty, none))
         ];
       }
@@ -134,7 +131,7 @@ module _ (columns : ℕ) (at : Spot) (here : Bits) (small : columns ≤ 42949672
           split,
           (λ begun more e. not_itself (is_black at.color) (begins_with run (is_black at.color) (is_black
               (opposite at.color)) others
-              more (some begun) e ∙ opposite_pixel at.color)),
+              more (some begun) e ∙ other_pixel at.color)),
           EncodesLine1D.run run word.0 word.1 (omega (arith, size, row_len, open_end)) last encodes,
           word.2 ∙ ap (λ (x : Bits). word.0 ++ x) stands ∙ sym (append_assoc word.0 line rest),
         )

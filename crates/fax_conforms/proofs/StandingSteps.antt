@@ -1,10 +1,10 @@
 -- Lawful steps that stand here begin with a mode that is read here.
-use Rattle.hayro_ccitt.proofs.Names.{◌≡◌, ℕ, ◌+◌, ◌-◌, ◌≤◌, ◌++◌, length, Ok, refl, ap, ◌∙◌, sym, append_assoc}
+use Rattle.hayro_ccitt.proofs.Names.{◌≡◌, ℕ, ◌-◌, ◌≤◌, ◌++◌, length, Ok, refl, ap, ◌∙◌, sym, append_assoc}
 use Rattle.hayro_ccitt.proofs.Names.{arith, Color, Mode, Pass, Horizontal, Vertical, Bits, Row, mode_codes, Has}
-use Rattle.hayro_ccitt.proofs.Names.{read_code, opposite, a1, a2, run_from, Spells, EncodesLine2D}
+use Rattle.hayro_ccitt.proofs.Names.{read_code, opposite, a1, a2, EncodesLine2D}
 use Rattle.hayro_ccitt.proofs.BitReading.ZerosInWords.{modes_free}
 use Rattle.hayro_ccitt.proofs.CodeWords.ReadCodes.{read_code_again, read_code_found}
-use Rattle.hayro_ccitt.proofs.EncodedPictures.EncodedLines.{run_spelled}
+use Rattle.hayro_ccitt.proofs.EncodedPictures.EncodedLines.{run_read}
 use Rattle.hayro_ccitt.proofs.PixelRows.ChangePlaces.{a1_next, a2_next}
 use Rattle.fax_conforms.specs.Standing.{StepsStand, StepsBehind}
 use Rattle.fax_conforms.proofs.SpelledRuns.{run_is_spelled}
@@ -19,12 +19,6 @@ pub record HasMode (reference row : Row) (from : ℕ) (color : Color) (here rest
 mode_read : (mode : Mode) (word behind here : Bits) → Has mode_codes mode word → here ≡ word ++ behind
     → read_code mode_codes here ≡ Ok (mode, behind)
 mode_read mode word behind here has is = ap (read_code mode_codes) is ∙ read_code_again mode_codes mode word behind modes_free has
-
-pub run_read_again : (color : Color) (n : ℕ) (word more : Bits) → Spells color n word → n ≤ 4294967295
-    → run_from color (0, word ++ more) ≡ Ok (n, more)
-run_read_again color n word more spells le =
-    let sum : 0 + n ≡ n = omega arith in
-    run_spelled color n word 0 more spells (omega arith) ∙ ap (λ (m : ℕ). Ok (m, more)) sum
 
 -- the bits behind a word
 split_word : (word bits rest here : Bits) → here ≡ (word ++ bits) ++ rest → here ≡ word ++ (bits ++ rest)
@@ -65,8 +59,8 @@ mode_of_steps reference row from color here rest le small
       steps = (
         two ++ (next ++ rest),
         next ++ rest,
-        run_read_again color (a1 row from - (from - 1)) one (two ++ (next ++ rest)) spells1 (omega (arith, within1)),
-        run_read_again (opposite color) (a2 row from - a1 row from) two (next ++ rest) spells2 (omega (arith, within2)),
+        run_read color (a1 row from - (from - 1)) one (two ++ (next ++ rest)) spells1 (omega (arith, within1)),
+        run_read (opposite color) (a2 row from - a1 row from) two (next ++ rest) spells2 (omega (arith, within2)),
         (next, steps, refl),
       );
     }

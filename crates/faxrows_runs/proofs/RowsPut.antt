@@ -10,6 +10,7 @@ use Rattle.faxrows_runs.proofs.{Outputs.passes_both, Outputs.front_behind, Outpu
 use Rattle.faxrows_runs.proofs.RowsInTurn.{Came, came, ended_badly, ended_well, failed_so}
 use Rattle.faxrows_runs.proofs.Names.{Outcome, ReaderStands, StandsIn, false, fed_end, length-map, plain, rules, true}
 use Rattle.hayro_ccitt.proofs.Readings.RowByRow.{ended_stands, failed_stands}
+use Rattle.hayro_ccitt.proofs.Readings.RowsPassed.{keeps_on}
 use Rattle.hayro_ccitt.specs.RowState.{RowState}
 use Rattle.hayro_ccitt.proofs.ErrorKinds.{by_kind}
 
@@ -101,15 +102,6 @@ module _ {start before : Option (List ℕ)} {whole : Bits} {old new : Feeding} {
 
 -- ---- From row to row
 
-pub bits_kept : {first old new : Feeding} → KeepsBits first old → KeepsBits old new → KeepsBits first new
-bits_kept before after = record {
-  order = after.order ∙ before.order;
-  finished = after.finished ∙ before.finished;
-  kept = after.kept ∙ before.kept;
-  dropped = after.dropped ∙ before.dropped;
-  room = after.room ∙ before.room;
-}
-
 -- a reading that has ended is the plain reading to its end
 stands_ended : {whole : Bits} {tried : ℕ} {feed : Feeding} {end : Result (Unit {0}) DecodeError} → IsFeedOf whole tried feed
     → ended feed.rows.stand ≡ Some end
@@ -160,7 +152,7 @@ module _ {W : Type 0} (contents : W → Option (List ℕ)) (begun mid : W × Boo
     (at_end : (end : Result (Unit {0}) DecodeError) → ended old.rows.stand ≡ Some end
     → (new ≡ old) × (answer ≡ fed_end end)) where
   keeps : KeepsBits first new
-  keeps = bits_kept so_far.keeps kept
+  keeps = keeps_on so_far.keeps kept
 
   -- the reading had ended, or the call read on
   module _ {P : Type 0} (on : ended old.rows.stand ≡ None → P)

@@ -1,6 +1,6 @@
 -- The examples.
-use Rattle.std.proofs.Common.{◌≡◌, ◌*◌, ℕ, ◌+◌, ◌≤◌, true, false, [], ◌∷◌, ◌++◌, length, drop, Result, Ok, Err, refl, sym, ap}
-use Rattle.std.proofs.Common.{List, subst, ◌∙◌, arith, ◌⊎◌, inl, inr}
+use Rattle.std.proofs.Common.{◌≡◌, ◌≢◌, ◌*◌, ℕ, ◌+◌, ◌-◌, ◌≤◌, true, false, [], ◌∷◌, ◌++◌, length, drop, take, Result, Ok, Err}
+use Rattle.std.proofs.Common.{List, subst, ◌∙◌, arith, ◌⊎◌, inl, inr, replicate, Some, None, refl, sym, ap}
 use Rattle.std.specs.Prelude.{map, pos, negsuc}
 use Rattle.std.proofs.lemmas.List.Elements.{All-cons}
 use Rattle.hayro_ccitt.specs.Color.TheVariants.{White}
@@ -16,11 +16,13 @@ use Rattle.worked_rows.specs.Examples.{hex, EncodesTwoLines, EncodesTaggedRows, 
 use Rattle.worked_rows.specs.Examples.{words_added, group3_1d, HaveLocalBodies, ReadsDamage, LimitBehindTheBody, OneLineFollows}
 use Rattle.worked_rows.specs.Examples.{reading_of}
 use Rattle.worked_rows.specs.Examples.{OneLineDiffers, ReadsDamageByK, with_tags, four_rows}
-use Rattle.hayro_ccitt.specs.Locality.{IsLocal, IsLocalByTests, ComesToLine, EndAlike}
+use Rattle.hayro_ccitt.specs.EndOfLine.{after_eol, next_eol}
+use Rattle.hayro_ccitt.specs.Locality.{IsLocal, EndsBefore, ComesToLine, EndAlike}
 use Rattle.hayro_ccitt.specs.Repetition.{Turn, Reaches}
 use Rattle.hayro_ccitt.specs.PlainReading.{Progress, Move, first_line, move_on, plain}
 use Rattle.hayro_ccitt.proofs.PixelRows.ChangesAndPixels.{changes-recursive}
 use Rattle.hayro_ccitt.proofs.PixelRows.RowChanges.{changes_from-same}
+use Rattle.hayro_ccitt.proofs.Readings.Repeated.{next_is}
 use Rattle.hayro_ccitt.specs.DecodeSettings.{DecodeSettings}
 use Rattle.hayro_ccitt.proofs.DamagedLines.BodyTests.{local_by_tests}
 
@@ -98,55 +100,32 @@ broken_stays : (n : ℕ) (front others : Row) (fault : DecodeError) (more : Bits
     → n ≤ length more
 broken_stays n front others fault more e = absurd cc
 
-local_of : (bits : Bits) (from to : ℕ) → IsLocalByTests with_eols bits from to → IsLocal with_eols bits from to
-local_of bits from to = (local_by_tests with_eols bits from to).1
+-- a body that begins at bit 29 is local, by the tests of the bits
+local_of : (bits : Bits) (to : ℕ) → 29 ≤ to → to ≤ length bits → after_eol 0 (drop 17 bits) ≡ Some (drop 29 bits)
+    → take (to - 29) (drop 29 bits) ≢ replicate (to - 29) false → next_eol (take (to - 29) (drop 29 bits)) ≡ None
+    → (after : Bits) × (after_eol 0 (drop to bits) ≡ Some after) × EndsBefore 8 after (drop 29 bits)
+    → IsLocal with_eols bits 29 to
+local_of bits to order within starts one no_eol closes = (local_by_tests with_eols bits 29 to).1 (record {
+  encoding = refl;
+  lenient = refl;
+  order = order;
+  within = within;
+  starts = inr (omega arith, starts);
+  one = one;
+  no_eol = no_eol;
+  closes = closes;
+})
 
 pub local_bodies : HaveLocalBodies
 local_bodies = (
-  local_of (bits_of (hex three_rows)) 29 39 (record {
-    encoding = refl;
-    lenient = refl;
-    order = omega arith;
-    within = omega arith;
-    starts = inr (omega arith, refl);
-    one = λ e. absurd cc;
-    no_eol =
-        refl;
-    closes = (_, refl, λ row rest e. whole_stays _ _ row _ rest e (omega arith));
-  }),
-  local_of (bits_of (hex bits_changed)) 29 39 (record {
-    encoding = refl;
-    lenient = refl;
-    order = omega arith;
-    within = omega arith;
-    starts = inr (omega arith, refl);
-    one = λ e. absurd cc;
-    no_eol =
-        refl;
-    closes = (_, refl, λ row rest e. broken_stays _ _ row _ rest e);
-  }),
-  local_of (bits_of (hex bits_added)) 29 47 (record {
-    encoding = refl;
-    lenient = refl;
-    order = omega arith;
-    within = omega arith;
-    starts = inr (omega arith, refl);
-    one = λ e. absurd cc;
-    no_eol =
-        refl;
-    closes = (_, refl, λ row rest e. whole_stays _ _ row _ rest e (omega arith));
-  }),
-  local_of (bits_of (hex words_added)) 29 111 (record {
-    encoding = refl;
-    lenient = refl;
-    order = omega arith;
-    within = omega arith;
-    starts = inr (omega arith, refl);
-    one = λ e. absurd cc;
-    no_eol =
-        refl;
-    closes = (_, refl, λ row rest e. whole_stays _ _ row _ rest e (omega arith));
-  }),
+  local_of (bits_of (hex three_rows)) 39 (omega arith) (omega arith) refl (λ e. absurd cc) refl
+      (_, refl, λ row rest e. whole_stays _ _ row _ rest e (omega arith)),
+  local_of (bits_of (hex bits_changed)) 39 (omega arith) (omega arith) refl (λ e. absurd cc) refl
+      (_, refl, λ row rest e. broken_stays _ _ row _ rest e),
+  local_of (bits_of (hex bits_added)) 47 (omega arith) (omega arith) refl (λ e. absurd cc) refl
+      (_, refl, λ row rest e. whole_stays _ _ row _ rest e (omega arith)),
+  local_of (bits_of (hex words_added)) 111 (omega arith) (omega arith) refl (λ e. absurd cc) refl
+      (_, refl, λ row rest e. whole_stays _ _ row _ rest e (omega arith)),
 )
 
 pub damage_read : ReadsDamage
@@ -178,9 +157,6 @@ one_row = goes_on no_row (move_on limit_of_three no_row)
 abbrev two_rows : Progress
 two_rows = goes_on one_row (move_on limit_of_three one_row)
 
-same_next : {S R : Type 0} (a b : S) → ◌≡◌ {A = Turn S R} (Turn.next a) (Turn.next b) → a ≡ b
-same_next a b e = cc
-
 not_before_two : ComesToLine limit_of_three (bits_of (hex three_rows)) 29 2 → ⊥
 not_before_two (so_far, reaches, rest, count) = by_none (reaches_parts (move_on limit_of_three) no_row so_far reaches)
   where
@@ -191,7 +167,7 @@ not_before_two (so_far, reaches, rest, count) = by_none (reaches_parts (move_on 
     on : (state next : Progress) → move_on limit_of_three state ≡ Turn.next next → (after : Progress)
         → move_on limit_of_three state ≡ Turn.next after → Reaches (move_on limit_of_three) after so_far → Leads next
     on state next e after f more = reaches_parts (move_on limit_of_three) next so_far
-        (subst (λ (s : Progress). Reaches (move_on limit_of_three) s so_far) (same_next after next (sym f ∙ e)) more)
+        (subst (λ (s : Progress). Reaches (move_on limit_of_three) s so_far) (next_is after next (sym f ∙ e)) more)
 
     by_two : Leads two_rows → ⊥
     by_two (inl e) = let n : 5 ≡ 27 = ap (λ (s : Progress). length s.rest) e ∙ ap length rest in absurd (omega (arith, n))

@@ -6,7 +6,7 @@ use Rattle.fax_feeds.proofs.Names.{Bits, BitsAt, Context, Held, White}
 use Rattle.fax_feeds.proofs.Names.{DecodeError, bits_in, here, is_at_line, ended, redrawn}
 use Rattle.std.specs.Prelude.{◌^◌}
 use Rattle.fax_bits.proofs.BitReading.BitLists.{length-bits_in}
-use Rattle.fax_feeds.proofs.Readings.FeedsOn.{feed_comes, feed_reads, gap_feeds, line_feeds, reached_here, row_fits}
+use Rattle.fax_feeds.proofs.Readings.FeedsOn.{feed_comes, feed_reads, gap_feeds, line_feeds, none_row, reached_here, row_fits}
 use Rattle.fax_feeds.proofs.Readings.LooksKept.{fresh_look, kept_line, kept_seen, seen_begun, seen_there}
 use Rattle.fax_feeds.proofs.Readings.PartsFed.{none_kept}
 use Rattle.fax_feeds.proofs.Readings.RowsPassed.{counts_row}
@@ -57,12 +57,7 @@ read_on_by {f} {before} {after} {ctx} by there same within seen line =
 
 -- ---- The gap
 
--- no row is read where no line is reached, nor where a line isn't read
-pub none_row : (line : Result (Option Bool) DecodeError) → fed_none line ≢ Ok Fed.Row
-none_row (Ok None) e = cc
-none_row (Ok (Some line)) e = cc
-none_row (Err error) e = cc
-
+-- no row is read where a line isn't
 pub unread_row : (row : Result Bool DecodeError) → row ≢ Ok true → fed_row row ≢ Ok Fed.Row
 unread_row (Ok true) other e = other refl
 unread_row (Ok false) other e = cc

@@ -30,7 +30,7 @@ use Rattle.fax_reading.proofs.Work.WordsPay.{found_within}
 use Rattle.fax_reading.proofs.Work.TurnsPaid.{row_shorter}
 use Rattle.fax_feeds.proofs.Names.{append-nil, row_of_line}
 use Rattle.fax_feeds.specs.RowFeeds.{Begins, CallGoesOn, DrawsRow, ReachesLine, line_of_feed, most_to_find}
-use Rattle.fax_feeds.proofs.Names.{and_parts}
+use Rattle.fax_feeds.proofs.Names.{IfErr, and_parts}
 use Rattle.fax_feeds.specs.declared.line_parts.KeptPart.{KeptPart}
 use Rattle.fax_bits.specs.declared.error.DecodeError.TheVariants.{InvalidCode, OutOfMemory}
 use Rattle.fax_feeds.specs.declared.row_feed.Fed.{Fed}
@@ -663,69 +663,49 @@ line_goes_on {whole} {tried} {old} {new} answer reads begun line feed = record {
     line_unkept (Ok false) reads away = grind (arith, common_steps, false≢true)
     line_unkept (Err error) reads away = reads.done (λ e. cc)
 
+-- what the answers are of a line, and of its call
+no_end : (answer : Result Bool DecodeError) → fed_row answer ≢ Ok Fed.End
+no_end answer e = grind (arith, common_steps)
+
+line_failed : (answer : Result Bool DecodeError) → fed_row answer ≡ Err OutOfMemory → answer ≡ Err OutOfMemory
+line_failed answer e = grind (arith, common_steps)
+
+row_of_line_read : {old new : RowsRead} (answer : Result Bool DecodeError) → answer ≡ Ok true
+    → ((IsLeft answer → ⊥) → ReadsNext old new answer) → ReadsNext old new (Ok true)
+row_of_line_read {old} {new} answer is reads = subst (ReadsNext old new) is (reads (λ left. grind (arith, common_steps)))
+
+line_fault : {old new : RowsRead} (answer : Result Bool DecodeError) → ((IsLeft answer → ⊥) → ReadsNext old new answer)
+    → IfErr (fed_row answer) (λ e. e ≢ OutOfMemory → ReadsNext old new (Err e))
+line_fault (Ok true) reads = tt
+line_fault (Ok false) reads = tt
+line_fault (Err error) reads = reads
+
 -- the line is read, or left
 pub line_feeds : {whole : Bits} {tried : ℕ} {old new : Feeding} (answer : Result Bool DecodeError) → ReadsInFeed old new answer
     → (answer ≡ Ok false → old.part ≡ None → new.part ≡ None → (new.ctx.ticks ≡ old.ctx.ticks)
     ⊎ ((old.tried_at ≢ new.dropped + new.place) × (new.tried_at ≡ new.dropped + new.place))) → old.begun ≡ true
     → is_at_line old.rows.stand ≡ true → IsFeedOf whole tried old → FeedsNext whole tried old new
     (fed_row answer)
-line_feeds {whole} {tried} {old} {new} (Ok true) reads unread begun line feed = record {
-  row = λ e. reads.reads whole tried (λ left. cc) feed;
-  end = λ e. cc;
-  fault = tt;
-  none = λ left. cc;
-  unsettled = λ e. cc;
-  memory = λ e. cc;
-  paints = λ e. cc;
-  extra = reads.extra;
-  line_extra = reads.extra;
-  extra_is = omega arith;
-  line_work = line_paid (Ok true) reads unread line;
-  goes_on = line_goes_on (Ok true) reads begun line feed;
-  stands = reads.stands whole tried feed;
-  gap = 0;
-  looks = none_looked old.finished (old.begun && is_at_line old.rows.stand) old.looked (drop old.place old.kept);
-  looked = λ e. cc;
-}
-line_feeds {whole} {tried} {old} {new} (Ok false) reads unread begun line feed = record {
-  row = λ e. cc;
-  end = λ e. cc;
-  fault = tt;
-  none = λ left. line_left (Ok false) reads refl line;
-  unsettled = λ e. grind (arith, common_steps, open_line, next_is, reads.unsettled refl, reads.left refl);
-  memory = λ e. cc;
-  paints = λ e. cc;
-  extra = reads.extra;
-  line_extra = reads.extra;
-  extra_is = omega arith;
-  line_work = line_paid (Ok false) reads unread line;
-  goes_on = line_goes_on (Ok false) reads begun line feed;
-  stands = reads.stands whole tried feed;
-  gap = 0;
-  looks = none_looked old.finished (old.begun && is_at_line old.rows.stand) old.looked (drop old.place old.kept);
-  looked = λ e away. absurd (false≢true (sym away ∙ ap (λ (r : RowState). is_at_line r.stand) (reads.left refl).0 ∙ line));
-}
-line_feeds {whole} {tried} {old} {new} (Err error) reads unread begun line feed = record {
-  row = λ e. cc;
-  end = λ e. cc;
-  fault = λ other. reads.reads whole tried other feed;
-  none = λ left. line_left (Err error) reads left line;
-  unsettled = λ e. cc;
+line_feeds {whole} {tried} {old} {new} answer reads unread begun line feed = record {
+  row = λ e. row_of_line_read answer (line_was_read answer e) (λ whole_line. reads.reads whole tried whole_line feed);
+  end = λ e. absurd (no_end answer e);
+  fault = line_fault answer (λ other. reads.reads whole tried other feed);
+  none = λ left. line_left answer reads (left_as_none answer left) line;
+  unsettled = λ e. grind (arith, common_steps, open_line, next_is);
   memory = λ e.
-      let is : error ≡ OutOfMemory = cc in
       subst (λ (b : Bits). HasBlack (front_of (line_here new.ctx.held.settings new.ctx.held.reference b)))
-      (next_is reads.keeps (reads.left is).1) (reads.memory (ap (λ (x : DecodeError). Err x) is));
-  paints = λ e.
-      let is : error ≡ OutOfMemory = cc in reads.paints whole tried (ap (λ (x : DecodeError). Err x) is) feed;
+      (next_is reads.keeps (reads.left (left_as_none answer (subst HasNone (sym e) refl))).1)
+      (reads.memory (line_failed answer e));
+  paints = λ e. reads.paints whole tried (line_failed answer e) feed;
   extra = reads.extra;
   line_extra = reads.extra;
   extra_is = omega arith;
-  line_work = line_paid (Err error) reads unread line;
-  goes_on = line_goes_on (Err error) reads begun line feed;
+  line_work = line_paid answer reads unread line;
+  goes_on = line_goes_on answer reads begun line feed;
   stands = reads.stands whole tried feed;
   gap = 0;
   looks = none_looked old.finished (old.begun && is_at_line old.rows.stand) old.looked (drop old.place old.kept);
-  looked = λ e. cc;
+  looked = λ e away. grind (arith, common_steps, false≢true);
 }
 
 -- without a line nothing is counted for it
@@ -739,6 +719,44 @@ gap_ended : {old new : Feeding} {answer : Result Fed DecodeError} {extra : ℕ} 
     → CallGoesOn old new answer extra extra
 gap_ended {new = new} {answer = answer} counts space unkept over some other none begun within =
     grind (arith, common_steps, none_paid, false≢true)
+
+-- no row is read where no line is reached
+pub none_row : (line : Result (Option Bool) DecodeError) → fed_none line ≢ Ok Fed.Row
+none_row (Ok None) e = cc
+none_row (Ok (Some line)) e = cc
+none_row (Err error) e = cc
+
+gap_end : {old new : RowsRead} (answer : Result (Option Bool) DecodeError) → answer ≢ Ok (Some true)
+    → fed_none answer ≡ Ok Fed.End → ReachesNextLine old new (came answer) → ReadsNext old new (Ok false)
+gap_end (Ok None) other e reached = absurd cc
+gap_end (Ok (Some true)) other e reached = absurd (other refl)
+gap_end (Ok (Some false)) other e reached = none_behind (Ok false) (λ is. cc) reached
+gap_end (Err error) other e reached = absurd cc
+
+-- the reading ends before a line
+over_feeds : {whole : Bits} {tried : ℕ} {old new : Feeding} (answer : Result (Option Bool) DecodeError) (more : ℕ)
+    → answer ≢ Ok None → answer ≢ Ok (Some true) → answer ≢ Err OutOfMemory
+    → ReachesNextLine (fed_over whole old) (fed_over whole new) (came answer) → IsFeedOf whole (tried + more) new
+    → LooksAhead old.finished (old.begun && is_at_line old.rows.stand) old.looked (drop old.place old.kept) more
+    → old.part ≡ None → CallGoesOn old new (fed_none answer) more more → FeedsNext whole tried old new (fed_none answer)
+over_feeds {whole} {tried} {old} {new} answer more waits line memory reached stands looks unkept goes_on = record {
+  row = λ e. absurd (none_row answer e);
+  end = λ e. gap_end answer line e reached;
+  fault = grind (arith, common_steps, none_behind);
+  none = λ left. grind (arith, common_steps);
+  unsettled = λ e. grind (arith, common_steps);
+  memory = λ e. grind (arith, common_steps);
+  paints = λ e. grind (arith, common_steps);
+  extra = more;
+  line_extra = 0;
+  extra_is = omega arith;
+  line_work = no_line_paid unkept;
+  goes_on = goes_on;
+  stands = stands;
+  gap = more;
+  looks = looks;
+  looked = λ e. grind (arith, common_steps);
+}
 
 -- no line is reached: more data is needed, or it is the end
 pub gap_feeds : {whole : Bits} {tried : ℕ} {old new : Feeding} (answer : Result (Option Bool) DecodeError)
@@ -767,44 +785,15 @@ gap_feeds {whole} {tried} {old} {new} (Ok None) comes other begun unended unkept
       looked = λ e away. comes.looked refl;
     }
 gap_feeds {whole} {tried} {old} {new} (Ok (Some true)) comes other begun unended unkept none feed = absurd (other refl)
-gap_feeds {whole} {tried} {old} {new} (Ok (Some false)) comes other begun unended unkept none feed = record {
-  row = λ e. cc;
-  end = λ e. none_behind (Ok false) (λ is. cc) (comes.comes whole tried (λ is. cc) feed);
-  fault = tt;
-  none = λ left. cc;
-  unsettled = λ e. cc;
-  memory = λ e. cc;
-  paints = λ e. cc;
-  extra = comes.extra;
-  line_extra = 0;
-  extra_is = omega arith;
-  line_work = no_line_paid unkept;
-  goes_on = grind (arith, common_steps, gap_ended);
-  stands = comes.stands whole tried (λ is. cc) feed;
-  gap = comes.extra;
-  looks = looks_begun old.begun begun comes.looks;
-  looked = λ e. cc;
-}
-gap_feeds {whole} {tried} {old} {new} (Err error) comes other begun unended unkept none feed = record {
-  row = λ e. cc;
-  end = λ e. cc;
-  fault = λ other. none_behind (Err error) (λ is. cc) (comes.comes whole tried (λ is. cc) feed);
-  none = λ left. let never : InvalidCode ≡ OutOfMemory = sym comes.only_code ∙ left in absurd cc;
-  unsettled = λ e. cc;
-  memory = λ e. let is : error ≡ OutOfMemory = cc in
-      let never : InvalidCode ≡ OutOfMemory = sym comes.only_code ∙ is in absurd cc;
-  paints = λ e. let is : error ≡ OutOfMemory = cc in
-      let never : InvalidCode ≡ OutOfMemory = sym comes.only_code ∙ is in absurd cc;
-  extra = comes.extra;
-  line_extra = 0;
-  extra_is = omega arith;
-  line_work = no_line_paid unkept;
-  goes_on = grind (arith, common_steps, gap_ended);
-  stands = comes.stands whole tried (λ is. cc) feed;
-  gap = comes.extra;
-  looks = looks_begun old.begun begun comes.looks;
-  looked = λ e. cc;
-}
+gap_feeds {whole} {tried} {old} {new} (Ok (Some false)) comes other begun unended unkept none feed =
+    over_feeds (Ok (Some false)) comes.extra (λ e. cc) (λ e. cc) (λ e. cc) (comes.comes whole tried (λ is. cc) feed)
+    (comes.stands whole tried (λ is. cc) feed) (looks_begun old.begun begun comes.looks) unkept
+    (grind (arith, common_steps, gap_ended))
+gap_feeds {whole} {tried} {old} {new} (Err error) comes other begun unended unkept none feed =
+    over_feeds (Err error) comes.extra (λ e. cc) (λ e. cc)
+    (λ e. let never : InvalidCode ≡ OutOfMemory = sym comes.only_code ∙ cc in cc) (comes.comes whole tried (λ is. cc) feed)
+    (comes.stands whole tried (λ is. cc) feed) (looks_begun old.begun begun comes.looks) unkept
+    (grind (arith, common_steps, gap_ended))
 
 -- there is room for the row of a line
 pub row_fits : {whole : Bits} {tried : ℕ} {feed : Feeding} → feed.begun ≡ true → is_at_line feed.rows.stand ≡ true
@@ -892,24 +881,9 @@ pub front_ends_feeds : {whole : Bits} {tried : ℕ} {old new : Feeding} → Begi
 front_ends_feeds {whole} {tried} {old} {new} begins unbegun unkept none over feed =
     let reached = subst (ReachesNextLine (fed_over whole old) (fed_over whole new))
     (first_line_ends new.rows.stand over (begins.unfailed refl)) (begins.passes whole tried refl feed) in
-    record {
-      row = λ e. cc;
-      end = λ e. none_behind (Ok false) (λ is. cc) reached;
-      fault = tt;
-      none = λ left. cc;
-      unsettled = λ e. cc;
-      memory = λ e. cc;
-      paints = λ e. cc;
-      extra = begins.extra;
-      line_extra = 0;
-      extra_is = omega arith;
-      line_work = no_line_paid unkept;
-      stands = begins.stands whole tried feed;
-      gap = begins.extra;
-      looks = unbegun_looks old.begun (is_at_line old.rows.stand) unbegun begins.looks;
-      looked = λ e. cc;
-      goes_on = grind (arith, common_steps, gap_ended, begins.reaches whole tried refl feed, reached.end refl);
-    }
+    over_feeds (Ok (Some false)) begins.extra (λ e. cc) (λ e. cc) (λ e. cc) reached (begins.stands whole tried feed)
+    (unbegun_looks old.begun (is_at_line old.rows.stand) unbegun begins.looks) unkept
+    (grind (arith, common_steps, gap_ended, begins.reaches whole tried refl feed, reached.end refl))
 
 -- ---- More data
 

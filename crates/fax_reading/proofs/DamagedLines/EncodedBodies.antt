@@ -154,7 +154,7 @@ run_holds color n bits (Spells.makeup m word {n = k} {bits = next} has large res
     (word_holds word (inl (color, m, has)))
 
 -- the words of a one-dimensional line
-quiet_1d : (color : Color) (row : Row) (bits : Bits) → EncodesLine1D color row bits → Quiet bits
+pub quiet_1d : (color : Color) (row : Row) (bits : Bits) → EncodesLine1D color row bits → Quiet bits
 quiet_1d color row bits EncodesLine1D.over = λ n le. (n, refl, le)
 quiet_1d color row bits (EncodesLine1D.run n word {row = others} {bits = next} spells some maximal rest) =
     quiet_append word next (quiet_run color n word spells) (quiet_1d (opposite color) others next rest)

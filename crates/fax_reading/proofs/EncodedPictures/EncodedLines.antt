@@ -75,7 +75,7 @@ pass_drawn strict columns reference front color rest to is le fits = grind (arit
 white_first : (color : Color) → false ≡ is_black color → opposite color ≡ Black
 white_first color e = grind (arith, common_steps)
 
-run_read : (color : Color) (n : ℕ) (word more : Bits) → Spells color n word → n ≤ 4294967295
+pub run_read : (color : Color) (n : ℕ) (word more : Bits) → Spells color n word → n ≤ 4294967295
     → run_from color (0, word ++ more) ≡ Ok (n, more)
 run_read color n word more spells le = grind (arith, common_steps, read_as, run_spelled)
 

@@ -1,7 +1,8 @@
 use Rattle.fax_encode.proofs.Names.{◌≡◌, ◌+◌, ◌-◌, ◌<◌, ◌≤◌, ◌++◌, ℕ, suc, Bool, true, false, cond, [], length, get_or, refl, sym}
 use Rattle.fax_encode.proofs.Names.{ap, subst, ◌∙◌, arith, Color, Horizontal, Bits, Row, pixels, opposite, a1, a2, b1, b2}
 use Rattle.fax_encode.proofs.Names.{length-pixels, Place, chosen_run, word_of_mode, vertical_mode, append-nil, IsNear}
-use Rattle.fax_encode.proofs.Names.{color_after, place_of, a1_next, a2_least, all_bits}
+use Rattle.fax_encode.proofs.Names.{color_after, place_of, a1_next, a2_least, all_bits, bits_at, chosen_mode, is_near}
+use Rattle.fax_encode.proofs.Names.{place_after}
 use Rattle.fax_encode.proofs.Elements.{left_of_end, a1_found, a2_found, next_is_right, left_of_next, still_left}
 use Rattle.fax_encode.proofs.ModesWritten.{pass_bits, vertical_bits, horizontal_bits, pass_place, vertical_place}
 use Rattle.fax_encode.proofs.ModesWritten.{horizontal_place, first_run, near_same, step_right}
@@ -26,27 +27,56 @@ a2_is c = a2_found c.args.columns c.args.changes.now c.requires.coded.changes c.
 a1_right : (c : After-change_or_end-a1) → c.args.at.from ≤ c.change_or_end-a1.result
 a1_right c = omega (arith, a1_is c, (a1_next (pixels c.args.columns c.args.changes.now) c.args.at.from).above (inside c))
 
+-- ---- the mode and the place after it
+module _ (c : After-change_or_end-a1) where
+  abbrev above_row : Row
+  above_row = pixels c.args.columns c.args.reference.now
+
+  abbrev row : Row
+  row = pixels c.args.columns c.args.changes.now
+
+  -- a1 is not right of b2
+  abbrev IsBefore : Type 0
+  IsBefore = a1 row c.args.at.from ≤ b2 above_row c.args.at.from (color_after c.args.at.next)
+
+  near_here : (t : Bool) → is_near c.args.above.b1 c.change_or_end-a1.result ≡ t
+      → is_near (b1 above_row c.args.at.from (color_after c.args.at.next)) (a1 row c.args.at.from) ≡ t
+  near_here t near = near_same _ _ _ _ t (sym c.requires.above.b1) (a1_is c) near
+
+  vertical_written : IsBefore → is_near c.args.above.b1 c.change_or_end-a1.result ≡ true
+      → word_of_mode (vertical_mode c.args.above.b1 c.change_or_end-a1.result) ≡ bits_at above_row row (place_of c.args.at)
+  vertical_written right near = ap (λ (n : ℕ). word_of_mode (vertical_mode n c.change_or_end-a1.result)) (sym c.requires.above.b1)
+      ∙ ap (λ (n : ℕ). word_of_mode (vertical_mode (b1 above_row c.args.at.from (color_after c.args.at.next)) n)) (a1_is c)
+      ∙ sym (vertical_bits above_row row (place_of c.args.at) (inside c) right (near_here true near))
+
+  vertical_after : {from : ℕ} → from ≡ c.change_or_end-a1.result → IsBefore
+      → is_near c.args.above.b1 c.change_or_end-a1.result ≡ true
+      → record { from = from + 1; color = color_after (c.args.at.next + 1) }
+      ≡ place_after above_row row (place_of c.args.at) (chosen_mode above_row row (place_of c.args.at))
+  vertical_after {from} is right near =
+      let to : ℕ → Place = λ n. record { from = n; color = color_after (c.args.at.next + 1) } in
+      let turned : Color → Place = λ k. record { from = suc (a1 row c.args.at.from); color = k } in
+      let next : from + 1 ≡ suc (a1 row c.args.at.from) = omega (arith, is, a1_is c) in
+      ap to next ∙ ap turned (color_next c.args.at.next)
+      ∙ sym (vertical_place above_row row (place_of c.args.at) (inside c) right (near_here true near))
+
 pub returns-in-Some-clause-written : goal.returns-in-Some-clause-written
 returns-in-Some-clause-written c =
     let d = (goal.at.returns-in-Some-clause-written c).After-change_or_end-a1 in
-    let reference : Row = pixels c.args.columns c.args.reference.now in
-    let row : Row = pixels c.args.columns c.args.changes.now in
-    let left : b2 reference c.args.at.from (color_after c.args.at.next) < a1 row c.args.at.from =
+    let left : b2 (above_row d) c.args.at.from (color_after c.args.at.next) < a1 (row d) c.args.at.from =
     omega (arith, c.in-Some.ensures.0, c.in-Some.ensures.1, c.requires.above.b2, a1_is d) in
     c.in_ok-put_code_word.ensures ∙ ap (λ (b : Bits). all_bits c.args.writer.now ++ b)
-    (c.pass_word.ensures.spells ∙ sym (pass_bits reference row (place_of c.args.at) (inside d) left))
+    (c.pass_word.ensures.spells ∙ sym (pass_bits (above_row d) (row d) (place_of c.args.at) (inside d) left))
 
 pub returns-in-Some-clause-place : goal.returns-in-Some-clause-place
 returns-in-Some-clause-place c =
     let d = (goal.at.returns-in-Some-clause-place c).After-change_or_end-a1 in
-    let reference : Row = pixels c.args.columns c.args.reference.now in
-    let row : Row = pixels c.args.columns c.args.changes.now in
-    let left : b2 reference c.args.at.from (color_after c.args.at.next) < a1 row c.args.at.from =
+    let left : b2 (above_row d) c.args.at.from (color_after c.args.at.next) < a1 (row d) c.args.at.from =
     omega (arith, c.in-Some.ensures.0, c.in-Some.ensures.1, c.requires.above.b2, a1_is d) in
     let to : ℕ → Place = λ n. record { from = n; color = (color_after c.args.at.next) } in
-    let from : c.from-in-Some.result + 1 ≡ suc (b2 reference c.args.at.from (color_after c.args.at.next)) =
+    let from : c.from-in-Some.result + 1 ≡ suc (b2 (above_row d) c.args.at.from (color_after c.args.at.next)) =
     omega (arith, c.from-in-Some.ensures, c.in-Some.ensures.0, c.requires.above.b2) in
-    ap to from ∙ sym (pass_place reference row (place_of c.args.at) (inside d) left)
+    ap to from ∙ sym (pass_place (above_row d) (row d) (place_of c.args.at) (inside d) left)
 
 pub returns-in-Some-clause-near : goal.returns-in-Some-clause-near
 returns-in-Some-clause-near c = subst (λ (n : ℕ). IsNear c.args.columns c.args.reference.now
@@ -65,9 +95,7 @@ returns-in-Some-clause-next c = λ le.
 
 -- ---- after V0
 -- b2 is not left of a1
-below_right : (c : After-change_or_end-a1) → c.change_or_end-a1.result ≡ c.args.above.b1
-    → a1 (pixels c.args.columns c.args.changes.now) c.args.at.from
-    ≤ b2 (pixels c.args.columns c.args.reference.now) c.args.at.from (color_after c.args.at.next)
+below_right : (c : After-change_or_end-a1) → c.change_or_end-a1.result ≡ c.args.above.b1 → IsBefore c
 below_right c same =
     let index : ℕ = c.args.above.index in
     omega (
@@ -82,32 +110,13 @@ below_right c same =
 pub returns-then-a1-above-clause-written : goal.returns-then-a1-above-clause-written
 returns-then-a1-above-clause-written c =
     let d = (goal.at.returns-then-a1-above-clause-written c).After-change_or_end-a1 in
-    let reference : Row = pixels c.args.columns c.args.reference.now in
-    let row : Row = pixels c.args.columns c.args.changes.now in
-    let first : ℕ = b1 reference c.args.at.from (color_after c.args.at.next) in
-    let a : c.change_or_end-a1.result ≡ a1 row c.args.at.from = a1_is d in
-    let b : c.args.above.b1 ≡ first = sym c.requires.above.b1 in
-    let near = near_same _ _ _ _ true b a c.put_below.ensures.near in
-    let same = ap (λ (n : ℕ). word_of_mode (vertical_mode n c.change_or_end-a1.result)) b
-    ∙ ap (λ (n : ℕ). word_of_mode (vertical_mode first n)) a in
-    c.in_ok-put_below.ensures.written
-    ∙ ap (λ (b : Bits). all_bits c.args.writer.now ++ b)
-    (same ∙ sym (vertical_bits reference row (place_of c.args.at) (inside d) (below_right d c.if-a1-above.true) near))
+    c.in_ok-put_below.ensures.written ∙ ap (λ (b : Bits). all_bits c.args.writer.now ++ b)
+    (vertical_written d (below_right d c.if-a1-above.true) c.put_below.ensures.near)
 
 pub returns-then-a1-above-clause-place : goal.returns-then-a1-above-clause-place
 returns-then-a1-above-clause-place c =
     let d = (goal.at.returns-then-a1-above-clause-place c).After-change_or_end-a1 in
-    let reference : Row = pixels c.args.columns c.args.reference.now in
-    let row : Row = pixels c.args.columns c.args.changes.now in
-    let a : c.change_or_end-a1.result ≡ a1 row c.args.at.from = a1_is d in
-    let b : c.args.above.b1 ≡ b1 reference c.args.at.from (color_after c.args.at.next) =
-    sym c.requires.above.b1 in
-    let near = near_same _ _ _ _ true b a c.put_below.ensures.near in
-    let to : ℕ → Place = λ n. record { from = n; color = color_after (c.args.at.next + 1) } in
-    let turned : Color → Place = λ k. record { from = suc (a1 row c.args.at.from); color = k } in
-    let from : c.from.result + 1 ≡ suc (a1 row c.args.at.from) = omega (arith, c.from.ensures, a) in
-    ap to from ∙ ap turned (color_next c.args.at.next)
-    ∙ sym (vertical_place reference row (place_of c.args.at) (inside d) (below_right d c.if-a1-above.true) near)
+    vertical_after d c.from.ensures (below_right d c.if-a1-above.true) c.put_below.ensures.near
 
 pub returns-then-a1-above-clause-near : goal.returns-then-a1-above-clause-near
 returns-then-a1-above-clause-near c =
@@ -134,38 +143,17 @@ above_after_vertical-requires-clause-right c =
 pub returns-then-is_vertical-clause-written : goal.returns-then-is_vertical-clause-written
 returns-then-is_vertical-clause-written c =
     let d = (goal.at.returns-then-is_vertical-clause-written c).After-change_or_end-a1 in
-    let reference : Row = pixels c.args.columns c.args.reference.now in
-    let row : Row = pixels c.args.columns c.args.changes.now in
-    let first : ℕ = b1 reference c.args.at.from (color_after c.args.at.next) in
-    let a : c.change_or_end-a1.result ≡ a1 row c.args.at.from = a1_is d in
-    let b : c.args.above.b1 ≡ first = sym c.requires.above.b1 in
-    let right : a1 row c.args.at.from ≤ b2 reference c.args.at.from (color_after c.args.at.next) =
-    omega (arith, c.in_default.ensures, a, c.requires.above.b2) in
-    let near = near_same _ _ _ _ true b a (sym c.in_ok-is_vertical.ensures.near ∙ c.if-is_vertical.true) in
     let word : Bits = word_of_mode (vertical_mode c.args.above.b1 c.change_or_end-a1.result) in
-    let same : word ≡ word_of_mode (vertical_mode first (a1 row c.args.at.from)) = ap (λ (n : ℕ).
-    word_of_mode (vertical_mode n c.change_or_end-a1.result)) b ∙ ap (λ (n : ℕ). word_of_mode (vertical_mode first n)) a in
     c.in_ok-is_vertical.ensures.written ∙ ap (λ (t : Bool). all_bits c.args.writer.now ++ cond t word []) c.if-is_vertical.true
-    ∙ ap (λ (b : Bits). all_bits c.args.writer.now ++ b)
-    (same ∙ sym (vertical_bits reference row (place_of c.args.at) (inside d) right near))
+    ∙ ap (λ (b : Bits). all_bits c.args.writer.now ++ b) (vertical_written d
+    (omega (arith, c.in_default.ensures, a1_is d, c.requires.above.b2))
+    (sym c.in_ok-is_vertical.ensures.near ∙ c.if-is_vertical.true))
 
 pub returns-then-is_vertical-clause-place : goal.returns-then-is_vertical-clause-place
 returns-then-is_vertical-clause-place c =
     let d = (goal.at.returns-then-is_vertical-clause-place c).After-change_or_end-a1 in
-    let reference : Row = pixels c.args.columns c.args.reference.now in
-    let row : Row = pixels c.args.columns c.args.changes.now in
-    let a : c.change_or_end-a1.result ≡ a1 row c.args.at.from = a1_is d in
-    let b : c.args.above.b1 ≡ b1 reference c.args.at.from (color_after c.args.at.next) =
-    sym c.requires.above.b1 in
-    let right : a1 row c.args.at.from ≤ b2 reference c.args.at.from (color_after c.args.at.next) =
-    omega (arith, c.in_default.ensures, a, c.requires.above.b2) in
-    let near = near_same _ _ _ _ true b a (sym c.in_ok-is_vertical.ensures.near ∙ c.if-is_vertical.true) in
-    let to : ℕ → Place = λ n. record { from = n; color = color_after (c.args.at.next + 1) } in
-    let turned : Color → Place = λ k. record { from = suc (a1 row c.args.at.from); color = k } in
-    let from : c.from-then-is_vertical.result + 1 ≡ suc (a1 row c.args.at.from) =
-    omega (arith, c.from-then-is_vertical.ensures, a) in
-    ap to from ∙ ap turned (color_next c.args.at.next)
-    ∙ sym (vertical_place reference row (place_of c.args.at) (inside d) right near)
+    vertical_after d c.from-then-is_vertical.ensures (omega (arith, c.in_default.ensures, a1_is d, c.requires.above.b2))
+    (sym c.in_ok-is_vertical.ensures.near ∙ c.if-is_vertical.true)
 
 pub returns-then-is_vertical-clause-next : goal.returns-then-is_vertical-clause-next
 returns-then-is_vertical-clause-next c = λ le.
@@ -206,17 +194,12 @@ returns-then-is_vertical-clause-near c =
 pub returns-clause-written : goal.returns-clause-written
 returns-clause-written c =
     let d = (goal.at.returns-clause-written c).After-change_or_end-a1 in
-    let reference : Row = pixels c.args.columns c.args.reference.now in
-    let row : Row = pixels c.args.columns c.args.changes.now in
-    let a : c.change_or_end-a1.result ≡ a1 row c.args.at.from = a1_is d in
-    let b : c.args.above.b1 ≡ b1 reference c.args.at.from (color_after c.args.at.next) =
-    sym c.requires.above.b1 in
-    let right : a1 row c.args.at.from ≤ b2 reference c.args.at.from (color_after c.args.at.next) =
-    omega (arith, c.in_default.ensures, a, c.requires.above.b2) in
-    let near = near_same _ _ _ _ false b a (sym c.in_ok-is_vertical.ensures.near ∙ c.if-is_vertical.false) in
-    let first : c.change_or_end-a1.result - c.saturating_sub.result ≡ a1 row c.args.at.from - (c.args.at.from - 1) =
+    let right : IsBefore d = omega (arith, c.in_default.ensures, a1_is d, c.requires.above.b2) in
+    let near = near_here d false (sym c.in_ok-is_vertical.ensures.near ∙ c.if-is_vertical.false) in
+    let a = a1_is d in
+    let first : c.change_or_end-a1.result - c.saturating_sub.result ≡ a1 (row d) c.args.at.from - (c.args.at.from - 1) =
     omega (arith, c.saturating_sub.ensures, a) in
-    let second : c.change_or_end-a2.result - c.change_or_end-a1.result ≡ a2 row c.args.at.from - a1 row c.args.at.from =
+    let second : c.change_or_end-a2.result - c.change_or_end-a1.result ≡ a2 (row d) c.args.at.from - a1 (row d) c.args.at.from =
     omega (arith, a, a2_is d, c.change_or_end-a2.ensures) in
     let runs : ℕ → ℕ → Bits = λ m n. all_bits c.args.writer.now ++ (word_of_mode Horizontal
     ++ (chosen_run (color_after c.args.at.next) m ++ chosen_run (opposite (color_after c.args.at.next)) n)) in
@@ -229,26 +212,20 @@ returns-clause-written c =
     ++ (word_of_mode Horizontal ++ (chosen_run (color_after c.args.at.next) (c.change_or_end-a1.result - c.saturating_sub.result)
     ++ chosen_run (opposite (color_after c.args.at.next)) (c.change_or_end-a2.result - c.change_or_end-a1.result)))) nothing
     ∙ ap (λ (n : ℕ). runs n (c.change_or_end-a2.result - c.change_or_end-a1.result)) first
-    ∙ ap (runs (a1 row c.args.at.from - (c.args.at.from - 1))) second ∙ ap (λ (b : Bits). all_bits c.args.writer.now ++ b)
-    (sym (horizontal_bits reference row (place_of c.args.at) (inside d) right near))
+    ∙ ap (runs (a1 (row d) c.args.at.from - (c.args.at.from - 1))) second ∙ ap (λ (b : Bits). all_bits c.args.writer.now ++ b)
+    (sym (horizontal_bits (above_row d) (row d) (place_of c.args.at) (inside d) right near))
 
 pub returns-clause-place : goal.returns-clause-place
 returns-clause-place c =
     let d = (goal.at.returns-clause-place c).After-change_or_end-a1 in
-    let reference : Row = pixels c.args.columns c.args.reference.now in
-    let row : Row = pixels c.args.columns c.args.changes.now in
-    let a : c.change_or_end-a1.result ≡ a1 row c.args.at.from = a1_is d in
-    let b : c.args.above.b1 ≡ b1 reference c.args.at.from (color_after c.args.at.next) =
-    sym c.requires.above.b1 in
-    let right : a1 row c.args.at.from ≤ b2 reference c.args.at.from (color_after c.args.at.next) =
-    omega (arith, c.in_default.ensures, a, c.requires.above.b2) in
-    let near = near_same _ _ _ _ false b a (sym c.in_ok-is_vertical.ensures.near ∙ c.if-is_vertical.false) in
+    let right : IsBefore d = omega (arith, c.in_default.ensures, a1_is d, c.requires.above.b2) in
+    let near = near_here d false (sym c.in_ok-is_vertical.ensures.near ∙ c.if-is_vertical.false) in
     let to : ℕ → Place = λ n. record { from = n; color = (color_after c.args.at.next) } in
-    let from : c.from-2.result + 1 ≡ suc (a2 row c.args.at.from) =
+    let from : c.from-2.result + 1 ≡ suc (a2 (row d) c.args.at.from) =
     omega (arith, c.from-2.ensures, c.change_or_end-a2.ensures, a2_is d) in
     let kept : Color → Place = λ k. record { from = c.from-2.result + 1; color = k } in
     ap kept (color_second c.args.at.next) ∙ ap to from
-    ∙ sym (horizontal_place reference row (place_of c.args.at) (inside d) right near)
+    ∙ sym (horizontal_place (above_row d) (row d) (place_of c.args.at) (inside d) right near)
 
 pub returns-clause-near : goal.returns-clause-near
 returns-clause-near c =

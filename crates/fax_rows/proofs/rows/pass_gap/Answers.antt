@@ -2,7 +2,7 @@ use Rattle.fax_rows.proofs.Names.{common_steps}
 use Rattle.fax_rows.proofs.Names.{rules, ◌≡◌, ℕ, Bool, true, false, cond, length, Option, Some, None, Ok, refl, sym, ap, ◌∙◌}
 use Rattle.fax_rows.proofs.Names.{arith, cond-true, cond-false, DecodeSettings, Bits, here, Context, Held, gap_said, next_eol}
 use Rattle.fax_rows.proofs.Names.{Gap, eols_here, misses_eol, is_over, behind_eols, from_next_eol, looked, looked_ahead}
-use Rattle.fax_rows.proofs.Names.{tag_tests}
+use Rattle.fax_rows.proofs.Names.{◌≤◌, tag_tests}
 use Rattle.fax_bits.proofs.BitReading.ConsecutiveEols.{next_eol_found}
 use Rattle.fax_reading.proofs.Work.EolsPassed.{eols_here_shorter, eols_here_stay, looked_most, sought_looks}
 use Rattle.fax_rows.proofs.rows.pass_gap.Goals as goal
@@ -33,35 +33,19 @@ returns-then-count-gt0-clause-passes c = record {
   work_refused = search rules;
 }
 
+-- where no EOL is counted, the reader stays
+stays : (settings : DecodeSettings) (start : Bits) {now : Bits} {count : ℕ} → eols_here settings start ≡ (count, now)
+    → count ≤ 0 → now ≡ start
+stays settings start {now} {count} is none =
+    eols_here_stay settings start now (is ∙ ap (λ (n : ℕ). (n, now)) (omega (arith, none)))
+
 pub returns-then-not-skip_to_eol-clause-passes : goal.returns-then-not-skip_to_eol-clause-passes
-returns-then-not-skip_to_eol-clause-passes c = record {
-  gap = search rules;
-  held = search rules;
-  missed = search rules;
-  given_up = search rules;
-  only_code = search rules;
-  unchanged = search rules;
-  counts = search rules;
-  work = search rules;
-  work_given_up = λ given_up.
-      let none : c.read_eols-count.result ≡ 0 = omega (arith, c.if-count-gt0.false) in
-      let now = here c.read_eols-count.new.reader in
-      let rest = here c.skip_to_eol.new.self in
-      let stays = eols_here_stay c.args.ctx.now.held.settings (here c.args.reader.now) now
-      (c.read_eols-count.ensures.eols ∙ ap (λ (n : ℕ). (n, now)) none) in
-      omega (
-        arith,
-        ap (λ (x : Context). x.ticks) c.set_has_eols.ensures.frame,
-        ap (λ (x : Context). x.ticks) c.count_missed_eol.ensures.frame,
-        c.read_eols-count.ensures.work_none none,
-        looked_most (here c.args.reader.now),
-        ap length stays,
-        c.ticks.ensures.value,
-        c.skip_to_eol.ensures.ticks,
-        ap (λ (found : Bool). cond found (looked rest) (length rest)) c.if-not-skip_to_eol.true,
-      );
-  work_refused = search rules;
-}
+returns-then-not-skip_to_eol-clause-passes c = grind (
+  arith,
+  common_steps,
+  looked_most (here c.args.reader.now),
+  stays c.args.ctx.now.held.settings (here c.args.reader.now) c.read_eols-count.ensures.eols c.if-count-gt0.false,
+)
 
 pub returns-clause-passes : goal.returns-clause-passes
 returns-clause-passes c = record {
@@ -69,11 +53,11 @@ returns-clause-passes c = record {
       let held = c.args.ctx.now.held in
       let settings = held.settings in
       let start = here c.args.reader.now in
-      let none : c.read_eols-count.result ≡ 0 = omega (arith, c.if-count-gt0.false) in
       let now = here c.read_eols-count.new.reader in
       let found = here c.skip_to_eol.new.self in
       let rest = here c.read_eols-count-2.new.reader in
-      let stays = eols_here_stay settings start now (c.read_eols-count.ensures.eols ∙ ap (λ (n : ℕ). (n, now)) none) in
+      let still : now ≡ start = stays c.args.ctx.now.held.settings (here c.args.reader.now)
+      c.read_eols-count.ensures.eols c.if-count-gt0.false in
       let next : next_eol now ≡ Some found
       = c.skip_to_eol.ensures.next ∙ ap (λ (b : Bool). cond {A = Option Bits} b (Some found) None) c.if-not-skip_to_eol.false in
       let misses : misses_eol settings held.taken held.has_eols start ≡ true = search rules in
@@ -92,7 +76,7 @@ returns-clause-passes c = record {
       ∙ ap (λ (x : Context). x.held.has_eols) c.count_missed_eol.ensures.frame
       ∙ ap (λ (h : Held). h.has_eols) c.read_eols-count.ensures.only_ticks.held ∙ sought in
       cond-true (misses_eol settings held.taken held.has_eols start) _ _ misses ∙ cond-false settings.strict _ _ lenient
-      ∙ ap (from_next_eol settings held.taken start) (ap next_eol (sym stays) ∙ next) ∙ ap (behind_eols settings held.taken true)
+      ∙ ap (from_next_eol settings held.taken start) (ap next_eol (sym still) ∙ next) ∙ ap (behind_eols settings held.taken true)
       (ap (λ (s : DecodeSettings). eols_here s found) (sym same) ∙ c.read_eols-count-2.ensures.eols)
       ∙ ap (λ (b : Bool). cond b (Gap.over (Ok rest)) (Gap.line_at true rest)) over ∙ said_of c.is_over-2.result true rest
       ∙ ap (λ (b : Bool). gap_said (Ok c.is_over-2.result) b rest) (sym on);
@@ -111,14 +95,14 @@ returns-clause-passes c = record {
       let rest = here c.read_eols-count-2.new.reader in
       let next : next_eol now ≡ Some found
       = c.skip_to_eol.ensures.next ∙ ap (λ (b : Bool). cond {A = Option Bits} b (Some found) None) c.if-not-skip_to_eol.false in
-      let stays = eols_here_stay c.args.ctx.now.held.settings (here c.args.reader.now) now
-      (c.read_eols-count.ensures.eols ∙ ap (λ (n : ℕ). (n, now)) none) in
+      let still = stays c.args.ctx.now.held.settings (here c.args.reader.now)
+      c.read_eols-count.ensures.eols c.if-count-gt0.false in
       omega (
         arith,
         c.read_eols-count.ensures.work_none none,
         ap (λ (x : Context). x.ticks) c.count_missed_eol.ensures.frame,
-        ap length stays,
-        ap looked stays,
+        ap length still,
+        ap looked still,
         c.ticks.ensures.value,
         c.skip_to_eol.ensures.ticks,
         ap (λ (b : Bool). cond b (looked found) (length found)) c.if-not-skip_to_eol.false,
@@ -137,15 +121,12 @@ returns-clause-passes c = record {
 }
 
 pub returns-then-settings-clause-lacks : goal.returns-then-settings-clause-lacks
-returns-then-settings-clause-lacks c =
-    let none : c.read_eols-count.result ≡ 0 = omega (arith, c.if-count-gt0.false) in
-    let now = here c.read_eols-count.new.reader in
-    record {
-      strict = search rules;
-      put_back = eols_here_stay c.args.ctx.now.held.settings (here c.args.reader.now) now
-          (c.read_eols-count.ensures.eols ∙ ap (λ (n : ℕ). (n, now)) none);
-      ticks = search rules;
-    }
+returns-then-settings-clause-lacks c = record {
+  strict = search rules;
+  put_back = stays c.args.ctx.now.held.settings (here c.args.reader.now) c.read_eols-count.ensures.eols
+      c.if-count-gt0.false;
+  ticks = search rules;
+}
 
 pub returns-clause-at_least : goal.returns-clause-at_least
 returns-clause-at_least c = grind (arith, common_steps)

@@ -36,6 +36,16 @@ module _ (g : Over) (c : After-put_end g) where
       c.in_ok-outcome.ensures.same.settings
       ∙ ap (λ (b : Bits). last_line_of_damage settings b read outcome) c.in_ok-outcome.ensures.same.bits
 
+  -- so the text is passed on, if the last line is
+  passes_text : PassesOn (g.W.Write.contents c.put_damage.new.writer.0) (g.W.Write.contents c.put_end.new.writer.0)
+      c.put_damage.new.waiting.items (last_line_of_damage c.put_damage.new.rows.settings c.put_damage.new.rows.bits read outcome)
+      c.put_end.new.waiting.items
+      → PassesOn (g.W.Write.contents c.args.writer.now.0) (g.W.Write.contents c.put_end.new.writer.0) [] text
+      c.put_end.new.waiting.items
+  passes_text end = passes_both _ _ _ [] _ c.put_damage.new.waiting.items _ c.put_end.new.waiting.items
+      c.in_ok-outcome.ensures.lines (subst (λ (l : List ℕ). PassesOn (g.W.Write.contents c.put_damage.new.writer.0)
+      (g.W.Write.contents c.put_end.new.writer.0) c.put_damage.new.waiting.items l c.put_end.new.waiting.items) last_lines end)
+
 pub returns-in_err-outcome : goal.returns-in_err-outcome
 returns-in_err-outcome g c =
     let settings = c.args.rows.now.settings in
@@ -72,14 +82,8 @@ returns-in_err-put_end g c =
 pub returns-in_err-flush : goal.returns-in_err-flush
 returns-in_err-flush g c =
     let at = (goal.at.returns-in_err-flush g c).After-put_end in
-    let waits = c.put_damage.new.waiting.items in
     let waiting = c.put_end.new.waiting.items in
-    let end : PassesOn (g.W.Write.contents c.put_damage.new.writer.0) (g.W.Write.contents c.put_end.new.writer.0) waits
-    (last_line_of_damage (settings g at) (bits g at) (read g at) (outcome g at)) waiting
-    = subst (λ (l : List ℕ). PassesOn (g.W.Write.contents c.put_damage.new.writer.0)
-    (g.W.Write.contents c.put_end.new.writer.0) waits l waiting) (last_lines g at) c.in_ok-put_end.ensures.ok in
-    let passes : PassesOn (g.W.Write.contents c.args.writer.now.0) (g.W.Write.contents c.put_end.new.writer.0) [] (text g at)
-    waiting = passes_both _ _ _ [] _ waits _ waiting c.in_ok-outcome.ensures.lines end in
+    let passes = passes_text g at c.in_ok-put_end.ensures.ok in
     let front : (done : Done) × (text : List ℕ) × IsDamageText (settings g at) (bits g at) done text
     × AppendsFront (g.W.Write.contents c.args.writer.now.0) (g.W.Write.contents c.flush.new.writer.0) text = (
       done_of (outcome g at),
@@ -92,14 +96,8 @@ returns-in_err-flush g c =
 pub returns : goal.returns
 returns g c =
     let at = (goal.at.returns g c).After-put_end in
-    let waits = c.put_damage.new.waiting.items in
     let waiting = c.put_end.new.waiting.items in
-    let end : PassesOn (g.W.Write.contents c.put_damage.new.writer.0) (g.W.Write.contents c.put_end.new.writer.0) waits
-    (last_line_of_damage (settings g at) (bits g at) (read g at) (outcome g at)) waiting
-    = subst (λ (l : List ℕ). PassesOn (g.W.Write.contents c.put_damage.new.writer.0)
-    (g.W.Write.contents c.put_end.new.writer.0) waits l waiting) (last_lines g at) c.in_ok-put_end.ensures.ok in
-    let passes : PassesOn (g.W.Write.contents c.args.writer.now.0) (g.W.Write.contents c.put_end.new.writer.0) [] (text g at)
-    waiting = passes_both _ _ _ [] _ waits _ waiting c.in_ok-outcome.ensures.lines end in
+    let passes = passes_text g at c.in_ok-put_end.ensures.ok in
     record {
       writes = wrote _ _ c.done_of.result (text g at) (rw c.done_of.ensures (is_text g at))
           (subst (Appends (g.W.Write.contents c.args.writer.now.0) (g.W.Write.contents c.flush.new.writer.0)) (sym passes.2)

@@ -5,7 +5,8 @@ use Rattle.fax_feeds.proofs.Names.{BitsAt, Context, DecodeError, [], drop, false
 use Rattle.fax_reading.proofs.PixelRows.ChangesAndPixels.{AreChanges-wider}
 use Rattle.fax_feeds.proofs.Readings.FeedTurns.{IsReadBy, past_gap, past_line, full_row}
 use Rattle.fax_feeds.proofs.Readings.FeedTurns.{gap_read_by, gap_row, line_read_by}
-use Rattle.fax_feeds.proofs.Readings.FeedTurns.{line_row, none_row, seen_by, turn_reads, unread_row}
+use Rattle.fax_feeds.proofs.Readings.FeedTurns.{line_row, seen_by, turn_reads, unread_row}
+use Rattle.fax_feeds.proofs.Readings.FeedsOn.{none_row}
 use Rattle.fax_feeds.proofs.Names.{changes}
 use Rattle.fax_rows.proofs.Readings.RowsAgain.{white_unchanging}
 use Rattle.fax_feeds.proofs.Readings.FeedWhite.{white_read_by, white_row}
