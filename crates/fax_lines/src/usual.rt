@@ -371,18 +371,18 @@ pub(crate) fn draw_few_runs(
     ensures forward { painted ≤ result.0 }
     ensures kept { MovesOn hand.old row.old hand.new row.new }
 {
-    let mut place = painted;
+    let mut reached = painted;
     'runs: loop {
         if !has_two_runs(hand) {
-            return (place, Color::White);
+            return (reached, Color::White);
         }
-        match draw_two_runs(hand, row, place, settings, tables, ticks) {
-            None => return (place, Color::White),
+        match draw_two_runs(hand, row, reached, settings, tables, ticks) {
+            None => return (reached, Color::White),
             Some((next, color)) => {
                 if next == settings.columns {
                     return (next, color);
                 }
-                place = next;
+                reached = next;
             }
         }
     }

@@ -5,7 +5,7 @@ use Rattle.fax_lines.proofs.usual.draw_few_runs.Goals as goal
 pub returns-then-not-has_two_runs-clause-drawn : goal.returns-then-not-has_two_runs-clause-drawn
 returns-then-not-has_two_runs-clause-drawn c = record {
   drawn = rw (c.has_two_runs.ensures.same) c.runs.invariant.0;
-  reached = open_reached c.args.settings.columns c.runs.place _ c.runs.invariant.1;
+  reached = open_reached c.args.settings.columns c.runs.reached _ c.runs.invariant.1;
 }
 
 pub returns-in-None-clause-drawn : goal.returns-in-None-clause-drawn
@@ -13,7 +13,7 @@ returns-in-None-clause-drawn c =
     let same = c.in-None.ensures.left in
     record {
       drawn = rw (same.at, same.items, same.count, c.has_two_runs.ensures.same) c.runs.invariant.0;
-      reached = open_reached c.args.settings.columns c.runs.place _ (rw same.items c.runs.invariant.1);
+      reached = open_reached c.args.settings.columns c.runs.reached _ (rw same.items c.runs.invariant.1);
     }
 
 pub returns-then-next-settings-clause-drawn : goal.returns-then-next-settings-clause-drawn
