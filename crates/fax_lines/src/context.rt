@@ -740,12 +740,15 @@ impl DecoderContext {
         self.color = color;
     }
 
-    /// The same for a reader, in whichever order its bits are, without a call.
+    /// The same for a reader, in whichever order its bits are, without a call, if eight bytes are left.
     #[inline(always)]
     fn draw_few_runs_of(&mut self, reader: &mut BitReader<'_>)
         ensures { DrawsUsualRuns self.old self.new reader.old reader.new }
     {
         let mut hand = none_at_hand(reader);
+        if !hand.refill() {
+            return;
+        }
         self.draw_few_by_twos(&mut hand);
         go_to(reader, &hand);
     }

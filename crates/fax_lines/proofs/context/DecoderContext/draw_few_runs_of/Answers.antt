@@ -1,7 +1,8 @@
-use Rattle.fax_lines.proofs.Names.{◌≡◌, ap, AtHand}
+use Rattle.fax_lines.proofs.Names.{◌≡◌, ◌∙◌, ap, AtHand}
 use Rattle.fax_lines.proofs.context.DecoderContext.draw_few_runs_of.Goals as goal
 
 pub returns : goal.returns
 returns c =
-    let same : c.none_at_hand-hand.result.at ≡ c.args.reader.now = ap (λ (h : AtHand). h.at) c.none_at_hand-hand.ensures in
+    let same : c.refill.new.self.at ≡ c.args.reader.now =
+    c.refill.ensures.same ∙ ap (λ (h : AtHand). h.at) c.none_at_hand-hand.ensures in
     rw (c.go_to.ensures, ← same) c.draw_few_by_twos.ensures
