@@ -753,23 +753,26 @@ impl DecoderContext {
         go_to(reader, &hand);
     }
 
-    /// Returns whether a row wider than 64 pixels is likely to have few runs, and these one or two words each.
+    /// Draws the first runs of a row that is as wide as to have runs of three words or more, as long as they are usual; or none, if
+    /// plain calls suit.
     #[inline(always)]
-    fn has_few_usual_runs(&self) -> bool {
-        self.settings.columns <= 2623 && reference_row(self).len() < 7
+    fn draw_first_runs_if_wide(&mut self, reader: &mut BitReader<'_>)
+        ensures { DrawsUsualRuns self.old self.new reader.old reader.new }
+    {
+        if !self.suits_plain_calls_if_wide(reader) {
+            self.draw_runs_of(reader);
+        }
     }
 
-    /// Draws the first runs of a row wider than 64 pixels as long as they are usual, few of them without a call; or none, if plain calls
-    /// suit.
+    /// Draws the first runs of a row wider than 64 pixels, of one or two words each, as long as they are usual: if few are likely,
+    /// without a call.
     #[inline(always)]
     fn draw_first_runs_if_not_narrow(&mut self, reader: &mut BitReader<'_>)
         ensures { DrawsUsualRuns self.old self.new reader.old reader.new }
     {
-        if self.has_few_usual_runs() {
+        if reference_row(self).len() < 7 {
             self.draw_few_runs_of(reader);
-            return;
-        }
-        if !self.suits_plain_calls_if_not_narrow(reader) {
+        } else {
             self.draw_runs_of(reader);
         }
     }
@@ -782,6 +785,10 @@ impl DecoderContext {
         requires { IsAtStart self.old }
         ensures { DrawsUsualRuns self.old self.new reader.old reader.new }
     {
+        if self.settings.columns > 2623 {
+            self.draw_first_runs_if_wide(reader);
+            return;
+        }
         if self.settings.columns > 64 {
             if !self.draw_white_row(reader) {
                 self.draw_first_runs_if_not_narrow(reader);
