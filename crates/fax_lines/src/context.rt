@@ -34,7 +34,7 @@ use crate::modes::{
     put_ends, repeat_changes, take_ends,
 };
 use crate::usual::{
-    draw_few_runs, draw_runs, draw_two_runs, lay_down, pass_white_row, take_up, turn_at,
+    RunsOfLine, draw_runs, draw_two_runs, lay_down, take_up, turn_at,
 };
 use crate::white_lines::{WhiteLines, may_follow, none_known, white_lines};
 use fax_bits::bit_reader::{
@@ -504,9 +504,10 @@ impl DecoderContext {
         Ok(())
     }
 
-    /// Draws pairs of runs as long as they are usual, from a white one on.
+    /// Draws pairs of runs as long as they are usual, from a white one on. Two of one code word each are looked up together, or each
+    /// by itself.
     #[inline(always)]
-    fn draw_by_twos(&mut self, hand: &mut BitsAtHand<'_>)
+    fn draw_by_twos(&mut self, hand: &mut BitsAtHand<'_>, by_pairs: bool)
         ensures { DrawsUsualRuns self.old self.new hand.old.at hand.new.at }
     {
         if !self.color.is_white() {
@@ -518,13 +519,17 @@ impl DecoderContext {
         if !take_up(&mut self.coding_changes, self.pixels_decoded) {
             return;
         }
+        let line = RunsOfLine {
+            settings: self.settings,
+            tables: &self.tables,
+            by_pairs,
+        };
         let ticks = &mut self.ticks;
         let (place, color) = draw_runs(
             hand,
             &mut self.coding_changes,
             self.pixels_decoded,
-            self.settings,
-            &self.tables,
+            &line,
             ticks,
         );
         lay_down(&mut self.coding_changes, place);
@@ -544,12 +549,12 @@ impl DecoderContext {
             return;
         }
         if let Some(mut hand) = at_hand(reader, BitOrder::HighestFirst) {
-            self.draw_by_twos(&mut hand);
+            self.draw_by_twos(&mut hand, true);
             go_to(reader, &hand);
             return;
         }
         if let Some(mut hand) = at_hand(reader, BitOrder::LowestFirst) {
-            self.draw_by_twos(&mut hand);
+            self.draw_by_twos(&mut hand, true);
             go_to(reader, &hand);
         }
     }
@@ -685,64 +690,8 @@ impl DecoderContext {
         }
     }
 
-    /// Draws a white row below a white one from the reader's own window, and returns whether there is one here; otherwise nothing
-    /// changes.
-    #[inline(always)]
-    fn draw_white_row(&mut self, reader: &mut BitReader<'_>) -> bool
-        requires { IsAtStart self.old }
-        ensures draws { DrawsUsualRuns self.old self.new reader.old reader.new }
-        ensures unchanged { result ≡ false → (self.new ≡ self.old) × (reader.new ≡ reader.old) }
-    {
-        if !is_white_row(&self.ref_changes) {
-            return false;
-        }
-        let columns = self.settings.columns;
-        if columns == 0 {
-            return false;
-        }
-        let Some(mut hand) = window_at_hand(reader) else {
-            return false;
-        };
-        let white = self.tables.lookup(Color::White);
-        let ticks = &mut self.ticks;
-        if !pass_white_row(&mut hand, columns, white, ticks) {
-            return false;
-        }
-        self.pixels_decoded = columns;
-        self.color = Color::Black;
-        go_to(reader, &hand);
-        true
-    }
-
-    /// Draws pairs of runs of a row of few changes as long as they are usual, from a white one on.
-    #[inline(always)]
-    fn draw_few_by_twos(&mut self, hand: &mut BitsAtHand<'_>)
-        ensures { DrawsUsualRuns self.old self.new hand.old.at hand.new.at }
-    {
-        if !self.color.is_white() {
-            return;
-        }
-        if self.pixels_decoded == self.settings.columns {
-            return;
-        }
-        if !take_up(&mut self.coding_changes, self.pixels_decoded) {
-            return;
-        }
-        let ticks = &mut self.ticks;
-        let (place, color) = draw_few_runs(
-            hand,
-            &mut self.coding_changes,
-            self.pixels_decoded,
-            self.settings,
-            &self.tables,
-            ticks,
-        );
-        lay_down(&mut self.coding_changes, place);
-        self.pixels_decoded = place;
-        self.color = color;
-    }
-
-    /// The same for a reader, in whichever order its bits are, without a call, if eight bytes are left.
+    /// Draws the runs of a row of few changes as long as they are usual, in whichever order the reader's bits are, without a call, if
+    /// eight bytes are left.
     #[inline(always)]
     fn draw_few_runs_of(&mut self, reader: &mut BitReader<'_>)
         ensures { DrawsUsualRuns self.old self.new reader.old reader.new }
@@ -751,7 +700,7 @@ impl DecoderContext {
         if !hand.refill() {
             return;
         }
-        self.draw_few_by_twos(&mut hand);
+        self.draw_by_twos(&mut hand, false);
         go_to(reader, &hand);
     }
 
@@ -780,8 +729,8 @@ impl DecoderContext {
     }
 
     /// Draws the first runs of a line as long as they are usual. Those of a narrow row below one of fewer than four changes are
-    /// drawn from the reader's own window, without a call, and so is a white row below a white one. If the first run of such a
-    /// narrow row isn't usual, and the row before has fewer than two changes, it is left to the plain calls.
+    /// drawn from the reader's own window, without a call. If the first run of such a row isn't usual, and the row before has
+    /// fewer than two changes, it is left to the plain calls.
     #[inline(always)]
     fn draw_first_runs(&mut self, reader: &mut BitReader<'_>)
         requires { IsAtStart self.old }
@@ -792,9 +741,7 @@ impl DecoderContext {
             return;
         }
         if self.settings.columns > 64 {
-            if !self.draw_white_row(reader) {
-                self.draw_first_runs_if_not_narrow(reader);
-            }
+            self.draw_first_runs_if_not_narrow(reader);
             return;
         }
         if self.ref_changes.len() < 4 {

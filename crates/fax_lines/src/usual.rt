@@ -1,7 +1,7 @@
 //! Runs whose code words are all in the window, drawn with the line's own values. The functions of `context` draw the
 //! others.
 
-ghost use Rattle.std.specs.Prelude.{vec_len, vec_capacity, get_or, ◌≡◌, ◌≢◌, ◌+◌, ◌-◌, ◌%◌, ◌<◌, ◌≤◌, ◌⊎◌, ℕ, Bool, IfSome};
+ghost use Rattle.std.specs.Prelude.{vec_len, vec_capacity, get_or, ◌≡◌, ◌≢◌, ◌+◌, ◌-◌, ◌%◌, ◌<◌, ◌≤◌, ◌⊎◌, ℕ, IfSome};
 ghost use Rattle.std.specs.Prelude.{IfNone};
 ghost use Rattle.std.specs.Prelude.{min, true, false, length, ◌++◌, ◌∷◌, []};
 ghost use Rattle.fax_bits.specs.Bits.{here};
@@ -206,6 +206,17 @@ fn draw_both(
     (place + runs.second, Color::White)
 }
 
+/// What doesn't change while the runs of a line are drawn.
+#[derive(Clone, Copy)]
+pub(crate) struct RunsOfLine<'a> {
+    /// The settings of the image.
+    pub(crate) settings: DecodeSettings,
+    /// The look-up tables of runs.
+    pub(crate) tables: &'a Tables,
+    /// Whether two runs of one code word each are looked up together.
+    pub(crate) by_pairs: bool,
+}
+
 /// Draws a white run and a black one of one code word each that end before the row does: the most frequent case. Returns how far
 /// the row reaches then; or `None`, drawing nothing, if they aren't of that kind.
 #[inline(always)]
@@ -213,29 +224,29 @@ fn draw_pair(
     hand: &mut BitsAtHand<'_>,
     row: &mut Vec<u32>,
     painted: u32,
-    settings: DecodeSettings,
+    line: &RunsOfLine<'_>,
     ticks: &mut Ticks,
 ) -> Option<u32>
-    requires open { IsOpen settings.columns painted row.old.items }
-    ensures drawn { IfSome result (λ place. GoesOn settings.strict settings.columns
+    requires open { IsOpen line.now.settings.columns painted row.old.items }
+    ensures drawn { IfSome result (λ place. GoesOn line.now.settings.strict line.now.settings.columns
         (pen_at painted row.old.items Color.White hand.old.at)
         (pen_at place row.new.items Color.White hand.new.at) ticks.old ticks.new) }
-    ensures open { IfSome result (λ place. IsOpen settings.columns place row.new.items) }
+    ensures open { IfSome result (λ place. IsOpen line.now.settings.columns place row.new.items) }
     ensures forward { IfSome result (λ place. painted < place) }
     ensures left { IfNone result (DrawsNothing hand.old row.old ticks.old hand.new row.new ticks.new) }
     ensures kept { MovesOn hand.old row.old hand.new row.new }
 {
-    if !has_pair(hand) {
+    if !line.by_pairs || !has_pair(hand) {
         return None;
     }
     let runs = pair_at_hand(hand, 0, Color::White)?;
-    if runs.first + runs.second >= settings.columns - painted {
+    if runs.first + runs.second >= line.settings.columns - painted {
         return None;
     }
     if !has_room_for_pair(row) {
         return None;
     }
-    let (place, _color) = draw_both(hand, row, painted, settings, runs, ticks);
+    let (place, _color) = draw_both(hand, row, painted, line.settings, runs, ticks);
     Some(place)
 }
 
@@ -303,27 +314,26 @@ fn draw_pairs(
     hand: &mut BitsAtHand<'_>,
     row: &mut Vec<u32>,
     painted: u32,
-    settings: DecodeSettings,
-    tables: &Tables,
+    line: &RunsOfLine<'_>,
     ticks: &mut Ticks,
 ) -> (u32, Color)
-    requires open { IsOpen settings.columns painted row.old.items }
-    ensures drawn { DrawsRuns settings painted hand.old row.old ticks.old result.0 result.1 hand.new row.new ticks.new }
+    requires open { IsOpen line.now.settings.columns painted row.old.items }
+    ensures drawn { DrawsRuns line.now.settings painted hand.old row.old ticks.old result.0 result.1 hand.new row.new ticks.new }
     ensures forward { painted ≤ result.0 }
     ensures kept { MovesOn hand.old row.old hand.new row.new }
 {
     let mut place = painted;
     'runs: loop {
-        if let Some(next) = draw_pair(hand, row, place, settings, ticks) {
+        if let Some(next) = draw_pair(hand, row, place, line, ticks) {
             place = next;
         } else {
             if !has_two_runs(hand) {
                 return (place, Color::White);
             }
-            match draw_two_runs(hand, row, place, settings, tables, ticks) {
+            match draw_two_runs(hand, row, place, line.settings, line.tables, ticks) {
                 None => return (place, Color::White),
                 Some((next, color)) => {
-                    if next == settings.columns {
+                    if next == line.settings.columns {
                         return (next, color);
                     }
                     place = next;
@@ -333,87 +343,29 @@ fn draw_pairs(
     }
 }
 
-/// The same with a list of its own meanwhile, so that the list's fields are values of this call.
+/// The same, by pairs with a list of its own meanwhile, so that the list's fields are values of this call.
 #[inline(always)]
 pub(crate) fn draw_runs(
     hand: &mut BitsAtHand<'_>,
     row: &mut Vec<u32>,
     painted: u32,
-    settings: DecodeSettings,
-    tables: &Tables,
+    line: &RunsOfLine<'_>,
     ticks: &mut Ticks,
 ) -> (u32, Color)
-    requires open { IsOpen settings.columns painted row.old.items }
-    ensures drawn { DrawsRuns settings painted hand.old row.old ticks.old result.0 result.1 hand.new row.new ticks.new }
+    requires open { IsOpen line.now.settings.columns painted row.old.items }
+    ensures drawn { DrawsRuns line.now.settings painted hand.old row.old ticks.old result.0 result.1 hand.new row.new ticks.new }
     ensures forward { painted ≤ result.0 }
     ensures kept { MovesOn hand.old row.old hand.new row.new }
 {
+    // A few runs cost less than the exchange.
+    if !line.by_pairs {
+        return draw_pairs(hand, row, painted, line, ticks);
+    }
     let mut own = Vec::new(*row.allocator());
     mem::swap(row, &mut own);
-    let reached = draw_pairs(hand, &mut own, painted, settings, tables, ticks);
+    let reached = draw_pairs(hand, &mut own, painted, line, ticks);
     mem::swap(row, &mut own);
     reached
-}
-
-/// Draws the runs of a row of few changes in pairs while they are of the usual kind, each word by a look-up of its own. Returns how
-/// far the row reaches then, and the colour in which it continues.
-#[inline(always)]
-pub(crate) fn draw_few_runs(
-    hand: &mut BitsAtHand<'_>,
-    row: &mut Vec<u32>,
-    painted: u32,
-    settings: DecodeSettings,
-    tables: &Tables,
-    ticks: &mut Ticks,
-) -> (u32, Color)
-    requires open { IsOpen settings.columns painted row.old.items }
-    ensures drawn { DrawsRuns settings painted hand.old row.old ticks.old result.0 result.1 hand.new row.new ticks.new }
-    ensures forward { painted ≤ result.0 }
-    ensures kept { MovesOn hand.old row.old hand.new row.new }
-{
-    let mut reached = painted;
-    'runs: loop {
-        if !has_two_runs(hand) {
-            return (reached, Color::White);
-        }
-        match draw_two_runs(hand, row, reached, settings, tables, ticks) {
-            None => return (reached, Color::White),
-            Some((next, color)) => {
-                if next == settings.columns {
-                    return (next, color);
-                }
-                reached = next;
-            }
-        }
-    }
-}
-
-/// Passes a white row: one run as long as the row. Returns whether there is one in the window; otherwise nothing changes.
-#[inline(always)]
-pub(crate) fn pass_white_row(
-    hand: &mut BitsAtHand<'_>,
-    columns: u32,
-    white: &[u16],
-    ticks: &mut Ticks,
-) -> bool
-    requires open { 0 < columns }
-    requires within { 32 ≤ hand.old.left }
-    requires white { AreEntriesOf Color.White white.now }
-    ensures drawn { result ≡ true → (strict : Bool) → GoesOn strict columns (pen_at 0 [] Color.White hand.old.at)
-        (pen_at columns [] Color.Black hand.new.at) ticks.old ticks.new }
-    ensures same_bits { hand.new.at.bits ≡ hand.old.at.bits }
-    ensures onward { hand.old.at.place ≤ hand.new.at.place }
-    ensures left { result ≡ false → (hand.new.at ≡ hand.old.at) × (ticks.new ≡ ticks.old) }
-{
-    let Some((run, width, words)) = run_at_hand(hand, 0, Color::White, white) else {
-        return false;
-    };
-    if run != columns {
-        return false;
-    }
-    hand.pass(width);
-    tick_times(ticks, words);
-    true
 }
 
 /// Prepares a front for drawing in pairs, white next: if it ends in black, a change is stored at its end. Returns false,

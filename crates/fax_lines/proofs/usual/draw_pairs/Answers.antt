@@ -5,7 +5,7 @@ use Rattle.fax_lines.proofs.usual.draw_pairs.Goals.{After-has_two_runs}
 use Rattle.fax_lines.proofs.usual.draw_pairs.Goals as goal
 
 -- what is drawn before two runs of any length
-so_far : (c : After-has_two_runs) → GoesOn c.args.settings.strict c.args.settings.columns
+so_far : (c : After-has_two_runs) → GoesOn c.args.line.now.settings.strict c.args.line.now.settings.columns
     (pen_at c.args.painted c.args.row.now.items White c.args.hand.now.at)
     (pen_at c.runs.place c.draw_pair.new.row.items White c.has_two_runs.new.hand.at) c.args.ticks.now c.draw_pair.new.ticks
 so_far c =
@@ -15,7 +15,7 @@ so_far c =
 pub returns-then-not-has_two_runs-clause-drawn : goal.returns-then-not-has_two_runs-clause-drawn
 returns-then-not-has_two_runs-clause-drawn c = record {
   drawn = so_far (goal.at.returns-then-not-has_two_runs-clause-drawn c).After-has_two_runs;
-  reached = open_reached c.args.settings.columns c.runs.place _ (rw c.in_default.ensures.left.items c.runs.invariant.1);
+  reached = open_reached c.args.line.now.settings.columns c.runs.place _ (rw c.in_default.ensures.left.items c.runs.invariant.1);
 }
 
 pub returns-in-None-clause-drawn : goal.returns-in-None-clause-drawn
@@ -26,25 +26,25 @@ returns-in-None-clause-drawn c =
       reached = grind (arith, common_steps, open_reached);
     }
 
-pub returns-then-next-settings-clause-drawn : goal.returns-then-next-settings-clause-drawn
-returns-then-next-settings-clause-drawn c =
+pub returns-then-next-line-clause-drawn : goal.returns-then-next-line-clause-drawn
+returns-then-next-line-clause-drawn c =
     let next = c.in-Some-draw_two_runs.ensures.drawn in
     record {
-      drawn = goes_on_twice c.args.settings.strict c.args.settings.columns _ _ _ _ _ _
-          (so_far (goal.at.returns-then-next-settings-clause-drawn c).After-has_two_runs) next.drawn;
+      drawn = goes_on_twice c.args.line.now.settings.strict c.args.line.now.settings.columns _ _ _ _ _ _
+          (so_far (goal.at.returns-then-next-line-clause-drawn c).After-has_two_runs) next.drawn;
       reached = next.reached;
     }
 
 pub runs-preserved : goal.runs-preserved
 runs-preserved c =
     let next = c.in-Some-draw_two_runs in
-    let opened = reached_open c.args.settings.columns next.next next.color c.draw_two_runs.new.row.items
-    next.ensures.drawn.reached c.if-next-settings.false in
+    let opened = reached_open c.args.line.now.settings.columns next.next next.color c.draw_two_runs.new.row.items
+    next.ensures.drawn.reached c.if-next-line.false in
     let inv = c.runs.invariant in
     let same = c.in_default.ensures.left in
     let kept = next.ensures.kept in
     let filled = c.has_two_runs.ensures.same in (
-      goes_on_twice c.args.settings.strict c.args.settings.columns _ _ _ _ _ _
+      goes_on_twice c.args.line.now.settings.strict c.args.line.now.settings.columns _ _ _ _ _ _
           (so_far (goal.at.runs-preserved c).After-has_two_runs) (rw opened.1 at next.ensures.drawn.drawn),
       opened.0,
       omega (arith, next.ensures.forward, inv.2),

@@ -5,10 +5,10 @@ use Rattle.fax_lines.proofs.usual.draw_pairs.Given as goal
 -- what is drawn so far, and that the row isn't full
 abbrev pub invariant-runs : goal.invariant-runs
 invariant-runs l =
-    GoesOn l.settings.strict l.settings.columns (pen_at l.painted l.fn.row.items White l.fn.hand.at)
-    (pen_at l.place l.row.items White l.hand.at) l.fn.ticks l.ticks × IsOpen l.settings.columns l.place l.row.items
+    GoesOn l.line.settings.strict l.line.settings.columns (pen_at l.painted l.fn.row.items White l.fn.hand.at)
+    (pen_at l.place l.row.items White l.hand.at) l.fn.ticks l.ticks × IsOpen l.line.settings.columns l.place l.row.items
     × (l.painted ≤ l.place) × (l.hand.at.bits ≡ l.fn.hand.at.bits) × (l.fn.hand.at.place ≤ l.hand.at.place)
     × (vec_capacity l.row ≡ vec_capacity l.fn.row)
 
 abbrev pub decreases-runs : goal.decreases-runs
-decreases-runs l = l.settings.columns - l.place
+decreases-runs l = l.line.settings.columns - l.place

@@ -1,12 +1,6 @@
-use Rattle.fax_lines.proofs.Names.{refl}
 use Rattle.fax_lines.proofs.DrawingLines.UsualStrokes.{runs_twice}
 use Rattle.fax_lines.proofs.context.DecoderContext.draw_first_runs.Goals as goal
 use Rattle.fax_lines.proofs.context.DecoderContext.draw_first_runs.Goals.{then-len-lt4+else-self+else-self-eq0, else-len-lt4}
-
-pub returns-then-not-draw_white_row : goal.returns-then-not-draw_white_row
-returns-then-not-draw_white_row c =
-    let left = c.if-not-draw_white_row.ensures.unchanged refl in
-    rw (left.0, left.1) at c.draw_first_runs_if_not_narrow.ensures
 
 pub returns : goal.returns
 returns c =
