@@ -33,9 +33,7 @@ use crate::modes::{
     CodingLine, draw_modes, has_mode, has_no_room, is_white_row, lay_down_row, next_color,
     put_ends, repeat_changes, take_ends,
 };
-use crate::usual::{
-    RunsOfLine, draw_runs, draw_two_runs, lay_down, take_up, turn_at,
-};
+use crate::usual::{RunsOfLine, draw_runs, draw_two_runs, lay_down, take_up, turn_at};
 use crate::white_lines::{WhiteLines, may_follow, none_known, white_lines};
 use fax_bits::bit_reader::{
     BitOrder, BitReader, BitScanner, BitsAtHand, at_hand, go_to, none_at_hand, pass_bits,
