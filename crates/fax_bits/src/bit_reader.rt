@@ -655,24 +655,6 @@ pub fn at_hand<'a>(reader: &BitReader<'a>, order: BitOrder) -> Option<BitsAtHand
     }
 }
 
-/// Returns the same bits at the same offset, with 32 of them in the window, or `None` if fewer are left.
-#[inline(always)]
-pub fn window_at_hand<'a>(reader: &BitReader<'a>) -> Option<BitsAtHand<'a>>
-    ensures same { IfSome result (λ hand. hand ≡ record { at = reader.now; left = 32 }) }
-{
-    let end = reader.place + 32;
-    if end > reader.data.len() * 8 {
-        return None;
-    }
-    Some(BitsAtHand {
-        data: reader.data,
-        window: reader.window,
-        left: 32,
-        limit: end,
-        order: reader.order,
-    })
-}
-
 /// Consumes a one if it is next, and returns whether it is; otherwise nothing changes.
 #[inline(always)]
 pub fn pass_one(reader: &mut BitReader<'_>) -> bool

@@ -1,6 +1,6 @@
 //! What a decoder keeps from line to line, and the lines themselves.
 
-ghost use Rattle.std.specs.Prelude.{◌≡◌, ◌+◌, ◌-◌, ◌*◌, ◌^◌, ◌<◌, ◌≤◌, ◌⊎◌, ◌↔◌, ℕ, Ok, Err, OnOk, OnErr, IfOk, IfErr, true};
+ghost use Rattle.std.specs.Prelude.{◌≡◌, ◌+◌, ◌-◌, ◌*◌, ◌^◌, ◌<◌, ◌≤◌, ◌↔◌, ℕ, Ok, Err, OnOk, OnErr, IfOk, true};
 ghost use Rattle.std.specs.Prelude.{false, suc, max, pos, vec_capacity};
 ghost use Rattle.std.specs.Prelude.{◌||◌, IsOkUnless, IsTrue, if◌then◌else◌, is_some, option_map, length, get_or, []};
 ghost use Rattle.fax_reading.specs.LocalityByK.{behind_mode};
@@ -8,9 +8,9 @@ ghost use Rattle.fax_bits.specs.Ticks.{run_found};
 ghost use Rattle.fax_reading.specs.Work.{mode_found};
 ghost use Rattle.fax_bits.specs.ReaderSteps.{Reads};
 ghost use Rattle.fax_bits.specs.Runs.{codes_of, read_run};
-ghost use Rattle.fax_reading.specs.Rows.{AreChanges, right_of, b1, b2, changes, opposite, too_many_pixels};
+ghost use Rattle.fax_reading.specs.Rows.{AreChanges, right_of, b1, b2, changes, opposite};
 ghost use Rattle.fax_bits.specs.Bits.{here};
-ghost use Rattle.fax_reading.specs.Context.{redrawn, painted_front, taken_row, after_repair, after_taking, fresh, with_missed};
+ghost use Rattle.fax_reading.specs.Context.{redrawn, taken_row, after_repair, after_taking, fresh, with_missed};
 ghost use Rattle.fax_bits.specs.CodeReading.{read_code};
 ghost use Rattle.fax_lines.specs.ContextSteps.{CountsWords, DrawsAtOnce, DrawsOneMode, DrawsUsualModes, DrawsUsualRuns};
 ghost use Rattle.fax_lines.specs.ContextSteps.{GrowsFor, IsAtStart, IsWidth, OnlyDraws, PassesChanges, SeeksB1};
@@ -21,7 +21,7 @@ ghost use Rattle.fax_lines.specs.Counting.{OnlyCounts};
 ghost use Rattle.fax_reading.specs.Context.{ArePassed, exceeds, right_of_painted, with_cut};
 ghost use Rattle.fax_lines.specs.WhiteLines.{AreKnown, MayFollow};
 ghost use Rattle.fax_reading.specs.Answers.{DrawsLine, DrawsStep, OnAnswer, words_of_run, words_from_1d};
-ghost use Rattle.fax_reading.specs.Answers.{words_from_2d, StoresChange, RepairStoresChange, pen_of, step_of_run, step_of_mode};
+ghost use Rattle.fax_reading.specs.Answers.{words_from_2d, RepairStoresChange, pen_of, step_of_run, step_of_mode};
 ghost use Rattle.fax_reading.specs.Answers.{line_from_1d, line_from_2d, front_of, is_broken, strict_step_of_run};
 ghost use Rattle.fax_reading.specs.Answers.{TellsCut};
 ghost use Rattle.fax_reading.specs.Lines.{line_1d, line_2d};
@@ -33,17 +33,16 @@ use crate::modes::{
     CodingLine, draw_modes, has_mode, has_no_room, is_white_row, lay_down_row, next_color,
     put_ends, repeat_changes, take_ends,
 };
-use crate::usual::{RunsOfLine, draw_runs, draw_two_runs, lay_down, take_up, turn_at};
+use crate::usual::{RunsOfLine, draw_runs, lay_down, take_up, turn_at};
 use crate::white_lines::{WhiteLines, may_follow, none_known, white_lines};
 use fax_bits::bit_reader::{
     BitOrder, BitReader, BitScanner, BitsAtHand, at_hand, go_to, none_at_hand, pass_bits,
-    window_at_hand,
 };
 use fax_bits::codes::{
     Color, Mode, Ticks, horizontal_ends, is_long_behind_modes, is_long_pair, pass_v0, tick_times,
 };
 use fax_bits::tables::{LOOKUP_INVALID, Tables};
-use fax_bits::{DecodeError, DecodeSettings, EncodingMode, Result};
+use fax_bits::{DecodeError, DecodeSettings, Result};
 use std::alloc::Global;
 use std::marker::Model;
 use std::mem;
@@ -586,23 +585,18 @@ impl DecoderContext {
         entries.get(index as usize).copied().unwrap_or(0)
     }
 
-    /// Returns whether plain calls are likely to draw the next runs of this row, wider than 64 pixels, at less cost: it has few more, or
-    /// the next ones may have three words or more.
+    /// Returns whether plain calls are likely to draw the next runs of a row at less cost: it has few more, or the next ones may have
+    /// three words or more.
     #[inline(always)]
-    fn suits_plain_calls_if_not_narrow(&self, reader: &BitReader<'_>) -> bool {
+    fn suits_plain_calls(&self, reader: &BitReader<'_>) -> bool {
         if self.settings.columns > 2623 {
             return self.suits_plain_calls_if_wide(reader);
         }
         reference_row(self).len() < 7 && self.coding_changes.len() < 6
     }
 
-    /// The same for a row of any width.
-    #[inline(always)]
-    fn suits_plain_calls(&self, reader: &BitReader<'_>) -> bool {
-        self.settings.columns > 64 && self.suits_plain_calls_if_not_narrow(reader)
-    }
-
-    /// The same, without a call where the row is full or black is next.
+    /// Draws pairs of runs as long as they are usual, from a white one on, or none, if plain calls suit. No call is made where the row
+    /// is full or black is next.
     #[inline(always)]
     fn draw_usual_runs(&mut self, reader: &mut BitReader<'_>)
         ensures { DrawsUsualRuns self.old self.new reader.old reader.new }
@@ -619,73 +613,6 @@ impl DecoderContext {
             return;
         }
         self.draw_runs_of(reader);
-    }
-
-    /// Draws a white run and a black one in the window, or a white one up to the row's end, and returns whether they are usual;
-    /// otherwise it draws nothing.
-    #[inline(always)]
-    fn draw_window(&mut self, hand: &mut BitsAtHand<'_>) -> bool
-        requires within { 32 ≤ hand.old.left }
-        ensures draws { DrawsUsualRuns self.old self.new hand.old.at hand.new.at }
-        ensures left { result ≡ false → hand.new.at ≡ hand.old.at }
-    {
-        if !self.color.is_white() {
-            return false;
-        }
-        if self.pixels_decoded == self.settings.columns {
-            return false;
-        }
-        if !take_up(&mut self.coding_changes, self.pixels_decoded) {
-            return false;
-        }
-        let ticks = &mut self.ticks;
-        let reached = draw_two_runs(
-            hand,
-            &mut self.coding_changes,
-            self.pixels_decoded,
-            self.settings,
-            &self.tables,
-            ticks,
-        );
-        match reached {
-            None => {
-                lay_down(&mut self.coding_changes, self.pixels_decoded);
-                false
-            }
-            Some((place, color)) => {
-                lay_down(&mut self.coding_changes, place);
-                self.pixels_decoded = place;
-                self.color = color;
-                true
-            }
-        }
-    }
-
-    /// The same for a reader, with the bits that it has in its window.
-    #[inline(always)]
-    fn draw_window_of(&mut self, reader: &mut BitReader<'_>)
-        ensures { DrawsUsualRuns self.old self.new reader.old reader.new }
-    {
-        if let Some(mut hand) = window_at_hand(reader) {
-            if self.draw_window(&mut hand) {
-                go_to(reader, &hand);
-            }
-        }
-    }
-
-    /// Draws such runs until the row is full, or one isn't usual.
-    #[inline(always)]
-    fn draw_windows_of(&mut self, reader: &mut BitReader<'_>)
-        ensures { DrawsUsualRuns self.old self.new reader.old reader.new }
-    {
-        let mut before = 0;
-        'windows: while before < self.pixels_decoded {
-            before = self.pixels_decoded;
-            self.draw_window_of(reader);
-            if self.pixels_decoded == self.settings.columns {
-                return;
-            }
-        }
     }
 
     /// Draws the runs of a row of few changes as long as they are usual, in whichever order the reader's bits are, without a call, if
@@ -713,46 +640,19 @@ impl DecoderContext {
         }
     }
 
-    /// Draws the first runs of a row wider than 64 pixels, of one or two words each, as long as they are usual: if few are likely,
-    /// without a call.
-    #[inline(always)]
-    fn draw_first_runs_if_not_narrow(&mut self, reader: &mut BitReader<'_>)
-        ensures { DrawsUsualRuns self.old self.new reader.old reader.new }
-    {
-        if reference_row(self).len() < 7 {
-            self.draw_few_runs_of(reader);
-        } else {
-            self.draw_runs_of(reader);
-        }
-    }
-
-    /// Draws the first runs of a line as long as they are usual. Those of a narrow row below one of fewer than four changes are
-    /// drawn from the reader's own window, without a call. If the first run of such a row isn't usual, and the row before has
-    /// fewer than two changes, it is left to the plain calls.
+    /// Draws the first runs of a line as long as they are usual: without a call, if few are likely, since the row before has few
+    /// changes.
     #[inline(always)]
     fn draw_first_runs(&mut self, reader: &mut BitReader<'_>)
-        requires { IsAtStart self.old }
         ensures { DrawsUsualRuns self.old self.new reader.old reader.new }
     {
         if self.settings.columns > 2623 {
             self.draw_first_runs_if_wide(reader);
-            return;
+        } else if reference_row(self).len() < 7 {
+            self.draw_few_runs_of(reader);
+        } else {
+            self.draw_runs_of(reader);
         }
-        if self.settings.columns > 64 {
-            self.draw_first_runs_if_not_narrow(reader);
-            return;
-        }
-        if self.ref_changes.len() < 4 {
-            self.draw_window_of(reader);
-            if self.pixels_decoded == self.settings.columns {
-                return;
-            }
-            if self.pixels_decoded == 0 && self.ref_changes.len() < 2 {
-                return;
-            }
-            self.draw_windows_of(reader);
-        }
-        self.draw_usual_runs(reader);
     }
 
     /// Returns whether two short runs after the next `skip` bits, the first of this colour, are followed by horizontal mode with

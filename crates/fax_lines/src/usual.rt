@@ -1,16 +1,14 @@
 //! Runs whose code words are all in the window, drawn with the line's own values. The functions of `context` draw the
 //! others.
 
-ghost use Rattle.std.specs.Prelude.{vec_len, vec_capacity, get_or, ◌≡◌, ◌≢◌, ◌+◌, ◌-◌, ◌%◌, ◌<◌, ◌≤◌, ◌⊎◌, ℕ, IfSome};
+ghost use Rattle.std.specs.Prelude.{vec_len, vec_capacity, ◌≡◌, ◌+◌, ◌-◌, ◌%◌, ◌<◌, ◌≤◌, ◌⊎◌, IfSome};
 ghost use Rattle.std.specs.Prelude.{IfNone};
 ghost use Rattle.std.specs.Prelude.{min, true, false, length, ◌++◌, ◌∷◌, []};
-ghost use Rattle.fax_bits.specs.Bits.{here};
 ghost use Rattle.fax_bits.specs.LookUps.{AreEntriesOf};
 ghost use Rattle.fax_lines.specs.ContextSteps.{ShowSame};
 ghost use Rattle.fax_lines.specs.DrawnModes.{DrawsNothing};
-ghost use Rattle.fax_reading.specs.Rows.{AreChanges, pixels, opposite};
-ghost use Rattle.fax_reading.specs.UsualModes.{AreEnded, changes_in, IsNear, IsB1};
-ghost use Rattle.fax_reading.specs.UsualRuns.{IsWordHere, IsRunHere, IsShort, IsOpen, IsReached};
+ghost use Rattle.fax_reading.specs.Rows.{AreChanges, pixels};
+ghost use Rattle.fax_reading.specs.UsualRuns.{IsRunHere, IsShort, IsOpen};
 ghost use Rattle.fax_lines.specs.TwoRunsHere.{AreTwoRunsHere, CanFollow, DrawsRuns, MovesOn};
 ghost use Rattle.fax_reading.specs.UsualRuns.{GoesOn, pen_at};
 ghost use Rattle.fax_bits.specs.Window.{moved};
@@ -146,35 +144,6 @@ pub(crate) fn pair_at_hand(hand: &BitsAtHand<'_>, skip: usize, color: Color) -> 
     })
 }
 
-/// Returns the run at an offset in the window: its pixels, its bits and its number of code words. Returns `None` if it is
-/// neither a terminating word nor a make-up word and a terminating word, or the window doesn't reach as far.
-#[inline(always)]
-fn run_in_window(
-    hand: &BitsAtHand<'_>,
-    skip: usize,
-    color: Color,
-    words: &[u16],
-) -> Option<(u32, usize, usize)>
-    requires near { skip ≤ 29 }
-    requires entries { AreEntriesOf color words.now }
-    ensures run { IfSome result (λ run. IsRunHere color (moved skip hand.now.at) run.0 run.1 run.2) }
-    ensures below { IfSome result (λ run. (run.0 ≤ 4158) × (run.2 ≤ 2)) }
-    ensures within { IfSome result (λ run. skip + run.1 ≤ hand.now.left) }
-{
-    if skip + 26 <= hand.left() {
-        return run_at_hand(hand, skip, color, words);
-    }
-    if skip + 13 > hand.left() {
-        return None;
-    }
-    let (run, width) = word_at_hand(hand, skip, color, words);
-    if run < 64 {
-        Some((run, width, 1))
-    } else {
-        None
-    }
-}
-
 /// Draws a white run that ends before the row does, and a black one after it. Returns how far the row reaches then, and the
 /// colour in which it would continue.
 #[inline(always)]
@@ -261,7 +230,7 @@ pub(crate) fn draw_two_runs(
     tables: &Tables,
     ticks: &mut Ticks,
 ) -> Option<(u32, Color)>
-    requires within { 26 ≤ hand.old.left }
+    requires within { 52 ≤ hand.old.left }
     requires open { IsOpen settings.columns painted row.old.items }
     ensures drawn { IfSome result (λ reached. DrawsRuns settings painted hand.old row.old ticks.old reached.0 reached.1
         hand.new row.new ticks.new) }
@@ -286,7 +255,7 @@ pub(crate) fn draw_two_runs(
     if !has_room_for_pair(row) {
         return None;
     }
-    let (second, width2, words2) = run_in_window(
+    let (second, width2, words2) = run_at_hand(
         hand,
         width,
         Color::Black,

@@ -280,21 +280,6 @@ drawn_on {before = before} {now = now} {new = new} {at = at} {next = next} so_fa
       omega (arith, on.counted, so_far.1),
     )
 
--- drawing continues twice, in a context
-pub runs_twice : {before now new : Context} {begun at next : BitsAt} → DrawsUsualRuns before now begun at
-    → DrawsUsualRuns now new at next → DrawsUsualRuns before new begun next
-runs_twice {before = before} {now = now} {new = new} {at = at} {next = next} first second =
-    record {
-      drawn = goes_on_twice before.held.settings.strict before.held.settings.columns _ _ _ _ _ _ first.drawn
-          (subst (λ (s : DecodeSettings). GoesOn s.strict s.columns (pen_of now.held (here at)) (pen_of new.held (here next))
-          now.ticks new.ticks) (ap (λ (h : Held). h.settings) first.held) second.drawn);
-      held = second.held ∙ ap (λ (h : Held). redrawn h new.held.front new.held.color) first.held;
-      cut = second.cut ∙ first.cut;
-      same_bits = second.same_bits ∙ first.same_bits;
-      onward = omega (arith, first.onward, second.onward);
-      space = second.space ∙ first.space;
-    }
-
 -- a reader that is further on has no more bits
 pub not_longer : (from to : BitsAt) (n : ℕ) → length (here from) < n → to.bits ≡ from.bits → from.place ≤ to.place
     → length (here to) < n
