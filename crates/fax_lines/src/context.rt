@@ -671,7 +671,7 @@ impl DecoderContext {
         let bits = reader.peek_u32();
         let behind = (middle + u32::from(second >> 12)) % 32;
         if bits << behind >> 29 != 1 {
-            return false;
+            return true;
         }
         let third = self.entry_ahead(reader, behind + 3, color);
         if third & LOOKUP_INVALID >= 64 {

@@ -1221,14 +1221,15 @@ fn draw_own_row(
     requires can { CanDraw line.now stroke hand.old row.old }
     ensures { DrawsOn line.now stroke hand.old row.old ticks.old result hand.new row.new ticks.new }
 {
-    let mut own = Vec::new(*row.allocator());
-    mem::swap(row, &mut own);
+    let empty = Vec::new(*row.allocator());
+    let mut own = mem::replace(row, empty);
     let reached = if line.by_groups {
         draw_groups(hand, &mut own, line, stroke, ticks)
     } else {
         draw_turns(hand, &mut own, line, stroke, ticks)
     };
-    mem::swap(row, &mut own);
+    // What is left there is empty.
+    mem::forget(mem::replace(row, own));
     reached
 }
 
@@ -1306,12 +1307,16 @@ pub(crate) fn put_ends(changes: &mut Vec<u32>, columns: u32) -> bool
     if !has_room_for_ends(changes) && !make_room(changes) {
         return false;
     }
-    turn_at(changes, columns);
-    turn_at(changes, columns);
-    turn_at(changes, columns);
-    turn_at(changes, columns);
-    turn_at(changes, columns);
-    turn_at(changes, columns);
+    // A list of its own meanwhile, so that the list's fields are values of this call.
+    let empty = Vec::new(*changes.allocator());
+    let mut own = mem::replace(changes, empty);
+    turn_at(&mut own, columns);
+    turn_at(&mut own, columns);
+    turn_at(&mut own, columns);
+    turn_at(&mut own, columns);
+    turn_at(&mut own, columns);
+    turn_at(&mut own, columns);
+    mem::forget(mem::replace(changes, own));
     true
 }
 

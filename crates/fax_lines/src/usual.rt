@@ -330,10 +330,11 @@ pub(crate) fn draw_runs(
     if !line.by_pairs {
         return draw_pairs(hand, row, painted, line, ticks);
     }
-    let mut own = Vec::new(*row.allocator());
-    mem::swap(row, &mut own);
+    let empty = Vec::new(*row.allocator());
+    let mut own = mem::replace(row, empty);
     let reached = draw_pairs(hand, &mut own, painted, line, ticks);
-    mem::swap(row, &mut own);
+    // What is left there is empty.
+    mem::forget(mem::replace(row, own));
     reached
 }
 
