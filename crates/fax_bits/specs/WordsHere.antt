@@ -16,7 +16,6 @@ pub record IsWordHere (color : Color) (at : BitsAt) (run width : ℕ) : Type 0 w
 pub record IsRunHere (color : Color) (at : BitsAt) (run width words : ℕ) : Type 0 where
   pub read : read_run color (here at) ≡ Ok (run, here (moved width at))
   pub found : length (run_found color (0, here at)) ≡ words
-  pub few : width ≤ 26
 
 -- A run goes on after make-up words: it is the same, and the words between were counted.
 pub record RunGoesOn (color : Color) (before : ℕ) (from : Bits) (after : ℕ) (to : Bits) (ticks now : ℕ) : Type 0 where

@@ -217,21 +217,6 @@ impl<'a> BitReader<'a> {
         (self.window << skip >> (64 - color.lookup_bits())) as usize
     }
 
-    /// Returns the bits after the next `skip` by which a run of a colour may be looked up, as a number: they are those, as far as
-    /// the window reaches.
-    #[inline(always)]
-    pub(crate) fn index_ahead(&self, skip: usize, color: Color) -> usize
-        ensures few { result < 2 ^ lookup_bits color }
-    {
-        (self.window << (skip % 64) >> (64 - color.lookup_bits())) as usize
-    }
-
-    /// Returns whether the word of 2560 pixels may be after the next `skip` bits: it is, as far as the window reaches.
-    #[inline(always)]
-    pub(crate) fn has_longest_ahead(&self, skip: usize) -> bool {
-        self.window << (skip % 64) >> 52 == 31
-    }
-
     /// Consumes `n` bits, at most 32.
     ///
     /// # Errors

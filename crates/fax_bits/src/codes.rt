@@ -271,16 +271,6 @@ impl<'a> BitReader<'a> {
         (u32::from(entry & LOOKUP_INVALID), usize::from(entry >> 12))
     }
 
-    /// Returns the run and the number of bits of the code word that may be after the next `skip` bits: it is, as far as the window
-    /// reaches.
-    #[inline(always)]
-    fn word_ahead(&self, skip: usize, color: Color, tables: &Tables) -> (u32, usize)
-        ensures narrow { result.1 ≤ 15 }
-    {
-        let entry = tables.lookup(color)[self.index_ahead(skip, color)];
-        (u32::from(entry & LOOKUP_INVALID), usize::from(entry >> 12))
-    }
-
     /// Reads a make-up word of a run whose words before it sum to `total`, and the word after it. Returns the sum with them, and
     /// whether the run ends; or `None`, reading nothing, if they aren't both here.
     #[inline(always)]
@@ -858,54 +848,6 @@ impl<'a> BitScanner<'a> {
             Some(mode) => Ok(mode),
             None => Err(DecodeError::InvalidCode),
         }
-    }
-}
-
-/// For each seven bits, how many of them there are up to the end of a horizontal mode that is the first of them, or is after V0,
-/// VR1, VL1 or pass mode; or 0. The first run is black if it is after a vertical mode, and then the number is even.
-#[rattlefmt::skip]
-const HORIZONTAL_ENDS: [u8; 128] = [
-    0, 0, 0, 0, 0, 0, 0, 0, 0, 7, 0, 0, 0, 0, 0, 0,
-    3, 3, 3, 3, 3, 3, 3, 3, 3, 3, 3, 3, 3, 3, 3, 3,
-    0, 0, 6, 6, 0, 0, 0, 0, 0, 0, 0, 0, 0, 0, 0, 0,
-    0, 0, 6, 6, 0, 0, 0, 0, 0, 0, 0, 0, 0, 0, 0, 0,
-    0, 0, 0, 0, 0, 0, 0, 0, 4, 4, 4, 4, 4, 4, 4, 4,
-    0, 0, 0, 0, 0, 0, 0, 0, 0, 0, 0, 0, 0, 0, 0, 0,
-    0, 0, 0, 0, 0, 0, 0, 0, 0, 0, 0, 0, 0, 0, 0, 0,
-    0, 0, 0, 0, 0, 0, 0, 0, 0, 0, 0, 0, 0, 0, 0, 0,
-];
-
-/// Returns how many bits there are up to the end of a horizontal mode that is next, or after V0, VR1, VL1 or pass mode; or 0 if there
-/// is none.
-#[inline(always)]
-pub fn horizontal_ends(reader: &BitReader<'_>) -> u8 {
-    HORIZONTAL_ENDS[(reader.peek_u32() >> 25) as usize]
-}
-
-/// Returns whether two runs after the next `skip` bits, the first of this colour, are likely not to have one or two words each: one
-/// of them begins with a make-up word and another one, or the second with the longest.
-#[inline(always)]
-pub fn is_long_pair(reader: &BitReader<'_>, skip: u8, color: Color, tables: &Tables) -> bool {
-    let start = usize::from(skip);
-    let (first, width) = reader.word_ahead(start, color, tables);
-    let mut behind = start + width;
-    if first >= 64 {
-        let (next, more) = reader.word_ahead(behind, color, tables);
-        if next >= 64 {
-            return true;
-        }
-        behind += more;
-    }
-    reader.has_longest_ahead(behind)
-}
-
-/// The same behind the modes of `horizontal_ends`. This is a call, so that other lines cost nothing for it.
-#[inline(never)]
-pub fn is_long_behind_modes(reader: &BitReader<'_>, skip: u8, tables: &Tables) -> bool {
-    if skip % 2 == 0 {
-        is_long_pair(reader, skip, Color::Black, tables)
-    } else {
-        is_long_pair(reader, skip, Color::White, tables)
     }
 }
 

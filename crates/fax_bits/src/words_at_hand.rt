@@ -1,9 +1,9 @@
 //! Code words of runs that are in the window.
 
-ghost use Rattle.std.specs.Prelude.{◌≡◌, ◌≢◌, ◌+◌, ◌<◌, ◌≤◌, IfSome, IfNone, true, length};
+ghost use Rattle.std.specs.Prelude.{◌≡◌, ◌≢◌, ◌+◌, ◌^◌, ◌<◌, ◌≤◌, IfSome, IfNone, true, length};
 ghost use Rattle.fax_bits.specs.Bits.{here};
 ghost use Rattle.fax_bits.specs.LookUps.{AreEntriesOf};
-ghost use Rattle.fax_bits.specs.WordsHere.{IsWordHere, RunGoesOn};
+ghost use Rattle.fax_bits.specs.WordsHere.{IsRunHere, IsWordHere, RunGoesOn};
 ghost use Rattle.fax_bits.specs.Window.{moved};
 
 use crate::bit_reader::BitsAtHand;
@@ -88,6 +88,67 @@ pub fn pass_makeup_words(
         match pass_makeup_word(hand, color, words, total, ticks) {
             None => return total,
             Some(sum) => total = sum,
+        }
+    }
+}
+
+/// A run that was passed.
+#[derive(Clone, Copy)]
+pub struct PassedRun {
+    /// Its pixels.
+    pub run: u32,
+    /// The number of its bits.
+    pub width: usize,
+    /// The number of its code words.
+    pub words: usize,
+}
+
+/// Fills the window if it has fewer than thirteen bits; returns false if it can't be filled.
+#[inline(always)]
+fn has_word(hand: &mut BitsAtHand<'_>) -> bool
+    ensures same { hand.new.at ≡ hand.old.at }
+    ensures enough { result ≡ true → 13 ≤ hand.new.left }
+{
+    if hand.left() >= 13 {
+        return true;
+    }
+    hand.refill()
+}
+
+/// Passes a run of any number of code words. Returns `None` if they aren't all at hand, or it has 2^31 pixels or more; the offset is
+/// unspecified then.
+#[inline(always)]
+pub fn pass_run(hand: &mut BitsAtHand<'_>, color: Color, words: &[u16]) -> Option<PassedRun>
+    requires entries { AreEntriesOf color words.now }
+    ensures run { IfSome result (λ run. IsRunHere color hand.old.at run.run run.width run.words) }
+    ensures moved { IfSome result (λ run. hand.new.at ≡ moved run.width hand.old.at) }
+    ensures below { IfSome result (λ run. (run.run < 2 ^ 31) × (run.width < 2 ^ 31) × (run.words < 2 ^ 31)) }
+    ensures same_bits { hand.new.at.bits ≡ hand.old.at.bits }
+{
+    let mut total: u32 = 0;
+    let mut width: usize = 0;
+    let mut count: usize = 0;
+    'words: loop {
+        if !has_word(hand) {
+            return None;
+        }
+        let (run, bits) = word_at_hand(hand, 0, color, words);
+        if run == 4095 {
+            return None;
+        }
+        hand.pass(bits);
+        total += run;
+        width += bits;
+        count += 1;
+        if run < 64 {
+            return Some(PassedRun {
+                run: total,
+                width,
+                words: count,
+            });
+        }
+        if total > (1 << 31) - 4096 {
+            return None;
         }
     }
 }

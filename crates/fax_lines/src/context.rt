@@ -33,15 +33,13 @@ use crate::modes::{
     CodingLine, draw_modes, has_mode, has_no_room, is_white_row, lay_down_row, next_color,
     put_ends, repeat_changes, take_ends,
 };
-use crate::usual::{RunsOfLine, draw_runs, lay_down, take_up, turn_at};
+use crate::usual::{RunsOfLine, draw_long_pairs, draw_runs, lay_down, take_up, turn_at};
 use crate::white_lines::{WhiteLines, may_follow, none_known, white_lines};
 use fax_bits::bit_reader::{
     BitOrder, BitReader, BitScanner, BitsAtHand, at_hand, go_to, none_at_hand, pass_bits,
 };
-use fax_bits::codes::{
-    Color, Mode, Ticks, horizontal_ends, is_long_behind_modes, is_long_pair, pass_v0, tick_times,
-};
-use fax_bits::tables::{LOOKUP_INVALID, Tables};
+use fax_bits::codes::{Color, Mode, Ticks, pass_v0, tick_times};
+use fax_bits::tables::Tables;
 use fax_bits::{DecodeError, DecodeSettings, Result};
 use std::alloc::Global;
 use std::marker::Model;
@@ -556,41 +554,65 @@ impl DecoderContext {
         }
     }
 
-    /// Returns whether plain calls are likely to draw the next runs of a row at less cost that is as wide as to have runs of three
-    /// words or more: it has few more, or the next ones may be such runs.
+    /// Draws pairs of runs of any number of code words as long as they are usual, from a white one on.
     #[inline(always)]
-    fn suits_plain_calls_if_wide(&self, reader: &BitReader<'_>) -> bool {
-        // As many changes as the row before has, or a few less, are expected.
-        let stored = self.coding_changes.len();
-        let before = reference_row(self).len();
-        if before <= stored + 5 && stored <= before + 1 {
-            return true;
+    fn draw_long_by_twos(&mut self, hand: &mut BitsAtHand<'_>)
+        ensures { DrawsUsualRuns self.old self.new hand.old.at hand.new.at }
+    {
+        if !self.color.is_white() {
+            return;
         }
-        // In so wide a row of so few changes most runs have three words or more.
-        if (self.settings.columns / 2048) as usize >= before.max(stored) {
-            return true;
+        if self.pixels_decoded == self.settings.columns {
+            return;
         }
-        before < 4 && stored < 6 || is_long_pair(reader, 0, Color::White, &self.tables)
-    }
-
-    /// Returns the entry of the word of a colour that may be after the next `skip` bits: it is, as far as the next 32 bits reach.
-    #[inline(always)]
-    fn entry_ahead(&self, reader: &BitReader<'_>, skip: u32, color: Color) -> u16 {
-        let bits = reader.peek_u32() << (skip % 32);
-        let index = match color {
-            Color::White => bits >> 20,
-            Color::Black => bits >> 19,
+        if !take_up(&mut self.coding_changes, self.pixels_decoded) {
+            return;
+        }
+        let line = RunsOfLine {
+            settings: self.settings,
+            tables: &self.tables,
+            by_pairs: false,
         };
-        let entries = self.tables.lookup(color);
-        entries.get(index as usize).copied().unwrap_or(0)
+        let ticks = &mut self.ticks;
+        let (place, color) = draw_long_pairs(
+            hand,
+            &mut self.coding_changes,
+            self.pixels_decoded,
+            &line,
+            ticks,
+        );
+        lay_down(&mut self.coding_changes, place);
+        self.pixels_decoded = place;
+        self.color = color;
     }
 
-    /// Returns whether plain calls are likely to draw the next runs of a row at less cost: it has few more, or the next ones may have
-    /// three words or more.
+    /// The same for a reader, in whichever order its bits are.
+    #[inline(never)]
+    fn draw_long_runs_of(&mut self, reader: &mut BitReader<'_>)
+        ensures { DrawsUsualRuns self.old self.new reader.old reader.new }
+    {
+        let mut hand = none_at_hand(reader);
+        self.draw_long_by_twos(&mut hand);
+        go_to(reader, &hand);
+    }
+
+    /// Returns whether the row is as wide as to have runs of three words or more.
     #[inline(always)]
-    fn suits_plain_calls(&self, reader: &BitReader<'_>) -> bool {
-        if self.settings.columns > 2623 {
-            return self.suits_plain_calls_if_wide(reader);
+    fn is_wide(&self) -> bool {
+        self.settings.columns > 2623
+    }
+
+    /// Returns whether the row is so wide, and likely to have few changes.
+    #[inline(always)]
+    fn is_sparse(&self) -> bool {
+        self.is_wide() && self.ref_changes.len() < 16
+    }
+
+    /// Returns whether plain calls are likely to draw the next runs of a row at less cost: it has few more.
+    #[inline(always)]
+    fn suits_plain_calls(&self) -> bool {
+        if self.is_wide() {
+            return reference_row(self).len() < 2 && self.coding_changes.len() < 4;
         }
         reference_row(self).len() < 7 && self.coding_changes.len() < 6
     }
@@ -609,7 +631,11 @@ impl DecoderContext {
         if self.pixels_decoded == self.settings.columns {
             return;
         }
-        if self.suits_plain_calls(reader) {
+        if self.suits_plain_calls() {
+            return;
+        }
+        if self.is_wide() {
+            self.draw_long_runs_of(reader);
             return;
         }
         self.draw_runs_of(reader);
@@ -629,14 +655,14 @@ impl DecoderContext {
         go_to(reader, &hand);
     }
 
-    /// Draws the first runs of a row that is as wide as to have runs of three words or more, as long as they are usual; or none, if
-    /// plain calls suit.
+    /// Draws the first runs of a wide line of few changes as long as they are usual; or none, if one or two are likely, since the row
+    /// before has one change or none.
     #[inline(always)]
-    fn draw_first_runs_if_wide(&mut self, reader: &mut BitReader<'_>)
+    fn draw_first_long_runs(&mut self, reader: &mut BitReader<'_>)
         ensures { DrawsUsualRuns self.old self.new reader.old reader.new }
     {
-        if !self.suits_plain_calls_if_wide(reader) {
-            self.draw_runs_of(reader);
+        if reference_row(self).len() > 1 {
+            self.draw_long_runs_of(reader);
         }
     }
 
@@ -646,91 +672,13 @@ impl DecoderContext {
     fn draw_first_runs(&mut self, reader: &mut BitReader<'_>)
         ensures { DrawsUsualRuns self.old self.new reader.old reader.new }
     {
-        if self.settings.columns > 2623 {
-            self.draw_first_runs_if_wide(reader);
+        if self.is_sparse() {
+            self.draw_first_long_runs(reader);
         } else if reference_row(self).len() < 7 {
             self.draw_few_runs_of(reader);
         } else {
             self.draw_runs_of(reader);
         }
-    }
-
-    /// Returns whether two short runs after the next `skip` bits, the first of this colour, are followed by horizontal mode with
-    /// another one, and that by no run of 1,792 pixels or more: such a row is likely to have many modes.
-    #[inline(always)]
-    fn has_short_runs(&self, reader: &BitReader<'_>, skip: u8, color: Color) -> bool {
-        let first = self.entry_ahead(reader, u32::from(skip), color);
-        if first & LOOKUP_INVALID >= 64 {
-            return false;
-        }
-        let middle = u32::from(skip) + u32::from(first >> 12);
-        let second = self.entry_ahead(reader, middle, color.opposite());
-        if second & LOOKUP_INVALID >= 64 {
-            return false;
-        }
-        let bits = reader.peek_u32();
-        let behind = (middle + u32::from(second >> 12)) % 32;
-        if bits << behind >> 29 != 1 {
-            return true;
-        }
-        let third = self.entry_ahead(reader, behind + 3, color);
-        if third & LOOKUP_INVALID >= 64 {
-            return false;
-        }
-        // The words of so long runs begin with seven zeros.
-        let last = (behind + 3 + u32::from(third >> 12)) % 32;
-        bits << last >> 25 != 0
-    }
-
-    /// Returns whether a wide row below one of few changes, which has a horizontal mode that ends after the next `skip` bits, is
-    /// likely to have few modes, so that plain calls draw it at less cost. This is a call, so that other lines cost nothing for it.
-    #[inline(never)]
-    fn has_few_modes(&self, reader: &BitReader<'_>, skip: u8) -> bool {
-        let is_dense = if skip % 2 == 0 {
-            self.has_short_runs(reader, skip, Color::Black)
-        } else {
-            self.has_short_runs(reader, skip, Color::White)
-        };
-        !is_dense
-    }
-
-    /// Returns whether a row that begins in horizontal mode is wide and likely to have few modes: plain calls draw it.
-    #[inline(always)]
-    fn begins_few_modes(&self, reader: &BitReader<'_>) -> bool {
-        if self.settings.columns <= 2623 {
-            return false;
-        }
-        // Most often the first run has a make-up word.
-        let first = self.entry_ahead(reader, 3, Color::White);
-        first & LOOKUP_INVALID >= 64 || self.has_few_modes(reader, 3)
-    }
-
-    /// Returns whether plain calls are likely to draw a wide row at less cost: one that seems to have runs of three words or more in
-    /// its first two modes, or few modes below a row of few changes.
-    #[inline(always)]
-    fn suits_plain_calls_of_modes(&self, reader: &BitReader<'_>) -> bool {
-        let bits = reader.peek_u32();
-        let skip = if bits >> 27 == 25 {
-            5 // V0, V0 and horizontal mode
-        } else {
-            horizontal_ends(reader)
-        };
-        if self.ref_changes.len() < 4 {
-            // Pass mode, or VL1 or VR1, pass and horizontal mode, or horizontal mode and few others.
-            let passes = bits >> 28 == 1 || bits >> 22 | 128 == 393;
-            return passes || skip != 0 && self.has_few_modes(reader, skip);
-        }
-        skip != 0 && is_long_behind_modes(reader, skip, &self.tables)
-    }
-
-    /// The same, without a call where the row isn't as wide as to have such runs. Where there is no room, usual modes make it once, and
-    /// plain calls would ask for it at each mode.
-    #[inline(always)]
-    fn suits_plain_modes(&self, reader: &BitReader<'_>) -> bool {
-        if self.settings.columns <= 2623 || has_no_room(&self.coding_changes) {
-            return false;
-        }
-        self.suits_plain_calls_of_modes(reader)
     }
 
     /// Draws modes from the start of a line as long as they are usual.
@@ -741,6 +689,7 @@ impl DecoderContext {
         ensures { DrawsUsualModes self.old self.new hand.old.at hand.new.at }
     {
         let columns = self.settings.columns;
+        let is_sparse = self.is_sparse();
         // A place and three more fit a lane of 32 bits with a sign.
         if columns == 0 || columns > (1 << 31) - 4 {
             return;
@@ -757,6 +706,7 @@ impl DecoderContext {
             places: self.ref_changes.as_slice(),
             tables: &self.tables,
             by_groups: self.suits_groups,
+            is_sparse,
         };
         let reached = draw_modes(hand, &mut self.coding_changes, &line, &mut self.ticks);
         take_ends(&mut self.ref_changes);
@@ -1018,7 +968,7 @@ impl DecoderContext {
         requires { IsAtStart self.old }
         ensures { DrawsUsualModes self.old self.new reader.old reader.new }
     {
-        if self.is_filled_by_runs || self.begins_few_modes(reader) {
+        if self.is_filled_by_runs {
             return;
         }
         self.draw_modes_of(reader);
@@ -1051,9 +1001,6 @@ impl DecoderContext {
             }
         }
         if self.draw_line_at_once(reader) {
-            return;
-        }
-        if self.suits_plain_modes(reader) {
             return;
         }
         self.draw_modes_of(reader);

@@ -21,6 +21,7 @@ use fax_bits::bit_reader::BitsAtHand;
 use fax_bits::codes::{Color, Mode, Ticks, mode_of, tick_times};
 use fax_bits::mode_groups::{ModeGroup, group_at_hand};
 use fax_bits::tables::Tables;
+use fax_bits::words_at_hand::pass_run;
 use std::mem;
 
 /// What doesn't change while a line is drawn.
@@ -36,6 +37,8 @@ pub(crate) struct CodingLine<'a> {
     pub(crate) tables: &'a Tables,
     /// Whether vertical modes are drawn several at a time.
     pub(crate) by_groups: bool,
+    /// Whether the row is wide and likely to have few changes: the first modes may have runs of any number of code words then.
+    pub(crate) is_sparse: bool,
 }
 
 /// How far a line is drawn: what a mode changes.
@@ -439,6 +442,7 @@ fn runs_at_hand(
     ensures room { IfSome result (λ runs. vec_len row.now + hand.new.left ≤ vec_capacity row.now) }
     ensures runs { IfSome result (λ runs. AreTwoRunsHere color (moved 3 hand.old.at) runs) }
     ensures few { IfSome result (λ runs. (runs.first ≤ 4158) × (runs.second ≤ 4158) × (3 + runs.width ≤ hand.new.left)) }
+    ensures narrow { IfSome result (λ runs. runs.width ≤ 52) }
 {
     if let Some(runs) = pair_at_hand(hand, 3, color) {
         return Some(runs);
@@ -507,6 +511,7 @@ fn draw_last_run(
     requires can { CanDraw line.now stroke hand.old row.old }
     requires runs { AreTwoRunsHere stroke.color (moved 3 hand.old.at) runs }
     requires within { 3 + runs.width ≤ hand.old.left }
+    requires narrow { runs.width ≤ 52 }
     requires none { runs.second ≡ 0 }
     ensures drawn { DrawsSome line.now stroke hand.old row.old ticks.old result hand.new row.new ticks.new }
     ensures kept { KeepsRoom hand.old row.old hand.new row.new }
@@ -1209,6 +1214,204 @@ fn draw_turns(
     }
 }
 
+/// Passes horizontal mode and its two runs, of any number of code words. Returns `None` if they aren't all at hand; the offset is
+/// unspecified then.
+#[inline(always)]
+fn pass_both_runs(hand: &mut BitsAtHand<'_>, color: Color, tables: &Tables) -> Option<TwoRuns>
+    requires enough { 3 ≤ hand.old.left }
+    ensures runs { IfSome result (λ runs. AreTwoRunsHere color (moved 3 hand.old.at) runs) }
+    ensures moved { IfSome result (λ runs. hand.new.at ≡ moved runs.width (moved 3 hand.old.at)) }
+    ensures below { IfSome result (λ runs. (runs.first < 2 ^ 31) × (runs.second < 2 ^ 31)) }
+    ensures same_bits { hand.new.at.bits ≡ hand.old.at.bits }
+{
+    hand.pass(3);
+    let first = pass_run(hand, color, tables.lookup(color))?;
+    let other = color.opposite();
+    let second = pass_run(hand, other, tables.lookup(other))?;
+    Some(TwoRuns {
+        first: first.run,
+        second: second.run,
+        width: first.width + second.width,
+        words: first.words + second.words,
+    })
+}
+
+/// Draws two runs of any number of code words. Returns `None`, and draws nothing, if they aren't of the usual kind.
+#[inline(always)]
+fn draw_long_runs(
+    hand: &mut BitsAtHand<'_>,
+    row: &mut Vec<u32>,
+    line: &CodingLine<'_>,
+    stroke: Stroke,
+    ticks: &mut Ticks,
+) -> Option<Stroke>
+    requires mode { IsNextMode Mode.Horizontal 3 hand.old }
+    requires can { CanDraw line.now stroke hand.old row.old }
+    ensures drawn { DrawsSome line.now stroke hand.old row.old ticks.old result hand.new row.new ticks.new }
+    ensures kept { KeepsRoom hand.old row.old hand.new row.new }
+{
+    let mut rest = hand.copy();
+    let runs = pass_both_runs(&mut rest, stroke.color, line.tables)?;
+    let room = line.columns - stroke.painted;
+    if runs.first + runs.second > room {
+        return None;
+    }
+    // A window has at most 64 bits, and two words were passed.
+    if rest.left() > 62 {
+        return None;
+    }
+    if !has_room_for_window(row) {
+        return None;
+    }
+    if runs.second == 0 {
+        if runs.first != room {
+            return None;
+        }
+        *hand = rest;
+        ticks.tick();
+        tick_times(ticks, runs.words);
+        return Some(Stroke {
+            painted: line.columns,
+            ..stroke
+        });
+    }
+    if !is_next(row, runs.first) {
+        return None;
+    }
+    *hand = rest;
+    ticks.tick();
+    tick_times(ticks, runs.words);
+    turn_at(row, stroke.painted + runs.first);
+    if runs.first + runs.second == room {
+        return Some(Stroke {
+            painted: line.columns,
+            ..stroke
+        });
+    }
+    let place = stroke.painted + runs.first + runs.second;
+    turn_at(row, place);
+    let index = seek_b1(line, place, stroke.index, ticks);
+    Some(Stroke {
+        painted: place,
+        index,
+        ..stroke
+    })
+}
+
+/// Draws V0: a change below b1, or the rest of the row.
+#[inline(always)]
+fn draw_one_v0(
+    hand: &mut BitsAtHand<'_>,
+    row: &mut Vec<u32>,
+    line: &CodingLine<'_>,
+    stroke: Stroke,
+    ticks: &mut Ticks,
+) -> Stroke
+    requires mode { IsNextMode (Mode.Vertical (pos 0)) 1 hand.old }
+    requires can { CanDraw line.now stroke hand.old row.old }
+    ensures drawn { DrawsMode line.now stroke hand.old row.old ticks.old result hand.new row.new ticks.new }
+    ensures kept { KeepsRoom hand.old row.old hand.new row.new }
+{
+    let place = change_at(line, stroke.index);
+    if place < line.columns {
+        return draw_v0_below(hand, row, line, stroke, place, ticks);
+    }
+    hand.pass(1);
+    tick_times(ticks, 2);
+    Stroke {
+        painted: line.columns,
+        color: stroke.color.opposite(),
+        ..stroke
+    }
+}
+
+/// Returns how far a mode is right of b1, in pixels, if it is VR, and otherwise 0.
+#[inline(always)]
+fn distance_right(mode: Mode) -> u32
+    ensures { 0 < result → mode ≡ Mode.Vertical (pos result) }
+{
+    match mode {
+        Mode::Vertical(1) => 1,
+        Mode::Vertical(2) => 2,
+        Mode::Vertical(3) => 3,
+        _ => 0,
+    }
+}
+
+/// Returns how far a mode is left of b1, in pixels, if it is VL, and otherwise 0.
+#[inline(always)]
+fn distance_left(mode: Mode) -> u32
+    ensures { 0 < result → mode ≡ Mode.Vertical (negsuc (result - 1)) }
+{
+    match mode {
+        Mode::Vertical(-1) => 1,
+        Mode::Vertical(-2) => 2,
+        Mode::Vertical(-3) => 3,
+        _ => 0,
+    }
+}
+
+/// Draws VR or VL, read with the number of its bits. Returns `None`, and draws nothing, if it isn't of the usual kind, or is another
+/// mode.
+#[inline(always)]
+fn draw_off_b1(
+    hand: &mut BitsAtHand<'_>,
+    row: &mut Vec<u32>,
+    line: &CodingLine<'_>,
+    stroke: Stroke,
+    read: (Mode, usize),
+    ticks: &mut Ticks,
+) -> Option<Stroke>
+    requires mode { IsNextMode read.0 read.1 hand.old }
+    requires can { CanDraw line.now stroke hand.old row.old }
+    ensures drawn { DrawsSome line.now stroke hand.old row.old ticks.old result hand.new row.new ticks.new }
+    ensures kept { KeepsRoom hand.old row.old hand.new row.new }
+{
+    let (mode, width) = read;
+    let right = distance_right(mode);
+    if right > 0 {
+        let vertical = VerticalMode {
+            distance: right,
+            width,
+        };
+        return draw_right(hand, row, line, stroke, vertical, ticks);
+    }
+    let left = distance_left(mode);
+    if left > 0 {
+        let vertical = VerticalMode {
+            distance: left,
+            width,
+        };
+        return draw_left(hand, row, line, stroke, vertical, ticks);
+    }
+    None
+}
+
+/// Draws the mode that is here, with runs of any number of code words. Returns `None`, and draws nothing, if it isn't of the usual
+/// kind. This is the least code, for rows of few modes.
+#[inline(always)]
+fn draw_any_mode(
+    hand: &mut BitsAtHand<'_>,
+    row: &mut Vec<u32>,
+    line: &CodingLine<'_>,
+    stroke: Stroke,
+    ticks: &mut Ticks,
+) -> Option<Stroke>
+    requires enough { 16 ≤ hand.old.left }
+    requires can { CanDraw line.now stroke hand.old row.old }
+    ensures drawn { DrawsSome line.now stroke hand.old row.old ticks.old result hand.new row.new ticks.new }
+    ensures there { IfSome result (λ reached. hand.old.at.place < length hand.old.at.bits) }
+    ensures kept { KeepsRoom hand.old row.old hand.new row.new }
+{
+    let (mode, width) = mode_at_hand(hand);
+    match mode? {
+        Mode::Pass => Some(draw_pass(hand, row, line, stroke, ticks)),
+        Mode::Horizontal => draw_long_runs(hand, row, line, stroke, ticks),
+        Mode::Vertical(0) => Some(draw_one_v0(hand, row, line, stroke, ticks)),
+        vertical => draw_off_b1(hand, row, line, stroke, (vertical, width), ticks),
+    }
+}
+
 /// The same with a list of its own meanwhile, so that the list's fields are values of this call.
 #[inline(always)]
 fn draw_own_row(
@@ -1233,6 +1436,62 @@ fn draw_own_row(
     reached
 }
 
+/// Draws up to 24 modes of a row that is likely to have few, while they are of the usual kind, and there is room: a dense row is drawn
+/// faster by other loops. Returns the stroke that is reached then, and whether they can go on.
+#[inline(always)]
+fn draw_each_mode(
+    hand: &mut BitsAtHand<'_>,
+    row: &mut Vec<u32>,
+    line: &CodingLine<'_>,
+    stroke: Stroke,
+    ticks: &mut Ticks,
+) -> (Stroke, bool)
+    requires can { CanDraw line.now stroke hand.old row.old }
+    ensures on { DrawsOn line.now stroke hand.old row.old ticks.old result.0 hand.new row.new ticks.new }
+    ensures open { result.1 ≡ true → CanDraw line.now result.0 hand.new row.new }
+{
+    let mut now = stroke;
+    'modes: for _ in 0..24 {
+        if !has_next_mode(hand, row) {
+            return (now, true);
+        }
+        match draw_any_mode(hand, row, line, now, ticks) {
+            None => return (now, false),
+            Some(next) => {
+                if next.painted == line.columns {
+                    return (next, false);
+                }
+                now = next;
+            }
+        }
+    }
+    (now, true)
+}
+
+/// Draws the first modes of a line that is likely to have few; or none, if it isn't. Returns the stroke that is reached then, and
+/// whether other loops can go on.
+#[inline(always)]
+fn draw_few_modes(
+    hand: &mut BitsAtHand<'_>,
+    row: &mut Vec<u32>,
+    line: &CodingLine<'_>,
+    ticks: &mut Ticks,
+) -> (Stroke, bool)
+    requires can { CanDraw line.now line_start hand.old row.old }
+    ensures on { DrawsOn line.now line_start hand.old row.old ticks.old result.0 hand.new row.new ticks.new }
+    ensures open { result.1 ≡ true → CanDraw line.now result.0 hand.new row.new }
+{
+    let start = Stroke {
+        painted: 0,
+        index: 0,
+        color: Color::White,
+    };
+    if !line.is_sparse {
+        return (start, true);
+    }
+    draw_each_mode(hand, row, line, start, ticks)
+}
+
 /// Draws modes from a line's start on, while they are of the usual kind, and makes room as it is needed. Returns the stroke
 /// that is reached then.
 #[inline(always)]
@@ -1247,11 +1506,11 @@ pub(crate) fn draw_modes(
     ensures same_bits { hand.new.at.bits ≡ hand.old.at.bits }
     ensures space { GrowsFor (vec_len row.new) (vec_capacity row.old) (vec_capacity row.new) }
 {
-    let mut now = Stroke {
-        painted: 0,
-        index: 0,
-        color: Color::White,
-    };
+    let (first, goes_on) = draw_few_modes(hand, row, line, ticks);
+    if !goes_on {
+        return first;
+    }
+    let mut now = first;
     // Each time the room doubles.
     'rooms: for _ in 0..32 {
         let reached = draw_own_row(hand, row, line, now, ticks);

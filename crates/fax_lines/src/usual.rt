@@ -11,14 +11,14 @@ ghost use Rattle.fax_reading.specs.Rows.{AreChanges, pixels};
 ghost use Rattle.fax_reading.specs.UsualRuns.{IsRunHere, IsShort, IsOpen};
 ghost use Rattle.fax_lines.specs.TwoRunsHere.{AreTwoRunsHere, CanFollow, DrawsRuns, MovesOn};
 ghost use Rattle.fax_reading.specs.UsualRuns.{GoesOn, pen_at};
-ghost use Rattle.fax_bits.specs.Window.{moved};
+ghost use Rattle.fax_bits.specs.Window.{AtHand, moved};
 
 use fax_bits::DecodeSettings;
 use fax_bits::bit_reader::BitsAtHand;
 use fax_bits::codes::{Color, Ticks, tick_times};
 use fax_bits::pairs::pairs_of;
 use fax_bits::tables::Tables;
-use fax_bits::words_at_hand::word_at_hand;
+use fax_bits::words_at_hand::{pass_run, word_at_hand};
 use std::mem;
 
 /// Returns the run at an offset in the window: its pixels, its bits and its number of code words. Returns `None` if it is
@@ -34,7 +34,7 @@ pub(crate) fn run_at_hand(
     requires near { skip ≤ 29 }
     requires entries { AreEntriesOf color words.now }
     ensures run { IfSome result (λ run. IsRunHere color (moved skip hand.now.at) run.0 run.1 run.2) }
-    ensures below { IfSome result (λ run. (run.0 ≤ 4158) × (run.2 ≤ 2)) }
+    ensures below { IfSome result (λ run. (run.0 ≤ 4158) × (run.1 ≤ 26) × (run.2 ≤ 2)) }
 {
     let (run, width) = word_at_hand(hand, skip, color, words);
     if run < 64 {
@@ -82,15 +82,8 @@ pub(crate) fn is_next(changes: &Vec<u32>, run: u32) -> bool
     run > 0 || changes.is_empty()
 }
 
-/// Returns whether there is room for two changes.
-#[inline(always)]
-pub(crate) fn has_room(changes: &Vec<u32>) -> bool
-    ensures { result ≡ true → vec_len changes.now + 2 ≤ vec_capacity changes.now }
-{
-    changes.capacity() - changes.len() >= 2
-}
-
-/// The same, by a sum: the loop over pairs of runs then has its values in registers, in either order of bits.
+/// Returns whether there is room for two changes, by a sum: the loop over pairs of runs then has its values in registers, in either
+/// order of bits.
 #[inline(always)]
 fn has_room_for_pair(changes: &Vec<u32>) -> bool
     ensures { result ≡ true → vec_len changes.now + 2 ≤ vec_capacity changes.now }
@@ -144,28 +137,24 @@ pub(crate) fn pair_at_hand(hand: &BitsAtHand<'_>, skip: usize, color: Color) -> 
     })
 }
 
-/// Draws a white run that ends before the row does, and a black one after it. Returns how far the row reaches then, and the
-/// colour in which it would continue.
+/// Draws a white run that ends before the row does, and a black one after it, whose bits are passed before or after this. Returns how
+/// far the row reaches then, and the colour in which it would continue.
 #[inline(always)]
 fn draw_both(
-    hand: &mut BitsAtHand<'_>,
     row: &mut Vec<u32>,
     painted: u32,
     settings: DecodeSettings,
     runs: TwoRuns,
     ticks: &mut Ticks,
 ) -> (u32, Color)
-    requires runs { AreTwoRunsHere Color.White hand.old.at runs }
-    requires within { runs.width ≤ hand.old.left }
     requires follow { CanFollow settings painted row.old.items runs }
     requires room { vec_len row.old + 2 ≤ vec_capacity row.old }
-    ensures drawn { DrawsRuns settings painted hand.old row.old ticks.old result.0 result.1 hand.new row.new ticks.new }
+    ensures drawn { (hand rest : AtHand) → AreTwoRunsHere Color.White hand.at runs → rest.at ≡ moved runs.width hand.at
+        → DrawsRuns settings painted hand row.old ticks.old result.0 result.1 rest row.new ticks.new }
     ensures place { result.0 ≡ painted + runs.first + min runs.second (settings.columns - (painted + runs.first)) }
-    ensures moved { hand.new.at ≡ moved runs.width hand.old.at }
     ensures space { vec_capacity row.new ≡ vec_capacity row.old }
 {
     let place = painted + runs.first;
-    hand.pass(runs.width);
     tick_times(ticks, runs.words);
     turn_at(row, place);
     if runs.first + runs.second >= settings.columns - painted {
@@ -215,7 +204,8 @@ fn draw_pair(
     if !has_room_for_pair(row) {
         return None;
     }
-    let (place, _color) = draw_both(hand, row, painted, line.settings, runs, ticks);
+    hand.pass(runs.width);
+    let (place, _color) = draw_both(row, painted, line.settings, runs, ticks);
     Some(place)
 }
 
@@ -273,7 +263,54 @@ pub(crate) fn draw_two_runs(
         width: width + width2,
         words: words + words2,
     };
-    Some(draw_both(hand, row, painted, settings, runs, ticks))
+    hand.pass(runs.width);
+    Some(draw_both(row, painted, settings, runs, ticks))
+}
+
+/// The same with runs of any number of code words.
+#[inline(always)]
+fn draw_two_long_runs(
+    hand: &mut BitsAtHand<'_>,
+    row: &mut Vec<u32>,
+    painted: u32,
+    line: &RunsOfLine<'_>,
+    ticks: &mut Ticks,
+) -> Option<(u32, Color)>
+    requires open { IsOpen line.now.settings.columns painted row.old.items }
+    ensures drawn { IfSome result (λ reached. DrawsRuns line.now.settings painted hand.old row.old ticks.old reached.0 reached.1
+        hand.new row.new ticks.new) }
+    ensures forward { IfSome result (λ reached. painted < reached.0) }
+    ensures left { IfNone result (DrawsNothing hand.old row.old ticks.old hand.new row.new ticks.new) }
+    ensures kept { MovesOn hand.old row.old hand.new row.new }
+{
+    let mut rest = hand.copy();
+    let white = pass_run(&mut rest, Color::White, line.tables.lookup(Color::White))?;
+    let columns = line.settings.columns;
+    let room = columns - painted;
+    if white.run >= room {
+        // A run that is cut is left to the plain calls.
+        if white.run > room {
+            return None;
+        }
+        *hand = rest;
+        tick_times(ticks, white.words);
+        return Some((columns, Color::Black));
+    }
+    if !is_next(row, white.run) || !has_room_for_pair(row) {
+        return None;
+    }
+    let black = pass_run(&mut rest, Color::Black, line.tables.lookup(Color::Black))?;
+    if black.run == 0 || black.run > room - white.run {
+        return None;
+    }
+    let runs = TwoRuns {
+        first: white.run,
+        second: black.run,
+        width: white.width + black.width,
+        words: white.words + black.words,
+    };
+    *hand = rest;
+    Some(draw_both(row, painted, line.settings, runs, ticks))
 }
 
 /// Draws runs in pairs while they are of the usual kind. Returns how far the row reaches then, and the colour in which it
@@ -312,7 +349,37 @@ fn draw_pairs(
     }
 }
 
-/// The same, by pairs with a list of its own meanwhile, so that the list's fields are values of this call.
+/// Draws runs of any number of code words in pairs while they are of the usual kind. Returns how far the row reaches then, and the
+/// colour in which it continues.
+#[inline(always)]
+pub(crate) fn draw_long_pairs(
+    hand: &mut BitsAtHand<'_>,
+    row: &mut Vec<u32>,
+    painted: u32,
+    line: &RunsOfLine<'_>,
+    ticks: &mut Ticks,
+) -> (u32, Color)
+    requires open { IsOpen line.now.settings.columns painted row.old.items }
+    ensures drawn { DrawsRuns line.now.settings painted hand.old row.old ticks.old result.0 result.1 hand.new row.new ticks.new }
+    ensures forward { painted ≤ result.0 }
+    ensures kept { MovesOn hand.old row.old hand.new row.new }
+{
+    let mut place = painted;
+    'runs: loop {
+        match draw_two_long_runs(hand, row, place, line, ticks) {
+            None => return (place, Color::White),
+            Some((next, color)) => {
+                if next == line.settings.columns {
+                    return (next, color);
+                }
+                place = next;
+            }
+        }
+    }
+}
+
+/// Draws runs in pairs, by pairs that are looked up with a list of its own meanwhile, so that the list's fields are values of this
+/// call.
 #[inline(always)]
 pub(crate) fn draw_runs(
     hand: &mut BitsAtHand<'_>,

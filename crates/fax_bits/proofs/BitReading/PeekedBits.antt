@@ -1,7 +1,7 @@
 -- The highest bits of a word that contains the bits from here on.
 use Rattle.fax_bits.proofs.Names.{◌≡◌, ℕ, zero, suc, ◌+◌, ◌-◌, ◌/◌, ◌^◌, ◌<◌, ◌≤◌, false, [], ◌∷◌, get_or, refl, sym, ap, ◌∙◌}
 use Rattle.fax_bits.proofs.Names.{arith, get_or-drop, shr-shr, Bits, BitsAt, bit_of, low_bits}
-use Rattle.fax_bits.proofs.Names.{div_below, here, padded, pow-add, pow_pos}
+use Rattle.fax_bits.proofs.Names.{here, padded}
 use Rattle.fax_bits.specs.LookUps.{index_bits, seven_bits, twelve_bits}
 use Rattle.fax_bits.specs.ModeGroups.{ten_bits}
 
@@ -41,10 +41,6 @@ pub first_index : (at : BitsAt) (word n : ℕ) → n ≤ 64 → ((k : ℕ) → k
     → bit_of word (63 - k) ≡ get_or at.bits (at.place + k) false) → index_bits n (word / 2 ^ (64 - n)) ≡ padded n (here at)
 unfolding index_bits
 first_index at word n le h = highest_bits 64 at word n le h
-
-pub index_below : (wide n word : ℕ) → n ≤ wide → word < 2 ^ wide → word / 2 ^ (wide - n) < 2 ^ n
-index_below wide n word le lt = let e : n + (wide - n) ≡ wide = omega (arith, le) in
-    div_below word (2 ^ (wide - n)) (2 ^ n) (pow_pos (wide - n)) (rw (sym (pow-add 2 n (wide - n)), e) lt)
 
 pub first_seven : (at : BitsAt) (word : ℕ) → ((k : ℕ) → k < 7 → bit_of word (63 - k) ≡ get_or at.bits (at.place + k) false)
     → seven_bits (word / 144115188075855872) ≡ padded 7 (here at)

@@ -124,14 +124,21 @@ pub wider_by_one : (painted : ℕ) (row : List ℕ) → AreChanges (painted + 1)
 wider_by_one painted row lawful = AreChanges-wider (painted + 1) (suc painted) row (omega arith) lawful
 
 -- a white run up to the row's end
+pub white_ends_here : (strict : Bool) (columns painted : ℕ) (row : List ℕ) (at next : BitsAt) (run width words ticks now : ℕ)
+    → painted < columns → AreChanges (painted + 1) row → length row % 2 ≡ 0 → IsRunHere White at run width words
+    → run ≤ columns - painted → columns - painted ≤ run → next ≡ moved width at → now ≡ ticks + words
+    → GoesOn strict columns (pen_at painted row White at) (pen_at columns row Black next) ticks now
+white_ends_here strict columns painted row at next run width words ticks now open_row lawful even there fits far on counts =
+    rw (on, counts) (white_on strict columns painted columns row at run width words ticks (wider_by_one painted row lawful) even
+    open_row there fits (omega (arith, open_row, far)))
+
 pub white_ends : (strict : Bool) (columns painted : ℕ) (row : List ℕ) (at first next : BitsAt) (run width words ticks now : ℕ)
     → painted < columns → AreChanges (painted + 1) row → length row % 2 ≡ 0 → first ≡ at → IsRunHere White (moved 0 first) run
     width words → run ≤ columns - painted → columns - painted ≤ run → next ≡ moved width first
     → now ≡ ticks + words → GoesOn strict columns (pen_at painted row White at) (pen_at columns row Black next) ticks now
 white_ends strict columns painted row at first next run width words ticks now open_row lawful even same there fits far on counts =
-    rw (on, counts, ← same) (white_on strict columns painted columns row first run width words ticks
-    (wider_by_one painted row lawful) even open_row (run_here_too White first run width words there) fits
-    (omega (arith, open_row, far)))
+    rw (← same) (white_ends_here strict columns painted row first next run width words ticks now open_row lawful even
+    (run_here_too White first run width words there) fits far on counts)
 
 -- a white run, and a black one after it
 pub two_runs : (settings : DecodeSettings) (painted place : ℕ) (row : List ℕ) (at last : BitsAt) (runs : TwoRuns) (ticks now : ℕ)

@@ -13,8 +13,8 @@ returns-then-first-room-2-clause-drawn c =
       reached = reached_white c.args.settings.columns c.args.painted _ unfilled.inside unfilled.lawful;
     }
 
-pub draw_both-requires-clause-runs : goal.draw_both-requires-clause-runs
-draw_both-requires-clause-runs c = record {
+pub returns-clause-drawn : goal.returns-clause-drawn
+returns-clause-drawn c = c.draw_both.ensures.drawn c.args.hand.now c.pass-2.new.self (record {
   width = c.in_ok-first.width;
   width2 = c.in_ok-second.width2;
   words = c.in_ok-first.words;
@@ -23,4 +23,4 @@ draw_both-requires-clause-runs c = record {
   second = c.in_ok-second.ensures.run;
   bits = refl;
   count = refl;
-}
+}) c.pass-2.ensures.moved

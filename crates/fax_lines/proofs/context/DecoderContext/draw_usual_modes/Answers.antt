@@ -16,8 +16,3 @@ returns c =
     let same = untouched (goal.at.returns c).After-draw_line_at_once in
     let left = c.if-draw_line_at_once.ensures.unchanged refl in
     rw (left.0, left.1, same.0, same.1) at c.draw_modes_of.ensures
-
-pub returns-then-suits_plain_modes : goal.returns-then-suits_plain_modes
-returns-then-suits_plain_modes c =
-    let same = untouched (goal.at.returns-then-suits_plain_modes c).After-draw_line_at_once in
-    rw (same.0, same.1) at c.draw_line_at_once.ensures.draws
