@@ -1452,6 +1452,9 @@ fn draw_each_mode(
 {
     let mut now = stroke;
     'modes: for _ in 0..24 {
+        if !has_room_for_window(row) {
+            return (now, true);
+        }
         if !has_next_mode(hand, row) {
             return (now, true);
         }
