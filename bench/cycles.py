@@ -23,8 +23,8 @@ DECODERS = ["rows", "crate-rows", "packed", "crate-packed"]
 # encoding, and whether there are EOLs
 ENCODINGS = [("g4", False)] * 3 + [("1d", False), ("1d", True)] + [("2d", False), ("2d", True)] * 2
 WITH_EOLS, CLOSED = 2, 1
-# how long the decoders take turns at a strip, what is noise, and how often a strip beyond it is timed again
-MILLISECONDS, NOISE, AGAIN = "20", 1.05, 4
+# how long the decoders take turns at a strip, what is noise, and how often, and how long, a strip beyond it is timed again
+MILLISECONDS, NOISE, AGAIN, LONGER = "20", 1.05, 4, "200"
 
 
 def cycle(chance):
@@ -76,19 +76,19 @@ def counted(folder, program):
 
 
 def timed(program, made):
-    """The time of each decoder on each strip. A strip that is dearer is timed again: of several times the least ratio counts, since
-    other programs may have disturbed one."""
+    """The time of each decoder on each strip. A strip that is dearer is timed again, for longer: of several times the least ratio
+    counts, since other programs may have disturbed one."""
 
-    def once(words, name):
-        command = [program, ",".join(DECODERS), *words.split(), name, MILLISECONDS]
+    def once(words, name, milliseconds):
+        command = [program, ",".join(DECODERS), *words.split(), name, milliseconds]
         return [float(time) for time in subprocess.run(command, capture_output=True, text=True, check=True).stdout.split()]
 
-    costs = [once(*it) for it in made]
+    costs = [once(*it, MILLISECONDS) for it in made]
     for _ in range(AGAIN):
         for number, cost in enumerate(costs):
             pairs = [cost[:2], cost[2:]]
             if any(ours > NOISE * crate for ours, crate in pairs):
-                new = once(*made[number])
+                new = once(*made[number], LONGER)
                 least = [min(both, key=lambda pair: pair[0] / pair[1]) for both in zip(pairs, (new[:2], new[2:]))]
                 costs[number] = [*least[0], *least[1]]
     return costs

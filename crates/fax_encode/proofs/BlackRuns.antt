@@ -57,6 +57,15 @@ bits_of-put_mid start count row part =
     ∙ ap (λ (b : Bits). bits_of (take start row) ++ b) (flat_map-append (bits_of_byte HighestFirst) part
     (drop count (drop start row)) ∙ ap (λ (l : List ℕ). bits_of part ++ bits_of l) (drop-drop count start row))
 
+-- the pixels of a word of a row of zeros
+pub white_word : (start : ℕ) (row : List ℕ) → row ≡ replicate (length row) 0
+    → low_bits 64 0 ≡ take 64 (bits_of (drop start row) ++ replicate 64 false)
+white_word start row zeros =
+    let bytes : ℕ = length row - start in
+    let rest : drop start row ≡ replicate bytes 0 = ap (drop start) zeros ∙ drop-replicate start (length row) 0 in
+    sym (ap (λ (b : Bits). take 64 (b ++ replicate 64 false)) (ap bits_of rest ∙ bits_of_plain 0 bytes false refl)
+    ∙ ap (take 64) (replicate-append-replicate (8 * bytes) 64 false) ∙ take-replicate 64 (8 * bytes + 64) false (omega arith))
+
 -- black pixels after black ones
 pub black_more : (front : Bits) (a b : ℕ) → (front ++ replicate a true) ++ replicate b true ≡ front ++ replicate (a + b) true
 black_more front a b = append_assoc front (replicate a true) (replicate b true)

@@ -3,7 +3,7 @@
 ghost use Rattle.std.specs.Prelude.{◌≡◌, ◌+◌, ◌-◌, ◌*◌, ◌/◌, ◌^◌, ◌≤◌, ◌<◌, ◌++◌, true, drop, get_or, length, replicate, take};
 ghost use Rattle.hayro_ccitt.specs.Bits.{Bits, bits_of};
 ghost use Rattle.hayro_ccitt.specs.Rows.{AreChanges, pixels};
-ghost use Rattle.fax_encode.specs.Packed.{IsPackedRow};
+ghost use Rattle.fax_encode.specs.Packed.{AreFirstPixels, IsPackedRow};
 ghost use Rattle.fax_encode.specs.Painting.{FitsRow, TurnsBlack, then_white};
 
 use crate::pixel_words::{fill_all, fill_bytes, first_pixels, ones_before, put_pixels};
@@ -18,17 +18,31 @@ fn black_between(from: usize, to: usize) -> u64
     u64::MAX << (64 - (to - from)) >> from
 }
 
+/// Returns the 64 pixels that begin at a byte. Those of a row of zeros aren't loaded: that would wait until the zeros are stored.
+#[inline(always)]
+fn pixels_at(row: &[u8], start: usize, is_cleared: bool) -> u64
+    requires within { start + 8 ≤ length row.now }
+    requires cleared { is_cleared ≡ true → row.now ≡ replicate (length row.now) 0 }
+    ensures { AreFirstPixels (drop start row.now) result }
+{
+    if is_cleared {
+        return 0;
+    }
+    first_pixels(&row[start..])
+}
+
 /// Paints the pixels between two offsets of the word that begins at a byte.
 #[inline(always)]
-fn paint_in_word(row: &mut [u8], start: usize, from: usize, to: usize)
+fn paint_in_word(row: &mut [u8], start: usize, from: usize, to: usize, is_cleared: bool)
     requires within { start + 8 ≤ length row.old }
+    requires cleared { is_cleared ≡ true → row.old ≡ replicate (length row.old) 0 }
     requires ascend { from < to }
     requires below { to ≤ 64 }
     ensures painted { (front : Bits) → length front ≡ 8 * start + from → bits_of row.old ≡ then_white front (length row.old)
         → bits_of row.new ≡ then_white (front ++ replicate (to - from) true) (length row.old) }
     ensures length { length row.new ≡ length row.old }
 {
-    let word = first_pixels(&row[start..]);
+    let word = pixels_at(row, start, is_cleared);
     put_pixels(row, start, word ^ black_between(from, to));
 }
 
@@ -47,8 +61,9 @@ fn paint_bytes(row: &mut [u8], from: usize, to: usize)
 
 /// Paints a black run that ends within the eight bytes from its first one on.
 #[inline(always)]
-fn paint_short_run(row: &mut [u8], from: usize, to: usize)
+fn paint_short_run(row: &mut [u8], from: usize, to: usize, is_cleared: bool)
     requires long { 8 ≤ length row.old }
+    requires cleared { is_cleared ≡ true → row.old ≡ replicate (length row.old) 0 }
     requires ascend { from < to }
     requires short { to ≤ from / 8 * 8 + 64 }
     requires within { to ≤ 8 * length row.old }
@@ -56,29 +71,31 @@ fn paint_short_run(row: &mut [u8], from: usize, to: usize)
     ensures length { length row.new ≡ length row.old }
 {
     let start = (from / 8).min(row.len() - 8);
-    paint_in_word(row, start, from - 8 * start, to - 8 * start);
+    paint_in_word(row, start, from - 8 * start, to - 8 * start, is_cleared);
 }
 
 /// Paints a black run that ends behind the eight bytes from its first one on: the first eight, the last eight, and those between
 /// them, which is the last call.
 #[inline(always)]
-fn paint_long_run(row: &mut [u8], from: usize, to: u32)
+fn paint_long_run(row: &mut [u8], from: usize, to: u32, is_cleared: bool)
     requires long { from / 8 * 8 + 64 < to }
+    requires cleared { is_cleared ≡ true → row.old ≡ replicate (length row.old) 0 }
     requires within { to ≤ 8 * length row.old }
     ensures painted { TurnsBlack from to row.old row.new }
     ensures length { length row.new ≡ length row.old }
 {
     let first = from / 8;
     let last = (to as usize + 7) / 8 - 8;
-    paint_in_word(row, first, from % 8, 64);
+    paint_in_word(row, first, from % 8, 64, is_cleared);
     put_pixels(row, last, ones_before(((8 - to % 8) % 8) as usize));
     paint_bytes(row, first + 8, last);
 }
 
 /// Paints a black run.
 #[inline(always)]
-fn paint_black(row: &mut [u8], from: u32, to: u32)
+fn paint_black(row: &mut [u8], from: u32, to: u32, is_cleared: bool)
     requires long { 8 ≤ length row.old }
+    requires cleared { is_cleared ≡ true → row.old ≡ replicate (length row.old) 0 }
     requires ascend { from < to }
     requires within { to ≤ 8 * length row.old }
     ensures painted { TurnsBlack from to row.old row.new }
@@ -86,9 +103,9 @@ fn paint_black(row: &mut [u8], from: u32, to: u32)
 {
     let start = from as usize;
     if start / 8 * 8 + 64 < to as usize {
-        paint_long_run(row, start, to);
+        paint_long_run(row, start, to, is_cleared);
     } else {
-        paint_short_run(row, start, to as usize);
+        paint_short_run(row, start, to as usize, is_cleared);
     }
 }
 
@@ -102,11 +119,11 @@ fn paint_runs(row: &mut [u8], columns: u32, changes: &[u32])
 {
     let mut done = 0;
     'runs: while done + 1 < changes.len() {
-        paint_black(row, changes[done], changes[done + 1]);
+        paint_black(row, changes[done], changes[done + 1], false);
         done += 2;
     }
     if done < changes.len() {
-        paint_black(row, changes[done], columns);
+        paint_black(row, changes[done], columns, false);
     }
 }
 
@@ -147,7 +164,7 @@ pub fn paint_cleared(row: &mut [u8], columns: u32, changes: &[u32])
     if changes.len() > 2 {
         paint_many_runs(row, columns, changes);
     } else {
-        paint_black(row, changes[0], end_of_first(columns, changes));
+        paint_black(row, changes[0], end_of_first(columns, changes), true);
     }
 }
 

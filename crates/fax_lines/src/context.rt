@@ -30,8 +30,8 @@ ghost use Rattle.fax_reading.specs.Space.{most_stored};
 use crate::Decoder;
 use crate::changes::{append_pixels, b1_index, change_or_end, vertical_place};
 use crate::modes::{
-    CodingLine, draw_modes, has_mode, has_no_room, is_white_row, lay_down_row, next_color,
-    put_ends, repeat_changes, take_ends,
+    CodingLine, draw_modes, has_mode, has_no_room, is_sparse, is_white_row, is_wide, lay_down_row,
+    next_color, put_ends, repeat_changes, take_ends,
 };
 use crate::usual::{RunsOfLine, draw_long_pairs, draw_runs, lay_down, take_up, turn_at};
 use crate::white_lines::{WhiteLines, may_follow, none_known, white_lines};
@@ -596,22 +596,10 @@ impl DecoderContext {
         go_to(reader, &hand);
     }
 
-    /// Returns whether the row is as wide as to have runs of three words or more.
-    #[inline(always)]
-    fn is_wide(&self) -> bool {
-        self.settings.columns > 2623
-    }
-
-    /// Returns whether the row is so wide, and likely to have few changes.
-    #[inline(always)]
-    fn is_sparse(&self) -> bool {
-        self.is_wide() && self.ref_changes.len() < 16
-    }
-
     /// Returns whether plain calls are likely to draw the next runs of a row at less cost: it has few more.
     #[inline(always)]
     fn suits_plain_calls(&self) -> bool {
-        if self.is_wide() {
+        if is_wide(self.settings.columns) {
             return reference_row(self).len() < 2 && self.coding_changes.len() < 4;
         }
         reference_row(self).len() < 7 && self.coding_changes.len() < 6
@@ -634,7 +622,7 @@ impl DecoderContext {
         if self.suits_plain_calls() {
             return;
         }
-        if self.is_wide() {
+        if is_wide(self.settings.columns) {
             self.draw_long_runs_of(reader);
             return;
         }
@@ -672,7 +660,7 @@ impl DecoderContext {
     fn draw_first_runs(&mut self, reader: &mut BitReader<'_>)
         ensures { DrawsUsualRuns self.old self.new reader.old reader.new }
     {
-        if self.is_sparse() {
+        if is_sparse(self.settings.columns, self.ref_changes.len()) {
             self.draw_first_long_runs(reader);
         } else if reference_row(self).len() < 7 {
             self.draw_few_runs_of(reader);
@@ -689,7 +677,6 @@ impl DecoderContext {
         ensures { DrawsUsualModes self.old self.new hand.old.at hand.new.at }
     {
         let columns = self.settings.columns;
-        let is_sparse = self.is_sparse();
         // A place and three more fit a lane of 32 bits with a sign.
         if columns == 0 || columns > (1 << 31) - 4 {
             return;
@@ -706,7 +693,6 @@ impl DecoderContext {
             places: self.ref_changes.as_slice(),
             tables: &self.tables,
             by_groups: self.suits_groups,
-            is_sparse,
         };
         let reached = draw_modes(hand, &mut self.coding_changes, &line, &mut self.ticks);
         take_ends(&mut self.ref_changes);
@@ -1247,7 +1233,8 @@ pub fn repeats_white(ctx: &DecoderContext, lines: &mut WhiteLines) -> bool
     if ctx.settings.rows_are_byte_aligned && !ctx.has_eols {
         return false;
     }
-    if lines.first.count == 0 || lines.has_eols != ctx.has_eols {
+    // The limit is 0 only before they are found; there may be none.
+    if lines.limit == 0 || lines.has_eols != ctx.has_eols {
         find_white_lines(lines, ctx.settings, ctx.has_eols);
     }
     lines.first.count != 0

@@ -37,8 +37,6 @@ pub(crate) struct CodingLine<'a> {
     pub(crate) tables: &'a Tables,
     /// Whether vertical modes are drawn several at a time.
     pub(crate) by_groups: bool,
-    /// Whether the row is wide and likely to have few changes: the first modes may have runs of any number of code words then.
-    pub(crate) is_sparse: bool,
 }
 
 /// How far a line is drawn: what a mode changes.
@@ -1471,8 +1469,20 @@ fn draw_each_mode(
     (now, true)
 }
 
-/// Draws the first modes of a line that is likely to have few; or none, if it isn't. Returns the stroke that is reached then, and
-/// whether other loops can go on.
+/// Returns whether a row is so wide as to have runs of three code words or more.
+#[inline(always)]
+pub(crate) fn is_wide(columns: u32) -> bool {
+    columns > 2623
+}
+
+/// Returns whether a row is so wide, and likely to have few changes, as the row before it has.
+#[inline(always)]
+pub(crate) fn is_sparse(columns: u32, changes: usize) -> bool {
+    is_wide(columns) && changes < 16
+}
+
+/// Draws the first modes of a line that is likely to have few, with runs of any number of code words; or none, if it isn't. Returns
+/// the stroke that is reached then, and whether other loops can go on.
 #[inline(always)]
 fn draw_few_modes(
     hand: &mut BitsAtHand<'_>,
@@ -1489,7 +1499,8 @@ fn draw_few_modes(
         index: 0,
         color: Color::White,
     };
-    if !line.is_sparse {
+    // The row's end stands six times behind the changes.
+    if !is_sparse(line.columns, line.places.len().saturating_sub(6)) {
         return (start, true);
     }
     draw_each_mode(hand, row, line, start, ticks)

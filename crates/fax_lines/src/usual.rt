@@ -51,13 +51,14 @@ pub(crate) fn run_at_hand(
     }
 }
 
-/// Fills the window if it has fewer than 52 bits; returns false if it can't be filled.
+/// Fills the window if it has fewer than 26 bits after so many; returns false if it can't be filled.
 #[inline(always)]
-fn has_two_runs(hand: &mut BitsAtHand<'_>) -> bool
+fn has_run_behind(hand: &mut BitsAtHand<'_>, width: usize) -> bool
+    requires { width ≤ 26 }
     ensures same { hand.new.at ≡ hand.old.at }
-    ensures enough { result ≡ true → 52 ≤ hand.new.left }
+    ensures enough { result ≡ true → width + 26 ≤ hand.new.left }
 {
-    if hand.left() >= 52 {
+    if hand.left() >= width + 26 {
         return true;
     }
     hand.refill()
@@ -220,7 +221,6 @@ pub(crate) fn draw_two_runs(
     tables: &Tables,
     ticks: &mut Ticks,
 ) -> Option<(u32, Color)>
-    requires within { 52 ≤ hand.old.left }
     requires open { IsOpen settings.columns painted row.old.items }
     ensures drawn { IfSome result (λ reached. DrawsRuns settings painted hand.old row.old ticks.old reached.0 reached.1
         hand.new row.new ticks.new) }
@@ -228,6 +228,9 @@ pub(crate) fn draw_two_runs(
     ensures left { IfNone result (DrawsNothing hand.old row.old ticks.old hand.new row.new ticks.new) }
     ensures kept { MovesOn hand.old row.old hand.new row.new }
 {
+    if !has_run_behind(hand, 0) {
+        return None;
+    }
     let (first, width, words) = run_at_hand(hand, 0, Color::White, tables.lookup(Color::White))?;
     let room = settings.columns - painted;
     // A run that is cut is left to the plain calls.
@@ -243,6 +246,9 @@ pub(crate) fn draw_two_runs(
         return None;
     }
     if !has_room_for_pair(row) {
+        return None;
+    }
+    if !has_run_behind(hand, width) {
         return None;
     }
     let (second, width2, words2) = run_at_hand(
@@ -333,9 +339,6 @@ fn draw_pairs(
         if let Some(next) = draw_pair(hand, row, place, line, ticks) {
             place = next;
         } else {
-            if !has_two_runs(hand) {
-                return (place, Color::White);
-            }
             match draw_two_runs(hand, row, place, line.settings, line.tables, ticks) {
                 None => return (place, Color::White),
                 Some((next, color)) => {

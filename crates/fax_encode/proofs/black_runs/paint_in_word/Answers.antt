@@ -7,11 +7,9 @@ pub returns-clause-painted : goal.returns-clause-painted
 returns-clause-painted c = λ front long white.
     let row : List ℕ = c.args.row.now in
     let start : ℕ = c.args.start in
-    let word : ℕ = c.first_pixels-word.result in
-    let rest : take (length row - start) (drop start row) ≡ drop start row =
-    take_all (length row - start) (drop start row) (omega (arith, length-drop start row)) in
+    let word : ℕ = c.pixels_at-word.result in
     word_painted start c.args.from c.args.to row _ word _ front c.requires.within
     (omega (arith, c.requires.ascend)) c.requires.below long white
-    (c.first_pixels-word.ensures ∙ ap (λ (l : List ℕ). take 64 (bits_of l ++ replicate 64 false)) rest)
+    c.pixels_at-word.ensures
     (ap (bit_xor word) c.black_between.ensures ∙ turned_between word c.args.from c.args.to (omega (arith, c.requires.ascend)))
     c.put_pixels.ensures.written
