@@ -1326,7 +1326,8 @@ fn draw_one_v0(
 /// Returns how far a mode is right of b1, in pixels, if it is VR, and otherwise 0.
 #[inline(always)]
 fn distance_right(mode: Mode) -> u32
-    ensures { 0 < result → mode ≡ Mode.Vertical (pos result) }
+    ensures right { 0 < result → mode ≡ Mode.Vertical (pos result) }
+    ensures exact { (n : ℕ) → n ≤ 3 → mode ≡ Mode.Vertical (pos n) → result ≡ n }
 {
     match mode {
         Mode::Vertical(1) => 1,
@@ -1339,7 +1340,8 @@ fn distance_right(mode: Mode) -> u32
 /// Returns how far a mode is left of b1, in pixels, if it is VL, and otherwise 0.
 #[inline(always)]
 fn distance_left(mode: Mode) -> u32
-    ensures { 0 < result → mode ≡ Mode.Vertical (negsuc (result - 1)) }
+    ensures left { 0 < result → mode ≡ Mode.Vertical (negsuc (result - 1)) }
+    ensures exact { (n : ℕ) → n < 3 → mode ≡ Mode.Vertical (negsuc n) → result ≡ n + 1 }
 {
     match mode {
         Mode::Vertical(-1) => 1,
