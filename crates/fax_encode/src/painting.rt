@@ -212,6 +212,20 @@ pub fn put_first(row: &mut [u8], word: u64)
     }
 }
 
+/// Writes the first bytes of a word over all bytes of a row of so many columns: one byte without a jump by their number.
+#[inline(always)]
+fn put_narrow(row: &mut [u8], columns: u32, word: u64)
+    requires narrow { length row.old < 8 }
+    requires whole { length row.old ≡ (columns + 7) / 8 }
+    ensures { bits_of row.new ≡ take (8 * length row.old) (low_bits 64 word) }
+{
+    if columns > 0 && columns <= 8 {
+        put_bytes(row, word, 1);
+    } else {
+        put_first(row, word);
+    }
+}
+
 /// Paints a row of less than eight bytes: it is the first part of a word.
 #[inline(always)]
 fn paint_narrow(row: &mut [u8], columns: u32, changes: &[u32])
@@ -225,14 +239,14 @@ fn paint_narrow(row: &mut [u8], columns: u32, changes: &[u32])
         is_black: false,
     };
     let mut done = 0;
-    'changes: while done < changes.len() {
-        brush = turned(brush, changes[done]);
-        done += 1;
+    'pairs: while done + 1 < changes.len() {
+        brush = turned(turned(brush, changes[done]), changes[done + 1]);
+        done += 2;
     }
-    if brush.is_black {
-        brush = turned(brush, columns);
+    if done < changes.len() {
+        brush = turned(turned(brush, changes[done]), columns);
     }
-    put_first(row, brush.word);
+    put_narrow(row, columns, brush.word);
 }
 
 /// Returns the most changes of a row of so many bytes that is best cleared, by one call of the library's, and then painted by its

@@ -1,5 +1,4 @@
-use Rattle.fax_encode.proofs.Names.{◌≡◌, ◌-◌, ◌++◌, ℕ, List, false, length, take, drop, replicate, ap, ◌∙◌, arith, bit_xor}
-use Rattle.fax_encode.proofs.Names.{bits_of, length-drop, take_all}
+use Rattle.fax_encode.proofs.Names.{ℕ, List, ap, ◌∙◌, arith, bit_xor}
 use Rattle.fax_encode.proofs.BlackRuns.{turned_between, word_painted}
 use Rattle.fax_encode.proofs.black_runs.paint_in_word.Goals as goal
 

@@ -1,14 +1,15 @@
-use Rattle.fax_encode.proofs.Names.{◌≡◌, ◌≤◌, ◌-◌, length}
+use Rattle.fax_encode.proofs.Names.{◌≡◌, ◌≤◌, ◌-◌, false, length}
 use Rattle.fax_encode.proofs.PaintedRows.{IsPainted}
 use Rattle.fax_encode.proofs.painting.paint_narrow.Given as goal
 
-abbrev pub invariant-changes : goal.invariant-changes
-invariant-changes l =
+abbrev pub invariant-pairs : goal.invariant-pairs
+invariant-pairs l =
     record {
       painted : IsPainted l.columns l.changes l.done l.brush l.row;
       at_start : l.brush.start ≡ 0;
+      white : l.brush.is_black ≡ false;
       within : l.done ≤ length l.changes;
     }
 
-abbrev pub decreases-changes : goal.decreases-changes
-decreases-changes l = length l.changes - l.done
+abbrev pub decreases-pairs : goal.decreases-pairs
+decreases-pairs l = length l.changes - l.done
