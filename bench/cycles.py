@@ -2,7 +2,7 @@
 30,000 columns and few changes, in every encoding, and says how many cost more than in the Rust crate `hayro-ccitt`, with its Cargo
 project in FOLDER: as rows, and packed. Each of these is printed first, with its ratio. The answers are compared.
 
-The cost is that in instructions, as callgrind counts them, or with --time in processor time; then a strip is dearer if it costs
+The cost is that in instructions, as callgrind counts them, or with --time in time; then a strip is dearer if it costs
 more than 1.05 times as much, each of five times. It needs what bench/run.py needs."""
 import argparse
 import os

@@ -7,9 +7,10 @@
  * DECODER is `rows`, `changes` or `packed` (this library), `tiff-packed` (with -DWITH_TIFF), `crate-rows` or `crate-packed` (with
  * -DWITH_CRATE); DECODERS are several, with commas between them. The first form prints the status, the rows, the changes if they are
  * counted, and a sum over the picture; callgrind is given --toggle-collect=measured. The second prints for each decoder the least
- * processor time of a call, in nanoseconds. The third prints what the first does for each strip of a list and each decoder in turn:
- * each line of the file LIST has ENCODING COLUMNS ROWS FLAGS FILE. The first strip is decoded twice, so that no call is linked
- * while the others are counted; callgrind is given --dump-after=measured too. */
+ * time of a call, in nanoseconds: by the clock on the wall, since a virtual machine may count too little processor time for a call.
+ * The third prints what the first does for each strip of a list and each decoder in turn: each line of the file LIST has ENCODING
+ * COLUMNS ROWS FLAGS FILE. The first strip is decoded twice, so that no call is linked while the others are counted; callgrind is
+ * given --dump-after=measured too. */
 #define _POSIX_C_SOURCE 199309L
 #include "../c/hayro_ccitt.h"
 #include <stdio.h>
@@ -71,10 +72,10 @@ static uint8_t *contents(const char *name)
     return bytes;
 }
 
-static double processor_time(void)
+static double time_now(void)
 {
     struct timespec now;
-    clock_gettime(CLOCK_THREAD_CPUTIME_ID, &now);
+    clock_gettime(CLOCK_MONOTONIC, &now);
     return now.tv_sec * 1e9 + now.tv_nsec;
 }
 
@@ -90,12 +91,12 @@ static int race(char *names, double limit)
         racing[count] = name;
         least[count++] = 1e18;
     }
-    for (double begun = processor_time(); processor_time() - begun < limit;)
+    for (double begun = time_now(); time_now() - begun < limit;)
         for (int at = 0; at < count; at++) {
             decoder = racing[at];
-            double start = processor_time();
+            double start = time_now();
             measured();
-            double took = processor_time() - start;
+            double took = time_now() - start;
             least[at] = took > 0 && took < least[at] ? took : least[at];
         }
     for (int at = 0; at < count; at++)
