@@ -2,8 +2,8 @@
 30,000 columns and few changes, in every encoding, and says how many cost more than in the Rust crate `hayro-ccitt`, with its Cargo
 project in FOLDER: as rows, and packed. Each of these is printed first, with its ratio. The answers are compared.
 
-The cost is that in instructions, as callgrind counts them, or with --time in time; then a strip is dearer if it costs
-more than 1.05 times as much, each of five times. It needs what bench/run.py needs."""
+The cost is in instructions, as callgrind counts them, or with --time in nanoseconds; then a strip is dearer if it takes more than
+1.05 times as long, each of five times. It needs what bench/run.py needs."""
 import argparse
 import os
 import random

@@ -7,10 +7,10 @@
  * DECODER is `rows`, `changes` or `packed` (this library), `tiff-packed` (with -DWITH_TIFF), `crate-rows` or `crate-packed` (with
  * -DWITH_CRATE); DECODERS are several, with commas between them. The first form prints the status, the rows, the changes if they are
  * counted, and a sum over the picture; callgrind is given --toggle-collect=measured. The second prints for each decoder the least
- * time of a call, in nanoseconds: by the clock on the wall, since a virtual machine may count too little processor time for a call.
- * The third prints what the first does for each strip of a list and each decoder in turn: each line of the file LIST has ENCODING
- * COLUMNS ROWS FLAGS FILE. The first strip is decoded twice, so that no call is linked while the others are counted; callgrind is
- * given --dump-after=measured too. */
+ * wall-clock time of a call, in nanoseconds: a virtual machine may count too little processor time. The third prints what the first
+ * does for each strip of a list and each decoder in turn: each line of the file LIST has ENCODING COLUMNS ROWS FLAGS FILE. The
+ * first strip is decoded twice, so that no call is linked while the others are counted; callgrind is given --dump-after=measured
+ * too. */
 #define _POSIX_C_SOURCE 199309L
 #include "../c/hayro_ccitt.h"
 #include <stdio.h>
