@@ -243,7 +243,7 @@ fn refused_memory(rt: HostRuntime) {
             0018E0006380018E000638\
             001001001001001001
         // In data this short a decoder asks for no room that it can do without.
-        bitmap_by_group4 8 3,5/3,5/3,5/3,5 aligned refused: 18181818
+        bitmap_by_group4 8 3,5/3,5/3,5 aligned refused: 181818
         bitmap_by_group3 8 3,5/3,5/3,5/3,5/3,5/3,5/3,5/3,5/3,5/3,5/3,5/3,5/3,5/3,5/3,5/3,5 refused: \
             18181818181818181818181818181818
         encode_bitmap_g4 8 18181818181818181818181818181818 refused: 31FFFFFFFFFFFE002002

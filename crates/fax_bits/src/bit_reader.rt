@@ -610,7 +610,7 @@ impl<'a> Model for BitsAtHand<'a> {
 
 /// Returns the same bits at the same offset, none of them at hand yet.
 #[inline(always)]
-pub fn none_at_hand<'a>(reader: &BitReader<'a>) -> BitsAtHand<'a>
+pub(crate) fn none_at_hand<'a>(reader: &BitReader<'a>) -> BitsAtHand<'a>
     ensures { result ≡ record { at = reader.now; left = 0 } }
 {
     BitsAtHand {
@@ -618,6 +618,26 @@ pub fn none_at_hand<'a>(reader: &BitReader<'a>) -> BitsAtHand<'a>
         window: 0,
         left: 0,
         limit: reader.place,
+        order: reader.order,
+    }
+}
+
+/// Returns the same bits at the same offset with those of the reader's window at hand, 33 at least; or none of them near the end of
+/// the data.
+#[inline(always)]
+pub fn window_at_hand<'a>(reader: &BitReader<'a>) -> BitsAtHand<'a>
+    ensures same { result.at ≡ reader.now }
+    ensures few { result.left ≤ 64 }
+{
+    let limit = reader.limit + 33;
+    if limit > reader.data.len() * 8 {
+        return none_at_hand(reader);
+    }
+    BitsAtHand {
+        data: reader.data,
+        window: reader.window,
+        left: limit - reader.place,
+        limit,
         order: reader.order,
     }
 }
@@ -714,6 +734,27 @@ pub fn go_to(reader: &mut BitReader<'_>, hand: &BitsAtHand<'_>)
         return;
     }
     reader.move_far(place);
+}
+
+/// Moves to where the same bits at hand are, as `go_to` does, with their window, if it has 33 bits at least. The next line then begins
+/// with bits that are in a register, where `go_to` has it wait for a load at an offset that it just stored.
+#[inline(always)]
+pub fn go_on_with(reader: &mut BitReader<'_>, hand: &BitsAtHand<'_>)
+    requires { hand.now.at.bits ≡ reader.old.bits }
+    ensures { reader.new ≡ hand.now.at }
+{
+    if hand.left >= 33 && hand.limit >= 64 {
+        let edge = (hand.limit + 7) / 8 - 8;
+        if edge + 8 <= reader.data.len() {
+            reader.ahead = whole_word(&reader.data[edge..], reader.order);
+            reader.edge = edge;
+            reader.place = hand.bit_pos();
+            reader.limit = hand.limit - 33;
+            reader.window = hand.window;
+            return;
+        }
+    }
+    go_to(reader, hand);
 }
 
 impl<'a> BitsAtHand<'a> {

@@ -6,7 +6,7 @@ ghost use Rattle.hayro_ccitt.specs.Rows.{AreChanges, pixels};
 ghost use Rattle.fax_encode.specs.Packed.{AreFirstPixels, IsPackedRow};
 ghost use Rattle.fax_encode.specs.Painting.{FitsRow, TurnsBlack, then_white};
 
-use crate::pixel_words::{fill_all, fill_bytes, first_pixels, ones_before, put_pixels};
+use crate::pixel_words::{fill_apart, fill_bytes, first_pixels, ones_before, put_pixels};
 
 /// Returns a word whose pixels between two offsets are black.
 #[inline(always)]
@@ -168,14 +168,14 @@ pub fn paint_cleared(row: &mut [u8], columns: u32, changes: &[u32])
     }
 }
 
-/// Paints a row of many bytes, which are cleared by pieces, or of many runs, by them. It is a function of its own, so that their
-/// loop has all registers.
+/// Paints a row of many bytes or of many runs by its black runs, once it is cleared by one call. It is a function of its own, so that
+/// their loop has all registers.
 #[inline(never)]
 pub fn paint_apart(row: &mut [u8], columns: u32, changes: &[u32])
     requires fits { FitsRow columns changes.now row.old }
     requires long { 8 ≤ length row.old }
     ensures painted { IsPackedRow columns changes.now row.new }
 {
-    fill_all(row, 0);
+    fill_apart(row, 0);
     paint_runs(row, columns, changes);
 }

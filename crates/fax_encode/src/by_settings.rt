@@ -11,9 +11,9 @@ ghost use Rattle.fax_encode.specs.Writing.{all_bits};
 use crate::bit_order::bytes_in_order;
 use crate::bit_writer::BitWriter;
 use crate::bitmap_rows::scan_row;
-use crate::encoding::{names_encoding, put_end, put_part};
+use crate::encoding::{RowBelow, names_encoding, put_end, put_part};
 use crate::rows::first_unlawful;
-use crate::white_rows::{lines_for, put_white_lines, white_rows};
+use crate::white_rows::{WhiteRows, lines_for, put_white_lines, white_rows};
 use crate::{EncodeError, EncodeSettings};
 use hayro_ccitt::EncodingMode;
 use std::alloc::{AllocError, Global};
@@ -46,15 +46,11 @@ fn put_rows(
     let mut reference: &[u32] = &[];
     let mut left = 0;
     for row in rows {
-        left = put_part(
-            writer,
-            &mut ways,
-            columns,
-            settings,
-            left,
+        let below = RowBelow {
             reference,
-            row.as_slice(),
-        )?;
+            changes: row.as_slice(),
+        };
+        left = put_part(writer, &mut ways, columns, settings, left, below)?;
         reference = row.as_slice();
     }
     Ok(())
@@ -146,21 +142,18 @@ fn put_bitmap(
             let count = white_rows(rest, width);
             if count > 0 {
                 lines = lines_for(lines, alloc, &mut ways, columns, settings, count)?;
-                left = put_white_lines(writer, &mut ways, columns, settings, left, lines, count)?;
+                let white = WhiteRows { columns, count };
+                left = put_white_lines(writer, &mut ways, white, settings, left, lines)?;
                 rest = &rest[count * width..];
                 continue;
             }
         }
         scan_row(&mut row, columns, rest)?;
-        left = put_part(
-            writer,
-            &mut ways,
-            columns,
-            settings,
-            left,
-            reference.as_slice(),
-            row.as_slice(),
-        )?;
+        let below = RowBelow {
+            reference: reference.as_slice(),
+            changes: row.as_slice(),
+        };
+        left = put_part(writer, &mut ways, columns, settings, left, below)?;
         mem::swap(&mut reference, &mut row);
         rest = &rest[width..];
     }

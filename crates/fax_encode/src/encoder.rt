@@ -13,7 +13,7 @@ use crate::bit_order::bytes_in_order;
 use crate::bit_writer::BitWriter;
 use crate::bitmap_rows::{scan_in_black, zero_bytes};
 use crate::by_settings::needs_row;
-use crate::encoding::{names_encoding, put_end, put_part};
+use crate::encoding::{RowBelow, names_encoding, put_end, put_part};
 use crate::rows::is_row;
 use crate::shortest_lines::Way;
 use crate::white_rows::{WhiteLines, put_white_line, white_lines};
@@ -163,8 +163,10 @@ impl Encoder {
             self.columns,
             self.settings,
             self.left,
-            self.reference.as_slice(),
-            changes,
+            RowBelow {
+                reference: self.reference.as_slice(),
+                changes,
+            },
         )?;
         self.left = left;
         self.reference.clear();
@@ -222,8 +224,10 @@ impl Encoder {
             self.columns,
             self.settings,
             self.left,
-            self.reference.as_slice(),
-            self.row.as_slice(),
+            RowBelow {
+                reference: self.reference.as_slice(),
+                changes: self.row.as_slice(),
+            },
         )?;
         self.left = left;
         mem::swap(&mut self.reference, &mut self.row);

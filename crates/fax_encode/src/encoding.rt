@@ -16,6 +16,15 @@ use crate::{Effort, EncodeSettings};
 use hayro_ccitt::EncodingMode;
 use std::alloc::AllocError;
 
+/// A row to be written and the one before it, each given by its changes.
+#[derive(Clone, Copy)]
+pub struct RowBelow<'a> {
+    /// The changes of the row before it.
+    pub reference: &'a [u32],
+    /// Its own changes.
+    pub changes: &'a [u32],
+}
+
 /// Returns whether settings of either kind of Group 3 name an encoding, whatever K is.
 fn names_group3(settings: EncodeSettings) -> bool
     ensures { result ≡ names_group3 settings.end_of_line settings.eols_end_at_bytes settings.rows_are_byte_aligned settings.end_of_block }
@@ -75,17 +84,16 @@ fn put_line_2d(
     ways: &mut Vec<Way>,
     effort: Effort,
     columns: u32,
-    reference: &[u32],
-    changes: &[u32],
+    rows: RowBelow<'_>,
 ) -> Result<(), AllocError>
-    requires reference { AreChanges columns reference.now }
-    requires changes { AreChanges columns changes.now }
+    requires reference { AreChanges columns rows.reference.now }
+    requires changes { AreChanges columns rows.changes.now }
     ensures { OnOk result (all_bits writer.new ≡ all_bits writer.old
-        ++ line_2d effort (pixels columns reference.now) (pixels columns changes.now)) }
+        ++ line_2d effort (pixels columns rows.entry.reference.now) (pixels columns rows.entry.changes.now)) }
 {
     match effort {
-        Effort::Procedure => put_line(writer, columns, reference, changes),
-        Effort::Shortest => put_shortest_line(writer, ways, columns, reference, changes),
+        Effort::Procedure => put_line(writer, columns, rows.reference, rows.changes),
+        Effort::Shortest => put_shortest_line(writer, ways, columns, rows.reference, rows.changes),
     }
 }
 
@@ -96,23 +104,23 @@ fn put_if_shorter(
     ways: &mut Vec<Way>,
     effort: Effort,
     columns: u32,
-    reference: &[u32],
-    changes: &[u32],
+    rows: RowBelow<'_>,
 ) -> Result<bool, AllocError>
-    requires reference { AreChanges columns reference.now }
-    requires changes { AreChanges columns changes.now }
+    requires reference { AreChanges columns rows.reference.now }
+    requires changes { AreChanges columns rows.changes.now }
     ensures shorter { IfOk result (λ is_written. is_written
-        ≡ nat_le (length (line_2d effort (pixels columns reference.now) (pixels columns changes.now)))
-        (length (line_1d effort (pixels columns changes.now)))) }
+        ≡ nat_le (length (line_2d effort (pixels columns rows.entry.reference.now) (pixels columns rows.entry.changes.now)))
+        (length (line_1d effort (pixels columns rows.entry.changes.now)))) }
     ensures written { IfOk result (λ is_written. all_bits writer.new ≡ all_bits writer.old
-        ++ (if is_written then false ∷ line_2d effort (pixels columns reference.now) (pixels columns changes.now) else [])) }
+        ++ (if is_written
+        then false ∷ line_2d effort (pixels columns rows.entry.reference.now) (pixels columns rows.entry.changes.now) else [])) }
 {
     let mark = writer.mark();
     writer.put(0, 1)?;
     let start = writer.bit_count();
-    put_line_2d(writer, ways, effort, columns, reference, changes)?;
+    put_line_2d(writer, ways, effort, columns, rows)?;
     let taken = writer.bit_count() - start;
-    if line_1d_takes_at_least(effort, columns, changes, taken) {
+    if line_1d_takes_at_least(effort, columns, rows.changes, taken) {
         return Ok(true);
     }
     writer.cut_back(mark);
@@ -138,29 +146,29 @@ fn put_one_dimensional(
 fn put_line_by_k(
     writer: &mut BitWriter,
     ways: &mut Vec<Way>,
-    effort: Effort,
     columns: u32,
-    k: u32,
+    settings: EncodeSettings,
     left: u32,
-    reference: &[u32],
-    changes: &[u32],
+    rows: RowBelow<'_>,
 ) -> Result<u32, AllocError>
-    requires reference { AreChanges columns reference.now }
-    requires changes { AreChanges columns changes.now }
+    requires reference { AreChanges columns rows.reference.now }
+    requires changes { AreChanges columns rows.changes.now }
     ensures written { OnOk result (all_bits writer.new ≡ all_bits writer.old
-        ++ chosen_line effort EncodingMode.Group3_2D left (pixels columns reference.now) (pixels columns changes.now)) }
+        ++ chosen_line settings.effort EncodingMode.Group3_2D left
+        (pixels columns rows.entry.reference.now) (pixels columns rows.entry.changes.now)) }
     ensures left { IfOk result (λ after. after
-        ≡ left_after effort EncodingMode.Group3_2D k left (pixels columns reference.now) (pixels columns changes.now)) }
+        ≡ left_after settings.effort EncodingMode.Group3_2D settings.k left
+        (pixels columns rows.entry.reference.now) (pixels columns rows.entry.changes.now)) }
 {
-    let most = k.saturating_sub(1);
+    let most = settings.k.saturating_sub(1);
     if left == 0 {
-        put_one_dimensional(writer, effort, columns, changes)?;
+        put_one_dimensional(writer, settings.effort, columns, rows.changes)?;
         return Ok(most);
     }
-    if put_if_shorter(writer, ways, effort, columns, reference, changes)? {
+    if put_if_shorter(writer, ways, settings.effort, columns, rows)? {
         return Ok(left - 1);
     }
-    put_one_dimensional(writer, effort, columns, changes)?;
+    put_one_dimensional(writer, settings.effort, columns, rows.changes)?;
     Ok(most)
 }
 
@@ -173,37 +181,27 @@ fn put_line_of(
     columns: u32,
     settings: EncodeSettings,
     left: u32,
-    reference: &[u32],
-    changes: &[u32],
+    rows: RowBelow<'_>,
 ) -> Result<u32, AllocError>
-    requires reference { AreChanges columns reference.now }
-    requires changes { AreChanges columns changes.now }
+    requires reference { AreChanges columns rows.reference.now }
+    requires changes { AreChanges columns rows.changes.now }
     ensures written { OnOk result (all_bits writer.new ≡ all_bits writer.old
-        ++ chosen_line settings.effort settings.encoding left (pixels columns reference.now) (pixels columns changes.now)) }
+        ++ chosen_line settings.effort settings.encoding left
+        (pixels columns rows.entry.reference.now) (pixels columns rows.entry.changes.now)) }
     ensures left { IfOk result (λ after. after
-        ≡ left_after settings.effort settings.encoding settings.k left (pixels columns reference.now) (pixels columns changes.now)) }
+        ≡ left_after settings.effort settings.encoding settings.k left
+        (pixels columns rows.entry.reference.now) (pixels columns rows.entry.changes.now)) }
 {
     match settings.encoding {
         EncodingMode::Group4 => {
-            put_line_2d(writer, ways, settings.effort, columns, reference, changes)?;
+            put_line_2d(writer, ways, settings.effort, columns, rows)?;
             Ok(0)
         }
         EncodingMode::Group3_1D => {
-            put_line_1d(writer, settings.effort, columns, changes)?;
+            put_line_1d(writer, settings.effort, columns, rows.changes)?;
             Ok(0)
         }
-        EncodingMode::Group3_2D => {
-            put_line_by_k(
-                writer,
-                ways,
-                settings.effort,
-                columns,
-                settings.k,
-                left,
-                reference,
-                changes,
-            )
-        }
+        EncodingMode::Group3_2D => put_line_by_k(writer, ways, columns, settings, left, rows),
     }
 }
 
@@ -226,23 +224,24 @@ pub fn put_part(
     columns: u32,
     settings: EncodeSettings,
     left: u32,
-    reference: &[u32],
-    changes: &[u32],
+    rows: RowBelow<'_>,
 ) -> Result<u32, AllocError>
-    requires reference { AreChanges columns reference.now }
-    requires changes { AreChanges columns changes.now }
+    requires reference { AreChanges columns rows.reference.now }
+    requires changes { AreChanges columns rows.changes.now }
     requires whole { EndsWhereAligned settings writer.old }
     ensures written { OnOk result (all_bits writer.new ≡ all_bits writer.old
-        ++ chosen_part settings (length (all_bits writer.old)) left (pixels columns reference.now) (pixels columns changes.now)) }
+        ++ chosen_part settings (length (all_bits writer.old)) left
+        (pixels columns rows.entry.reference.now) (pixels columns rows.entry.changes.now)) }
     ensures left { IfOk result (λ after. after
-        ≡ left_after settings.effort settings.encoding settings.k left (pixels columns reference.now) (pixels columns changes.now)) }
+        ≡ left_after settings.effort settings.encoding settings.k left
+        (pixels columns rows.entry.reference.now) (pixels columns rows.entry.changes.now)) }
     ensures whole { OnOk result (EndsWhereAligned settings writer.new) }
 {
     if eols_precede_lines(settings) {
         put_filled_eol(writer, settings.eols_end_at_bytes)?;
-        return put_line_of(writer, ways, columns, settings, left, reference, changes);
+        return put_line_of(writer, ways, columns, settings, left, rows);
     }
-    let after = put_line_of(writer, ways, columns, settings, left, reference, changes)?;
+    let after = put_line_of(writer, ways, columns, settings, left, rows)?;
     put_padding(writer, settings.rows_are_byte_aligned)?;
     Ok(after)
 }

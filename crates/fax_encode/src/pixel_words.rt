@@ -100,7 +100,7 @@ pub fn put_pixels(bytes: &mut [u8], start: usize, word: u64)
     bytes[start..behind].copy_from_slice(&word.to_be_bytes());
 }
 
-/// The most bytes that one call fills: it is fastest below 2 KiB.
+/// The most bytes of white rows that one call fills. Rows of more bytes are painted as wide ones.
 pub const MOST_FILLED: usize = 2047;
 
 /// Fills all bytes, by one call of the library's: `fill` writes the last byte apart.

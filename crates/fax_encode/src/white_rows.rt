@@ -11,7 +11,7 @@ ghost use Rattle.fax_encode.specs.Writing.{all_bits, EndsWhereAligned};
 use crate::EncodeSettings;
 use crate::bit_writer::BitWriter;
 use crate::bitmap_rows::zero_bytes;
-use crate::encoding::put_part;
+use crate::encoding::{RowBelow, put_part};
 use crate::runs::put_joined;
 use crate::shortest_lines::Way;
 use crate::words::Joined;
@@ -30,6 +30,13 @@ pub struct WhiteLine {
 pub struct WhiteLines {
     pub first: WhiteLine,
     pub further: WhiteLine,
+}
+
+/// White rows, one below the other: how many columns they have, and how many they are.
+#[derive(Clone, Copy)]
+pub struct WhiteRows {
+    pub columns: u32,
+    pub count: usize,
 }
 
 /// Returns how many rows at the start of a bitmap are white, with the bits that fill their last bytes.
@@ -54,7 +61,11 @@ fn white_line(
     ensures { IfOk result (λ made. IfSome made (λ white. IsWhiteLine settings columns left white)) }
 {
     let mut writer = BitWriter::new(alloc);
-    let after = put_part(&mut writer, ways, columns, settings, left, &[], &[])?;
+    let rows = RowBelow {
+        reference: &[],
+        changes: &[],
+    };
+    let after = put_part(&mut writer, ways, columns, settings, left, rows)?;
     let Some(line) = writer.as_joined() else {
         return Ok(None);
     };
@@ -167,7 +178,13 @@ pub fn put_white_line(
 {
     match lines {
         Some(made) => put_words(writer, columns, settings, left, made),
-        None => put_part(writer, ways, columns, settings, left, &[], &[]),
+        None => {
+            let rows = RowBelow {
+                reference: &[],
+                changes: &[],
+            };
+            put_part(writer, ways, columns, settings, left, rows)
+        }
     }
 }
 
@@ -177,24 +194,23 @@ pub fn put_white_line(
 pub fn put_white_lines(
     writer: &mut BitWriter,
     ways: &mut Vec<Way>,
-    columns: u32,
+    white: WhiteRows,
     settings: EncodeSettings,
     left: u32,
     lines: Option<WhiteLines>,
-    count: usize,
 ) -> Result<u32, AllocError>
     requires whole { EndsWhereAligned settings writer.old }
-    requires lines { IfSome lines (λ made. AreWhiteLines settings columns made) }
+    requires lines { IfSome lines (λ made. AreWhiteLines settings white.columns made) }
     ensures written { IfOk result (λ after. (below : List Row)
-        → all_bits writer.new ++ lines_left settings (length (all_bits writer.new)) after (white_row columns) below
-        ≡ all_bits writer.old ++ lines_left settings (length (all_bits writer.old)) left (white_row columns)
-        (replicate count (white_row columns) ++ below)) }
+        → all_bits writer.new ++ lines_left settings (length (all_bits writer.new)) after (white_row white.columns) below
+        ≡ all_bits writer.old ++ lines_left settings (length (all_bits writer.old)) left (white_row white.columns)
+        (replicate white.count (white_row white.columns) ++ below)) }
     ensures whole { OnOk result (EndsWhereAligned settings writer.new) }
 {
-    let mut rows = count;
+    let mut rows = white.count;
     let mut now = left;
     'rows: while rows > 0 {
-        now = put_white_line(writer, ways, columns, settings, now, lines)?;
+        now = put_white_line(writer, ways, white.columns, settings, now, lines)?;
         rows -= 1;
     }
     Ok(now)

@@ -31,7 +31,7 @@ use fax_lines::Decoder;
 use fax_lines::context::{
     DecoderContext, begin_line, no_white_lines, reference_row, repeats_white,
 };
-use fax_rows::push_rows::push_white_rows;
+use fax_rows::push_rows::{WhiteLinesAhead, push_white_rows};
 use fax_rows::row_reader::{RowState, Stand, first_stand, has_ended, is_at_line};
 use fax_rows::rows::try_row;
 use std::alloc::Global;
@@ -877,11 +877,14 @@ impl RowFeed {
                 return Err(refusal);
             }
             let repeats = repeats_white(&self.ctx, &mut lines);
+            let white = WhiteLinesAhead {
+                lines: &lines,
+                in_pieces: true,
+                dropped: self.dropped,
+            };
             if let Err(refused) = push_white_rows(
                 repeats,
-                &lines,
-                true,
-                self.dropped,
+                white,
                 &mut self.rows,
                 &mut self.ctx,
                 &mut reader,

@@ -1,5 +1,5 @@
 -- Modes that are drawn with bits at hand. This is not part of the trusted specification: no contract of a public call cites it.
-use Rattle.std.specs.Prelude.{◌≡◌, ℕ, ◌+◌, ◌-◌, ◌^◌, ◌<◌, ◌≤◌, ◌∷◌, Ok, Vec, vec_len, vec_capacity, length, get_or}
+use Rattle.std.specs.Prelude.{◌≡◌, ◌⊎◌, ℕ, ◌+◌, ◌-◌, ◌^◌, ◌<◌, ◌≤◌, ◌∷◌, [], Ok, Vec, vec_len, vec_capacity, length, get_or}
 use Rattle.std.specs.Prelude.{Option, None, Some}
 use Rattle.std.specs.Int.{trailing_ones, w64}
 use Rattle.fax_bits.specs.declared.codes.Mode.{Mode}
@@ -8,6 +8,7 @@ use Rattle.fax_bits.specs.declared.codes.Color.TheVariants.{White}
 use Rattle.fax_lines.specs.declared.modes.CodingLine.{CodingLine}
 use Rattle.fax_lines.specs.declared.modes.ModesHere.{ModesHere}
 use Rattle.fax_lines.specs.declared.modes.Stroke.{Stroke}
+use Rattle.fax_lines.specs.declared.usual.TwoRuns.{TwoRuns}
 use Rattle.fax_bits.specs.Bits.{here}
 use Rattle.fax_bits.specs.CodeLists.{mode_codes}
 use Rattle.fax_bits.specs.CodeReading.{read_code}
@@ -75,6 +76,16 @@ module _ {A : Type 0} where
     pub inside : stroke.painted < line.columns
     pub reached : IsAtStroke line stroke row
     pub room : vec_len row + hand.left ≤ vec_capacity row
+
+  -- Two runs follow a stroke. The row isn't full, they end in it or with it, and it has room for their changes.
+  pub record CanFollowStroke (line : CodingLine) (stroke : Stroke) (row : Vec ℕ A) (runs : TwoRuns) : Type 0 where
+    pub ended : AreEnded line.columns line.places.now
+    pub inside : stroke.painted < line.columns
+    pub reached : IsAtStroke line stroke row
+    pub right : (0 < runs.first) ⊎ (row.items ≡ [])
+    pub some : 0 < runs.second
+    pub fits : runs.first + runs.second ≤ line.columns - stroke.painted
+    pub room : vec_len row + 2 ≤ vec_capacity row
 
   -- Drawing goes on from one stroke to another, which the row reaches then.
   pub record Draws (line : CodingLine) (stroke : Stroke) (hand : AtHand) (row : Vec ℕ A) (ticks : ℕ)

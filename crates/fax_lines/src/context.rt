@@ -36,7 +36,8 @@ use crate::modes::{
 use crate::usual::{RunsOfLine, draw_long_pairs, draw_runs, lay_down, take_up, turn_at};
 use crate::white_lines::{WhiteLines, may_follow, none_known, white_lines};
 use fax_bits::bit_reader::{
-    BitOrder, BitReader, BitScanner, BitsAtHand, at_hand, go_to, none_at_hand, pass_bits,
+    BitOrder, BitReader, BitScanner, BitsAtHand, at_hand, go_on_with, go_to, pass_bits,
+    window_at_hand,
 };
 use fax_bits::codes::{Color, Mode, Ticks, pass_v0, tick_times};
 use fax_bits::tables::Tables;
@@ -44,6 +45,9 @@ use fax_bits::{DecodeError, DecodeSettings, Result};
 use std::alloc::Global;
 use std::marker::Model;
 use std::mem;
+
+/// A row with fewer changes doesn't tell whether vertical modes are best drawn several at a time.
+const MANY_CHANGES: usize = 16;
 
 /// Exchanges two lists of changes: two empty ones stay as they are. Each is moved by its fields: if one load took a length with what is
 /// beside it, it would wait until the store of that length, which was just before, is done.
@@ -591,9 +595,9 @@ impl DecoderContext {
     fn draw_long_runs_of(&mut self, reader: &mut BitReader<'_>)
         ensures { DrawsUsualRuns self.old self.new reader.old reader.new }
     {
-        let mut hand = none_at_hand(reader);
+        let mut hand = window_at_hand(reader);
         self.draw_long_by_twos(&mut hand);
-        go_to(reader, &hand);
+        go_on_with(reader, &hand);
     }
 
     /// Returns whether plain calls are likely to draw the next runs of a row at less cost: it has few more.
@@ -629,18 +633,15 @@ impl DecoderContext {
         self.draw_runs_of(reader);
     }
 
-    /// Draws the runs of a row of few changes as long as they are usual, in whichever order the reader's bits are, without a call, if
-    /// eight bytes are left.
+    /// Draws the runs of a row of few changes as long as they are usual, in whichever order the reader's bits are, without a call, from
+    /// the reader's own window on.
     #[inline(always)]
     fn draw_few_runs_of(&mut self, reader: &mut BitReader<'_>)
         ensures { DrawsUsualRuns self.old self.new reader.old reader.new }
     {
-        let mut hand = none_at_hand(reader);
-        if !hand.refill() {
-            return;
-        }
+        let mut hand = window_at_hand(reader);
         self.draw_by_twos(&mut hand, false);
-        go_to(reader, &hand);
+        go_on_with(reader, &hand);
     }
 
     /// Draws the first runs of a wide line of few changes as long as they are usual; or none, if one or two are likely, since the row
@@ -672,7 +673,7 @@ impl DecoderContext {
     /// Draws modes from the start of a line as long as they are usual.
     #[inline(always)]
     fn draw_modes_at_hand(&mut self, hand: &mut BitsAtHand<'_>)
-        requires empty { hand.old.left ≡ 0 }
+        requires few { hand.old.left ≤ 64 }
         requires start { IsAtStart self.old }
         ensures { DrawsUsualModes self.old self.new hand.old.at hand.new.at }
     {
@@ -709,12 +710,16 @@ impl DecoderContext {
         requires { IsAtStart self.old }
         ensures { DrawsUsualModes self.old self.new reader.old reader.new }
     {
-        let mut hand = none_at_hand(reader);
+        // Of the first such line nothing is known but the row before it, which plain calls drew.
+        if has_no_room(&self.coding_changes) {
+            self.suits_groups = self.ref_changes.len() >= MANY_CHANGES;
+        }
+        let mut hand = window_at_hand(reader);
         self.draw_modes_at_hand(&mut hand);
         let start = reader.bit_pos();
         go_to(reader, &hand);
         let changes = self.coding_changes.len();
-        if changes > 15 {
+        if changes >= MANY_CHANGES {
             self.suits_groups = reader.bit_pos().saturating_sub(start) / 4 < changes;
         }
     }

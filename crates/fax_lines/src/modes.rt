@@ -7,7 +7,8 @@ ghost use Rattle.std.specs.Prelude.{◌++◌, ◌∷◌, [], ◌^◌};
 ghost use Rattle.fax_lines.specs.DrawnModes.{AreModesHere, IsFirstMode, LeadFrom, first_clear};
 ghost use Rattle.fax_bits.specs.ModeGroups.{AreNextWords, words_of};
 ghost use Rattle.fax_lines.specs.RegularModes.{AreSet};
-ghost use Rattle.fax_lines.specs.DrawnModes.{IsNextMode, CanDraw, Draws, DrawsMode, DrawsOn, DrawsSome, KeepsRoom, line_start};
+ghost use Rattle.fax_lines.specs.DrawnModes.{IsNextMode, CanDraw, CanFollowStroke, Draws, DrawsMode};
+ghost use Rattle.fax_lines.specs.DrawnModes.{DrawsOn, DrawsSome, KeepsRoom, line_start};
 ghost use Rattle.fax_reading.specs.Rows.{AreChanges, pixels, opposite};
 ghost use Rattle.fax_lines.specs.ContextSteps.{GrowsFor, ShowSame};
 ghost use Rattle.fax_reading.specs.UsualModes.{AreEnded, changes_in, IsNear, IsB1, TurnsFrom};
@@ -16,7 +17,7 @@ ghost use Rattle.fax_bits.specs.Window.{moved, AtHand};
 
 use crate::changes::{change_or_end, make_room};
 use crate::regular_places::regular_places;
-use crate::usual::{TwoRuns, is_next, lay_down, pair_at_hand, run_at_hand, turn_at};
+use crate::usual::{TwoRuns, is_next, lay_down, pair_at_hand, run_at_hand, turn_at, turn_twice};
 use fax_bits::bit_reader::BitsAtHand;
 use fax_bits::codes::{Color, Mode, Ticks, mode_of, tick_times};
 use fax_bits::mode_groups::{ModeGroup, group_at_hand};
@@ -66,20 +67,18 @@ fn has_room_for_window(row: &Vec<u32>) -> bool
     row.len() + 64 <= row.capacity()
 }
 
-/// Fills the window if it has fewer than 32 bits; returns false if it can't be filled, or there is no room for its changes.
+/// Fills the window if it has fewer than 32 bits, and makes room for its changes; returns false if it can't be filled, or there is no
+/// room.
 #[inline(always)]
 pub(crate) fn has_mode(hand: &mut BitsAtHand<'_>, row: &mut Vec<u32>) -> bool
-    requires room { vec_len row.old + hand.old.left ≤ vec_capacity row.old }
+    requires few { hand.old.left ≤ 64 }
     ensures same { hand.new.at ≡ hand.old.at }
     ensures same_row { row.new.items ≡ row.old.items }
     ensures enough { result ≡ true → 32 ≤ hand.new.left }
     ensures room { result ≡ true → vec_len row.new + hand.new.left ≤ vec_capacity row.new }
     ensures space { GrowsFor (vec_len row.old) (vec_capacity row.old) (vec_capacity row.new) }
 {
-    if hand.left() >= 32 {
-        return true;
-    }
-    if !hand.refill() {
+    if hand.left() < 32 && !hand.refill() {
         return false;
     }
     has_room_for_window(row) || make_room(row)
@@ -459,6 +458,42 @@ fn runs_at_hand(
     })
 }
 
+/// Draws two runs that end in the row or with it, whose bits are passed before or after this. Returns the stroke that is reached then.
+#[inline(always)]
+fn draw_runs_in_row(
+    row: &mut Vec<u32>,
+    line: &CodingLine<'_>,
+    stroke: Stroke,
+    runs: TwoRuns,
+    ticks: &mut Ticks,
+) -> Stroke
+    requires follow { CanFollowStroke line.now stroke row.old runs }
+    ensures drawn { (hand rest : AtHand) → IsNextMode Mode.Horizontal 3 hand → AreTwoRunsHere stroke.color (moved 3 hand.at) runs
+        → rest.at ≡ moved runs.width (moved 3 hand.at)
+        → Draws line.now stroke hand row.old ticks.old result rest row.new ticks.new }
+    ensures count { (vec_len row.old ≤ vec_len row.new) × (vec_len row.new ≤ vec_len row.old + 2) }
+    ensures space { vec_capacity row.new ≡ vec_capacity row.old }
+{
+    ticks.tick();
+    tick_times(ticks, runs.words);
+    match turn_twice(row, stroke.painted, line.columns, runs) {
+        None => {
+            Stroke {
+                painted: line.columns,
+                ..stroke
+            }
+        }
+        Some(place) => {
+            let index = seek_b1(line, place, stroke.index, ticks);
+            Stroke {
+                painted: place,
+                index,
+                ..stroke
+            }
+        }
+    }
+}
+
 /// Draws two runs of one code word each that end before the row does: the most frequent case. Returns `None`, and changes
 /// nothing, if they aren't of that kind.
 #[inline(always)]
@@ -555,23 +590,7 @@ fn draw_runs_of_words(
     }
     hand.pass(3);
     hand.pass(runs.width);
-    ticks.tick();
-    tick_times(ticks, runs.words);
-    turn_at(row, stroke.painted + runs.first);
-    if runs.first + runs.second == room {
-        return Some(Stroke {
-            painted: line.columns,
-            ..stroke
-        });
-    }
-    let place = stroke.painted + runs.first + runs.second;
-    turn_at(row, place);
-    let index = seek_b1(line, place, stroke.index, ticks);
-    Some(Stroke {
-        painted: place,
-        index,
-        ..stroke
-    })
+    Some(draw_runs_in_row(row, line, stroke, runs, ticks))
 }
 
 /// Draws two runs. Returns `None`, and draws nothing, if they aren't of the usual kind.
@@ -1277,23 +1296,7 @@ fn draw_long_runs(
         return None;
     }
     *hand = rest;
-    ticks.tick();
-    tick_times(ticks, runs.words);
-    turn_at(row, stroke.painted + runs.first);
-    if runs.first + runs.second == room {
-        return Some(Stroke {
-            painted: line.columns,
-            ..stroke
-        });
-    }
-    let place = stroke.painted + runs.first + runs.second;
-    turn_at(row, place);
-    let index = seek_b1(line, place, stroke.index, ticks);
-    Some(Stroke {
-        painted: place,
-        index,
-        ..stroke
-    })
+    Some(draw_runs_in_row(row, line, stroke, runs, ticks))
 }
 
 /// Draws V0: a change below b1, or the rest of the row.

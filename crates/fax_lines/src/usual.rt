@@ -3,7 +3,7 @@
 
 ghost use Rattle.std.specs.Prelude.{vec_len, vec_capacity, ◌≡◌, ◌+◌, ◌-◌, ◌%◌, ◌<◌, ◌≤◌, ◌⊎◌, IfSome};
 ghost use Rattle.std.specs.Prelude.{IfNone};
-ghost use Rattle.std.specs.Prelude.{min, true, false, length, ◌++◌, ◌∷◌, []};
+ghost use Rattle.std.specs.Prelude.{min, true, false, length, ◌++◌, ◌∷◌, [], ◌^◌};
 ghost use Rattle.fax_bits.specs.LookUps.{AreEntriesOf};
 ghost use Rattle.fax_lines.specs.ContextSteps.{ShowSame};
 ghost use Rattle.fax_lines.specs.DrawnModes.{DrawsNothing};
@@ -138,6 +138,35 @@ pub(crate) fn pair_at_hand(hand: &BitsAtHand<'_>, skip: usize, color: Color) -> 
     })
 }
 
+/// Stores the changes at the ends of two runs, that of the second one unless the row ends there or before. Returns where the second
+/// run ends, or `None` if the row ends.
+#[inline(always)]
+pub(crate) fn turn_twice(
+    row: &mut Vec<u32>,
+    painted: u32,
+    columns: u32,
+    runs: TwoRuns,
+) -> Option<u32>
+    requires inside { painted + runs.first ≤ columns }
+    requires small { runs.first + runs.second < 2 ^ 32 }
+    requires room { vec_len row.old + 2 ≤ vec_capacity row.old }
+    ensures inside { IfSome result (λ place. (place ≡ painted + runs.first + runs.second) × (place < columns)
+        × (row.new.items ≡ (row.old.items ++ (painted + runs.first) ∷ []) ++ place ∷ [])) }
+    ensures end { IfNone result ((columns ≤ painted + runs.first + runs.second)
+        × (row.new.items ≡ row.old.items ++ (painted + runs.first) ∷ [])) }
+    ensures count { (vec_len row.old ≤ vec_len row.new) × (vec_len row.new ≤ vec_len row.old + 2) }
+    ensures space { vec_capacity row.new ≡ vec_capacity row.old }
+{
+    let first = painted + runs.first;
+    turn_at(row, first);
+    if runs.first + runs.second >= columns - painted {
+        return None;
+    }
+    let place = first + runs.second;
+    turn_at(row, place);
+    Some(place)
+}
+
 /// Draws a white run that ends before the row does, and a black one after it, whose bits are passed before or after this. Returns how
 /// far the row reaches then, and the colour in which it would continue.
 #[inline(always)]
@@ -155,14 +184,11 @@ fn draw_both(
     ensures place { result.0 ≡ painted + runs.first + min runs.second (settings.columns - (painted + runs.first)) }
     ensures space { vec_capacity row.new ≡ vec_capacity row.old }
 {
-    let place = painted + runs.first;
     tick_times(ticks, runs.words);
-    turn_at(row, place);
-    if runs.first + runs.second >= settings.columns - painted {
-        return (settings.columns, Color::White);
+    match turn_twice(row, painted, settings.columns, runs) {
+        None => (settings.columns, Color::White),
+        Some(place) => (place, Color::White),
     }
-    turn_at(row, place + runs.second);
-    (place + runs.second, Color::White)
 }
 
 /// What doesn't change while the runs of a line are drawn.

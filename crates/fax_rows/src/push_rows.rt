@@ -23,6 +23,17 @@ use fax_lines::white_lines::{WhiteLines, may_follow, pass_placed_line, placed_li
 /// Of lines with fewer bits many are in the window of a reader, which passes them as fast.
 const LEAST_BITS: usize = 8;
 
+/// White lines that may be next, and where in the data that is.
+#[derive(Clone, Copy)]
+pub struct WhiteLinesAhead<'a> {
+    /// The lines, each with the EOL before it.
+    pub lines: &'a WhiteLines,
+    /// Whether the data comes in pieces.
+    pub in_pieces: bool,
+    /// How many bits of the data come before those of the reader.
+    pub dropped: usize,
+}
+
 /// Returns how many more rows come before the row limit.
 #[inline(always)]
 fn rows_left(limit: u64, rows: u64) -> u64
@@ -36,23 +47,22 @@ fn rows_left(limit: u64, rows: u64) -> u64
 #[inline(always)]
 fn push_white_words<D: Decoder>(
     mut words: WordsAhead<'_>,
-    lines: &WhiteLines,
-    dropped: usize,
+    white: WhiteLinesAhead<'_>,
     rows: &mut RowState,
     ctx: &mut DecoderContext,
     reader: &mut BitReader<'_>,
     decoder: &mut D,
 ) -> Result<()>
     requires here { words.at ≡ reader.old }
-    requires follow { MayFollow ctx.old.held.settings ctx.old.held.has_eols ctx.old.held.reference lines.now }
-    requires fits { dropped + length reader.old.bits + 64 < 2 ^ 64 }
+    requires follow { MayFollow ctx.old.held.settings ctx.old.held.has_eols ctx.old.held.reference white.lines.now }
+    requires fits { white.dropped + length reader.old.bits + 64 < 2 ^ 64 }
     ensures width { D.width decoder.new ≡ D.width decoder.old }
-    ensures pushes { PushesWhite (D.step (D.width decoder.old)) lines.now dropped
+    ensures pushes { PushesWhite (D.step (D.width decoder.old)) white.entry.lines.now white.entry.dropped
         (state_of D.Decoder decoder.old) (state_of D.Decoder decoder.new) rows.old rows.new ctx.old ctx.new reader.old
         reader.new result }
 {
-    let placed = placed_lines(lines, &words);
-    let most = rows_left(lines.limit, ctx.decoded_rows());
+    let placed = placed_lines(white.lines, &words);
+    let most = rows_left(white.lines.limit, ctx.decoded_rows());
     let mut count = 0;
     let mut start = words.passed();
     'many: while count < most {
@@ -63,13 +73,13 @@ fn push_white_words<D: Decoder>(
         start = place;
         count += 1;
         if let Err(refusal) = decoder.push_row(&[]) {
-            rows.take_white_rows(count, dropped + start + lines.gap, ctx);
+            rows.take_white_rows(count, white.dropped + start + white.lines.gap, ctx);
             go_on_at(reader, &words);
             return Err(refusal);
         }
     }
     if count > 0 {
-        rows.take_white_rows(count, dropped + start + lines.gap, ctx);
+        rows.take_white_rows(count, white.dropped + start + white.lines.gap, ctx);
         go_on_at(reader, &words);
     }
     Ok(())
@@ -78,25 +88,24 @@ fn push_white_words<D: Decoder>(
 /// Reads lines and passes their rows as `push_white_words` does, in either order of bits.
 #[inline(always)]
 fn push_white_in_order<D: Decoder>(
-    lines: &WhiteLines,
-    dropped: usize,
+    white: WhiteLinesAhead<'_>,
     rows: &mut RowState,
     ctx: &mut DecoderContext,
     reader: &mut BitReader<'_>,
     decoder: &mut D,
 ) -> Result<()>
-    requires follow { MayFollow ctx.old.held.settings ctx.old.held.has_eols ctx.old.held.reference lines.now }
-    requires fits { dropped + length reader.old.bits + 64 < 2 ^ 64 }
+    requires follow { MayFollow ctx.old.held.settings ctx.old.held.has_eols ctx.old.held.reference white.lines.now }
+    requires fits { white.dropped + length reader.old.bits + 64 < 2 ^ 64 }
     ensures width { D.width decoder.new ≡ D.width decoder.old }
-    ensures pushes { PushesWhite (D.step (D.width decoder.old)) lines.now dropped
+    ensures pushes { PushesWhite (D.step (D.width decoder.old)) white.entry.lines.now white.entry.dropped
         (state_of D.Decoder decoder.old) (state_of D.Decoder decoder.new) rows.old rows.new ctx.old ctx.new reader.old
         reader.new result }
 {
     if let Some(words) = words_ahead(reader, BitOrder::HighestFirst) {
-        return push_white_words(words, lines, dropped, rows, ctx, reader, decoder);
+        return push_white_words(words, white, rows, ctx, reader, decoder);
     }
     if let Some(words) = words_ahead(reader, BitOrder::LowestFirst) {
-        return push_white_words(words, lines, dropped, rows, ctx, reader, decoder);
+        return push_white_words(words, white, rows, ctx, reader, decoder);
     }
     Ok(())
 }
@@ -104,55 +113,52 @@ fn push_white_in_order<D: Decoder>(
 /// The same by a call, so that registers hold what each row needs.
 #[inline(never)]
 fn push_white_by_call<D: Decoder>(
-    lines: &WhiteLines,
-    dropped: usize,
+    white: WhiteLinesAhead<'_>,
     rows: &mut RowState,
     ctx: &mut DecoderContext,
     reader: &mut BitReader<'_>,
     decoder: &mut D,
 ) -> Result<()>
-    requires follow { MayFollow ctx.old.held.settings ctx.old.held.has_eols ctx.old.held.reference lines.now }
-    requires fits { dropped + length reader.old.bits + 64 < 2 ^ 64 }
+    requires follow { MayFollow ctx.old.held.settings ctx.old.held.has_eols ctx.old.held.reference white.lines.now }
+    requires fits { white.dropped + length reader.old.bits + 64 < 2 ^ 64 }
     ensures width { D.width decoder.new ≡ D.width decoder.old }
-    ensures pushes { PushesWhite (D.step (D.width decoder.old)) lines.now dropped
+    ensures pushes { PushesWhite (D.step (D.width decoder.old)) white.entry.lines.now white.entry.dropped
         (state_of D.Decoder decoder.old) (state_of D.Decoder decoder.new) rows.old rows.new ctx.old ctx.new reader.old
         reader.new result }
 {
-    push_white_in_order(lines, dropped, rows, ctx, reader, decoder)
+    push_white_in_order(white, rows, ctx, reader, decoder)
 }
 
 /// If a white row repeats whose line isn't short, reads lines and passes their rows as `push_white_words` does; of data in pieces
-/// also short lines. Some bits of the data come before these.
+/// also short lines.
 #[inline(always)]
 pub fn push_white_rows<D: Decoder>(
     repeats: bool,
-    lines: &WhiteLines,
-    in_pieces: bool,
-    dropped: usize,
+    white: WhiteLinesAhead<'_>,
     rows: &mut RowState,
     ctx: &mut DecoderContext,
     reader: &mut BitReader<'_>,
     decoder: &mut D,
 ) -> Result<()>
     requires follow { repeats ≡ true
-        → MayFollow ctx.old.held.settings ctx.old.held.has_eols ctx.old.held.reference lines.now }
-    requires fits { dropped + length reader.old.bits + 64 < 2 ^ 64 }
+        → MayFollow ctx.old.held.settings ctx.old.held.has_eols ctx.old.held.reference white.lines.now }
+    requires fits { white.dropped + length reader.old.bits + 64 < 2 ^ 64 }
     ensures width { D.width decoder.new ≡ D.width decoder.old }
-    ensures pushes { PushesWhite (D.step (D.width decoder.old)) lines.now dropped
+    ensures pushes { PushesWhite (D.step (D.width decoder.old)) white.entry.lines.now white.entry.dropped
         (state_of D.Decoder decoder.old) (state_of D.Decoder decoder.new) rows.old rows.new ctx.old ctx.new reader.old
         reader.new result }
 {
     if !repeats {
         return Ok(());
     }
-    let least = if in_pieces { 0 } else { LEAST_BITS };
-    if !may_follow(lines, reader, least) {
+    let least = if white.in_pieces { 0 } else { LEAST_BITS };
+    if !may_follow(white.lines, reader, least) {
         return Ok(());
     }
-    if in_pieces {
-        return push_white_by_call(lines, dropped, rows, ctx, reader, decoder);
+    if white.in_pieces {
+        return push_white_by_call(white, rows, ctx, reader, decoder);
     }
-    push_white_in_order(lines, dropped, rows, ctx, reader, decoder)
+    push_white_in_order(white, rows, ctx, reader, decoder)
 }
 
 /// Reads the rows of an image and passes each to the sink, in every encoding, until EOFB or RTC (with `end_of_block`), the row
@@ -191,9 +197,12 @@ pub(crate) fn push_rows<D: Decoder>(
         let repeats = white_is_next(ctx, &mut lines, reader);
         // The number of bits is known to be small once it is read.
         let _length = bit_len(reader);
-        if let Err(refusal) = push_white_rows(
-            repeats, &lines, false, 0, &mut rows, ctx, reader, decoder,
-        ) {
+        let white = WhiteLinesAhead {
+            lines: &lines,
+            in_pieces: false,
+            dropped: 0,
+        };
+        if let Err(refusal) = push_white_rows(repeats, white, &mut rows, ctx, reader, decoder) {
             let repaired = ctx.damaged_rows();
             let cut = ctx.cut_rows();
             take_back_row(ctx, repaired, cut);

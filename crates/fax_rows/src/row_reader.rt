@@ -271,11 +271,10 @@ impl RowState {
         ensures stands { (from : ℕ) → IsStandingAtLine from self.old ctx.old reader.old
             → IsStanding from self.new ctx.new reader.new }
         ensures behind_row { OnOk result (self.new.stand ≡ Stand.BehindRow) }
-        ensures settings { ctx.new.held.settings ≡ ctx.old.held.settings }
+        ensures kept { (ctx.new.held.settings ≡ ctx.old.held.settings) × (ctx.new.held.has_eols ≡ ctx.old.held.has_eols) }
         ensures same_bits { reader.new.bits ≡ reader.old.bits }
         ensures put_back { OnErr result (reader.new ≡ reader.old) }
         ensures started { (self.new.started_at ≡ reader.old.place) × (reader.old.place ≤ length reader.old.bits) }
-        ensures has_eols { ctx.new.held.has_eols ≡ ctx.old.held.has_eols }
         ensures space { GrowsFor (most_stored ctx.old.held.reference
             (line_here ctx.old.held.settings ctx.old.held.reference (here reader.old))) ctx.old.space ctx.new.space }
     {

@@ -5,8 +5,9 @@ use Rattle.fax_encode.proofs.LinesByK.{shorter_is, marked_within, cut_to_mark}
 use Rattle.fax_encode.proofs.encoding.put_if_shorter.Goals as goal
 
 answered : (c : After-line_1d_takes_at_least) → c.line_1d_takes_at_least.result
-    ≡ leb (length (line_2d c.args.effort (pixels c.args.columns c.args.reference.now) (pixels c.args.columns c.args.changes.now)))
-    (length (line_1d c.args.effort (pixels c.args.columns c.args.changes.now)))
+    ≡ leb (length (line_2d c.args.effort (pixels c.args.columns c.args.rows.reference.now)
+    (pixels c.args.columns c.args.rows.changes.now)))
+    (length (line_1d c.args.effort (pixels c.args.columns c.args.rows.changes.now)))
 answered c = shorter_is (all_bits c.put.new.self) (all_bits c.put_line_2d.new.writer) _ _ _ c.bit_count-start.result
     c.bit_count.result c.line_1d_takes_at_least.result c.in_ok-put_line_2d.ensures c.bit_count-start.ensures c.bit_count.ensures
     refl c.line_1d_takes_at_least.ensures
@@ -22,10 +23,11 @@ returns-clause-shorter c = sym c.if-line_1d_takes_at_least.false
 
 -- the tag and the line
 tag_and_line : (c : After-line_1d_takes_at_least) → all_bits c.put_line_2d.new.writer ≡ all_bits c.args.writer.now
-    ++ (false ∷ line_2d c.args.effort (pixels c.args.columns c.args.reference.now) (pixels c.args.columns c.args.changes.now))
+    ++ (false ∷ line_2d c.args.effort (pixels c.args.columns c.args.rows.reference.now)
+    (pixels c.args.columns c.args.rows.changes.now))
 tag_and_line c =
-    let line : Bits = line_2d c.args.effort (pixels c.args.columns c.args.reference.now)
-    (pixels c.args.columns c.args.changes.now) in
+    let line : Bits = line_2d c.args.effort (pixels c.args.columns c.args.rows.reference.now)
+    (pixels c.args.columns c.args.rows.changes.now) in
     c.in_ok-put_line_2d.ensures ∙ ap (λ (b : Bits). b ++ line) c.in_ok-put.ensures
     ∙ append_assoc (all_bits c.args.writer.now) (false ∷ []) line
 

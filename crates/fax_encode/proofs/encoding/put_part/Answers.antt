@@ -5,8 +5,8 @@ use Rattle.fax_encode.proofs.encoding.put_part.Goals as goal
 pub returns-clause-written : goal.returns-clause-written
 returns-clause-written c =
     let old : Bits = all_bits c.args.writer.now in
-    let reference : Row = pixels c.args.columns c.args.reference.now in
-    let row : Row = pixels c.args.columns c.args.changes.now in
+    let reference : Row = pixels c.args.columns c.args.rows.reference.now in
+    let row : Row = pixels c.args.columns c.args.rows.changes.now in
     let line : Bits = chosen_line c.args.settings.effort c.args.settings.encoding c.args.left reference row in
     let none : has_eols c.args.settings.encoding c.args.settings.end_of_line ≡ false =
     sym c.eols_precede_lines.ensures ∙ c.if-eols_precede_lines.false in

@@ -5,7 +5,7 @@ use Rattle.fax_encode.proofs.white_rows.put_white_lines.Goals as goal
 
 pub rows-preserved : goal.rows-preserved
 rows-preserved c =
-    let white : Row = white_row c.args.columns in
+    let white : Row = white_row c.args.white.columns in
     let old : Bits = all_bits c.rows.writer in
     let new : Bits = all_bits c.put_white_line.new.writer in
     let some : c.rows.rows ≡ suc (c.rows.rows - 1) = omega (arith, c.rows-test.true) in

@@ -6,9 +6,9 @@ abbrev pub invariant-rows : goal.invariant-rows
 invariant-rows l = record {
   whole : EndsWhereAligned l.settings l.writer;
   written : (below : List Row) → all_bits l.writer ++ lines_left l.settings (length (all_bits l.writer)) l.now
-      (white_row l.columns) (replicate l.rows (white_row l.columns) ++ below) ≡ all_bits l.fn.writer
-      ++ lines_left l.settings (length (all_bits l.fn.writer)) l.left (white_row l.columns)
-      (replicate l.count (white_row l.columns) ++ below);
+      (white_row l.white.columns) (replicate l.rows (white_row l.white.columns) ++ below) ≡ all_bits l.fn.writer
+      ++ lines_left l.settings (length (all_bits l.fn.writer)) l.left (white_row l.white.columns)
+      (replicate l.white.count (white_row l.white.columns) ++ below);
 }
 
 abbrev pub decreases-rows : goal.decreases-rows

@@ -61,7 +61,7 @@ read_line-requires-clause-rows g c = grind (arith, common_steps, few, at_line_st
 
 pub push_row-requires : goal.push_row-requires
 push_row-requires g c =
-    let settings = c.read_line.ensures.settings ∙ c.rows.invariant.settings in
+    let settings = c.read_line.ensures.kept.0 ∙ c.rows.invariant.settings in
     AreChanges-wider c.read_line.new.ctx.held.settings.columns (g.D.Decoder.width c.rows.decoder) c.reference_row.result.now
     (omega (arith, c.requires.width, c.rows.invariant.width, ap (λ (s : DecodeSettings). s.columns) settings))
     c.reference_row.ensures.lawful
@@ -94,7 +94,7 @@ returns-in_err-read_line-clause-rows g c =
     let inv = c.rows.invariant in
     let error = (line_fails g there c.in_err-read_line.was).error in
     rw (answer.1, answer.2) (rows_ended c.requires.begins.columns c.read_line.new.self
-    (c.read_line.ensures.settings ∙ inv.settings)
+    (c.read_line.ensures.kept.0 ∙ inv.settings)
     (c.read_line.ensures.same_bits ∙ inv.bits) (stands g there) error.1 inv.within inv.meaning inv.unrefused
     (Err c.in_err-read_line.field-0.0) error.0)
 
@@ -199,8 +199,8 @@ white-init g c =
       width = c.push_white_rows.ensures.width ∙ c.push_row.ensures.same_width ∙ inv.width;
       unrefused = came.1 ∙ c.in_default.ensures.not_refused ∙ inv.unrefused;
       space = rw (ap (λ (x : Context). x.space) counted.same) (room_there g (goal.at.white-init g c).After-read_line);
-      unsought = λ is. ap (λ (x : Context). x.held.has_eols) counted.same ∙ c.read_line.ensures.has_eols ∙ inv.unsought is;
-      known = subst (λ (s : DecodeSettings). AreKnown s c.white_is_next-repeats.new.lines) (c.read_line.ensures.settings
+      unsought = λ is. ap (λ (x : Context). x.held.has_eols) counted.same ∙ c.read_line.ensures.kept.1 ∙ inv.unsought is;
+      known = subst (λ (s : DecodeSettings). AreKnown s c.white_is_next-repeats.new.lines) (c.read_line.ensures.kept.0
           ∙ inv.settings) c.white_is_next-repeats.ensures.known;
       follow = λ is. subst (λ (x : Context). MayFollow x.held.settings x.held.has_eols x.held.reference
           c.white_is_next-repeats.new.lines) (sym counted.same) (c.white_is_next-repeats.ensures.follow is);

@@ -14,8 +14,8 @@ pub many-init : goal.many-init
 many-init g c = grind (arith, common_steps, none_pushed)
 
 -- a line is passed
-passes : (g : Over) (c : After-push_row g) → PassesLine c.args.lines.now c.many.words.at c.pass_placed_line.new.words.at
-passes g c = c.pass_placed_line.ensures.passed c.args.lines.now c.if-not-pass_placed_line.false c.many.invariant.placed
+passes : (g : Over) (c : After-push_row g) → PassesLine c.args.white.lines.now c.many.words.at c.pass_placed_line.new.words.at
+passes g c = c.pass_placed_line.ensures.passed c.args.white.lines.now c.if-not-pass_placed_line.false c.many.invariant.placed
 
 pub take_white_rows-requires : goal.take_white_rows-requires
 take_white_rows-requires g c = grind (arith, common_steps)
@@ -28,10 +28,10 @@ returns-in-Err-clause-pushes g c =
     let here = (goal.at.returns-in-Err-clause-pushes g c).After-push_row in
     let inv = c.many.invariant in
     one_refused inv.pushed c.requires.follow
-    (c.rows_left-most.ensures ∙ ap (λ (n : ℕ). c.args.lines.now.limit - n) c.decoded_rows.ensures)
+    (c.rows_left-most.ensures ∙ ap (λ (n : ℕ). c.args.white.lines.now.limit - n) c.decoded_rows.ensures)
     c.many-test.true (passes g here)
     (c.take_white_rows.ensures.kept ∙ ap (λ (n : ℕ). record {
-      started_at = c.args.dropped + n + c.args.lines.now.gap;
+      started_at = c.args.white.dropped + n + c.args.white.lines.now.gap;
       damage = None;
       cut = false;
       missed = None;

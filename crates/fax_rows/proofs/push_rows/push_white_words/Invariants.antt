@@ -7,12 +7,12 @@ use Rattle.fax_rows.proofs.push_rows.push_white_words.Given as goal
 abbrev pub invariant-many : goal.invariant-many
 invariant-many g l = record {
   pushed : HasPushedWhite (g.D.Decoder.step (g.D.Decoder.width l.fn.decoder))
-      l.fn.lines l.fn.dropped l.most l.count l.start l.fn.rows
+      l.fn.white.lines.now l.fn.white.dropped l.most l.count l.start l.fn.rows
       l.fn.ctx l.fn.reader l.words.at (g.D.Decoder.meaning l.fn.decoder) (g.D.Decoder.meaning l.decoder);
   rows : l.rows ≡ l.fn.rows;
   ctx : l.ctx ≡ l.fn.ctx;
   reader : l.reader ≡ l.fn.reader;
-  placed : ArePlacedLines l.words.order l.fn.lines l.placed;
+  placed : ArePlacedLines l.words.order l.fn.white.lines.now l.placed;
   bits : l.words.at.bits ≡ l.fn.reader.bits;
   within : l.start ≤ length l.fn.reader.bits;
   width : g.D.Decoder.width l.decoder ≡ g.D.Decoder.width l.fn.decoder;
