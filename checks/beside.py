@@ -1,9 +1,10 @@
 """What an `rt ci` makes that runs beside other checks of the same files: libraries and programs."""
-import hashlib
 import os
 import re
 import shutil
 import time
+
+from built import put
 
 
 # How often a folder is copied again, a second later each time, if it changes meanwhile.
@@ -74,8 +75,5 @@ class Beside:
             with open(f"{os.path.dirname(own)}/stamp", "w", encoding="utf-8") as file:
                 file.write(crate.stamp())
         else:
-            os.makedirs(os.path.dirname(own), exist_ok=True)
-            shutil.copy2(built, own)
-            with open(own, "rb") as program, open(f"{own}.stamp", "w", encoding="utf-8") as file:
-                file.write(crate.stamp() + hashlib.sha256(program.read()).hexdigest())
+            put(built, own, crate)
         return True

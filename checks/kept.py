@@ -4,6 +4,7 @@ import os
 import shutil
 
 import edits
+from built import is_newest, put
 
 BUILT = {"hayro_ccitt_c": "libhayro_ccitt_c.a", "faxrows": "faxrows", "faxpack": "faxpack"}
 # how many builds of each are kept
@@ -22,12 +23,13 @@ def places(name):
 
 
 def take(name):
-    """Copies what was built of the same files to where `rt` builds it. Returns whether there is such a build."""
+    """Puts what was built of the same files where `rt` builds it, unless it is there already. Returns whether it is there."""
     built, kept = places(name)
+    if is_newest(built, name):
+        return True
     if not os.path.exists(kept):
         return False
-    os.makedirs(os.path.dirname(built), exist_ok=True)
-    shutil.copy(kept, built)
+    put(kept, built, crates()[name])
     return True
 
 

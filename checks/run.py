@@ -40,7 +40,6 @@ import released  # noqa: E402
 import repository  # noqa: E402
 import row_by_row  # noqa: E402
 import users  # noqa: E402
-from built import is_newest  # noqa: E402
 from left_out import LEFT_OUT  # noqa: E402
 
 
@@ -49,7 +48,7 @@ def build(name, path):
     and builds it here, and runs it with its stored arguments and input. Its status is the program's own if it was built, so that a
     program of an older build is never used.
     """
-    if is_newest(path, name) or kept.take(name):
+    if kept.take(name):
         return
     folder = f"crates/{name}"
     with open(f"{folder}/args", encoding="utf-8") as file:
