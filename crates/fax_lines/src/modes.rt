@@ -494,42 +494,6 @@ fn draw_runs_in_row(
     }
 }
 
-/// Draws two runs of one code word each that end before the row does: the most frequent case. Returns `None`, and changes
-/// nothing, if they aren't of that kind.
-#[inline(always)]
-fn draw_short_runs(
-    hand: &mut BitsAtHand<'_>,
-    row: &mut Vec<u32>,
-    line: &CodingLine<'_>,
-    stroke: Stroke,
-    ticks: &mut Ticks,
-) -> Option<Stroke>
-    requires mode { IsNextMode Mode.Horizontal 3 hand.old }
-    requires enough { 16 ≤ hand.old.left }
-    requires can { CanDraw line.now stroke hand.old row.old }
-    ensures drawn { IfSome result (λ next. DrawsMode line.now stroke hand.old row.old ticks.old next hand.new row.new ticks.new) }
-    ensures left { IfNone result ((hand.new ≡ hand.old) × (row.new ≡ row.old) × (ticks.new ≡ ticks.old)) }
-    ensures kept { KeepsRoom hand.old row.old hand.new row.new }
-{
-    let runs = pair_at_hand(hand, 3, stroke.color)?;
-    if runs.first + runs.second >= line.columns - stroke.painted {
-        return None;
-    }
-    let place = stroke.painted + runs.first + runs.second;
-    hand.pass(3);
-    hand.pass(runs.width);
-    ticks.tick();
-    tick_times(ticks, runs.words);
-    turn_at(row, stroke.painted + runs.first);
-    turn_at(row, place);
-    let index = seek_b1(line, place, stroke.index, ticks);
-    Some(Stroke {
-        painted: place,
-        index,
-        ..stroke
-    })
-}
-
 /// Draws a run up to the row's end and an empty one. Returns `None`, and draws nothing, if the row doesn't end there.
 #[inline(always)]
 fn draw_last_run(
@@ -564,7 +528,7 @@ fn draw_last_run(
 
 /// Draws two runs of one or two code words each. Returns `None`, and draws nothing, if they aren't of the usual kind.
 #[inline(always)]
-fn draw_runs_of_words(
+fn draw_horizontal(
     hand: &mut BitsAtHand<'_>,
     row: &mut Vec<u32>,
     line: &CodingLine<'_>,
@@ -591,27 +555,6 @@ fn draw_runs_of_words(
     hand.pass(3);
     hand.pass(runs.width);
     Some(draw_runs_in_row(row, line, stroke, runs, ticks))
-}
-
-/// Draws two runs. Returns `None`, and draws nothing, if they aren't of the usual kind.
-#[inline(always)]
-fn draw_horizontal(
-    hand: &mut BitsAtHand<'_>,
-    row: &mut Vec<u32>,
-    line: &CodingLine<'_>,
-    stroke: Stroke,
-    ticks: &mut Ticks,
-) -> Option<Stroke>
-    requires mode { IsNextMode Mode.Horizontal 3 hand.old }
-    requires enough { 16 ≤ hand.old.left }
-    requires can { CanDraw line.now stroke hand.old row.old }
-    ensures drawn { DrawsSome line.now stroke hand.old row.old ticks.old result hand.new row.new ticks.new }
-    ensures kept { KeepsRoom hand.old row.old hand.new row.new }
-{
-    match draw_short_runs(hand, row, line, stroke, ticks) {
-        None => draw_runs_of_words(hand, row, line, stroke, ticks),
-        Some(reached) => Some(reached),
-    }
 }
 
 /// Draws a vertical mode that is here, read with the number of its bits. Returns `None`, and draws nothing, if it isn't of the

@@ -1,5 +1,5 @@
 use Rattle.fax_lines.proofs.Names.{arith}
-use Rattle.fax_lines.proofs.modes.draw_runs_of_words.Goals as goal
+use Rattle.fax_lines.proofs.modes.draw_horizontal.Goals as goal
 
 pub returns-clause-drawn : goal.returns-clause-drawn
 returns-clause-drawn c =
