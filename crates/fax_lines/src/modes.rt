@@ -424,25 +424,27 @@ fn has_long_runs(hand: &mut BitsAtHand<'_>, row: &Vec<u32>) -> bool
     hand.refill() && has_room_for_window(row)
 }
 
-/// Returns the two runs after a horizontal mode. Returns `None` if one of them is neither a terminating word nor a make-up word
-/// and a terminating word.
+/// Returns the two runs after a horizontal mode, and whether they were looked up together, so that neither is empty. Returns `None` if
+/// one of them is neither a terminating word nor a make-up word and a terminating word.
 #[inline(always)]
 fn runs_at_hand(
     hand: &mut BitsAtHand<'_>,
     row: &Vec<u32>,
     line: &CodingLine<'_>,
     color: Color,
-) -> Option<TwoRuns>
+) -> Option<(TwoRuns, bool)>
     requires enough { 16 ≤ hand.old.left }
     requires room { vec_len row.now + hand.old.left ≤ vec_capacity row.now }
     ensures same { hand.new.at ≡ hand.old.at }
-    ensures room { IfSome result (λ runs. vec_len row.now + hand.new.left ≤ vec_capacity row.now) }
-    ensures runs { IfSome result (λ runs. AreTwoRunsHere color (moved 3 hand.old.at) runs) }
-    ensures few { IfSome result (λ runs. (runs.first ≤ 4158) × (runs.second ≤ 4158) × (3 + runs.width ≤ hand.new.left)) }
-    ensures narrow { IfSome result (λ runs. runs.width ≤ 52) }
+    ensures room { IfSome result (λ read. vec_len row.now + hand.new.left ≤ vec_capacity row.now) }
+    ensures runs { IfSome result (λ read. AreTwoRunsHere color (moved 3 hand.old.at) read.0) }
+    ensures few { IfSome result
+        (λ read. (read.0.first ≤ 4158) × (read.0.second ≤ 4158) × (3 + read.0.width ≤ hand.new.left)) }
+    ensures narrow { IfSome result (λ read. read.0.width ≤ 52) }
+    ensures some { IfSome result (λ read. read.1 ≡ true → (0 < read.0.first) × (0 < read.0.second)) }
 {
     if let Some(runs) = pair_at_hand(hand, 3, color) {
-        return Some(runs);
+        return Some((runs, true));
     }
     if !has_long_runs(hand, row) {
         return None;
@@ -450,12 +452,13 @@ fn runs_at_hand(
     let (first, width, words) = run_at_hand(hand, 3, color, line.tables.lookup(color))?;
     let other = color.opposite();
     let (second, width2, words2) = run_at_hand(hand, 3 + width, other, line.tables.lookup(other))?;
-    Some(TwoRuns {
+    let runs = TwoRuns {
         first,
         second,
         width: width + width2,
         words: words + words2,
-    })
+    };
+    Some((runs, false))
 }
 
 /// Draws two runs that end in the row or with it, whose bits are passed before or after this. Returns the stroke that is reached then.
@@ -541,15 +544,16 @@ fn draw_horizontal(
     ensures drawn { DrawsSome line.now stroke hand.old row.old ticks.old result hand.new row.new ticks.new }
     ensures kept { KeepsRoom hand.old row.old hand.new row.new }
 {
-    let runs = runs_at_hand(hand, row, line, stroke.color)?;
-    if runs.second == 0 {
-        return draw_last_run(hand, row, line, stroke, runs, ticks);
+    let (runs, are_some) = runs_at_hand(hand, row, line, stroke.color)?;
+    if !are_some {
+        if runs.second == 0 {
+            return draw_last_run(hand, row, line, stroke, runs, ticks);
+        }
+        if !is_next(row, runs.first) {
+            return None;
+        }
     }
-    if !is_next(row, runs.first) {
-        return None;
-    }
-    let room = line.columns - stroke.painted;
-    if runs.first + runs.second > room {
+    if runs.first + runs.second > line.columns - stroke.painted {
         return None;
     }
     hand.pass(3);
