@@ -30,8 +30,8 @@ ghost use Rattle.fax_reading.specs.Space.{most_stored};
 use crate::Decoder;
 use crate::changes::{append_pixels, b1_index, change_or_end, vertical_place};
 use crate::modes::{
-    CodingLine, draw_modes, has_mode, has_no_room, is_sparse, is_white_row, is_wide, lay_down_row,
-    next_color, put_ends, repeat_changes, take_ends,
+    CodingLine, draw_modes, has_mode, has_no_room, has_room_for_window, is_sparse, is_white_row,
+    is_wide, lay_down_row, next_color, put_ends, repeat_changes, take_ends,
 };
 use crate::usual::{RunsOfLine, draw_long_pairs, draw_runs, lay_down, take_up, turn_at};
 use crate::white_lines::{WhiteLines, may_follow, none_known, white_lines};
@@ -711,7 +711,7 @@ impl DecoderContext {
         ensures { DrawsUsualModes self.old self.new reader.old reader.new }
     {
         // Of the first such line nothing is known but the row before it, which plain calls drew.
-        if has_no_room(&self.coding_changes) {
+        if !has_room_for_window(&self.coding_changes) {
             self.suits_groups = self.ref_changes.len() >= MANY_CHANGES;
         }
         let mut hand = window_at_hand(reader);

@@ -61,10 +61,18 @@ struct VerticalMode {
 /// Returns whether there is room for as many changes as the window has bits: a code word stores no more changes than it has
 /// bits.
 #[inline(always)]
-fn has_room_for_window(row: &Vec<u32>) -> bool
+pub(crate) fn has_room_for_window(row: &Vec<u32>) -> bool
     ensures { result ≡ true → vec_len row.now + 64 ≤ vec_capacity row.now }
 {
     row.len() + 64 <= row.capacity()
+}
+
+/// Returns whether there is room for as many changes as the window has bits left.
+#[inline(always)]
+fn has_room_for_bits(hand: &BitsAtHand<'_>, row: &Vec<u32>) -> bool
+    ensures { result ≡ true → vec_len row.now + hand.now.left ≤ vec_capacity row.now }
+{
+    hand.left() <= row.capacity() - row.len()
 }
 
 /// Fills the window if it has fewer than 32 bits, and makes room for its changes; returns false if it can't be filled, or there is no
@@ -1200,6 +1208,37 @@ fn pass_both_runs(hand: &mut BitsAtHand<'_>, color: Color, tables: &Tables) -> O
     })
 }
 
+/// Passes horizontal mode and its two runs, of any number of code words. Returns the runs, and whether they were looked up together, so
+/// that neither is empty. Returns `None` if they aren't all at hand, or there is no room for the changes of a window that was filled;
+/// the offset is unspecified then.
+#[inline(always)]
+fn pass_runs(
+    hand: &mut BitsAtHand<'_>,
+    row: &Vec<u32>,
+    line: &CodingLine<'_>,
+    color: Color,
+) -> Option<(TwoRuns, bool)>
+    requires enough { 16 ≤ hand.old.left }
+    requires room { vec_len row.now + hand.old.left ≤ vec_capacity row.now }
+    ensures runs { IfSome result (λ read. AreTwoRunsHere color (moved 3 hand.old.at) read.0) }
+    ensures moved { IfSome result (λ read. hand.new.at ≡ moved read.0.width (moved 3 hand.old.at)) }
+    ensures below { IfSome result (λ read. (read.0.first < 2 ^ 31) × (read.0.second < 2 ^ 31)) }
+    ensures some { IfSome result (λ read. read.1 ≡ true → (0 < read.0.first) × (0 < read.0.second)) }
+    ensures room { IfSome result (λ read. vec_len row.now + 2 + hand.new.left ≤ vec_capacity row.now) }
+{
+    if let Some(runs) = pair_at_hand(hand, 3, color) {
+        hand.pass(3);
+        hand.pass(runs.width);
+        return Some((runs, true));
+    }
+    let runs = pass_both_runs(hand, color, line.tables)?;
+    let room = row.capacity() - row.len();
+    if room < 2 || hand.left() > room - 2 {
+        return None;
+    }
+    Some((runs, false))
+}
+
 /// Draws two runs of any number of code words. Returns `None`, and draws nothing, if they aren't of the usual kind.
 #[inline(always)]
 fn draw_long_runs(
@@ -1210,36 +1249,32 @@ fn draw_long_runs(
     ticks: &mut Ticks,
 ) -> Option<Stroke>
     requires mode { IsNextMode Mode.Horizontal 3 hand.old }
+    requires enough { 16 ≤ hand.old.left }
     requires can { CanDraw line.now stroke hand.old row.old }
     ensures drawn { DrawsSome line.now stroke hand.old row.old ticks.old result hand.new row.new ticks.new }
     ensures kept { KeepsRoom hand.old row.old hand.new row.new }
 {
     let mut rest = hand.copy();
-    let runs = pass_both_runs(&mut rest, stroke.color, line.tables)?;
+    let (runs, are_some) = pass_runs(&mut rest, row, line, stroke.color)?;
     let room = line.columns - stroke.painted;
-    if runs.first + runs.second > room {
-        return None;
-    }
-    // A window has at most 64 bits, and two words were passed.
-    if rest.left() > 62 {
-        return None;
-    }
-    if !has_room_for_window(row) {
-        return None;
-    }
-    if runs.second == 0 {
-        if runs.first != room {
+    if !are_some {
+        if runs.second == 0 {
+            if runs.first != room {
+                return None;
+            }
+            *hand = rest;
+            ticks.tick();
+            tick_times(ticks, runs.words);
+            return Some(Stroke {
+                painted: line.columns,
+                ..stroke
+            });
+        }
+        if !is_next(row, runs.first) {
             return None;
         }
-        *hand = rest;
-        ticks.tick();
-        tick_times(ticks, runs.words);
-        return Some(Stroke {
-            painted: line.columns,
-            ..stroke
-        });
     }
-    if !is_next(row, runs.first) {
+    if runs.first + runs.second > room {
         return None;
     }
     *hand = rest;
@@ -1402,14 +1437,12 @@ fn draw_each_mode(
 {
     let mut now = stroke;
     'modes: for _ in 0..24 {
-        if !has_room_for_window(row) {
-            return (now, true);
-        }
         if !has_next_mode(hand, row) {
             return (now, true);
         }
         match draw_any_mode(hand, row, line, now, ticks) {
-            None => return (now, false),
+            // Other loops make room.
+            None => return (now, has_room_for_bits(hand, row)),
             Some(next) => {
                 if next.painted == line.columns {
                     return (next, false);
@@ -1452,7 +1485,7 @@ fn draw_few_modes(
         color: Color::White,
     };
     // The row's end stands six times behind the changes.
-    if !is_sparse(line.columns, line.places.len().saturating_sub(6)) {
+    if line.places.len() > 8 && !is_sparse(line.columns, line.places.len().saturating_sub(6)) {
         return (start, true);
     }
     draw_each_mode(hand, row, line, start, ticks)

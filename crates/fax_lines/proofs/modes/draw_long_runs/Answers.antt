@@ -10,7 +10,7 @@ returns-then-runs-eq0-clause-drawn c =
     let columns = a.line.now.columns in
     let runs = c.in_ok-runs in
     let there = rw c.copy-rest.ensures at runs.ensures.runs in
-    let first : a.stroke.painted + runs.runs.first ≡ columns = omega (arith, c.if-runs-room-2.false, can.inside) in
+    let first : a.stroke.painted + runs.runs.first ≡ columns = omega (arith, c.if-runs-room.false, can.inside) in
     let end : a.stroke.painted + runs.runs.first + runs.runs.second ≡ columns = omega (arith, first, c.if-runs-eq0.true) in
     let on = horizontal_on can.ended.lawful can.inside can.reached {strict = a.line.now.strict} a.hand.now.at
     a.stroke.index {ticks = a.ticks.now} {now = c.tick_times.new.ticks} c.requires.mode.read there
@@ -18,7 +18,7 @@ returns-then-runs-eq0-clause-drawn c =
     (omega (arith, c.tick.ensures, c.tick_times.ensures)) in
     rw (runs.ensures.moved, c.copy-rest.ensures) (draws_mode (rw (end, first, pixels-pending) at on)
     (full_stroke can.ended.lawful can.inside can.reached) (omega arith)
-    (omega (arith, c.if-left-gt62.false, c.if-not-has_room_for_window.ensures refl, c.left.ensures)))
+    (omega (arith, runs.ensures.room)))
 
 pub returns-clause-drawn : goal.returns-clause-drawn
 returns-clause-drawn c =
@@ -26,15 +26,8 @@ returns-clause-drawn c =
     let next = c.draw_runs_in_row.ensures in
     let moved = rw c.copy-rest.ensures at runs.ensures.moved in
     record {
-      drawn = next.drawn c.args.hand.now c.pass_both_runs.new.hand c.requires.mode (rw c.copy-rest.ensures at runs.ensures.runs)
+      drawn = next.drawn c.args.hand.now c.pass_runs.new.hand c.requires.mode (rw c.copy-rest.ensures at runs.ensures.runs)
           moved;
       onward = rw moved (omega arith);
-      room = omega (
-        arith,
-        c.if-left-gt62.false,
-        c.if-not-has_room_for_window.ensures refl,
-        c.left.ensures,
-        next.count,
-        next.space,
-      );
+      room = omega (arith, runs.ensures.room, next.count, next.space);
     }
