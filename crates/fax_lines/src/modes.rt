@@ -1277,8 +1277,9 @@ fn draw_long_runs(
     if runs.first + runs.second > room {
         return None;
     }
+    let reached = draw_runs_in_row(row, line, stroke, runs, ticks);
     *hand = rest;
-    Some(draw_runs_in_row(row, line, stroke, runs, ticks))
+    Some(reached)
 }
 
 /// Draws V0: a change below b1, or the rest of the row.

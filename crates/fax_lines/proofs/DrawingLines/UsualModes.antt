@@ -305,9 +305,6 @@ module _ {columns : ℕ} {places : List ℕ} {painted index : ℕ} {color : Colo
       }
 
   -- those of two runs
-  pub horizontal_near : (later : ℕ) → painted ≤ later → IsNear columns places later index
-  horizontal_near later le = near_later columns places ascend painted later index le (stroke.at open_row).near
-
   first_lawful : (run : ℕ) → (0 < run) ⊎ (row ≡ []) → AreChanges (painted + run) row
   first_lawful run next = next_lawful painted run row stroke.lawful next
 

@@ -23,7 +23,7 @@ returns-then-runs-eq0-clause-drawn c =
 pub returns-clause-drawn : goal.returns-clause-drawn
 returns-clause-drawn c =
     let runs = c.in_ok-runs in
-    let next = c.draw_runs_in_row.ensures in
+    let next = c.draw_runs_in_row-reached.ensures in
     let moved = rw c.copy-rest.ensures at runs.ensures.moved in
     record {
       drawn = next.drawn c.args.hand.now c.pass_runs.new.hand c.requires.mode (rw c.copy-rest.ensures at runs.ensures.runs)
