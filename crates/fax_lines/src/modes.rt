@@ -25,6 +25,11 @@ use fax_bits::tables::Tables;
 use fax_bits::words_at_hand::pass_run;
 use std::mem;
 
+/// How often the row's end stands behind the changes of the reference row.
+const ENDS: usize = 6;
+/// A line is likely to have few modes if its reference row has no more places: two changes, and the row's ends.
+const FEW_PLACES: usize = 2 + ENDS;
+
 /// What doesn't change while a line is drawn.
 #[derive(Clone, Copy)]
 pub(crate) struct CodingLine<'a> {
@@ -1485,8 +1490,8 @@ fn draw_few_modes(
         index: 0,
         color: Color::White,
     };
-    // The row's end stands six times behind the changes.
-    if line.places.len() > 8 && !is_sparse(line.columns, line.places.len().saturating_sub(6)) {
+    let places = line.places.len();
+    if places > FEW_PLACES && !is_sparse(line.columns, places.saturating_sub(ENDS)) {
         return (start, true);
     }
     draw_each_mode(hand, row, line, start, ticks)
