@@ -65,7 +65,7 @@ class Beside:
             time.sleep(3)
 
     def take_built(self, crate):
-        """Copies a proved crate's library or program, so that `rt` takes it for its own. Returns whether there is one."""
+        """Copies a proved crate's library, so that `rt` takes it for its own, or its program. Returns whether there is one."""
         path = f"rlib/{crate.name}.rlib" if crate.makes_rlib() else crate.name
         built, own = f"{self.checkout}/crates/{crate.name}/out/{path}", f"{crate.folder}/out/{path}"
         if not os.path.exists(built):
@@ -75,5 +75,5 @@ class Beside:
             with open(f"{os.path.dirname(own)}/stamp", "w", encoding="utf-8") as file:
                 file.write(crate.stamp())
         else:
-            put(built, own, crate)
+            put(built, own)
         return True

@@ -1,7 +1,7 @@
-"""Programs and libraries as they are built: whether one is newer than everything that it is built from, and a copy in its place."""
-import hashlib
+"""What is built: by `make`, whether it is newer than everything that it is built from, and a copy of it in its place."""
 import os
 import shutil
+import subprocess
 
 
 def with_libraries(crate):
@@ -25,13 +25,16 @@ def is_newest(path, crate):
     return True
 
 
-def put(path, own, crate):
-    """Puts a copy of a crate's program or library where `rt` builds it, so that `rt` takes a program for its own. The copy is written
-    under another name first: a file that is being written can't be run, and one that is running can't be written."""
+def put(path, own):
+    """Puts a copy of a program or library in its place. It is written under another name first: a file that is being written can't be run,
+    and one that is running can't be written."""
     os.makedirs(os.path.dirname(own), exist_ok=True)
     part = f"{own}.{os.getpid()}"
     shutil.copy(path, part)
-    if crate.is_program:
-        with open(part, "rb") as program, open(f"{own}.stamp", "w", encoding="utf-8") as file:
-            file.write(crate.stamp() + hashlib.sha256(program.read()).hexdigest())
     os.replace(part, own)
+
+
+def made_by(*words):
+    """Runs `make`."""
+    done = subprocess.run(["make", *words], capture_output=True, text=True, errors="replace", check=False)
+    assert done.returncode == 0, done.stdout[-2000:] + done.stderr[-2000:]

@@ -8,7 +8,7 @@ import tempfile
 
 import kept
 import program
-from built import is_newest
+from built import is_newest, made_by
 
 # The library as `make` builds it, and with its C compiled for AddressSanitizer, UndefinedBehaviorSanitizer and LeakSanitizer. What is
 # proved is the same in both: its accesses are watched by pages around the caller's memory (lent.h).
@@ -67,20 +67,10 @@ def build():
             continue
         linked = [word for word in flags if word.startswith("-fsanitize")]
         words = [f"BUILD=build/checked/{name}", f"PREFIX={INSTALLED[name]}", f"CFLAGS={' '.join(flags)}", f"LDFLAGS={' '.join(linked)}"]
-        # what is proved is built once
-        if name != "plain" or all([kept.take(crate) for crate in kept.BUILT]):
-            words.append("RT=true")
+        for crate in kept.BUILT:
+            kept.have(crate)
         for target in ("all", "install"):
-            made_by(*words, target)
-        if "RT=true" not in words:
-            for crate in kept.BUILT:
-                kept.keep(crate)
-
-
-def made_by(*words):
-    """Runs `make`."""
-    done = subprocess.run(["make", *words], capture_output=True, text=True, check=False)
-    assert done.returncode == 0, done.stdout[-2000:] + done.stderr[-2000:]
+            made_by("RT=true", *words, target)
 
 
 def compiled(out, *words, build="plain"):

@@ -4,9 +4,11 @@ import os
 import shutil
 
 import edits
-from built import is_newest, put
+from built import is_newest, made_by, put
 
 BUILT = {"hayro_ccitt_c": "libhayro_ccitt_c.a", "faxrows": "faxrows", "faxpack": "faxpack"}
+# the Makefile's rules that build them
+RULES = {"hayro_ccitt_c": "prove-library", "faxrows": "prove-programs", "faxpack": "prove-programs"}
 # how many builds of each are kept
 MOST = 6
 
@@ -23,14 +25,23 @@ def places(name):
 
 
 def take(name):
-    """Puts what was built of the same files where `rt` builds it, unless it is there already. Returns whether it is there."""
+    """Puts what was built of the same files where `rt` builds it. Returns whether there is such a build."""
     built, kept = places(name)
-    if is_newest(built, name):
-        return True
     if not os.path.exists(kept):
         return False
-    put(kept, built, crates()[name])
+    put(kept, built)
     return True
+
+
+def have(name):
+    """Builds a crate's library or program, unless the one that is there is newer than all its files, or an earlier run on this machine
+    built it of the same files. A program that is there isn't built again, since checks may be running it."""
+    if is_newest(places(name)[0], name) or take(name):
+        return
+    made_by(RULES[name])
+    for crate, rule in RULES.items():
+        if rule == RULES[name]:
+            keep(crate)
 
 
 def keep(name):

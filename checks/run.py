@@ -43,23 +43,6 @@ import users  # noqa: E402
 from left_out import LEFT_OUT  # noqa: E402
 
 
-def build(name, path):
-    """A program as LLVM builds it. The gate builds it; if a file is newer and no earlier run built it of the same files, `rt run` proves
-    and builds it here, and runs it with its stored arguments and input. Its status is the program's own if it was built, so that a
-    program of an older build is never used.
-    """
-    if kept.take(name):
-        return
-    folder = f"crates/{name}"
-    with open(f"{folder}/args", encoding="utf-8") as file:
-        words = file.read().splitlines()
-    with open(f"{folder}/stdin", "rb") as stored:
-        done = subprocess.run(["rt", "run", "--", *words], cwd=folder, stdin=stored, capture_output=True, check=False)
-    if done.returncode != 0 or not os.path.exists(path):
-        print(done.stdout.decode(errors="replace")[-2000:], done.stderr.decode(errors="replace")[-2000:])
-        sys.exit(f"{name} was not built")
-
-
 FILES = [
     repository, program, built_tests, packing, c_library, row_by_row, feed, encoder, refusals, devices, cuts, damage_by_k, hostile, memory, large, installed, users, files, fax, fax_others, inline_images, released, clients, cost,
 ]
@@ -130,8 +113,8 @@ def main():
         summary(int(passed), int(not passed), LEFT_OUT)
     chosen = [it for it in FILES if not words or (it.__name__ in words) != (words[0] == "--without")]
     if {*chosen} - {repository, built_tests}:
-        build("faxrows", program.PROGRAM)
-        build("faxpack", packing.PROGRAM)
+        kept.have("faxrows")
+        kept.have("faxpack")
     passed, failed, left_out = 0, 0, []
     for *lines, last in map(str.splitlines, run_in_parallel(chosen)):
         print(*lines, sep="\n", flush=True)

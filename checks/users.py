@@ -9,6 +9,7 @@ import tempfile
 import threading
 
 import c_library
+from built import made_by
 from left_out import leave_out
 
 PAGES = ["README.md", "docs/USING.md"]
@@ -22,7 +23,7 @@ ELSEWHERE = ("make ", "tar xzf ", "apt-get ", "python3 -m pip ", "export ", "cc 
 def make():
     """The library and the programs in build/, as the pages' commands need them, of what is proved and built by now."""
     c_library.build()
-    c_library.made_by("RT=true")
+    made_by("RT=true")
 
 
 def commands(page):
