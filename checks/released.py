@@ -273,7 +273,7 @@ def crates_in_another_repository():
 
 
 def python_package():
-    """The tests of python/, by an interpreter that has pytest, over the shared library."""
+    """The tests of bindings/python, by an interpreter that has pytest, over the shared library."""
     interpreters = [it for it in (sys.executable, "/usr/bin/python3") if os.path.exists(it)]
     found = [it for it in interpreters if subprocess.run([it, "-c", "import pytest"], capture_output=True, check=False).returncode == 0]
     if not found:
@@ -283,7 +283,7 @@ def python_package():
     with tempfile.TemporaryDirectory() as folder:
         run(["make", "-s", "RT=true", f"BUILD={folder}", f"{folder}/libhayro_ccitt.so"])
         library = {**os.environ, "HAYRO_CCITT_LIBRARY": f"{folder}/libhayro_ccitt.so"}
-        told = run([found[0], "-m", "pytest", "-q", "-rs", "-p", "no:cacheprovider", "python/tests"], env=library)
+        told = run([found[0], "-m", "pytest", "-q", "-rs", "-p", "no:cacheprovider", "bindings/python/tests"], env=library)
     print(f"  {told.strip().splitlines()[-1]}")
     for module, test in (("PIL", "Pillow"), ("pypdf", "pypdf"), ("pikepdf", "pikepdf")):
         if f"could not import '{module}" in told:

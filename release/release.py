@@ -279,12 +279,13 @@ def wheel(build, version, told, epoch):
         fail(f"the library needs a newer C library than {MANYLINUX}, which the wheel's name says")
     interface = version.rpartition(".")[0]
     for name, line in (("__init__", f'__version__ = "{version}"'), ("_library", f'SONAME = "libhayro_ccitt.so.{interface}"')):
-        if line not in read(f"python/hayro_ccitt/{name}.py").decode():
-            fail(f"python/hayro_ccitt/{name}.py isn't of version {version}")
+        if line not in read(f"bindings/python/hayro_ccitt/{name}.py").decode():
+            fail(f"bindings/python/hayro_ccitt/{name}.py isn't of version {version}")
     tag = f"py3-none-manylinux_{MANYLINUX[0]}_{MANYLINUX[1]}_x86_64"
     about = f"hayro_ccitt-{version}.dist-info"
     metadata = f"Metadata-Version: 2.1\nName: hayro_ccitt\nVersion: {version}\nSummary: A {DESCRIPTION}\nRequires-Python: >=3.9\n"
-    files = {name.removeprefix("python/"): read(name) for name in tracked() if re.match(r"python/hayro_ccitt/[^/]+(\.py|py\.typed)$", name)}
+    modules = [name for name in tracked() if re.match(r"bindings/python/hayro_ccitt/[^/]+(\.py|py\.typed)$", name)]
+    files = {name.removeprefix("bindings/python/"): read(name) for name in modules}
     files |= {
         "hayro_ccitt/libhayro_ccitt.so": read(library),
         f"{about}/METADATA": metadata.encode(),

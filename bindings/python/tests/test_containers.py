@@ -65,7 +65,7 @@ def test_pillow(compression, tmp_path):
 
 
 def check_command(path, folder):
-    done = subprocess.run([sys.executable, "-m", "hayro_ccitt", str(path), str(folder / "picture")], capture_output=True, text=True, cwd=ROOT / "python")
+    done = subprocess.run([sys.executable, "-m", "hayro_ccitt", str(path), str(folder / "picture")], capture_output=True, text=True, cwd=ROOT / "bindings/python")
     assert (done.returncode, done.stdout, done.stderr) == (0, "image 0: 1240 x 1754: ok\n", "")
     assert (folder / "picture-0.pbm").read_bytes() == SHOWN
 
@@ -173,5 +173,5 @@ def is_there(name):
 def test_the_command_says_why(file, tmp_path):
     path = tmp_path / "file"
     path.write_bytes(file)
-    done = subprocess.run([sys.executable, "-m", "hayro_ccitt", str(path)], capture_output=True, text=True, cwd=ROOT / "python")
+    done = subprocess.run([sys.executable, "-m", "hayro_ccitt", str(path)], capture_output=True, text=True, cwd=ROOT / "bindings/python")
     assert done.returncode in (1, 2) and "Traceback" not in done.stderr

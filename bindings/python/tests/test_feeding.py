@@ -317,6 +317,6 @@ assert list(rows) == [] and rows.ended and rows.bytes_read == 2 + ((file.failed 
 
 
 def test_a_failed_allocation_loses_nothing():
-    environment = {**os.environ, "PYTHONPATH": str(ROOT / "python")}
+    environment = {**os.environ, "PYTHONPATH": str(ROOT / "bindings/python")}
     done = subprocess.run([sys.executable, "-c", LITTLE_MEMORY], env=environment, capture_output=True, text=True, check=False)
     assert done.returncode == 0, done.stderr

@@ -6,8 +6,8 @@ from pathlib import Path
 
 import pytest
 
-ROOT = Path(__file__).resolve().parents[2]
-sys.path.insert(0, str(ROOT / "python"))
+ROOT = Path(__file__).resolve().parents[3]
+sys.path.insert(0, str(ROOT / "bindings/python"))
 os.environ.setdefault("HAYRO_CCITT_LIBRARY", str(ROOT / "build/libhayro_ccitt.so"))
 MODES = {"g4": -1, "1d": 0, "2d": 1}
 
