@@ -39,7 +39,7 @@ CALLS = hayro_ccitt_measure hayro_ccitt_decode_packed hayro_ccitt_decode_changes
 	hayro_ccitt_feed_rows_changes hayro_ccitt_feed_rows_packed hayro_ccitt_feed_unused hayro_ccitt_feed_close fax_encode_bitmap \
 	fax_encode_open fax_encode_row_packed fax_encode_row_changes fax_encode_finish fax_encode_close
 EXAMPLES = strip_to_pbm pbm_to_strip rows_to_pbm rows_to_strip inline_image_filter
-# fax writes PNG and reads compressed PDF by zlib, where pkg-config finds it; WITH_ZLIB= builds it without.
+# faxconv writes PNG and reads compressed PDF by zlib, where pkg-config finds it; WITH_ZLIB= builds it without.
 WITH_ZLIB ?= $(shell pkg-config --exists zlib 2>/dev/null && echo zlib)
 ZLIB_FLAGS = $(if $(WITH_ZLIB),-DFAX_HAVE_ZLIB $(shell pkg-config --cflags zlib))
 ZLIB_LIBS = $(if $(WITH_ZLIB),$(shell pkg-config --libs zlib))
@@ -97,10 +97,10 @@ $(BUILD)/faxrows: $(FAXROWS) | $(BUILD)
 	cp $< $@
 $(BUILD)/faxpack: $(FAXPACK) | $(BUILD)
 	cp $< $@
-$(BUILD)/fax: $(wildcard tools/fax/*.[ch]) $(HEADERS) $(BUILD)/libhayro_ccitt.a
+$(BUILD)/faxconv: $(wildcard tools/fax/*.[ch]) $(HEADERS) $(BUILD)/libhayro_ccitt.a
 	$(CC) $(CFLAGS) $(WARNINGS) -std=c99 -Ic $(ZLIB_FLAGS) $(QPDF_FLAGS) $(LDFLAGS) -o $@ $(filter %.c,$^) $(BUILD)/libhayro_ccitt.a \
 		$(ZLIB_LIBS) $(QPDF_LIBS)
-$(BUILD)/fax2pbm: $(BUILD)/fax
+$(BUILD)/fax2pbm: $(BUILD)/faxconv
 	cp $< $@
 $(BUILD)/%: examples/%.c $(HEADERS) $(BUILD)/libhayro_ccitt.a
 	$(CC) $(CFLAGS) $(WARNINGS) -std=c99 -Ic $(LDFLAGS) -o $@ $< $(BUILD)/libhayro_ccitt.a
@@ -124,18 +124,18 @@ install: $(if $(wildcard $(BUILD)/faxrows),,all)
 	ln -sf $(SHARED) $(DESTDIR)$(LIBDIR)/$(SONAME)
 	ln -sf $(SONAME) $(DESTDIR)$(LIBDIR)/libhayro_ccitt.so
 	$(INSTALL) -m 644 $(BUILD)/hayro_ccitt.pc $(DESTDIR)$(LIBDIR)/pkgconfig
-	$(INSTALL) -m 755 $(BUILD)/faxrows $(BUILD)/faxpack $(BUILD)/fax $(DESTDIR)$(BINDIR)
-	ln -sf fax $(DESTDIR)$(BINDIR)/fax2pbm
-	$(INSTALL) -m 644 tools/fax/fax.bash $(DESTDIR)$(COMPLETIONS)/fax
-	$(INSTALL) -m 644 man/faxrows.1 man/faxpack.1 man/fax.1 man/fax2pbm.1 $(DESTDIR)$(MANDIR)/man1
+	$(INSTALL) -m 755 $(BUILD)/faxrows $(BUILD)/faxpack $(BUILD)/faxconv $(DESTDIR)$(BINDIR)
+	ln -sf faxconv $(DESTDIR)$(BINDIR)/fax2pbm
+	$(INSTALL) -m 644 tools/fax/faxconv.bash $(DESTDIR)$(COMPLETIONS)/faxconv
+	$(INSTALL) -m 644 man/faxrows.1 man/faxpack.1 man/faxconv.1 man/fax2pbm.1 $(DESTDIR)$(MANDIR)/man1
 	$(INSTALL) -m 644 man/hayro_ccitt.3 $(DESTDIR)$(MANDIR)/man3
 
 uninstall:
 	cd $(DESTDIR)$(INCLUDEDIR) && rm -f $(notdir $(HEADERS))
 	cd $(DESTDIR)$(LIBDIR) && rm -f libhayro_ccitt.a $(SHARED) $(SONAME) libhayro_ccitt.so pkgconfig/hayro_ccitt.pc
-	cd $(DESTDIR)$(BINDIR) && rm -f faxrows faxpack fax fax2pbm
-	cd $(DESTDIR)$(COMPLETIONS) && rm -f fax
-	cd $(DESTDIR)$(MANDIR) && rm -f man1/faxrows.1 man1/faxpack.1 man1/fax.1 man1/fax2pbm.1 man3/hayro_ccitt.3
+	cd $(DESTDIR)$(BINDIR) && rm -f faxrows faxpack faxconv fax2pbm
+	cd $(DESTDIR)$(COMPLETIONS) && rm -f faxconv
+	cd $(DESTDIR)$(MANDIR) && rm -f man1/faxrows.1 man1/faxpack.1 man1/faxconv.1 man1/fax2pbm.1 man3/hayro_ccitt.3
 
 clean:
 	rm -rf $(BUILD)

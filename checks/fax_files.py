@@ -1,4 +1,4 @@
-"""TIFF and PDF files made by rule, with known pictures, for the checks of `fax`."""
+"""TIFF and PDF files made by rule, with known pictures, for the checks of `faxconv`."""
 import ctypes
 import random
 import re

@@ -1,4 +1,4 @@
-"""Checks of `fax` on files that other programs write: TIFF by libtiff's tools, Pillow, netpbm and Ghostscript; PDF by Ghostscript, img2pdf
+"""Checks of `faxconv` on files that other programs write: TIFF by libtiff's tools, Pillow, netpbm and Ghostscript; PDF by Ghostscript, img2pdf
 and tiff2pdf, and rewritten by qpdf and MuPDF. What a program has encoded is known; what isn't installed is left out."""
 import itertools
 import os
@@ -165,7 +165,7 @@ PDFS = [pdfs_by_ghostscript, pdfs_of_tiffs]
 
 
 def check(makers, tools):
-    """Each file has the picture that was encoded, by each of these builds of `fax`, and nothing is told."""
+    """Each file has the picture that was encoded, by each of these builds of `faxconv`, and nothing is told."""
     runs, wrong = 0, []
     with tempfile.TemporaryDirectory() as folder:
         for maker, (name, picture) in itertools.product(makers, PICTURES.items()):

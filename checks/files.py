@@ -1,4 +1,4 @@
-"""Checks of fax, by its name fax2pbm, and of the Python examples on files that other programs make of a page, as far as they are installed: each file
+"""Checks of faxconv, by its name fax2pbm, and of the Python examples on files that other programs make of a page, as far as they are installed: each file
 is decoded to the page, or refused by a line that says why; so are files that are cut, damaged, or no fax at all."""
 import os
 import re

@@ -215,7 +215,7 @@ def installed():
         run("make", *words, f"DESTDIR={folder}/staged", "install")
         run("make", *words, "install")
         for root in (f"{folder}/prefix", f"{folder}/staged{folder}/prefix"):
-            for name in ("bin/faxrows", "bin/faxpack", "bin/fax", "bin/fax2pbm", "share/man/man1/fax.1", "share/bash-completion/completions/fax", "lib/libhayro_ccitt.a", "lib/libhayro_ccitt.so", "include/hayro_ccitt_heap.h",
+            for name in ("bin/faxrows", "bin/faxpack", "bin/faxconv", "bin/fax2pbm", "share/man/man1/faxconv.1", "share/bash-completion/completions/faxconv", "lib/libhayro_ccitt.a", "lib/libhayro_ccitt.so", "include/hayro_ccitt_heap.h",
                          "share/man/man1/faxrows.1", "share/man/man1/faxpack.1", "share/man/man3/hayro_ccitt.3", "lib/pkgconfig/hayro_ccitt.pc"):
                 assert os.path.exists(f"{root}/{name}"), f"{root}/{name}"
         library = f"{folder}/prefix/lib"
@@ -268,7 +268,7 @@ def versions_agree(version):
     for program in ("faxrows", "faxpack"):
         with open(f"crates/{program}/src/main.rt", encoding="utf-8") as file:
             assert f'const VERSION: &str = "{program} {version}";\n' in file.read(), version
-    for name in ("man/faxrows.1", "man/faxpack.1", "man/fax.1", "man/hayro_ccitt.3"):
+    for name in ("man/faxrows.1", "man/faxpack.1", "man/faxconv.1", "man/hayro_ccitt.3"):
         with open(name, encoding="utf-8") as file:
             assert f'"hayro_ccitt {version}"' in file.read(), name
 

@@ -29,8 +29,10 @@ PROVED = ["hayro_ccitt_c/out/libhayro_ccitt_c.a", "faxrows/out/faxrows", "faxpac
 TOOLS = ["make", "cc", "objcopy", "objdump", "strip", "dpkg-deb", "tar", "lintian"]
 # A path without `rt`.
 PATH = "/usr/sbin:/usr/bin:/sbin:/bin"
+# Debian's other programs for fax data.
+BESIDE = ["efax", "mgetty-fax", "netpbm"]
 STRIP, PICTURE = "corpus/strips/page/gs-g4", "corpus/pictures/page"
-DECODE = "fax -m g4 -w 1240 -r 1754 strip > page.pbm"
+DECODE = "faxconv -m g4 -w 1240 -r 1754 strip > page.pbm"
 IN_PYTHON = (
     "python3 -c "
     + shlex.quote("import hayro_ccitt; open('page.pbm', 'wb').write(hayro_ccitt.decode(open('strip', 'rb').read(), 1240, 1754, k=-1).pbm())")
@@ -134,6 +136,35 @@ def compiled_as_the_tarball_says(folder, environment):
         assert run("\n".join([*lines, "./a.out"]), cwd=f"{folder}/tarball", env=environment) == "18\n", lines
 
 
+def without_scripts(package, folder):
+    """A Debian package without its maintainer's scripts, which a root with nothing in it can't run."""
+    unpacked = f"{folder}/unpacked-{os.path.basename(package)}"
+    run(["dpkg-deb", "-R", package, unpacked])
+    for name in ("preinst", "postinst", "prerm", "postrm", "triggers"):
+        Path(unpacked, "DEBIAN", name).unlink(missing_ok=True)
+    run(["dpkg-deb", "-Znone", "-b", unpacked, f"{folder}/{os.path.basename(package)}"])
+    return f"{folder}/{os.path.basename(package)}"
+
+
+def beside_other_packages(package, folder):
+    """dpkg unpacks the Debian package into a root that has Debian's other programs for fax data, which it refuses if a file is in two."""
+    os.makedirs(f"{folder}/downloaded")
+    done = subprocess.run(["apt-get", "download", *BESIDE], cwd=f"{folder}/downloaded", capture_output=True, check=False, timeout=600)
+    if done.returncode != 0 or not shutil.which("dpkg"):
+        leave_out(f"the Debian package beside {', '.join(BESIDE)}", "apt-get download")
+        return
+    others = sorted(map(str, Path(folder, "downloaded").glob("*.deb")))
+    assert len(others) == len(BESIDE), others
+    root = f"{folder}/system"
+    os.makedirs(f"{root}/var/lib/dpkg/updates")
+    os.makedirs(f"{root}/var/lib/dpkg/info")
+    Path(root, "var/lib/dpkg/status").touch()
+    packages = [without_scripts(path, folder) for path in [*others, package]]
+    run(["dpkg", f"--root={root}", "--force-depends", "--unpack", *packages])
+    for name in ("efax", "fax", "g3topbm", "g32pbm", "faxconv", "fax2pbm"):
+        assert os.path.lexists(f"{root}/usr/bin/{name}"), name
+
+
 def package_of_cargo(folder, environment):
     """`cargo check`, `doc`, `clippy` and `package` work in the unpacked package, without a network."""
     clippy = ["clippy", "--all-features", "--all-targets", "--", "-D", "warnings"]
@@ -167,6 +198,7 @@ def packages_where_the_kit_is_not():
         for done in [pool.submit(installed, name, packages, folder, environment) for name in chosen]:
             done.result()
         compiled_as_the_tarball_says(folder, environment)
+        beside_other_packages(next(map(str, Path(packages).glob("*.deb"))), f"{folder}/beside")
         if "crate" in chosen:
             package_of_cargo(folder, {**environment, "HOME": f"{folder}/home"})
         refused_without_its_changes(f"{folder}/another/folder")

@@ -176,7 +176,7 @@ def binary_tarball(build, version, told, epoch, work):
 
 
 TARBALL_README = """\
-bin       programs, which run as they are: {top}/bin/fax -o page.pbm FILE.tif
+bin       programs, which run as they are: {top}/bin/faxconv -o page.pbm FILE.tif
 lib       the library, static and shared, and pkgconfig/hayro_ccitt.pc, which finds this folder wherever it is
 include   the headers; the first page of hayro_ccitt.h is a complete program
 share     manual pages, examples, changes, what is promised, and PROVENANCE

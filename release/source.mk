@@ -22,7 +22,7 @@ SONAME = libhayro_ccitt.so.$(INTERFACE)
 HEADERS = c/hayro_ccitt.h c/fax_encode.h c/hayro_ccitt_heap.h
 OBJECTS = build/proved.o build/calls.o build/heap.o
 EXAMPLES = $(patsubst examples/%.c,build/%,$(wildcard examples/*.c))
-# fax writes PNG and reads compressed PDF by zlib, where pkg-config finds it; WITH_ZLIB= builds it without.
+# faxconv writes PNG and reads compressed PDF by zlib, where pkg-config finds it; WITH_ZLIB= builds it without.
 WITH_ZLIB ?= $(shell pkg-config --exists zlib 2>/dev/null && echo zlib)
 ZLIB_FLAGS = $(if $(WITH_ZLIB),-DFAX_HAVE_ZLIB $(shell pkg-config --cflags zlib))
 ZLIB_LIBS = $(if $(WITH_ZLIB),$(shell pkg-config --libs zlib))
@@ -33,7 +33,7 @@ QPDF_FLAGS = $(if $(WITH_QPDF),-DFAX_QPDF='"$(WITH_QPDF)"' $(shell pkg-config --
 QPDF_LIBS = $(if $(WITH_QPDF),-ldl)
 COMPLETIONS ?= $(PREFIX)/share/bash-completion/completions
 
-all: build/libhayro_ccitt.a build/libhayro_ccitt.so build/hayro_ccitt.pc build/fax $(EXAMPLES)
+all: build/libhayro_ccitt.a build/libhayro_ccitt.so build/hayro_ccitt.pc build/faxconv $(EXAMPLES)
 build:
 	mkdir -p $@
 build/proved.o: proved.s | build
@@ -47,7 +47,7 @@ build/libhayro_ccitt.so: $(OBJECTS) c/exports
 	$(CC) $(CFLAGS) $(LDFLAGS) -shared -Wl,-soname,$(SONAME) -Wl,--version-script=c/exports -o $@ $(OBJECTS)
 build/hayro_ccitt.pc: c/hayro_ccitt.pc.in c/hayro_ccitt.h | build
 	sed -e 's|@PREFIX@|$(PREFIX)|' -e 's|@LIBDIR@|$(LIBDIR)|' -e 's|@INCLUDEDIR@|$(INCLUDEDIR)|' -e 's|@VERSION@|$(VERSION)|' $< > $@
-build/fax: $(wildcard tools/fax/*.[ch]) $(HEADERS) build/libhayro_ccitt.a
+build/faxconv: $(wildcard tools/fax/*.[ch]) $(HEADERS) build/libhayro_ccitt.a
 	$(CC) $(CFLAGS) -std=c99 -Ic $(ZLIB_FLAGS) $(QPDF_FLAGS) $(LDFLAGS) -o $@ $(filter %.c,$^) build/libhayro_ccitt.a $(ZLIB_LIBS) $(QPDF_LIBS)
 build/%: examples/%.c $(HEADERS) build/libhayro_ccitt.a
 	$(CC) $(CFLAGS) -std=c99 -Ic $(LDFLAGS) -o $@ $< build/libhayro_ccitt.a
@@ -67,10 +67,10 @@ install: all
 	ln -sf $(SHARED) $(DESTDIR)$(LIBDIR)/$(SONAME)
 	ln -sf $(SONAME) $(DESTDIR)$(LIBDIR)/libhayro_ccitt.so
 	$(INSTALL) -m 644 build/hayro_ccitt.pc $(DESTDIR)$(LIBDIR)/pkgconfig
-	$(INSTALL) -m 755 build/fax $(DESTDIR)$(BINDIR)
-	ln -sf fax $(DESTDIR)$(BINDIR)/fax2pbm
-	$(INSTALL) -m 644 tools/fax/fax.bash $(DESTDIR)$(COMPLETIONS)/fax
-	$(INSTALL) -m 644 man/fax.1 man/fax2pbm.1 $(DESTDIR)$(MANDIR)/man1
+	$(INSTALL) -m 755 build/faxconv $(DESTDIR)$(BINDIR)
+	ln -sf faxconv $(DESTDIR)$(BINDIR)/fax2pbm
+	$(INSTALL) -m 644 tools/fax/faxconv.bash $(DESTDIR)$(COMPLETIONS)/faxconv
+	$(INSTALL) -m 644 man/faxconv.1 man/fax2pbm.1 $(DESTDIR)$(MANDIR)/man1
 	$(INSTALL) -m 644 man/hayro_ccitt.3 $(DESTDIR)$(MANDIR)/man3
 
 clean:

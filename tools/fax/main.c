@@ -1,5 +1,5 @@
 #define _POSIX_C_SOURCE 200809L
-/* fax: reads fax pages, and writes them as pictures or documents. `fax --help` says how it is called. */
+/* faxconv: reads fax pages, and writes them as pictures or documents. `faxconv --help` says how it is called. */
 #include "damage.h"
 #include "options.h"
 #include "piped_in.h"

@@ -7,7 +7,7 @@
 #include <string.h>
 
 static const char help[] =
-    "usage: fax [OPTION].. [FILE]..\n"
+    "usage: faxconv [OPTION].. [FILE]..\n"
     "\n"
     "Reads the fax pages of TIFF, BigTIFF and PDF files, raw fax data and PBM pictures; writes them as PBM, PNG, TIFF or PDF.\n"
     "Without FILE, or if it is -, standard input is read. What a file is, its first bytes say.\n"
@@ -37,14 +37,14 @@ static const char help_of_fax2pbm[] =
     "usage: fax2pbm [OPTION].. [FILE]\n"
     "\n"
     "Writes the fax pages of a TIFF or PDF file, or of raw fax data, as PBM pictures on standard output, one after the other.\n"
-    "It is `fax`, with these options:\n"
+    "It is `faxconv`, with these options:\n"
     "\n"
     "  -o NAME      writes page 0 to NAME-0.pbm, and so on\n"
     "  -p PAGES     only these pages; the first one is 0\n"
-    "  -m MODE, -w COLUMNS, -r ROWS, -H ROWS   describe raw data, as for fax; so does\n"
-    "  -f FLAGS     which is -F of fax\n"
+    "  -m MODE, -w COLUMNS, -r ROWS, -H ROWS   describe raw data, as for faxconv; so does\n"
+    "  -f FLAGS     which is -F of faxconv\n"
     "\n"
-    "The status is that of fax.\n";
+    "The status is that of faxconv.\n";
 
 static const struct option words_known[] = {
     {"output", required_argument, NULL, 'o'}, {"format", required_argument, NULL, 'f'}, {"pages", required_argument, NULL, 'p'},
@@ -204,7 +204,7 @@ int read_options(int count, char **words, options *into, int *status)
     const char *slash = count ? strrchr(words[0], '/') : NULL;
     int option, has_format = 0;
     *into = usual;
-    into->program = slash ? slash + 1 : count ? words[0] : "fax";
+    into->program = slash ? slash + 1 : count ? words[0] : "faxconv";
     into->is_fax2pbm = !strcmp(into->program, "fax2pbm");
     const char *letters = into->is_fax2pbm ? "o:p:m:w:r:H:f:h" : "o:f:p:e:m:w:r:H:F:h";
     *status = CANNOT_GO_ON;

@@ -1,5 +1,5 @@
-# Completion of fax for bash.
-_fax()
+# Completion of faxconv for bash.
+_faxconv()
 {
     local word=${COMP_WORDS[COMP_CWORD]}
     COMPREPLY=()
@@ -17,4 +17,4 @@ _fax()
             fi ;;
     esac
 }
-complete -F _fax fax
+complete -F _faxconv faxconv
