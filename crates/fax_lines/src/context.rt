@@ -83,37 +83,6 @@ fn find_white_lines(lines: &mut WhiteLines, settings: DecodeSettings, has_eols: 
     *lines = white_lines(settings, has_eols);
 }
 
-/// Returns the number of bits of a vertical mode that is one, two or three pixels from b1.
-#[inline(always)]
-fn vertical_width(distance: u32) -> usize
-    requires { (0 < distance) × (distance ≤ 3) }
-    ensures { IsWidth distance result }
-{
-    match distance {
-        1 => 3,
-        2 => 6,
-        _ => 7,
-    }
-}
-
-/// Returns how far from b1 a vertical mode is that may be next with V0 behind it, or 0. The bits of both are this number: 5 for VL,
-/// and 7 for VR.
-#[inline(always)]
-fn vertical_distance(reader: &BitReader<'_>, code: u32) -> u32
-    ensures { result ≤ 3 }
-{
-    let bits = reader.peek_u32();
-    if bits >> 28 == code {
-        1
-    } else if bits >> 25 == code {
-        2
-    } else if bits >> 24 == code {
-        3
-    } else {
-        0
-    }
-}
-
 /// The state of decoding: the settings, the reference row and the coding row (T.4, 4.2.1.1), the number of rows
 /// decoded, and the lookup tables of the code words. One context may decode any number of images with the same
 /// settings, one after another.
@@ -142,9 +111,6 @@ pub struct DecoderContext {
     tables: Tables,
     /// Whether the last line with many changes suits drawing by groups: it has few bits for each.
     suits_groups: bool,
-    /// Whether the last line that began in horizontal mode, below a row of one change or none, seemed to have no other mode. It
-    /// decides nothing but which code draws the next such line.
-    is_filled_by_runs: bool,
     ticks: Ticks,
 }
 
@@ -197,7 +163,6 @@ impl DecoderContext {
             settings,
             tables: Tables::new(alloc)?,
             suits_groups: false,
-            is_filled_by_runs: true,
             ticks: Ticks::new(),
         })
     }
@@ -777,195 +742,6 @@ impl DecoderContext {
         true
     }
 
-    /// Draws a line of VL and V0 below a row of one change or none from the reader's own window: a row of one change. Returns whether
-    /// there is one here; otherwise nothing changes.
-    #[inline(never)]
-    fn draw_left_change(&mut self, reader: &mut BitReader<'_>) -> bool
-        requires { IsAtStart self.old }
-        ensures { DrawsAtOnce self.old self.new reader.old reader.new result }
-    {
-        if self.ref_changes.len() > 1 || self.coding_changes.capacity() == 0 {
-            return false;
-        }
-        let b1 = change_or_end(self.ref_changes.as_slice(), 0, self.settings.columns);
-        let left = vertical_distance(reader, 5);
-        if left == 0 || left > b1 {
-            return false;
-        }
-        if !pass_bits(reader, 5, vertical_width(left) + 1) {
-            return false;
-        }
-        // Of each mode one tick is its own, and one that of b1.
-        tick_times(&mut self.ticks, 4);
-        turn_at(&mut self.coding_changes, b1 - left);
-        self.pixels_decoded = self.settings.columns;
-        true
-    }
-
-    /// The same for VR and V0, below a row of one change.
-    #[inline(always)]
-    fn draw_right_change(&mut self, reader: &mut BitReader<'_>) -> bool
-        requires { IsAtStart self.old }
-        ensures { DrawsAtOnce self.old self.new reader.old reader.new result }
-    {
-        if self.ref_changes.len() != 1 || self.coding_changes.capacity() == 0 {
-            return false;
-        }
-        let columns = self.settings.columns;
-        let b1 = self.ref_changes[0];
-        let right = vertical_distance(reader, 7);
-        if right == 0 || right >= columns - b1 {
-            return false;
-        }
-        if !pass_bits(reader, 7, vertical_width(right) + 1) {
-            return false;
-        }
-        tick_times(&mut self.ticks, 4);
-        turn_at(&mut self.coding_changes, b1 + right);
-        self.pixels_decoded = columns;
-        true
-    }
-
-    /// Draws a line of VR alone below a row of which only the last one, two or three pixels are black, from the reader's own window: a
-    /// white row. Returns whether there is one here; otherwise nothing changes.
-    #[inline(never)]
-    fn draw_white_below_last(&mut self, reader: &mut BitReader<'_>) -> bool
-        requires { IsAtStart self.old }
-        ensures { DrawsAtOnce self.old self.new reader.old reader.new result }
-    {
-        if self.ref_changes.len() != 1 {
-            return false;
-        }
-        let columns = self.settings.columns;
-        let black = columns - self.ref_changes[0];
-        if black > 3 || !pass_bits(reader, 3, vertical_width(black)) {
-            return false;
-        }
-        tick_times(&mut self.ticks, 2);
-        self.pixels_decoded = columns;
-        self.color = Color::Black;
-        true
-    }
-
-    /// Draws a line of pass mode alone below a row of one change or none from the reader's own window: a white row. Returns whether
-    /// there is one here; otherwise nothing changes.
-    #[inline(never)]
-    fn draw_passed_row(&mut self, reader: &mut BitReader<'_>) -> bool
-        requires { IsAtStart self.old }
-        ensures { DrawsAtOnce self.old self.new reader.old reader.new result }
-    {
-        if self.ref_changes.len() > 1 {
-            return false;
-        }
-        let columns = self.settings.columns;
-        if columns == 0 || !pass_bits(reader, 1, 4) {
-            return false;
-        }
-        tick_times(&mut self.ticks, 2);
-        self.pixels_decoded = columns;
-        true
-    }
-
-    /// Draws a line of pass mode and V0 below a row of two changes from the reader's own window: a white row. Returns whether there is
-    /// one here; otherwise nothing changes.
-    #[inline(never)]
-    fn draw_white_below_run(&mut self, reader: &mut BitReader<'_>) -> bool
-        requires { IsAtStart self.old }
-        ensures { DrawsAtOnce self.old self.new reader.old reader.new result }
-    {
-        let columns = self.settings.columns;
-        if columns == 0 || self.ref_changes.len() != 2 || !pass_bits(reader, 3, 5) {
-            return false;
-        }
-        // Of each mode one tick is its own, and one that of b1.
-        tick_times(&mut self.ticks, 4);
-        self.pixels_decoded = columns;
-        self.color = Color::Black;
-        true
-    }
-
-    /// Draws a line of V0 alone, or a white one below a row of two changes. Returns whether there is one here; otherwise nothing
-    /// changes.
-    #[inline(always)]
-    fn draw_line_at_once(&mut self, reader: &mut BitReader<'_>) -> bool
-        requires { IsAtStart self.old }
-        ensures { DrawsAtOnce self.old self.new reader.old reader.new result }
-    {
-        if self.draw_same_line(reader) {
-            return true;
-        }
-        // Such a line begins with these five bits.
-        if reader.peek_u32() >> 27 != 3 {
-            return false;
-        }
-        self.draw_white_below_run(reader)
-    }
-
-    /// Draws a line of VR, or of VR and V0, below a row of one change. Returns whether there is one here; otherwise nothing changes.
-    #[inline(never)]
-    fn draw_from_right(&mut self, reader: &mut BitReader<'_>) -> bool
-        requires { IsAtStart self.old }
-        ensures { DrawsAtOnce self.old self.new reader.old reader.new result }
-    {
-        if self.draw_white_below_last(reader) {
-            return true;
-        }
-        self.draw_right_change(reader)
-    }
-
-    /// Draws a line of a vertical mode, or of one and V0, or of pass mode, below a row of one change or none, to a row of one change or
-    /// none. Returns whether there is one here; otherwise nothing changes. It is a call, so that other lines are drawn without one.
-    #[inline(never)]
-    fn draw_short_line(&mut self, reader: &mut BitReader<'_>) -> bool
-        requires { IsAtStart self.old }
-        ensures { DrawsAtOnce self.old self.new reader.old reader.new result }
-    {
-        // No vertical mode has more bits.
-        let bits = reader.peek_u32() >> 25;
-        if bits >> 3 == 1 {
-            return self.draw_passed_row(reader);
-        }
-        // VR1 and another mode than V0
-        if bits >> 3 == 6 {
-            return self.draw_white_below_last(reader);
-        }
-        // VR1, VR2 or VR3
-        if bits >> 3 == 7 || bits >> 1 == 3 || bits == 3 {
-            return self.draw_from_right(reader);
-        }
-        // VL2 or VL3 and another mode than V0
-        if bits == 4 || reader.peek_u32() >> 24 == 4 {
-            return false;
-        }
-        self.draw_left_change(reader)
-    }
-
-    /// The same, without a call if the line begins with VL1 and another mode than V0: no such line does.
-    #[inline(always)]
-    fn draw_whole_line(&mut self, reader: &mut BitReader<'_>) -> bool
-        requires { IsAtStart self.old }
-        ensures { DrawsAtOnce self.old self.new reader.old reader.new result }
-    {
-        if reader.peek_u32() >> 28 == 4 {
-            return false;
-        }
-        self.draw_short_line(reader)
-    }
-
-    /// Draws modes from the start of a line that begins in horizontal mode, below a row of one change or none, while they are
-    /// usual; or none, if it is likely to be the only mode: plain calls draw it at less cost.
-    #[inline(always)]
-    fn draw_from_horizontal(&mut self, reader: &mut BitReader<'_>)
-        requires { IsAtStart self.old }
-        ensures { DrawsUsualModes self.old self.new reader.old reader.new }
-    {
-        if self.is_filled_by_runs {
-            return;
-        }
-        self.draw_modes_of(reader);
-        self.is_filled_by_runs = self.coding_changes.len() < 2;
-    }
-
     /// Draws modes from the start of a line as long as they are usual: a white line at once.
     #[inline(always)]
     fn draw_usual_modes(&mut self, reader: &mut BitReader<'_>)
@@ -980,18 +756,8 @@ impl DecoderContext {
             if is_white_row(&self.ref_changes) && has_no_room(&self.coding_changes) {
                 return;
             }
-            // No line that begins with V0 is of these.
-            if reader.peek_u32() >> 31 == 0 {
-                if reader.peek_u32() >> 29 == 1 {
-                    self.draw_from_horizontal(reader);
-                    return;
-                }
-                if self.draw_whole_line(reader) {
-                    return;
-                }
-            }
         }
-        if self.draw_line_at_once(reader) {
+        if self.draw_same_line(reader) {
             return;
         }
         self.draw_modes_of(reader);
@@ -1008,9 +774,9 @@ impl DecoderContext {
         self.draw_run(reader)
     }
 
-    /// Draws a mode, the runs of a horizontal one by a call.
-    #[inline(always)]
-    fn draw_other_mode(&mut self, mode: Mode, reader: &mut BitReader<'_>) -> Result<()>
+    /// Draws a mode (T.4, 4.2.1.3), the runs of a horizontal one by a call.
+    #[inline(never)]
+    fn draw_mode(&mut self, mode: Mode, reader: &mut BitReader<'_>) -> Result<()>
         ensures step { DrawsStep (step_of_mode self.old.held (here reader.old) mode)
             result (pen_of self.new.held (here reader.new)) }
         ensures leaves { DrawsOneMode mode self.old self.new result reader.old reader.new }
@@ -1029,67 +795,6 @@ impl DecoderContext {
                 Ok(())
             }
             Mode::Horizontal => self.draw_both_runs(reader),
-        }
-    }
-
-    /// The same where the row has no room for a change.
-    #[cold]
-    #[inline(never)]
-    fn draw_mode_without_room(&mut self, mode: Mode, reader: &mut BitReader<'_>) -> Result<()>
-        ensures step { DrawsStep (step_of_mode self.old.held (here reader.old) mode)
-            result (pen_of self.new.held (here reader.new)) }
-        ensures leaves { DrawsOneMode mode self.old self.new result reader.old reader.new }
-    {
-        self.draw_other_mode(mode, reader)
-    }
-
-    /// Notes that plain calls draw a mode that isn't horizontal.
-    #[inline(always)]
-    fn note_other_mode(&mut self)
-        ensures { self.new ≡ self.old }
-    {
-        self.is_filled_by_runs = false;
-    }
-
-    /// The same by a call, which calls nothing if the row has room for a change.
-    #[inline(never)]
-    fn draw_mode_by_call(&mut self, mode: Mode, reader: &mut BitReader<'_>) -> Result<()>
-        ensures step { DrawsStep (step_of_mode self.old.held (here reader.old) mode)
-            result (pen_of self.new.held (here reader.new)) }
-        ensures leaves { DrawsOneMode mode self.old self.new result reader.old reader.new }
-    {
-        self.note_other_mode();
-        if self.coding_changes.len() >= self.coding_changes.capacity() {
-            return self.draw_mode_without_room(mode, reader);
-        }
-        self.draw_other_mode(mode, reader)
-    }
-
-    /// Draws V0 by a call (T.4, 4.2.1.3): this is compiled for it alone.
-    #[inline(never)]
-    fn draw_v0_by_call(&mut self, reader: &mut BitReader<'_>) -> Result<()>
-        ensures step { DrawsStep (step_of_mode self.old.held (here reader.old) (Mode.Vertical (pos 0)))
-            result (pen_of self.new.held (here reader.new)) }
-        ensures leaves { DrawsOneMode (Mode.Vertical (pos 0)) self.old self.new result reader.old reader.new }
-    {
-        self.note_other_mode();
-        if self.coding_changes.len() >= self.coding_changes.capacity() {
-            return self.draw_mode_without_room(Mode::Vertical(0), reader);
-        }
-        self.draw_other_mode(Mode::Vertical(0), reader)
-    }
-
-    /// Draws a mode (T.4, 4.2.1.3).
-    #[inline(always)]
-    fn draw_mode(&mut self, mode: Mode, reader: &mut BitReader<'_>) -> Result<()>
-        ensures step { DrawsStep (step_of_mode self.old.held (here reader.old) mode)
-            result (pen_of self.new.held (here reader.new)) }
-        ensures leaves { DrawsOneMode mode self.old self.new result reader.old reader.new }
-    {
-        match mode {
-            Mode::Horizontal => self.draw_both_runs(reader),
-            Mode::Vertical(0) => self.draw_v0_by_call(reader),
-            other => self.draw_mode_by_call(other, reader),
         }
     }
 }

@@ -17,18 +17,13 @@ ghost use Rattle.fax_bits.specs.Window.{moved, AtHand};
 
 use crate::changes::{change_or_end, make_room};
 use crate::regular_places::regular_places;
-use crate::usual::{TwoRuns, is_next, lay_down, pair_at_hand, run_at_hand, turn_at, turn_twice};
+use crate::usual::{TwoRuns, is_next, lay_down, pair_at_hand, turn_at, turn_twice};
 use fax_bits::bit_reader::BitsAtHand;
 use fax_bits::codes::{Color, Mode, Ticks, mode_of, tick_times};
 use fax_bits::mode_groups::{ModeGroup, group_at_hand};
 use fax_bits::tables::Tables;
 use fax_bits::words_at_hand::pass_run;
 use std::mem;
-
-/// How often the row's end stands behind the changes of the reference row.
-const ENDS: usize = 6;
-/// A line is likely to have few modes if its reference row has no more places: two changes, and the row's ends.
-const FEW_PLACES: usize = 2 + ENDS;
 
 /// What doesn't change while a line is drawn.
 #[derive(Clone, Copy)]
@@ -70,14 +65,6 @@ pub(crate) fn has_room_for_window(row: &Vec<u32>) -> bool
     ensures { result ≡ true → vec_len row.now + 64 ≤ vec_capacity row.now }
 {
     row.len() + 64 <= row.capacity()
-}
-
-/// Returns whether there is room for as many changes as the window has bits left.
-#[inline(always)]
-fn has_room_for_bits(hand: &BitsAtHand<'_>, row: &Vec<u32>) -> bool
-    ensures { result ≡ true → vec_len row.now + hand.now.left ≤ vec_capacity row.now }
-{
-    hand.left() <= row.capacity() - row.len()
 }
 
 /// Fills the window if it has fewer than 32 bits, and makes room for its changes; returns false if it can't be filled, or there is no
@@ -423,57 +410,6 @@ fn draw_pass(
     }
 }
 
-/// Fills the window if it has fewer than 55 bits; returns false if it can't be filled, or there is no room for its changes.
-#[inline(always)]
-fn has_long_runs(hand: &mut BitsAtHand<'_>, row: &Vec<u32>) -> bool
-    requires room { vec_len row.now + hand.old.left ≤ vec_capacity row.now }
-    ensures same { hand.new.at ≡ hand.old.at }
-    ensures enough { result ≡ true → 55 ≤ hand.new.left }
-    ensures room { result ≡ true → vec_len row.now + hand.new.left ≤ vec_capacity row.now }
-{
-    if hand.left() >= 55 {
-        return true;
-    }
-    hand.refill() && has_room_for_window(row)
-}
-
-/// Returns the two runs after a horizontal mode, and whether they were looked up together, so that neither is empty. Returns `None` if
-/// one of them is neither a terminating word nor a make-up word and a terminating word.
-#[inline(always)]
-fn runs_at_hand(
-    hand: &mut BitsAtHand<'_>,
-    row: &Vec<u32>,
-    line: &CodingLine<'_>,
-    color: Color,
-) -> Option<(TwoRuns, bool)>
-    requires enough { 16 ≤ hand.old.left }
-    requires room { vec_len row.now + hand.old.left ≤ vec_capacity row.now }
-    ensures same { hand.new.at ≡ hand.old.at }
-    ensures room { IfSome result (λ read. vec_len row.now + hand.new.left ≤ vec_capacity row.now) }
-    ensures runs { IfSome result (λ read. AreTwoRunsHere color (moved 3 hand.old.at) read.0) }
-    ensures few { IfSome result
-        (λ read. (read.0.first ≤ 4158) × (read.0.second ≤ 4158) × (3 + read.0.width ≤ hand.new.left)) }
-    ensures narrow { IfSome result (λ read. read.0.width ≤ 52) }
-    ensures some { IfSome result (λ read. read.1 ≡ true → (0 < read.0.first) × (0 < read.0.second)) }
-{
-    if let Some(runs) = pair_at_hand(hand, 3, color) {
-        return Some((runs, true));
-    }
-    if !has_long_runs(hand, row) {
-        return None;
-    }
-    let (first, width, words) = run_at_hand(hand, 3, color, line.tables.lookup(color))?;
-    let other = color.opposite();
-    let (second, width2, words2) = run_at_hand(hand, 3 + width, other, line.tables.lookup(other))?;
-    let runs = TwoRuns {
-        first,
-        second,
-        width: width + width2,
-        words: words + words2,
-    };
-    Some((runs, false))
-}
-
 /// Draws two runs that end in the row or with it, whose bits are passed before or after this. Returns the stroke that is reached then.
 #[inline(always)]
 fn draw_runs_in_row(
@@ -510,39 +446,60 @@ fn draw_runs_in_row(
     }
 }
 
-/// Draws a run up to the row's end and an empty one. Returns `None`, and draws nothing, if the row doesn't end there.
+/// Passes horizontal mode and its two runs, of any number of code words. Returns `None` if they aren't all at hand; the offset is
+/// unspecified then.
 #[inline(always)]
-fn draw_last_run(
-    hand: &mut BitsAtHand<'_>,
-    row: &mut Vec<u32>,
-    line: &CodingLine<'_>,
-    stroke: Stroke,
-    runs: TwoRuns,
-    ticks: &mut Ticks,
-) -> Option<Stroke>
-    requires mode { IsNextMode Mode.Horizontal 3 hand.old }
-    requires can { CanDraw line.now stroke hand.old row.old }
-    requires runs { AreTwoRunsHere stroke.color (moved 3 hand.old.at) runs }
-    requires within { 3 + runs.width ≤ hand.old.left }
-    requires narrow { runs.width ≤ 52 }
-    requires none { runs.second ≡ 0 }
-    ensures drawn { DrawsSome line.now stroke hand.old row.old ticks.old result hand.new row.new ticks.new }
-    ensures kept { KeepsRoom hand.old row.old hand.new row.new }
+fn pass_both_runs(hand: &mut BitsAtHand<'_>, color: Color, tables: &Tables) -> Option<TwoRuns>
+    requires enough { 3 ≤ hand.old.left }
+    ensures runs { IfSome result (λ runs. AreTwoRunsHere color (moved 3 hand.old.at) runs) }
+    ensures moved { IfSome result (λ runs. hand.new.at ≡ moved runs.width (moved 3 hand.old.at)) }
+    ensures below { IfSome result (λ runs. (runs.first < 2 ^ 31) × (runs.second < 2 ^ 31)) }
+    ensures same_bits { hand.new.at.bits ≡ hand.old.at.bits }
 {
-    if runs.first != line.columns - stroke.painted {
-        return None;
-    }
     hand.pass(3);
-    hand.pass(runs.width);
-    ticks.tick();
-    tick_times(ticks, runs.words);
-    Some(Stroke {
-        painted: line.columns,
-        ..stroke
+    let first = pass_run(hand, color, tables.lookup(color))?;
+    let other = color.opposite();
+    let second = pass_run(hand, other, tables.lookup(other))?;
+    Some(TwoRuns {
+        first: first.run,
+        second: second.run,
+        width: first.width + second.width,
+        words: first.words + second.words,
     })
 }
 
-/// Draws two runs of one or two code words each. Returns `None`, and draws nothing, if they aren't of the usual kind.
+/// Passes horizontal mode and its two runs, of any number of code words. Returns the runs, and whether they were looked up together, so
+/// that neither is empty. Returns `None` if they aren't all at hand, or there is no room for the changes of a window that was filled;
+/// the offset is unspecified then.
+#[inline(always)]
+fn pass_runs(
+    hand: &mut BitsAtHand<'_>,
+    row: &Vec<u32>,
+    line: &CodingLine<'_>,
+    color: Color,
+) -> Option<(TwoRuns, bool)>
+    requires enough { 16 ≤ hand.old.left }
+    requires room { vec_len row.now + hand.old.left ≤ vec_capacity row.now }
+    ensures runs { IfSome result (λ read. AreTwoRunsHere color (moved 3 hand.old.at) read.0) }
+    ensures moved { IfSome result (λ read. hand.new.at ≡ moved read.0.width (moved 3 hand.old.at)) }
+    ensures below { IfSome result (λ read. (read.0.first < 2 ^ 31) × (read.0.second < 2 ^ 31)) }
+    ensures some { IfSome result (λ read. read.1 ≡ true → (0 < read.0.first) × (0 < read.0.second)) }
+    ensures room { IfSome result (λ read. vec_len row.now + 2 + hand.new.left ≤ vec_capacity row.now) }
+{
+    if let Some(runs) = pair_at_hand(hand, 3, color) {
+        hand.pass(3);
+        hand.pass(runs.width);
+        return Some((runs, true));
+    }
+    let runs = pass_both_runs(hand, color, line.tables)?;
+    let room = row.capacity() - row.len();
+    if room < 2 || hand.left() > room - 2 {
+        return None;
+    }
+    Some((runs, false))
+}
+
+/// Draws two runs of any number of code words. Returns `None`, and draws nothing, if they aren't of the usual kind.
 #[inline(always)]
 fn draw_horizontal(
     hand: &mut BitsAtHand<'_>,
@@ -557,21 +514,32 @@ fn draw_horizontal(
     ensures drawn { DrawsSome line.now stroke hand.old row.old ticks.old result hand.new row.new ticks.new }
     ensures kept { KeepsRoom hand.old row.old hand.new row.new }
 {
-    let (runs, are_some) = runs_at_hand(hand, row, line, stroke.color)?;
+    let mut rest = hand.copy();
+    let (runs, are_some) = pass_runs(&mut rest, row, line, stroke.color)?;
+    let room = line.columns - stroke.painted;
     if !are_some {
         if runs.second == 0 {
-            return draw_last_run(hand, row, line, stroke, runs, ticks);
+            if runs.first != room {
+                return None;
+            }
+            *hand = rest;
+            ticks.tick();
+            tick_times(ticks, runs.words);
+            return Some(Stroke {
+                painted: line.columns,
+                ..stroke
+            });
         }
         if !is_next(row, runs.first) {
             return None;
         }
     }
-    if runs.first + runs.second > line.columns - stroke.painted {
+    if runs.first + runs.second > room {
         return None;
     }
-    hand.pass(3);
-    hand.pass(runs.width);
-    Some(draw_runs_in_row(row, line, stroke, runs, ticks))
+    let reached = draw_runs_in_row(row, line, stroke, runs, ticks);
+    *hand = rest;
+    Some(reached)
 }
 
 /// Draws a vertical mode that is here, read with the number of its bits. Returns `None`, and draws nothing, if it isn't of the
@@ -1191,218 +1159,6 @@ fn draw_turns(
     }
 }
 
-/// Passes horizontal mode and its two runs, of any number of code words. Returns `None` if they aren't all at hand; the offset is
-/// unspecified then.
-#[inline(always)]
-fn pass_both_runs(hand: &mut BitsAtHand<'_>, color: Color, tables: &Tables) -> Option<TwoRuns>
-    requires enough { 3 ≤ hand.old.left }
-    ensures runs { IfSome result (λ runs. AreTwoRunsHere color (moved 3 hand.old.at) runs) }
-    ensures moved { IfSome result (λ runs. hand.new.at ≡ moved runs.width (moved 3 hand.old.at)) }
-    ensures below { IfSome result (λ runs. (runs.first < 2 ^ 31) × (runs.second < 2 ^ 31)) }
-    ensures same_bits { hand.new.at.bits ≡ hand.old.at.bits }
-{
-    hand.pass(3);
-    let first = pass_run(hand, color, tables.lookup(color))?;
-    let other = color.opposite();
-    let second = pass_run(hand, other, tables.lookup(other))?;
-    Some(TwoRuns {
-        first: first.run,
-        second: second.run,
-        width: first.width + second.width,
-        words: first.words + second.words,
-    })
-}
-
-/// Passes horizontal mode and its two runs, of any number of code words. Returns the runs, and whether they were looked up together, so
-/// that neither is empty. Returns `None` if they aren't all at hand, or there is no room for the changes of a window that was filled;
-/// the offset is unspecified then.
-#[inline(always)]
-fn pass_runs(
-    hand: &mut BitsAtHand<'_>,
-    row: &Vec<u32>,
-    line: &CodingLine<'_>,
-    color: Color,
-) -> Option<(TwoRuns, bool)>
-    requires enough { 16 ≤ hand.old.left }
-    requires room { vec_len row.now + hand.old.left ≤ vec_capacity row.now }
-    ensures runs { IfSome result (λ read. AreTwoRunsHere color (moved 3 hand.old.at) read.0) }
-    ensures moved { IfSome result (λ read. hand.new.at ≡ moved read.0.width (moved 3 hand.old.at)) }
-    ensures below { IfSome result (λ read. (read.0.first < 2 ^ 31) × (read.0.second < 2 ^ 31)) }
-    ensures some { IfSome result (λ read. read.1 ≡ true → (0 < read.0.first) × (0 < read.0.second)) }
-    ensures room { IfSome result (λ read. vec_len row.now + 2 + hand.new.left ≤ vec_capacity row.now) }
-{
-    if let Some(runs) = pair_at_hand(hand, 3, color) {
-        hand.pass(3);
-        hand.pass(runs.width);
-        return Some((runs, true));
-    }
-    let runs = pass_both_runs(hand, color, line.tables)?;
-    let room = row.capacity() - row.len();
-    if room < 2 || hand.left() > room - 2 {
-        return None;
-    }
-    Some((runs, false))
-}
-
-/// Draws two runs of any number of code words. Returns `None`, and draws nothing, if they aren't of the usual kind.
-#[inline(always)]
-fn draw_long_runs(
-    hand: &mut BitsAtHand<'_>,
-    row: &mut Vec<u32>,
-    line: &CodingLine<'_>,
-    stroke: Stroke,
-    ticks: &mut Ticks,
-) -> Option<Stroke>
-    requires mode { IsNextMode Mode.Horizontal 3 hand.old }
-    requires enough { 16 ≤ hand.old.left }
-    requires can { CanDraw line.now stroke hand.old row.old }
-    ensures drawn { DrawsSome line.now stroke hand.old row.old ticks.old result hand.new row.new ticks.new }
-    ensures kept { KeepsRoom hand.old row.old hand.new row.new }
-{
-    let mut rest = hand.copy();
-    let (runs, are_some) = pass_runs(&mut rest, row, line, stroke.color)?;
-    let room = line.columns - stroke.painted;
-    if !are_some {
-        if runs.second == 0 {
-            if runs.first != room {
-                return None;
-            }
-            *hand = rest;
-            ticks.tick();
-            tick_times(ticks, runs.words);
-            return Some(Stroke {
-                painted: line.columns,
-                ..stroke
-            });
-        }
-        if !is_next(row, runs.first) {
-            return None;
-        }
-    }
-    if runs.first + runs.second > room {
-        return None;
-    }
-    let reached = draw_runs_in_row(row, line, stroke, runs, ticks);
-    *hand = rest;
-    Some(reached)
-}
-
-/// Draws V0: a change below b1, or the rest of the row.
-#[inline(always)]
-fn draw_one_v0(
-    hand: &mut BitsAtHand<'_>,
-    row: &mut Vec<u32>,
-    line: &CodingLine<'_>,
-    stroke: Stroke,
-    ticks: &mut Ticks,
-) -> Stroke
-    requires mode { IsNextMode (Mode.Vertical (pos 0)) 1 hand.old }
-    requires can { CanDraw line.now stroke hand.old row.old }
-    ensures drawn { DrawsMode line.now stroke hand.old row.old ticks.old result hand.new row.new ticks.new }
-    ensures kept { KeepsRoom hand.old row.old hand.new row.new }
-{
-    let place = change_at(line, stroke.index);
-    if place < line.columns {
-        return draw_v0_below(hand, row, line, stroke, place, ticks);
-    }
-    hand.pass(1);
-    tick_times(ticks, 2);
-    Stroke {
-        painted: line.columns,
-        color: stroke.color.opposite(),
-        ..stroke
-    }
-}
-
-/// Returns how far a mode is right of b1, in pixels, if it is VR, and otherwise 0.
-#[inline(always)]
-fn distance_right(mode: Mode) -> u32
-    ensures right { 0 < result → mode ≡ Mode.Vertical (pos result) }
-    ensures exact { (n : ℕ) → n ≤ 3 → mode ≡ Mode.Vertical (pos n) → result ≡ n }
-{
-    match mode {
-        Mode::Vertical(1) => 1,
-        Mode::Vertical(2) => 2,
-        Mode::Vertical(3) => 3,
-        _ => 0,
-    }
-}
-
-/// Returns how far a mode is left of b1, in pixels, if it is VL, and otherwise 0.
-#[inline(always)]
-fn distance_left(mode: Mode) -> u32
-    ensures left { 0 < result → mode ≡ Mode.Vertical (negsuc (result - 1)) }
-    ensures exact { (n : ℕ) → n < 3 → mode ≡ Mode.Vertical (negsuc n) → result ≡ n + 1 }
-{
-    match mode {
-        Mode::Vertical(-1) => 1,
-        Mode::Vertical(-2) => 2,
-        Mode::Vertical(-3) => 3,
-        _ => 0,
-    }
-}
-
-/// Draws VR or VL, read with the number of its bits. Returns `None`, and draws nothing, if it isn't of the usual kind, or is another
-/// mode.
-#[inline(always)]
-fn draw_off_b1(
-    hand: &mut BitsAtHand<'_>,
-    row: &mut Vec<u32>,
-    line: &CodingLine<'_>,
-    stroke: Stroke,
-    read: (Mode, usize),
-    ticks: &mut Ticks,
-) -> Option<Stroke>
-    requires mode { IsNextMode read.0 read.1 hand.old }
-    requires can { CanDraw line.now stroke hand.old row.old }
-    ensures drawn { DrawsSome line.now stroke hand.old row.old ticks.old result hand.new row.new ticks.new }
-    ensures kept { KeepsRoom hand.old row.old hand.new row.new }
-{
-    let (mode, width) = read;
-    let right = distance_right(mode);
-    if right > 0 {
-        let vertical = VerticalMode {
-            distance: right,
-            width,
-        };
-        return draw_right(hand, row, line, stroke, vertical, ticks);
-    }
-    let left = distance_left(mode);
-    if left > 0 {
-        let vertical = VerticalMode {
-            distance: left,
-            width,
-        };
-        return draw_left(hand, row, line, stroke, vertical, ticks);
-    }
-    None
-}
-
-/// Draws the mode that is here, with runs of any number of code words. Returns `None`, and draws nothing, if it isn't of the usual
-/// kind. This is the least code, for rows of few modes.
-#[inline(always)]
-fn draw_any_mode(
-    hand: &mut BitsAtHand<'_>,
-    row: &mut Vec<u32>,
-    line: &CodingLine<'_>,
-    stroke: Stroke,
-    ticks: &mut Ticks,
-) -> Option<Stroke>
-    requires enough { 16 ≤ hand.old.left }
-    requires can { CanDraw line.now stroke hand.old row.old }
-    ensures drawn { DrawsSome line.now stroke hand.old row.old ticks.old result hand.new row.new ticks.new }
-    ensures there { IfSome result (λ reached. hand.old.at.place < length hand.old.at.bits) }
-    ensures kept { KeepsRoom hand.old row.old hand.new row.new }
-{
-    let (mode, width) = mode_at_hand(hand);
-    match mode? {
-        Mode::Pass => Some(draw_pass(hand, row, line, stroke, ticks)),
-        Mode::Horizontal => draw_long_runs(hand, row, line, stroke, ticks),
-        Mode::Vertical(0) => Some(draw_one_v0(hand, row, line, stroke, ticks)),
-        vertical => draw_off_b1(hand, row, line, stroke, (vertical, width), ticks),
-    }
-}
-
 /// The same with a list of its own meanwhile, so that the list's fields are values of this call.
 #[inline(always)]
 fn draw_own_row(
@@ -1427,39 +1183,6 @@ fn draw_own_row(
     reached
 }
 
-/// Draws up to 24 modes of a row that is likely to have few, while they are of the usual kind, and there is room: a dense row is drawn
-/// faster by other loops. Returns the stroke that is reached then, and whether they can go on.
-#[inline(always)]
-fn draw_each_mode(
-    hand: &mut BitsAtHand<'_>,
-    row: &mut Vec<u32>,
-    line: &CodingLine<'_>,
-    stroke: Stroke,
-    ticks: &mut Ticks,
-) -> (Stroke, bool)
-    requires can { CanDraw line.now stroke hand.old row.old }
-    ensures on { DrawsOn line.now stroke hand.old row.old ticks.old result.0 hand.new row.new ticks.new }
-    ensures open { result.1 ≡ true → CanDraw line.now result.0 hand.new row.new }
-{
-    let mut now = stroke;
-    'modes: for _ in 0..24 {
-        if !has_next_mode(hand, row) {
-            return (now, true);
-        }
-        match draw_any_mode(hand, row, line, now, ticks) {
-            // Other loops make room.
-            None => return (now, has_room_for_bits(hand, row)),
-            Some(next) => {
-                if next.painted == line.columns {
-                    return (next, false);
-                }
-                now = next;
-            }
-        }
-    }
-    (now, true)
-}
-
 /// Returns whether a row is so wide as to have runs of three code words or more.
 #[inline(always)]
 pub(crate) fn is_wide(columns: u32) -> bool {
@@ -1470,31 +1193,6 @@ pub(crate) fn is_wide(columns: u32) -> bool {
 #[inline(always)]
 pub(crate) fn is_sparse(columns: u32, changes: usize) -> bool {
     is_wide(columns) && changes < 16
-}
-
-/// Draws the first modes of a line that is likely to have few, with runs of any number of code words; or none, if it isn't. Returns
-/// the stroke that is reached then, and whether other loops can go on.
-#[inline(always)]
-fn draw_few_modes(
-    hand: &mut BitsAtHand<'_>,
-    row: &mut Vec<u32>,
-    line: &CodingLine<'_>,
-    ticks: &mut Ticks,
-) -> (Stroke, bool)
-    requires can { CanDraw line.now line_start hand.old row.old }
-    ensures on { DrawsOn line.now line_start hand.old row.old ticks.old result.0 hand.new row.new ticks.new }
-    ensures open { result.1 ≡ true → CanDraw line.now result.0 hand.new row.new }
-{
-    let start = Stroke {
-        painted: 0,
-        index: 0,
-        color: Color::White,
-    };
-    let places = line.places.len();
-    if places > FEW_PLACES && !is_sparse(line.columns, places.saturating_sub(ENDS)) {
-        return (start, true);
-    }
-    draw_each_mode(hand, row, line, start, ticks)
 }
 
 /// Draws modes from a line's start on, while they are of the usual kind, and makes room as it is needed. Returns the stroke
@@ -1511,11 +1209,11 @@ pub(crate) fn draw_modes(
     ensures same_bits { hand.new.at.bits ≡ hand.old.at.bits }
     ensures space { GrowsFor (vec_len row.new) (vec_capacity row.old) (vec_capacity row.new) }
 {
-    let (first, goes_on) = draw_few_modes(hand, row, line, ticks);
-    if !goes_on {
-        return first;
-    }
-    let mut now = first;
+    let mut now = Stroke {
+        painted: 0,
+        index: 0,
+        color: Color::White,
+    };
     // Each time the room doubles.
     'rooms: for _ in 0..32 {
         let reached = draw_own_row(hand, row, line, now, ticks);

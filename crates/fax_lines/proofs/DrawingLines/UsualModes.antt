@@ -20,7 +20,7 @@ use Rattle.fax_reading.proofs.DrawingLines.DrawnLines.{IsDrawnSoFar, line_mode, 
 use Rattle.fax_lines.proofs.DrawingLines.UsualStrokes.{next_lawful, paint_fits, pixels-on, length-pixels-on, pixels-pending}
 use Rattle.fax_lines.proofs.DrawingLines.UsualStrokes.{wider_by_one}
 use Rattle.fax_reading.proofs.PixelRows.B1ByParity.{turns_alike, turns_next, b1_of_front, rising, rising_to, near_within}
-use Rattle.fax_reading.proofs.PixelRows.B1ByParity.{near_later, starts_b1, ends_at_b1, after_v0, after_vr, after_pass}
+use Rattle.fax_reading.proofs.PixelRows.B1ByParity.{starts_b1, ends_at_b1, after_v0, after_vr, after_pass}
 use Rattle.fax_reading.proofs.PixelRows.ChangesAndPixels.{length-pixels, turned_at, turned_at-even, AreChanges-wider}
 use Rattle.fax_reading.proofs.PixelRows.ChangesAndPixels.{AreChanges-push}
 

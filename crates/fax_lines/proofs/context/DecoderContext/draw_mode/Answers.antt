@@ -6,7 +6,7 @@ use Rattle.fax_lines.proofs.Names.{b1, here, right_of}
 use Rattle.fax_reading.proofs.DrawingLines.CutRuns.{pass_cuts}
 use Rattle.fax_reading.proofs.DrawingLines.Drawings.{try}
 use Rattle.fax_reading.proofs.DrawingLines.DrawnLines.{IsUnpainted, paint_draws, pass_draws, unpainted, vertical_unpainted}
-use Rattle.fax_lines.proofs.context.DecoderContext.draw_other_mode.Goals as goal
+use Rattle.fax_lines.proofs.context.DecoderContext.draw_mode.Goals as goal
 
 -- what a position is
 placed : (painted : ℕ) (z : ℤ) (p : ℕ) → place_from painted z ≡ Ok p → (z ≡ pos p) × (p ≤ 4294967295) × (painted ≤ p)
