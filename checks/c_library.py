@@ -82,7 +82,7 @@ def compiled(out, *words, build="plain"):
 
 def by_each_library(driver, text):
     """What a driver of this folder prints for its input, over each installed library: static, with the caller's memory before a page
-    that may not be touched, and shared, with the memory behind one."""
+    that may not be touched, and shared, with the memory after one."""
     printed = set()
     with tempfile.TemporaryDirectory() as folder:
         for build, installed in INSTALLED.items():
@@ -208,7 +208,7 @@ def spread_cases():
 
 
 def rows_are_spread():
-    """Packed rows lie at their stride, with 1 or 0 for black, and the bytes between and behind them keep their values; the last row
+    """Packed rows lie at their stride, with 1 or 0 for black, and the bytes between and after them keep their values; the last row
     needs no more than its own bytes; a smaller stride than a row's bytes is refused by each call."""
     build()
     print(*(f"  {line}" for line in by_each_library("known_calls", "".join(spread_cases()))), sep="", end="")
@@ -255,7 +255,7 @@ def ran(data, *words):
 
 
 def missed_eols_are_told():
-    """After a whole line other bits stand before the EOL, or none is left: once its gap is read, not in a strict run, and not behind
+    """After a whole line other bits stand before the EOL, or none is left: once its gap is read, not in a strict run, and not after
     a damaged line."""
     build()
     with tempfile.TemporaryDirectory() as folder:

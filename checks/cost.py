@@ -157,7 +157,7 @@ def without_eols(tag, before=""):
 
 
 def repeated_rows(columns, tag, rows):
-    """Rows again and again, each one-dimensional behind its tag, without EOLs."""
+    """Rows again and again, each one-dimensional after its tag, without EOLs."""
     lines = [tag + strips.line_1d(columns, row) for row in rows]
 
     def made(size):

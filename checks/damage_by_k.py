@@ -74,7 +74,7 @@ def damage_ends_at_the_next_one_dimensional_line():
             rows, starts, end = read(library, high_first, strip)
             assert end == (NO_ROW, size) and starts == [tag for tag, *_ in lines]
             for number, (tag, last, _) in enumerate(lines):
-                behind = next((at for at in range(number + 1, len(lines)) if lines[at][2]), len(lines))
+                after = next((at for at in range(number + 1, len(lines)) if lines[at][2]), len(lines))
                 for bit in range(tag, last):
                     data = flipped(strip, bit)
                     found = read(library, high_first, data)
@@ -83,8 +83,8 @@ def damage_ends_at_the_next_one_dimensional_line():
                     if number + 1 < len(lines) and places[number + 1 : number + 2] != [starts[number + 1]] or len(others) != len(rows):
                         left_out += 1
                         continue
-                    assert others[:number] == rows[:number] and others[behind:] == rows[behind:], (strip.hex(), bit)
-                    assert other_end == end and behind - number <= k, (strip.hex(), bit)
+                    assert others[:number] == rows[:number] and others[after:] == rows[after:], (strip.hex(), bit)
+                    assert other_end == end and after - number <= k, (strip.hex(), bit)
                     flips += 1
                     changed += others != rows
     assert changed > 0 and flips > 5 * left_out, (flips, changed, left_out)

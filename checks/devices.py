@@ -68,7 +68,7 @@ def each_read_and_write():
 
 def readers_without_end():
     """Input without an end, in 64 MB of memory: an allocation failure, and nothing is written, also with `-i`, as an EOL may still come
-    behind the zeros; where they are ones, `-i` ends with the image."""
+    after the zeros; where they are ones, `-i` ends with the image."""
     runs = 0
     for words in ("g4 8 0 -", "1d 8 1 l", "2d 4294967295 0 bls", "-o g4 8 1 -", "-d g4 8 1 -", "-i g4 8 1 -"):
         with open("/dev/zero", "rb") as zeros:

@@ -84,7 +84,7 @@ static void unused_are(pieces *it, uint64_t consumed) {
     must(hayro_ccitt_feed_unused(&it->feed, NULL, 0, &count) == (left ? HAYRO_CCITT_REFUSED : HAYRO_CCITT_OK) && count == left, "no room for unused bytes");
     uint8_t *bytes = lend(left);
     if (left > 0) must(hayro_ccitt_feed_unused(&it->feed, bytes, left - 1, &count) == HAYRO_CCITT_REFUSED && count == left, "a byte too little");
-    must(is_untouched_behind(bytes, 0, left), "no unused byte is copied");
+    must(is_untouched_after(bytes, 0, left), "no unused byte is copied");
     must(hayro_ccitt_feed_unused(&it->feed, bytes, left, &count) == HAYRO_CCITT_OK && count == left, "unused bytes");
     must(are_same(bytes, it->data + consumed, left), "which bytes are unused");
     take_back(bytes);
@@ -114,7 +114,7 @@ static void row_is(pieces *it, const uint32_t *list, uint32_t columns, int is_pa
     if (is_packed) {
         uint8_t *packed = lend(width);
         must(packed_of(it, packed, width - 1, &row) == HAYRO_CCITT_REFUSED && row.changes == count, "a packed row without room");
-        must(packed_of(it, packed, 0, &row) == HAYRO_CCITT_REFUSED && is_untouched_behind(packed, 0, width), "a refused row isn't packed");
+        must(packed_of(it, packed, 0, &row) == HAYRO_CCITT_REFUSED && is_untouched_after(packed, 0, width), "a refused row isn't packed");
         must(packed_of(it, packed, width, &row) == HAYRO_CCITT_OK, "a packed row");
         for (size_t place = 0, black = 0, k = 1; place < columns; place++) {
             while (k <= count && list[k] == place) black ^= 1, k++;
@@ -125,7 +125,7 @@ static void row_is(pieces *it, const uint32_t *list, uint32_t columns, int is_pa
         uint32_t *changes = lend(4 * count);
         if (count > 0) {
             must(listed_of(it, changes, count - 1, &row) == HAYRO_CCITT_REFUSED && row.changes == count, "a row without room");
-            must(listed_of(it, changes, 0, &row) == HAYRO_CCITT_REFUSED && is_untouched_behind(changes, 0, 4 * count), "a refused row isn't listed");
+            must(listed_of(it, changes, 0, &row) == HAYRO_CCITT_REFUSED && is_untouched_after(changes, 0, 4 * count), "a refused row isn't listed");
         }
         must(listed_of(it, changes, count, &row) == HAYRO_CCITT_OK && row.changes == count, "a row");
         must(are_same(changes, list + 1, 4 * count), "the changes of a fed row");

@@ -271,7 +271,7 @@ class Edit:
         return not self.goals and not self.written
 
 
-# An operand: a name or a number, with the fields and calls without arguments behind it; or an operator, or another sign.
+# An operand: a name or a number, with the fields and calls without arguments after it; or an operator, or another sign.
 OPERAND = r"&?[A-Za-z_]\w*(?:(?:::|\.)\w+)*(?:\(\))?|\d\w*|\(\)"
 TOKEN = re.compile(rf"{OPERAND}|&&|\|\||<<|>>|[-+*/%<>=!]=?|[^\w\s]")
 OPERATORS = [set("+-"), set("*/%"), {"<", ">", "<=", ">=", "==", "!="}, {"<<", ">>"}, {"&&", "||"}, {"+=", "-="}]
@@ -479,7 +479,7 @@ def threads_beside():
 
 
 def fields_of(path):
-    """The fields of a file `stat` of /proc behind the name: the state, the number of the process above, and more."""
+    """The fields of a file `stat` of /proc after the name: the state, the number of the process above, and more."""
     with open(path, encoding="utf-8", errors="replace") as file:
         return file.read().rpartition(")")[2].split()
 

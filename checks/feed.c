@@ -1,6 +1,6 @@
 /* Reads each case in pieces, a line each on standard input: encoding, columns, rows, flags, as hayro_ccitt.h numbers them, how much is
    tried (0, 1 or 2), and the data in hexadecimal, `-` for none. Whatever the pieces are, the rows, all that is told of each, and the
-   end must be those of hayro_ccitt_open and hayro_ccitt_next_changes over the whole data, and the bytes that aren't used those behind
+   end must be those of hayro_ccitt_open and hayro_ccitt_next_changes over the whole data, and the bytes that aren't used those after
    `bytes_read`. Rows are read one a call, and by calls that give as many as there is room for, packed ones at a stride that is the
    row's or greater. Of pieces and results each few are in blocks that are exactly as long as they have to be. Of 0, random pieces, single bytes and
    pieces of 4,096 bytes are tried; of 1 also two pieces, cut at each byte, and every allocation refused in turn; of 2 also each
@@ -86,14 +86,14 @@ static struct going begun(const uint8_t *data, size_t length, const hayro_ccitt_
     return it;
 }
 
-/* The bytes that aren't used are those fed behind the ones that were read. */
-static void unused_is_behind(struct going *it, uint64_t bytes_read) {
+/* The bytes that aren't used are those fed after the ones that were read. */
+static void unused_is_after(struct going *it, uint64_t bytes_read) {
     size_t count = 7, left = it->fed - bytes_read;
     must(bytes_read <= it->fed, "what was read was fed");
     uint8_t *bytes = lend(left);
     if (left > 0) {
         must(hayro_ccitt_feed_unused(&it->feed, bytes, left - 1, &count) == HAYRO_CCITT_REFUSED && count == left, "no room for what is unused");
-        must(is_untouched_behind(bytes, 0, left), "nothing is copied without room");
+        must(is_untouched_after(bytes, 0, left), "nothing is copied without room");
     }
     must(hayro_ccitt_feed_unused(&it->feed, bytes, left, &count) == HAYRO_CCITT_OK && count == left, "what is unused");
     must(are_same(bytes, it->data + bytes_read, left), "the bytes that are unused");
@@ -129,7 +129,7 @@ static uint32_t list_next(struct going *it, const struct known *known, hayro_cci
         was_refused = status == HAYRO_CCITT_REFUSED;
         must(was_refused || status == HAYRO_CCITT_NEEDS_MORE, "no room for changes");
         if (was_refused) is_refused_row(it, known, row);
-        must(is_untouched_behind(changes, 0, 4 * known->row.changes), "nothing is listed without room");
+        must(is_untouched_after(changes, 0, 4 * known->row.changes), "nothing is listed without room");
     }
     status = next_changes(it, changes, known->row.changes, row);
     must(!was_refused || status == HAYRO_CCITT_OK, "a refused row comes again");
@@ -159,7 +159,7 @@ static uint32_t pack_next(struct going *it, const struct known *known, hayro_cci
         was_refused = status == HAYRO_CCITT_REFUSED;
         must(was_refused || status == HAYRO_CCITT_NEEDS_MORE, "no room for a packed row");
         if (was_refused) is_refused_row(it, known, row);
-        must(is_untouched_behind(packed, 0, width), "nothing is packed without room");
+        must(is_untouched_after(packed, 0, width), "nothing is packed without room");
     }
     status = next_packed(it, packed, width, row);
     must(!was_refused || status == HAYRO_CCITT_OK, "a refused row comes again, packed");
@@ -170,14 +170,14 @@ static uint32_t pack_next(struct going *it, const struct known *known, hayro_cci
 
 /* ---- As many rows as there is room for. */
 
-/* How many rows there is room for, and with how many bytes or numbers behind them; the room of the first of these rows. */
+/* How many rows there is room for, and with how many bytes or numbers after them; the room of the first of these rows. */
 struct room {
-    size_t rows, behind;
+    size_t rows, after;
 };
 
-static struct room some_room(size_t most_behind) {
+static struct room some_room(size_t most_after) {
     struct room room = {random_number() % (AT_ONCE + 1), 0};
-    if (most_behind > 0 && random_number() % 2) room.behind = random_number() % (most_behind + 1);
+    if (most_after > 0 && random_number() % 2) room.after = random_number() % (most_after + 1);
     return room;
 }
 
@@ -203,17 +203,17 @@ static uint32_t are_given(struct going *it, size_t count, uint32_t status, const
 static uint32_t pack_rows(struct going *it, hayro_ccitt_row *row) {
     size_t step = it->stride > 0 ? it->stride : 1, count = 7, from = it->taken, left = count_known - from;
     struct room room = some_room(it->width ? it->width - 1 : 0);
-    /* behind the last stride fewer bytes than a row needs, or only its own bytes */
-    size_t size = room.rows == 0 ? room.behind : room.behind ? room.rows * step + room.behind : (room.rows - 1) * step + it->width;
+    /* after the last stride fewer bytes than a row needs, or only its own bytes */
+    size_t size = room.rows == 0 ? room.after : room.after ? room.rows * step + room.after : (room.rows - 1) * step + it->width;
     uint8_t *bitmap = lend(size);
     uint32_t status = hayro_ccitt_feed_rows_packed(&it->feed, bitmap, size, &count, row);
     must(count <= left && (it->width == 0 || count <= room.rows), "as many rows as there is room for");
     for (size_t index = 0; index < count; index++) {
         size_t end = index * step + it->width, next = index + 1 < count ? (index + 1) * step : size;
         is_packed(it, &rows_known[from + index], bitmap + index * step);
-        must(next <= end || is_untouched_behind(bitmap, end, next), "the bytes behind a row");
+        must(next <= end || is_untouched_after(bitmap, end, next), "the bytes after a row");
     }
-    must(count > 0 || is_untouched_behind(bitmap, 0, size), "nothing is packed without a row");
+    must(count > 0 || is_untouched_after(bitmap, 0, size), "nothing is packed without a row");
     must(status != HAYRO_CCITT_OK || count == room.rows, "all room is used");
     must(status != HAYRO_CCITT_REFUSED || room.rows == 0, "there is no room");
     take_back(bitmap);
@@ -224,7 +224,7 @@ static uint32_t list_rows(struct going *it, hayro_ccitt_row *row) {
     size_t count = 7, place = 0, size = 0, from = it->taken, left = count_known - from;
     struct room room = some_room(AT_ONCE);
     for (size_t index = 0; index < room.rows && index < left; index++) size += 1 + rows_known[from + index].row.changes;
-    size += room.behind;
+    size += room.after;
     uint32_t *lists = lend(4 * size);
     uint32_t status = hayro_ccitt_feed_rows_changes(&it->feed, lists, size, &count, row);
     must(count <= left, "as many rows as there are");
@@ -234,7 +234,7 @@ static uint32_t list_rows(struct going *it, hayro_ccitt_row *row) {
         must(are_same(lists + place + 1, known->changes, 4 * known->row.changes), "the changes of a listed row");
         place += 1 + lists[place];
     }
-    must(is_untouched_behind(lists, 4 * place, 4 * size), "the numbers behind the last row");
+    must(is_untouched_after(lists, 4 * place, 4 * size), "the numbers after the last row");
     if (status == HAYRO_CCITT_OK || status == HAYRO_CCITT_REFUSED)
         must(place == size || (from + count < count_known && size - place < 1 + rows_known[from + count].row.changes), "all room is used");
     take_back(lists);
@@ -286,7 +286,7 @@ static void drain(struct going *it) {
         } else {
             is_end(it, status, &row);
         }
-        if (it->has_ended || it->pieces % FEW == 0) unused_is_behind(it, row.bytes_read);
+        if (it->has_ended || it->pieces % FEW == 0) unused_is_after(it, row.bytes_read);
     }
 }
 

@@ -47,7 +47,7 @@ def inverted(packed):
 
 
 def whole_images(encode, filtered):
-    """Images whose data is as it should be, with pictures of each number of bits behind the last byte."""
+    """Images whose data is as it should be, with pictures of each number of bits after the last byte."""
     turn = itertools.cycle(itertools.product((b"\n", b" ", b"\r\n", b"\0", b"\n\n"), (False, True), ("", "/Rows")))
     for seed, (words, encoding, flags) in itertools.product(range(9), FORMS):
         picture = drawn(20 + 7 * seed, 12, seed)
@@ -57,15 +57,15 @@ def whole_images(encode, filtered):
         expected = picture.packed() if is_black else inverted(picture.packed())
         for size in (*SIZES, len(data), len(data) + len(white) + 2):
             status, packed, rest = filtered(data + white + b"EI" + MORE, size, height, words)
-            # the bits behind RTC and the first byte of white space may look like an EOL more
+            # the bits after RTC and the first byte of white space may look like an EOL more
             is_exact = rest == white + b"EI" + MORE or (flags == EOL | BLOCK and rest == white[1:] + b"EI" + MORE and len(white) > 1)
             assert (status, packed) == (0, expected) and is_exact, (seed, words, white, size, status, rest[:20])
     for size in SIZES:
         # without white space, at the content's end, and without `EI`
         picture = drawn(30, 9, 2)
         data = encode(picture, G4, BLOCK)
-        for rest, behind in ((b"EI" + MORE, b"EI" + MORE), (b"\nEI", b"\nEI"), (b"", b""), (b"\n", b""), (b" Q\n", b"")):
-            assert filtered(data + rest, size, 9, "/K -1 /Columns 30 /BlackIs1 true") == (0, picture.packed(), behind), (rest, size)
+        for rest, after in ((b"EI" + MORE, b"EI" + MORE), (b"\nEI", b"\nEI"), (b"", b""), (b"\n", b""), (b" Q\n", b"")):
+            assert filtered(data + rest, size, 9, "/K -1 /Columns 30 /BlackIs1 true") == (0, picture.packed(), after), (rest, size)
 
 
 def more_rows_than_wanted(encode, filtered):
@@ -76,9 +76,9 @@ def more_rows_than_wanted(encode, filtered):
         for words, encoding, flags in FORMS:
             data, words = encode(picture, encoding, flags), words + " /Columns 45 /BlackIs1 true"
             for height, more in [(11, "")] + [(20, " /Rows 11")] * ("false" in words):
-                status, packed, behind = filtered(data + rest, size, height, words + more)
+                status, packed, after = filtered(data + rest, size, height, words + more)
                 assert (status, packed) == (0, picture.part(0, 11).packed()), (words, size)
-                assert behind == data[-1:] * (data[-1] in WHITE) + rest, (words, size, behind[:20])
+                assert after == data[-1:] * (data[-1] in WHITE) + rest, (words, size, after[:20])
 
 
 def fewer_rows_than_wanted(encode, filtered):
@@ -87,8 +87,8 @@ def fewer_rows_than_wanted(encode, filtered):
     for size in SIZES:
         for words, encoding, flags in FORMS:
             rest = b"\nEI" + MORE
-            status, rows, behind = filtered(encode(picture, encoding, flags) + rest, size, 31, words + " /Columns 45 /BlackIs1 true")
-            assert (status, rows[: len(picture.packed())], behind) == (1, picture.packed(), rest), (words, size, behind[:20])
+            status, rows, after = filtered(encode(picture, encoding, flags) + rest, size, 31, words + " /Columns 45 /BlackIs1 true")
+            assert (status, rows[: len(picture.packed())], after) == (1, picture.packed(), rest), (words, size, after[:20])
 
 
 def decoded(encode, data, columns, rows, words, encoding):
@@ -105,7 +105,7 @@ def decoded(encode, data, columns, rows, words, encoding):
 
 
 def damaged_images(encode, filtered):
-    """Data that is cut, has flipped bits, or is none: what is behind the image comes out all the same, and the rows are those of this
+    """Data that is cut, has flipped bits, or is none: what is after the image comes out all the same, and the rows are those of this
     data alone."""
     chance, rest = random.Random(5), b"\nEI" + MORE
     picture = drawn(60, 25, 5)
@@ -116,8 +116,8 @@ def damaged_images(encode, filtered):
             flipped = bytearray(data)
             flipped[bit // 8] ^= 128 >> bit % 8
             for other in (data[:cut], bytes(flipped), chance.randbytes(60)):
-                status, rows, behind = filtered(other + rest, size, 25, words)
-                assert behind.lstrip(WHITE) == rest.lstrip(WHITE), (words, size, other.hex(), behind[:20])
+                status, rows, after = filtered(other + rest, size, 25, words)
+                assert after.lstrip(WHITE) == rest.lstrip(WHITE), (words, size, other.hex(), after[:20])
                 expected = decoded(encode, other, 60, 25, words, encoding)
                 assert rows == expected and (status == 0) == (len(expected) == 25 * 8), (words, size, other.hex(), len(rows), len(expected))
 

@@ -71,7 +71,7 @@ static void list_rows_at_once(const known *it) {
     hayro_ccitt_row row;
     uint32_t *memory = lend(4 * (numbers + 1));
     uint32_t status = hayro_ccitt_feed_rows_changes(&feed, memory, numbers + 1, &count, &row);
-    must(are_same(memory, it->lists, 4 * numbers) && is_untouched_behind(memory, 4 * numbers, 4 * (numbers + 1)), "the lists at once");
+    must(are_same(memory, it->lists, 4 * numbers) && is_untouched_after(memory, 4 * numbers, 4 * (numbers + 1)), "the lists at once");
     take_back(memory);
     ended_at_once(it, &feed, status, count, &row);
 }
@@ -86,7 +86,7 @@ static void list_rows(const known *it, size_t room) {
     ended(hayro_ccitt_decode_changes(it->data, it->length, &it->settings, lists, room, &outcome), wanted, "the status of the lists");
     told(&outcome, wanted, it->length, rows, changes, rows == it->rows ? it->bytes_read : 0);
     must(are_same(lists, it->lists, 4 * taken), "the lists");
-    must(is_untouched_behind(lists, 4 * taken, 4 * room), "nothing is listed behind the last row");
+    must(is_untouched_after(lists, 4 * taken, 4 * room), "nothing is listed after the last row");
     take_back(lists);
 }
 
@@ -112,7 +112,7 @@ static void pack_rows(const known *it, size_t room) {
     ended(hayro_ccitt_decode_packed(it->data, it->length, &it->settings, bitmap, room, &outcome), wanted, "the status of the bitmap");
     told(&outcome, wanted, it->length, rows, changes, rows == it->rows ? it->bytes_read : 0);
     must(!room || are_rows(it, bitmap, rows), "the bitmap");
-    must(is_untouched_behind(bitmap, width * rows, room), "nothing is written behind the last row");
+    must(is_untouched_after(bitmap, width * rows, room), "nothing is written after the last row");
     take_back(bitmap);
 }
 
@@ -133,7 +133,7 @@ static void decode(known *it) {
     if (size > 1) pack_rows(it, 0);
 }
 
-/* Packs rows into this many bytes: those that fit, without one byte between them or behind the last. */
+/* Packs rows into this many bytes: those that fit, without one byte between them or after the last. */
 static void spread_rows(const known *it, const uint8_t *bitmap, size_t room) {
     hayro_ccitt_outcome outcome;
     size_t width = (it->columns + 7ULL) / 8, stride = it->settings.stride ? it->settings.stride : width, size = 0;
@@ -144,7 +144,7 @@ static void spread_rows(const known *it, const uint8_t *bitmap, size_t room) {
     ended(hayro_ccitt_decode_packed(it->data, it->length, &it->settings, memory, room, &outcome), wanted, "the status of spread rows");
     must(outcome.rows == rows, "how many rows are spread");
     must(are_same(memory, bitmap, size), "the spread rows, and the bytes between them");
-    must(is_untouched_behind(memory, size, room), "nothing is written behind the last spread row");
+    must(is_untouched_after(memory, size, room), "nothing is written after the last spread row");
     take_back(memory);
 }
 
@@ -192,9 +192,9 @@ static void pack_rows_at_once(const known *it, const uint8_t *bitmap) {
     uint32_t status = hayro_ccitt_feed_rows_packed(&feed, memory, size, &count, &row);
     for (size_t index = 0; index < it->rows; index++) {
         must(are_same(memory + index * stride, bitmap + index * stride, width), "the bytes of a row at once");
-        must(is_untouched_behind(memory, index * stride + width, (index + 1) * stride), "the bytes behind a row at once");
+        must(is_untouched_after(memory, index * stride + width, (index + 1) * stride), "the bytes after a row at once");
     }
-    must(is_untouched_behind(memory, it->rows * stride, size), "the bytes behind the rows at once");
+    must(is_untouched_after(memory, it->rows * stride, size), "the bytes after the rows at once");
     take_back(memory);
     ended_at_once(it, &feed, status, count, &row);
 }
@@ -212,7 +212,7 @@ static void refuse_settings(const known *it) {
     ended(hayro_ccitt_open(it->data, it->length, &it->settings, &reader), HAYRO_CCITT_NOT_TAKEN, "opened");
     ended(hayro_ccitt_feed_open(&it->settings, &feed), HAYRO_CCITT_NOT_TAKEN, "a feed is opened");
     must(outcome.rows == 0 && !reader.is_open && !feed.is_open, "nothing is told");
-    must(is_untouched_behind(memory, 0, 64) && is_untouched_behind(lists, 0, 64), "nothing is written");
+    must(is_untouched_after(memory, 0, 64) && is_untouched_after(lists, 0, 64), "nothing is written");
     take_back(lists);
     take_back(memory);
 }
@@ -243,7 +243,7 @@ static void encode(const uint8_t *bitmap, size_t length, const fax_encode_settin
         ended(fax_encode_bitmap(bitmap, length, settings, data, room, &outcome), wanted, "the status of the strip");
         must(outcome.rows == rows && outcome.bytes == size, "what is told of the strip");
         must(are_same(data, strip, written), "the strip");
-        must(is_untouched_behind(data, written, room), "nothing is written behind the strip");
+        must(is_untouched_after(data, written, room), "nothing is written after the strip");
         take_back(data);
     }
 }

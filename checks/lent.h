@@ -1,9 +1,9 @@
 /* What the drivers of the checks of the C library share: blocks between two pages that nothing may touch, a count of the blocks that
    the library holds, allocations that are refused, and `must`, which ends the program.
 
-   A block ends where the page behind it begins; with a variable FRONT it begins where the page before it ends. What is left of the
+   A block ends where the page after it begins; with a variable FRONT it begins where the page before it ends. What is left of the
    block's own pages is filled, and looked at when it is taken back. A block of no bytes is null, and every other time the page
-   behind.
+   after.
 
    The library's blocks are counted in `malloc`, `realloc` and `free`, below the library's allocator. Under a sanitizer, which has
    these functions itself, they are counted by its hooks, and none is refused; with UNCOUNTED, for valgrind, they are neither. */
@@ -100,8 +100,8 @@ static int is_filled(const uint8_t *from, const uint8_t *to) {
     return from >= to || (*from == FILL && memcmp(from, from + 1, (size_t)(to - from) - 1) == 0);
 }
 
-/* Whether the bytes of a block behind the first ones are as they were lent. */
-static UNUSED int is_untouched_behind(const void *block, size_t first, size_t size) {
+/* Whether the bytes of a block after the first ones are as they were lent. */
+static UNUSED int is_untouched_after(const void *block, size_t first, size_t size) {
     return is_filled((const uint8_t *)block + first, (const uint8_t *)block + size);
 }
 

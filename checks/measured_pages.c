@@ -69,7 +69,7 @@ static uint32_t read_rows(int by_changes)
     return status == HAYRO_CCITT_NO_ROW && row.rows == settings.rows ? 0 : 1;
 }
 
-/* Reads the rows that are known, behind those that were read. */
+/* Reads the rows that are known, after those that were read. */
 static uint32_t drain(hayro_ccitt_row_feed *feed, int by_changes, size_t *used, hayro_ccitt_row *row)
 {
     size_t count, all = width * settings.rows, number;

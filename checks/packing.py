@@ -121,7 +121,7 @@ def least_bits(columns, above, row):
 
 
 def every_pair(count):
-    """Numbers below a count, in which each stands once behind each."""
+    """Numbers below a count, in which each stands once after each."""
     for first in range(count):
         yield first
         for second in range(first + 1, count):

@@ -3,7 +3,7 @@
     python3 checks/places.py --write    writes the lists anew; look at what has changed
 
 A clause can't say that an allocation failed: so a function that is allowed to answer that memory is wanted may do so at any size. Each
-line of code that names such an answer, or a flag for it, is listed in want_of_memory.txt with the blocks around it. It stands in the
+line of code that names such an answer, or a flag for it, is listed in out_of_memory.txt with the blocks around it. It stands in the
 failing arm of a call, or passes on or keeps what such an arm made; no other condition is around it. Calls that allocate a given size
 are listed too.
 
@@ -13,7 +13,7 @@ import os
 import re
 import sys
 
-WANT_OF_MEMORY, LOOPS = "checks/want_of_memory.txt", "checks/loops.txt"
+WANT_OF_MEMORY, LOOPS = "checks/out_of_memory.txt", "checks/loops.txt"
 # The decoder's crates.
 DECODER = ["fax_bits", "fax_reading", "fax_lines", "fax_rows", "fax_feeds", "hayro_ccitt"]
 # Crates whose functions nobody calls: tests, and worked examples.
@@ -137,7 +137,7 @@ def conditions():
                     yield f"{path} {function}: {head}: {line}"
 
 
-def want_of_memory_is_made_where_it_is_listed():
+def out_of_memory_is_made_where_it_is_listed():
     """No place is new, and no condition but the answer of a call is around one."""
     is_listed(wants_of_memory(), WANT_OF_MEMORY)
     others = list(conditions())
@@ -151,7 +151,7 @@ def loops_are_those_listed():
     assert not found, "\n".join(found)
 
 
-CHECKS = [want_of_memory_is_made_where_it_is_listed, loops_are_those_listed]
+CHECKS = [out_of_memory_is_made_where_it_is_listed, loops_are_those_listed]
 
 if __name__ == "__main__":
     os.chdir(os.path.join(os.path.dirname(os.path.abspath(__file__)), ".."))

@@ -205,7 +205,7 @@ def bitmaps():
 
 INVALID, CUT = "invalid CCITT code sequence", "unexpected end of input"
 # Arguments after `-d` and data, the lines that the program writes, and its status: data without damage; an EOL that is missed, also
-# before a fault, before RTC and behind a damaged line; a run that is cut; in a strict reading the EOL that is missing at 17; a damaged
+# before a fault, before RTC and after a damaged line; a run that is cut; in a strict reading the EOL that is missing at 17; a damaged
 # second line, which begins after its EOL at 17 to 29; the same in a strict reading; a tag that is missing; a fault where nothing is
 # repaired; and a thousand EOLs with a line of four ones after each, the last of which is cut and read again.
 DAMAGE = [

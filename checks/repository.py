@@ -359,7 +359,7 @@ def top_level_names(text):
 
 
 def is_in_module(text, start, indent):
-    """Whether what stands there, so far in, is in modules alone: in no record, and not behind a `where`."""
+    """Whether what stands there, so far in, is in modules alone: in no record, and not after a `where`."""
     for line in reversed(text[:start].split("\n")):
         inner = len(line) - len(line.lstrip())
         if line.strip() and inner < indent:

@@ -61,10 +61,10 @@ static void each_case(const uint8_t *data, size_t length, const hayro_ccitt_sett
     must(hayro_ccitt_open(data, length, settings, &first) == HAYRO_CCITT_OK, "open");
     must(hayro_ccitt_open(data, length, settings, &first) == HAYRO_CCITT_NOT_TAKEN, "open twice");
     must(hayro_ccitt_open(data, length, settings, &second) == HAYRO_CCITT_OK, "two at a time");
-    const uint32_t *ahead = lists, *behind = lists;
+    const uint32_t *ahead = lists, *after = lists;
     for (uint64_t index = 0; index <= listed.rows; index++) {
         if (index < listed.rows) next_is(&first, data, length, settings->columns, ahead, index, index % 3 == 1), ahead += 1 + ahead[0];
-        if (index > 0) next_is(&second, data, length, settings->columns, behind, index - 1, index % 2), behind += 1 + behind[0];
+        if (index > 0) next_is(&second, data, length, settings->columns, after, index - 1, index % 2), after += 1 + after[0];
     }
     for (int again = 0; again < 3; again++) {
         last = hayro_ccitt_next_changes(data, length, again % 2 ? &second : &first, &none, 0, &row);

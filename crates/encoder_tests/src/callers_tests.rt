@@ -132,7 +132,7 @@ fn lines_with_eols(columns: u32) -> DecodeSettings {
 
 /// Damage before the first EOL, before the second, between them, and before the last.
 #[test]
-fn rows_behind_damage(rt: HostRuntime) {
+fn rows_after_damage(rt: HostRuntime) {
     let settings = lines_with_eols(8);
     for (to, row) in [(0, Some(1)), (17, Some(2)), (18, None), (36, None)] {
         same(

@@ -13,10 +13,10 @@ use named_requests::{refuse_request, was_refused};
 use std::alloc::AllocGlobal;
 use std::process::Abort;
 
-/// What is noted behind a row.
+/// What is noted after a row.
 const ROW: u32 = 1000;
 
-/// What is noted behind a page.
+/// What is noted after a page.
 const PAGE: u32 = 2000;
 
 /// Three rows and the end of their page, and two and the end of theirs.
@@ -116,7 +116,7 @@ fn pages_by_pieces(rt: HostRuntime) {
     }
 }
 
-/// Pages of one row, without EOFB: what is looked at behind the row is the start of the next page, also where it came before.
+/// Pages of one row, without EOFB: what is looked at after the row is the start of the next page, also where it came before.
 #[test]
 fn pages_of_one_row(rt: HostRuntime) {
     let data = [0x31, 0xC0, 0x31, 0xC0, 0x31, 0xC0];

@@ -41,7 +41,7 @@ abbrev pub width_of : List VerticalWord → ℕ
 width_of [] = 0
 width_of (word ∷ words) = word.width + width_of words
 
--- the offset of one of them, and 3 behind the last
+-- the offset of one of them, and 3 after the last
 abbrev pub offset_at : List VerticalWord → ℕ → ℕ
 offset_at words index = get_or (map (λ word. word.offset) words) index 3
 

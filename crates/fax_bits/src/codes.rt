@@ -258,7 +258,7 @@ impl<'a> BitReader<'a> {
     /// Returns the run and the number of bits of the code word after the next `skip` bits; the run is `LOOKUP_INVALID` if there
     /// is none.
     #[inline(always)]
-    fn word_behind(&self, skip: usize, color: Color, tables: &Tables) -> (u32, usize)
+    fn word_after(&self, skip: usize, color: Color, tables: &Tables) -> (u32, usize)
         requires near { skip ≤ 20 }
         ensures word { result.0 ≢ 4095 → self.now.place + skip + result.1 ≤ length self.now.bits
             → IsWordHere color (moved skip self.now) result.0 result.1 }
@@ -290,14 +290,14 @@ impl<'a> BitReader<'a> {
         ensures left { IfNone result ((self.new ≡ self.old) × (ticks.new ≡ ticks.old)) }
         ensures same_bits { self.new.bits ≡ self.old.bits }
     {
-        let (first, width) = self.word_behind(0, color, tables);
+        let (first, width) = self.word_after(0, color, tables);
         if first < 64 {
             return None;
         }
         if first == 4095 {
             return None;
         }
-        let (second, more) = self.word_behind(width, color, tables);
+        let (second, more) = self.word_after(width, color, tables);
         if second == 4095 {
             return None;
         }
@@ -343,7 +343,7 @@ impl<'a> BitReader<'a> {
     {
         let mut total: u32 = 0;
         'words: loop {
-            let (last, taken) = self.word_behind(0, color, tables);
+            let (last, taken) = self.word_after(0, color, tables);
             if last < 64 {
                 ticks.tick();
                 // If the data ends inside the word these bits aren't there.
@@ -646,18 +646,18 @@ impl<'a> BitReader<'a> {
         ensures same_bits { self.new.bits ≡ self.old.bits }
         ensures ticks { ticks.new ≡ ticks.old + looked_at_tag (here self.old) }
     {
-        let mut behind = copy(self);
-        match behind.read_bit() {
+        let mut after = copy(self);
+        match after.read_bit() {
             Ok(0) => ticks.tick(),
             Ok(_) => {
                 ticks.tick();
-                if behind.is_at_plain_eol(ticks) {
-                    *self = behind;
+                if after.is_at_plain_eol(ticks) {
+                    *self = after;
                     return;
                 }
-                let mut end = copy(&behind);
+                let mut end = copy(&after);
                 if pass_eol(&mut end, ticks) {
-                    *self = behind;
+                    *self = after;
                 }
             }
             Err(_) => {}
@@ -674,12 +674,12 @@ impl<'a> BitReader<'a> {
         if count < 6 {
             return;
         }
-        let mut behind = copy(self);
-        match behind.read_bit() {
+        let mut after = copy(self);
+        match after.read_bit() {
             Ok(0) => ticks.tick(),
             Ok(_) => {
                 ticks.tick();
-                *self = behind;
+                *self = after;
             }
             Err(_) => {}
         }

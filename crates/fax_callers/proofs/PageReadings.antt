@@ -13,7 +13,7 @@ use Rattle.hayro_ccitt.specs.RowFeeds.{ComeNext, Feeding, IsFeedOf, fed_bits}
 use Rattle.hayro_ccitt.specs.RowState.{RowState}
 use Rattle.hayro_ccitt.proofs.BitReading.BitLists.{bits_are_whole, length-bits_in}
 use Rattle.fax_callers.specs.PageFeeds.{IsPageReading}
-use Rattle.fax_callers.specs.Rtc.{GoesOnBehind, page_size}
+use Rattle.fax_callers.specs.Rtc.{GoesOnAfter, page_size}
 use Rattle.fax_callers.specs.declared.rtc.EolsSeen.{EolsSeen}
 use Rattle.fax_callers.proofs.RtcPassed.{bits_more}
 
@@ -38,10 +38,10 @@ count_within P (Some m) n size is p = omega (arith, is, p.0)
 
 -- ---- Bytes and their bits
 
--- the bits behind those of the first bytes
-bits_behind : (order : BitOrder) (front rest : List ℕ)
+-- the bits after those of the first bytes
+bits_after : (order : BitOrder) (front rest : List ℕ)
     → drop (8 * length front) (bits_in order (front ++ rest)) ≡ bits_in order rest
-bits_behind order front rest =
+bits_after order front rest =
     ap (drop (8 * length front)) (bits_more order front rest)
     ∙ ap (λ (n : ℕ). drop n (bits_in order front ++ bits_in order rest)) (sym (length-bits_in order front))
     ∙ drop-append_seam (bits_in order front) (bits_in order rest)
@@ -90,7 +90,7 @@ kept_page {order} {bytes} {given} {seen} {old} {new} is again settings order_is 
       let before = is.reads more (λ last. none (finished ∙ last)) fit in
       again (bits_in order (take given bytes ++ more)) before.0 before.1;
   sought = λ unfinished.
-      subst (λ (s : DecodeSettings). GoesOnBehind s.encoding order (take given bytes) seen) (sym settings)
+      subst (λ (s : DecodeSettings). GoesOnAfter s.encoding order (take given bytes) seen) (sym settings)
       (is.sought (sym finished ∙ unfinished));
   found = λ last.
       subst (λ (s : DecodeSettings). given ≡ page_size s.encoding order bytes) (sym settings) (is.found (sym finished ∙ last));
@@ -105,7 +105,7 @@ comes {order} {bytes} {given} is next more = record {
   rest = bits_in order more;
   bits = ap (λ (k : ℕ). drop k (bits_in order (take given bytes ++ (next ++ more))))
       (is.counted ∙ ap (λ (k : ℕ). 8 * k) (sym (length-take-le given bytes is.within)))
-      ∙ bits_behind order (take given bytes) (next ++ more) ∙ bits_more order next more
+      ∙ bits_after order (take given bytes) (next ++ more) ∙ bits_more order next more
       ∙ ap (λ (o : BitOrder). bits_in o next ++ bits_in order more) (sym is.order_is);
   bytes = bits_are_whole order more;
 }
@@ -134,23 +134,23 @@ module _ {order : BitOrder} {seen : EolsSeen} {old new : Feeding} (bytes piece r
   has_memory_still : ended new.rows.stand ≢ Some (Err OutOfMemory)
   has_memory_still = subst (λ (r : RowState). ended r.stand ≢ Some (Err OutOfMemory)) (sym rows) is.has_memory
 
-  -- and the page goes on behind them
-  pub page_goes_on : (behind : EolsSeen) → new.finished ≡ false
-      → GoesOnBehind old.ctx.held.settings.encoding order (take (given + n) bytes) behind
-      → IsPageReading order bytes (given + n) behind new
-  page_goes_on behind unended sought = record {
+  -- and the page goes on after them
+  pub page_goes_on : (after : EolsSeen) → new.finished ≡ false
+      → GoesOnAfter old.ctx.held.settings.encoding order (take (given + n) bytes) after
+      → IsPageReading order bytes (given + n) after new
+  page_goes_on after unended sought = record {
     fit = is.fit;
     within = longer_within bytes piece rest given is.within split n le;
     order_is = order_is ∙ is.order_is;
     counted = still_counted;
     reads = λ more none fit. reads_on more fit;
     sought = λ e.
-        subst (λ (x : Context). GoesOnBehind x.held.settings.encoding order (take (given + n) bytes) behind) (sym ctx) sought;
+        subst (λ (x : Context). GoesOnAfter x.held.settings.encoding order (take (given + n) bytes) after) (sym ctx) sought;
     found = λ last. absurd (false≢true (sym unended ∙ last));
     has_memory = has_memory_still;
   }
 
--- of data that ends behind the bytes given all bits were fed
+-- of data that ends after the bytes given all bits were fed
 pub counted_all : {fed : ℕ} (order : BitOrder) (bytes more : List ℕ) (given : ℕ) → given ≤ length bytes → fed ≡ 8 * given
     → more ≡ [] → length (bits_in order (take given bytes ++ more)) ≡ fed
 counted_all order bytes more given within counted none = omega (

@@ -10,7 +10,7 @@ use Rattle.hayro_ccitt.specs.Fed.{Fed}
 use Rattle.hayro_ccitt.specs.Fed.TheVariants.{Row as ReadRow, NeedsMore as WantsMore, End as ReadAll}
 use Rattle.hayro_ccitt.specs.RowState.{RowState}
 use Rattle.hayro_ccitt.specs.Stand.{Stand}
-use Rattle.hayro_ccitt.specs.Stand.TheVariants.{AtLine, BehindRow, AtEnd, AtFault}
+use Rattle.hayro_ccitt.specs.Stand.TheVariants.{AtLine, AfterRow, AtEnd, AtFault}
 use Rattle.hayro_ccitt.proofs.BitReading.BitLists.{length-bits_in}
 use Rattle.hayro_ccitt.proofs.ErrorKinds.{by_kind}
 use Rattle.hayro_ccitt.proofs.Readings.RowByRow.{failed_stands}
@@ -101,7 +101,7 @@ failed_again {whole} {tried} {page} {error} is e = by_begun page.begun is.stands
         → MissIsTold stand page.ctx.held.settings whole page.ctx.held.taken page.rows.missed
         → page.rows.missed ≡ missed_before page.ctx.held.settings whole page.ctx.held.taken
     told AtLine e is = absurd cc
-    told BehindRow e is = absurd cc
+    told AfterRow e is = absurd cc
     told AtEnd e is = is
     told (AtFault other) e is = is
 
@@ -254,7 +254,7 @@ module _ (feed : PageFeeding) (new : Feeding) (answer : Result Fed DecodeError) 
       pub ends_within : bytes_read after ≤ feed.given
       ends_within = ended_within new_reading new_ended
 
-      -- the next one begins behind it
+      -- the next one begins after it
       next_page : {last : PageFeeding} → EndsPageHere after last (Ok PageEnd) → IsPageFeedOf whole (start + bytes_read after) last
       next_page {last} ends =
           let back = ends.back refl in

@@ -19,11 +19,11 @@ use Rattle.hayro_ccitt.proofs.Readings.RowByRow.{ended_stands}
 use Rattle.fax_callers.specs.PageFeeds.{BytesComeNext, DropsRead, IsPageFeedOf, IsPageReading, PageFeeding, SameRows, Stays}
 use Rattle.fax_callers.specs.PageFeeds.{fed_from_start, page_bits, settings_of}
 use Rattle.fax_callers.specs.Pages.{page_by}
-use Rattle.fax_callers.specs.Rtc.{GoesOnBehind, PassesBits, behind_rtc, none_seen, page_size, rtc_size, size_before}
+use Rattle.fax_callers.specs.Rtc.{GoesOnAfter, PassesBits, after_rtc, none_seen, page_size, rtc_size, size_before}
 use Rattle.fax_callers.specs.declared.rtc.EolsSeen.{EolsSeen}
 use Rattle.fax_callers.proofs.PageReadings.{page_finished}
 use Rattle.fax_callers.proofs.ReadsOnward.{read_within}
-use Rattle.fax_callers.proofs.RtcPassed.{behind_shorter, bits_more}
+use Rattle.fax_callers.proofs.RtcPassed.{after_shorter, bits_more}
 
 -- ---- The bytes that a page may occupy
 
@@ -37,15 +37,15 @@ size_within encoding order bytes = by_encoding encoding
 
     by_encoding : (encoding : EncodingMode) → page_size encoding order bytes ≤ length bytes
     by_encoding Group4 = omega arith
-    by_encoding Group3_1D = by_rest (behind_rtc false none_seen (bits_in order bytes))
-    by_encoding Group3_2D = by_rest (behind_rtc true none_seen (bits_in order bytes))
+    by_encoding Group3_1D = by_rest (after_rtc false none_seen (bits_in order bytes))
+    by_encoding Group3_2D = by_rest (after_rtc true none_seen (bits_in order bytes))
 
--- those behind which the page goes on are among them
+-- those after which the page goes on are among them
 pub size_least : (encoding : EncodingMode) (order : BitOrder) (front more : List ℕ) (seen : EolsSeen)
-    → GoesOnBehind encoding order front seen → length front ≤ page_size encoding order (front ++ more)
+    → GoesOnAfter encoding order front seen → length front ≤ page_size encoding order (front ++ more)
 size_least encoding order front more seen goes = by_encoding encoding goes
   where
-    by_rest : (tags : Bool) (o : Option Bits) → behind_rtc tags seen (bits_in order more) ≡ o
+    by_rest : (tags : Bool) (o : Option Bits) → after_rtc tags seen (bits_in order more) ≡ o
         → length front ≤ size_before (bits_in order (front ++ more)) (length (front ++ more)) o
     by_rest tags None e = omega (arith, length-append front more)
     by_rest tags (Some rest) e = omega (
@@ -53,17 +53,17 @@ size_least encoding order front more seen goes = by_encoding encoding goes
       length-append front more,
       length-bits_in order (front ++ more),
       length-bits_in order more,
-      behind_shorter tags seen (bits_in order more) rest e,
+      after_shorter tags seen (bits_in order more) rest e,
     )
 
     passed : (tags : Bool) → PassesBits tags none_seen (bits_in order front) seen
         → length front ≤ rtc_size tags (bits_in order (front ++ more)) (length (front ++ more))
     passed tags passes =
         subst (λ (o : Option Bits). length front ≤ size_before (bits_in order (front ++ more)) (length (front ++ more)) o)
-        (sym (ap (behind_rtc tags none_seen) (bits_more order front more) ∙ passes (bits_in order more)))
-        (by_rest tags (behind_rtc tags seen (bits_in order more)) refl)
+        (sym (ap (after_rtc tags none_seen) (bits_more order front more) ∙ passes (bits_in order more)))
+        (by_rest tags (after_rtc tags seen (bits_in order more)) refl)
 
-    by_encoding : (encoding : EncodingMode) → GoesOnBehind encoding order front seen
+    by_encoding : (encoding : EncodingMode) → GoesOnAfter encoding order front seen
         → length front ≤ page_size encoding order (front ++ more)
     by_encoding Group4 goes = omega (arith, length-append front more)
     by_encoding Group3_1D goes = passed false goes
@@ -175,7 +175,7 @@ fresh_page {order} {page} reading order_is none_fed unbegun bytes fit = record {
   has_memory = λ e. let never = sym unended ∙ e in cc;
 }
   where
-    sought : (encoding : EncodingMode) → GoesOnBehind encoding order [] none_seen
+    sought : (encoding : EncodingMode) → GoesOnAfter encoding order [] none_seen
     sought Group4 = tt
     sought Group3_1D = λ more. refl
     sought Group3_2D = λ more. refl
@@ -218,10 +218,10 @@ pub drops_count : {old new : PageFeeding} → DropsRead old new → old.next ≤
 drops_count {old} {new} drops within =
     ap fed_from_start drops.frame ∙ omega (arith, within, drops.bytes_are, length-drop drops.bytes old.held)
 
--- the bytes behind those held
-behind_held : {whole : List ℕ} {start : ℕ} {feed : PageFeeding} (is : IsPageFeedOf whole start feed)
+-- the bytes after those held
+after_held : {whole : List ℕ} {start : ℕ} {feed : PageFeeding} (is : IsPageFeedOf whole start feed)
     → drop (start + fed_from_start feed) whole ≡ is.more
-behind_held {whole} {start} {feed} is =
+after_held {whole} {start} {feed} is =
     (let sum : start + fed_from_start feed ≡ is.dropped + length feed.held = omega (arith, is.place, is.next) in
     ap (λ (n : ℕ). drop n whole) sum) ∙ sym (drop-drop (length feed.held) is.dropped whole)
     ∙ ap (drop (length feed.held)) is.bytes ∙ drop-append_seam feed.held is.more
@@ -236,7 +236,7 @@ page_holds {whole} {start} {old} {new} bytes frame unfinished is come = subst (I
   page = is.page;
   dropped = is.dropped;
   more = come.0;
-  bytes = is.bytes ∙ ap (λ (l : List ℕ). old.held ++ l) (sym (behind_held is) ∙ come.1)
+  bytes = is.bytes ∙ ap (λ (l : List ℕ). old.held ++ l) (sym (after_held is) ∙ come.1)
       ∙ sym (append_assoc old.held bytes come.0);
   next = omega (arith, is.next, length-append old.held bytes);
   place = is.place;
@@ -257,7 +257,7 @@ feed_ends {whole} {start} {old} {new} frame is all = subst (IsPageFeedOf whole s
   next = is.next;
   place = is.place;
   none = λ last. no_bytes is.more
-      (omega (arith, all, ap length (behind_held is), length-drop (start + fed_from_start old) whole));
+      (omega (arith, all, ap length (after_held is), length-drop (start + fed_from_start old) whole));
   unread = is.unread;
 })
 

@@ -5,18 +5,18 @@ use Rattle.hayro_ccitt.proofs.Names.{leb, eqb, cases_lt, false≢true, length-ap
 use Rattle.hayro_ccitt.proofs.Names.{zero, whole_reading, Bits, Row, Line, Context, Held, DecodeError, DecodeSettings}
 use Rattle.hayro_ccitt.proofs.Names.{EncodingMode, Group4}
 use Rattle.hayro_ccitt.proofs.Names.{Gap, Progress, Turn, Reaches, ReaderStands}
-use Rattle.hayro_ccitt.proofs.Names.{add_row, at_front, at_gap, end_of, eols_here, first_gap, gap_behind_row, is_over}
+use Rattle.hayro_ccitt.proofs.Names.{add_row, at_front, at_gap, end_of, eols_here, first_gap, gap_after_row, is_over}
 use Rattle.hayro_ccitt.proofs.Names.{limit_met}
 use Rattle.hayro_ccitt.proofs.Names.{line_here, move_on, plain, row_before, row_of_line, with_row, misses_eol, repaired}
 use Rattle.std.proofs.lemmas.List.{drop-append-le}
 use Rattle.hayro_ccitt.specs.Continuations.{is_short}
 use Rattle.hayro_ccitt.specs.GapsContinued.{eols_are_settled, gap_is_settled, first_gap_is_settled}
 use Rattle.hayro_ccitt.specs.GapsContinued.{holds_one}
-use Rattle.hayro_ccitt.specs.PlainReading.{Move, after_line, behind_row, eols_of_end, is_end_of_block, nothing_read}
+use Rattle.hayro_ccitt.specs.PlainReading.{Move, after_line, aligned_after_row, eols_of_end, is_end_of_block, nothing_read}
 use Rattle.hayro_ccitt.specs.PlainReading.{pass_gap}
 use Rattle.hayro_ccitt.specs.RowFeeds.{Feeding, IsFeedOf, IsOpenAt, StandsIn, fed_bits}
 use Rattle.hayro_ccitt.specs.Stand.{Stand}
-use Rattle.hayro_ccitt.specs.Stand.TheVariants.{AtLine, BehindRow, AtEnd, AtFault}
+use Rattle.hayro_ccitt.specs.Stand.TheVariants.{AtLine, AfterRow, AtEnd, AtFault}
 use Rattle.hayro_ccitt.proofs.KeptRows.EqualFronts.{one_in_bits}
 use Rattle.hayro_ccitt.proofs.KeptRows.EqualFronts.{line_again, one_in_whole, one_stays}
 use Rattle.hayro_ccitt.proofs.Readings.FeedsPaid.{short_row}
@@ -26,7 +26,7 @@ use Rattle.hayro_ccitt.proofs.Readings.OpenBits.{open_bits_of_gap}
 use Rattle.hayro_ccitt.proofs.Readings.Repeated.{not_next}
 use Rattle.hayro_ccitt.proofs.Readings.RowsAndGaps.{after_damage-is, unless_over, unmissed}
 use Rattle.hayro_ccitt.proofs.Readings.TurnsMoveOn.{unless_over_next}
-use Rattle.hayro_ccitt.proofs.Work.TurnsPaid.{behind_shorter}
+use Rattle.hayro_ccitt.proofs.Work.TurnsPaid.{after_shorter}
 use Rattle.fax_callers.proofs.ReadsOnward.{EndsWithin, Leads, Leaves, counted_on, gap_lead, gap_leaves}
 use Rattle.fax_callers.proofs.ReadsOnward.{reached_lead}
 
@@ -96,7 +96,7 @@ module _ (settings : DecodeSettings) (wide : 0 < settings.columns) (four : setti
   unmet : (taken : ℕ) → limit_met settings taken ≡ false
   unmet taken = ap (λ (n : ℕ). not (eqb n 0) && eqb n taken) unlimited
 
-  -- behind them the reading ends at the end of the data, or fails
+  -- after them the reading ends at the end of the data, or fails
   open_lead : (n : ℕ) (run : Progress) (found : ℕ × Bits) → run.has_eols ≡ false
       → eols_are_settled settings.encoding settings.end_of_block found ≡ false → Leads settings n (unless_over settings run found)
   open_lead n run (count, []) unsought e =
@@ -120,9 +120,9 @@ module _ (settings : DecodeSettings) (wide : 0 < settings.columns) (four : setti
       by_settled : (b : Bool) → gap_is_settled settings taken false run.rest ≡ b
           → Leads settings (length more + 12) (pass_gap settings run)
       by_settled true settled =
-          subst (λ (has : Bool). Leads settings (length more + 12) (at_gap run (gap_behind_row settings taken has run.rest)))
-          (sym unsought) (short_gap settings (length more + 12) run (gap_behind_row settings taken false run.rest)
-          (subst (λ (b : Bits). length (left_by b (gap_behind_row settings taken false b)) ≤ length more + 12) (sym split)
+          subst (λ (has : Bool). Leads settings (length more + 12) (at_gap run (gap_after_row settings taken has run.rest)))
+          (sym unsought) (short_gap settings (length more + 12) run (gap_after_row settings taken false run.rest)
+          (subst (λ (b : Bits). length (left_by b (gap_after_row settings taken false b)) ≤ length more + 12) (sym split)
           (omega (
             arith,
             open_bits_of_gap settings taken false seen more e
@@ -158,8 +158,8 @@ module _ (settings : DecodeSettings) (wide : 0 < settings.columns) (four : setti
           let there : row_of_line unaligned false (seen ++ more) (line_here unaligned reference (seen ++ more)) ≡ Ok (row, rest)
           = ap (row_of_line unaligned false (seen ++ more)) (ap (line_here settings reference) (sym split) ∙ e) in
           elim (short_row unaligned false reference seen more rest row short there) [
-            | inl le ↦ gap_leaves settings (with_row run row (behind_row settings run.has_eols rest)) (length more + 12)
-                (omega (arith, le, behind_shorter settings run.has_eols rest))
+            | inl le ↦ gap_leaves settings (with_row run row (aligned_after_row settings run.has_eols rest)) (length more + 12)
+                (omega (arith, le, after_shorter settings run.has_eols rest))
             | inr back ↦ absurd (false≢true back.0)
           ]
 
@@ -173,18 +173,18 @@ module _ (settings : DecodeSettings) (wide : 0 < settings.columns) (four : setti
   line_keeps : (run t : Progress) (line : Line) → run.has_eols ≡ false → after_line settings run line ≡ Turn.next t
       → t.has_eols ≡ false
   line_keeps run t (Line.whole row rest) unsought e =
-      gap_keeps (with_row run row (behind_row settings run.has_eols rest)) t unsought e
+      gap_keeps (with_row run row (aligned_after_row settings run.has_eols rest)) t unsought e
   line_keeps run t (Line.broken front fault) unsought e =
       by_row (settings.strict || not run.has_eols) e
     where
       by_row : (b : Bool) → add_row settings run (cond b (Err fault) (Ok (
         repaired settings.columns front,
-        behind_row settings
+        aligned_after_row settings
             run.has_eols run.rest,
       ))) ≡ Turn.next t → t.has_eols ≡ false
       by_row true f = absurd (not_next _ t f)
       by_row false f = gap_keeps (with_row run (repaired settings.columns front)
-          (behind_row settings run.has_eols run.rest)) t unsought f
+          (aligned_after_row settings run.has_eols run.rest)) t unsought f
 
   reached_unsought : (first last : Progress) → Reaches (move_on settings) first last → first.has_eols ≡ false
       → last.has_eols ≡ false
@@ -212,7 +212,7 @@ module _ (settings : DecodeSettings) (wide : 0 < settings.columns) (four : setti
         (subst (λ (h : Held). is_short (line_here settings h.reference seen) ≡ true) stands.held_is
         (subst (λ (s : DecodeSettings). is_short (line_here s held.reference seen) ≡ true) by
         (subst (λ (h : Held). is_short (line_here h.settings h.reference seen) ≡ true) same waits))))
-    stands_within BehindRow ctx same by waits stands =
+    stands_within AfterRow ctx same by waits stands =
         let unsought = reached_unsought stands.first stands.so_far stands.reaches
         (first_unsought bits stands.first stands.begins) in
         let run : Progress = with_row stands.so_far stands.row (drop place bits) in

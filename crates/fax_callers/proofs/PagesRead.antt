@@ -22,8 +22,8 @@ use Rattle.hayro_ccitt.proofs.EncodedPictures.PicturesT4.{eol_stands, eols_here_
 use Rattle.hayro_ccitt.specs.Pictures.{BeginsWithPictureT6}
 use Rattle.fax_callers.specs.Pages.{BeginsWithPageT4, IsPage, ReadsPages}
 use Rattle.fax_callers.specs.Readings.{reading_of}
-use Rattle.fax_callers.specs.Rtc.{behind_rtc, none_seen, page_size, rtc_size, size_before}
-use Rattle.fax_callers.proofs.RtcFound.{behind_page, tags_in}
+use Rattle.fax_callers.specs.Rtc.{after_rtc, none_seen, page_size, rtc_size, size_before}
+use Rattle.fax_callers.proofs.RtcFound.{after_page, tags_in}
 
 -- ---- The EOLs of RTC, where fewer bits follow than an EOL has
 
@@ -92,18 +92,18 @@ first_bits order bytes n =
     sym (flat_map-append (bits_of_byte order) (take n bytes) (drop n bytes)) ∙ ap (bits_in order) (take-append-drop n bytes)
 
 size_of_page : (settings : DecodeSettings) (order : BitOrder) (bytes : List ℕ) (bits more : Bits) → settings.encoding ≢ Group4
-    → bits_in order bytes ≡ bits ++ more → behind_rtc (tags_in settings.encoding) none_seen (bits ++ more) ≡ Some more
+    → bits_in order bytes ≡ bits ++ more → after_rtc (tags_in settings.encoding) none_seen (bits ++ more) ≡ Some more
     → page_size settings.encoding order bytes ≡ (length bits + 7) / 8
 size_of_page settings order bytes bits more three split found = by_encoding settings.encoding three found
   where
-    counted : (tags : Bool) → behind_rtc tags none_seen (bits ++ more) ≡ Some more
+    counted : (tags : Bool) → after_rtc tags none_seen (bits ++ more) ≡ Some more
         → rtc_size tags (bits_in order bytes) (length bytes) ≡ (length bits + 7) / 8
     counted tags found =
         ap (λ (b : Bits). rtc_size tags b (length bytes)) split ∙ ap (size_before (bits ++ more) (length bytes)) found
         ∙ (let sum = length-append bits more in omega (arith, sum))
 
     by_encoding : (encoding : EncodingMode) → encoding ≢ Group4
-        → behind_rtc (tags_in encoding) none_seen (bits ++ more) ≡ Some more
+        → after_rtc (tags_in encoding) none_seen (bits ++ more) ≡ Some more
         → page_size encoding order bytes ≡ (length bits + 7) / 8
     by_encoding Group4 three found = absurd (three refl)
     by_encoding Group3_1D three found = counted false found
@@ -114,7 +114,7 @@ rtc_page_size : (settings : DecodeSettings) (order : BitOrder) {rows : List Row}
     → page_size settings.encoding order bytes ≡ count
 rtc_page_size settings order {rows} bytes bits count begins e =
     size_of_page settings order bytes bits begins.begins.0 begins.encoding begins.begins.1
-    (behind_page settings.encoding settings.columns rows bits begins.begins.0 begins.encoding begins.picture) ∙ sym e
+    (after_page settings.encoding settings.columns rows bits begins.begins.0 begins.encoding begins.picture) ∙ sym e
 
 -- in Group 3 a page may occupy the bytes that it does
 pub closed_size : (settings : DecodeSettings) (order : BitOrder) {rows : List Row} {count : ℕ} (bytes : List ℕ)

@@ -8,12 +8,12 @@ use Rattle.hayro_ccitt.proofs.Names.{Ending, Progress, Turn, Reaches, HasFailed}
 use Rattle.hayro_ccitt.proofs.Names.{add_row, end_of, eols_here, first_gap, is_over, misses_eol, next_eol}
 use Rattle.hayro_ccitt.proofs.Names.{line_here, move_on, plain, row_before, whole_reading, with_row, ended}
 use Rattle.hayro_ccitt.proofs.Names.{ReaderStands}
-use Rattle.hayro_ccitt.specs.PlainReading.{Move, after_line, behind_row, bytes_before, ends_with, ending_behind, pass_gap}
+use Rattle.hayro_ccitt.specs.PlainReading.{Move, after_line, aligned_after_row, bytes_before, ends_with, ending_after, pass_gap}
 use Rattle.hayro_ccitt.specs.Repetition.{repeated}
 use Rattle.hayro_ccitt.specs.RowFeeds.{Feeding, IsFeedOf, StandsIn}
 use Rattle.hayro_ccitt.specs.DecodeError.TheVariants.{UnexpectedEof}
 use Rattle.hayro_ccitt.specs.Stand.{Stand}
-use Rattle.hayro_ccitt.specs.Stand.TheVariants.{AtLine, BehindRow, AtEnd, AtFault}
+use Rattle.hayro_ccitt.specs.Stand.TheVariants.{AtLine, AfterRow, AtEnd, AtFault}
 use Rattle.hayro_ccitt.proofs.ErrorKinds.{by_kind}
 use Rattle.hayro_ccitt.proofs.BitReading.ConsecutiveEols.{next_eol_found}
 use Rattle.hayro_ccitt.proofs.DrawingLines.ReadLines.{TookBits}
@@ -22,21 +22,21 @@ use Rattle.hayro_ccitt.proofs.Readings.PlainAnswers.{some_columns}
 use Rattle.hayro_ccitt.proofs.Readings.RowsAndGaps.{after_damage-is, after_row, pass_gap-is, seek_eol}
 use Rattle.hayro_ccitt.proofs.Readings.RowsAndGaps.{seek_from, unless_over}
 use Rattle.hayro_ccitt.proofs.Readings.TurnsMoveOn.{eols_here_counted, left_below, left_to_read, line_by_took, move_shrinks}
-use Rattle.hayro_ccitt.proofs.Work.TurnsPaid.{behind_shorter}
+use Rattle.hayro_ccitt.proofs.Work.TurnsPaid.{after_shorter}
 
--- ---- What is left behind a turn
+-- ---- What is left after a turn
 
 -- no more bits than this are left at the end
 abbrev pub EndsWithin : ℕ → Result Bits DecodeError → Type 0
 EndsWithin n (Ok rest) = length rest ≤ n
 EndsWithin n (Err error) = Unit {0}
 
--- nor behind a turn
+-- nor after a turn
 abbrev pub Leaves : ℕ → Move → Type 0
 Leaves n (Turn.next after) = length after.rest ≤ n
 Leaves n (Turn.done end) = EndsWithin n end.outcome
 
--- nor behind it or the next one
+-- nor after it or the next one
 abbrev pub Leads : DecodeSettings → ℕ → Move → Type 0
 Leads settings n (Turn.next after) = (length after.rest ≤ n) ⊎ Leaves n (move_on settings after)
 Leads settings n (Turn.done end) = EndsWithin n end.outcome
@@ -79,12 +79,12 @@ gap_leaves settings run n le = subst (Leaves n) (sym (pass_gap-is settings run))
 line_leaves : (settings : DecodeSettings) (run : Progress) (line : Line) → TookBits (length run.rest) line
     → Leaves (length run.rest) (after_line settings run line)
 line_leaves settings run (Line.whole row rest) took =
-    gap_leaves settings (with_row run row (behind_row settings run.has_eols rest)) (length run.rest)
-    (omega (arith, took, behind_shorter settings run.has_eols rest))
+    gap_leaves settings (with_row run row (aligned_after_row settings run.has_eols rest)) (length run.rest)
+    (omega (arith, took, after_shorter settings run.has_eols rest))
 line_leaves settings run (Line.broken front fault) took =
     subst (Leaves (length run.rest)) (sym (after_damage-is settings run front fault))
     (cond_leaves (length run.rest) (settings.strict || not run.has_eols) _ _ tt
-    (row_leaves settings _ (length run.rest) (behind_shorter settings run.has_eols run.rest)))
+    (row_leaves settings _ (length run.rest) (after_shorter settings run.has_eols run.rest)))
 
 module _ (settings : DecodeSettings) (wide : 0 < settings.columns) where
   move_leaves : (run : Progress) → Leaves (length run.rest) (move_on settings run)
@@ -115,7 +115,7 @@ module _ (settings : DecodeSettings) (wide : 0 < settings.columns) where
             by_outcome (Ok rest) q = omega (arith, q, small)
             by_outcome (Err error) q = tt
 
-    -- nor than behind the next turn
+    -- nor than after the next turn
     by_next_turn : (n : ℕ) (run : Progress) → EndsWithin n (after_turn end_from (move_on settings run)).outcome
         → EndsWithin n (end_from run).outcome
     by_next_turn n run =
@@ -129,7 +129,7 @@ module _ (settings : DecodeSettings) (wide : 0 < settings.columns) where
         by_turn (Turn.next after) q = on_within n after q
         by_turn (Turn.done end) q = q
 
-    -- nor than behind one of the next two
+    -- nor than after one of the next two
     from_lead : (n : ℕ) (after : Progress) → (length after.rest ≤ n) ⊎ Leaves n (move_on settings after)
         → EndsWithin n (end_from after).outcome
     from_lead n after (inl le) = on_within n after le
@@ -156,12 +156,12 @@ module _ (settings : DecodeSettings) (bits : Bits) (n : ℕ) (wide : 0 < setting
   late first = record { rows = first.rows; has_eols = first.has_eols; outcome = Err UnexpectedEof }
 
   first_end : (first : Progress) → repeated (move_on settings) (late first) (suc (left_to_read first)) first
-      ≡ ending_behind settings (Turn.next first)
+      ≡ ending_after settings (Turn.next first)
   first_end first =
       repeated_same (move_on settings) (late first) left_to_read (move_shrinks settings wide) (suc (left_to_read first))
       (suc (suc (length first.rest))) first (omega arith) (left_below first)
 
-  -- the end, if no more is left behind a turn that is reached
+  -- the end, if no more is left after a turn that is reached
   reached_end : (first so_far : Progress) → first_gap settings.encoding settings bits ≡ Turn.next first
       → Reaches (move_on settings) first so_far
       → EndsWithin n (repeated (move_on settings) (late first) (suc (left_to_read so_far)) so_far).outcome
@@ -169,28 +169,28 @@ module _ (settings : DecodeSettings) (bits : Bits) (n : ℕ) (wide : 0 < setting
   reached_end first so_far begins reaches =
       subst (λ (end : Ending). EndsWithin n end.outcome)
       (sym (same_end settings wide (late first) (λ m. tt) first so_far reaches) ∙ first_end first
-      ∙ sym (ap (ending_behind settings) begins))
+      ∙ sym (ap (ending_after settings) begins))
 
   reached_within : (first so_far : Progress) → first_gap settings.encoding settings bits ≡ Turn.next first
       → Reaches (move_on settings) first so_far → Leaves n (move_on settings so_far) → EndsWithin n (end_of settings bits).outcome
   reached_within first so_far begins reaches leaves =
       reached_end first so_far begins reaches (turns_leave settings wide (late first) (λ m. tt) n so_far leaves)
 
-  -- or behind the next one
+  -- or after the next one
   pub reached_lead : (first so_far : Progress) → first_gap settings.encoding settings bits ≡ Turn.next first
       → Reaches (move_on settings) first so_far → Leads settings n (move_on settings so_far)
       → EndsWithin n (end_of settings bits).outcome
   reached_lead first so_far begins reaches leads =
       reached_end first so_far begins reaches (turns_lead settings wide (late first) (λ m. tt) n so_far leads)
 
-  -- or behind the first gap
+  -- or after the first gap
   pub gap_lead : (gap : Move) → first_gap settings.encoding settings bits ≡ gap → Leads settings n gap
       → EndsWithin n (end_of settings bits).outcome
   gap_lead (Turn.next first) begins lead =
-      subst (λ (end : Ending). EndsWithin n end.outcome) (first_end first ∙ sym (ap (ending_behind settings) begins))
+      subst (λ (end : Ending). EndsWithin n end.outcome) (first_end first ∙ sym (ap (ending_after settings) begins))
       (from_lead settings wide (late first) (λ m. tt) n first lead)
   gap_lead (Turn.done end) begins lead =
-      subst (λ (end : Ending). EndsWithin n end.outcome) (sym (ap (ending_behind settings) begins)) lead
+      subst (λ (end : Ending). EndsWithin n end.outcome) (sym (ap (ending_after settings) begins)) lead
 
 -- the bytes read up to there are no more than those read up to the end
 pub counted_on : (settings : DecodeSettings) (bits : Bits) (count place size : ℕ) → 0 < settings.columns → length bits ≡ 8 * size
@@ -222,7 +222,7 @@ module _ {bits : Bits} {tried : ℕ} {feed : Feeding} (is : IsFeedOf bits tried 
       (reached_within settings bits (length bits - place) stands.wide stands.first stands.so_far stands.begins stands.reaches
       (subst (λ (n : ℕ). Leaves n (move_on settings stands.so_far))
       (sym (ap length stands.rest_is) ∙ length-drop place bits) (move_leaves settings stands.wide stands.so_far)))
-  at_stand count outcome BehindRow memory stands =
+  at_stand count outcome AfterRow memory stands =
       counted_on settings bits count place size stands.wide whole outcome
       (reached_within settings bits (length bits - place) stands.wide stands.first stands.so_far stands.begins stands.reaches
       (subst (λ (r : Result (Row × Bits) DecodeError). Leaves (length bits - place) (add_row settings stands.so_far r))

@@ -13,23 +13,23 @@ use Rattle.hayro_ccitt.specs.EncodingMode.TheVariants.{Group4}
 use Rattle.hayro_ccitt.proofs.BitReading.BitLists.{length-bits_in}
 use Rattle.fax_callers.specs.PageSearches.{FoundAt, kind_of}
 use Rattle.fax_callers.specs.Pages.{IsPage}
-use Rattle.fax_callers.specs.Rtc.{FindsRtc, PassesBits, behind_rtc, is_rtc, none_seen, rtc_size, size_before, with_bit}
+use Rattle.fax_callers.specs.Rtc.{FindsRtc, PassesBits, after_rtc, is_rtc, none_seen, rtc_size, size_before, with_bit}
 use Rattle.fax_callers.specs.declared.rtc.EolsSeen.{EolsSeen}
-use Rattle.fax_callers.proofs.RtcFound.{behind_page, tags_in}
+use Rattle.fax_callers.proofs.RtcFound.{after_page, tags_in}
 
 -- of all the data at once
 pub size_found : (o : Option ℕ) (tags : Bool) (order : BitOrder) (bytes : List ℕ) (after : EolsSeen)
     → IfSome o (λ n. (n ≤ length bytes) × FindsRtc tags order none_seen bytes n)
     → IfNone o (PassesBits tags none_seen (bits_in order bytes) after)
     → unwrap_or o (length bytes) ≡ rtc_size tags (bits_in order bytes) (length bytes)
-size_found (Some n) tags order bytes after (le, (rest, behind, short, count)) none =
-    let found : behind_rtc tags none_seen (bits_in order bytes) ≡ Some rest
-    = ap (behind_rtc tags none_seen) (sym (append-nil (bits_in order bytes))) ∙ behind [] ∙ ap Some (append-nil rest) in
+size_found (Some n) tags order bytes after (le, (rest, following, short, count)) none =
+    let found : after_rtc tags none_seen (bits_in order bytes) ≡ Some rest
+    = ap (after_rtc tags none_seen) (sym (append-nil (bits_in order bytes))) ∙ following [] ∙ ap Some (append-nil rest) in
     sym (ap (size_before (bits_in order bytes) (length bytes)) found
     ∙ (let size = length-bits_in order bytes in omega (arith, size, count)))
 size_found None tags order bytes after some passes =
-    let found : behind_rtc tags none_seen (bits_in order bytes) ≡ None
-    = ap (behind_rtc tags none_seen) (sym (append-nil (bits_in order bytes))) ∙ passes [] in
+    let found : after_rtc tags none_seen (bits_in order bytes) ≡ None
+    = ap (after_rtc tags none_seen) (sym (append-nil (bits_in order bytes))) ∙ passes [] in
     sym (ap (size_before (bits_in order bytes) (length bytes)) found)
 
 -- the bits of bytes, and then of others
@@ -41,15 +41,15 @@ pub passes_more : (tags : Bool) (order : BitOrder) (front piece : List ℕ) (see
     → PassesBits tags none_seen (bits_in order front) seen → PassesBits tags seen (bits_in order piece) after
     → PassesBits tags none_seen (bits_in order (front ++ piece)) after
 passes_more tags order front piece seen after one two more =
-    ap (λ (b : Bits). behind_rtc tags none_seen (b ++ more)) (bits_more order front piece)
-    ∙ ap (behind_rtc tags none_seen) (append_assoc (bits_in order front) (bits_in order piece) more)
+    ap (λ (b : Bits). after_rtc tags none_seen (b ++ more)) (bits_more order front piece)
+    ∙ ap (after_rtc tags none_seen) (append_assoc (bits_in order front) (bits_in order piece) more)
     ∙ one (bits_in order piece ++ more) ∙ two more
 
 -- RTC ends among the bytes that come next
 pub size_in_pieces : (tags : Bool) (order : BitOrder) (front piece more : List ℕ) (seen : EolsSeen) (count size : ℕ)
     → PassesBits tags none_seen (bits_in order front) seen → FindsRtc tags order seen piece count
     → rtc_size tags (bits_in order (front ++ (piece ++ more))) size ≡ length front + count
-size_in_pieces tags order front piece more seen count size passes (rest, behind, short, is) =
+size_in_pieces tags order front piece more seen count size passes (rest, following, short, is) =
     ap (λ (b : Bits). rtc_size tags b size) split ∙ ap (size_before whole size) found
     ∙ omega (
       arith,
@@ -68,8 +68,8 @@ size_in_pieces tags order front piece more seen count size passes (rest, behind,
     split : bits_in order (front ++ (piece ++ more)) ≡ whole
     split = bits_more order front (piece ++ more) ∙ ap (λ (b : Bits). bits_in order front ++ b) (bits_more order piece more)
 
-    found : behind_rtc tags none_seen whole ≡ Some (rest ++ bits_in order more)
-    found = passes (bits_in order piece ++ bits_in order more) ∙ behind (bits_in order more)
+    found : after_rtc tags none_seen whole ≡ Some (rest ++ bits_in order more)
+    found = passes (bits_in order piece ++ bits_in order more) ∙ following (bits_in order more)
 
 -- the same of what a search of some bytes found
 pub ends_found : (o : Option ℕ) (tags : Bool) (order : BitOrder) (piece : List ℕ) (seen : EolsSeen)
@@ -90,14 +90,14 @@ passes_found None tags order piece seen after passes = λ front before. passes_m
 -- ---- Pages
 
 -- what follows RTC is shorter
-pub behind_shorter : (tags : Bool) (seen : EolsSeen) (here rest : Bits) → behind_rtc tags seen here ≡ Some rest
+pub after_shorter : (tags : Bool) (seen : EolsSeen) (here rest : Bits) → after_rtc tags seen here ≡ Some rest
     → length rest < length here
-behind_shorter tags seen [] rest e = absurd cc
-behind_shorter tags seen (bit ∷ here) rest e =
-    by_rtc (behind_shorter tags (with_bit tags seen bit) here rest) (is_rtc (with_bit tags seen bit)) e
+after_shorter tags seen [] rest e = absurd cc
+after_shorter tags seen (bit ∷ here) rest e =
+    by_rtc (after_shorter tags (with_bit tags seen bit) here rest) (is_rtc (with_bit tags seen bit)) e
   where
-    by_rtc : (behind_rtc tags (with_bit tags seen bit) here ≡ Some rest → length rest < length here) → (found : Bool)
-        → cond found (Some here) (behind_rtc tags (with_bit tags seen bit) here) ≡ Some rest → length rest < suc (length here)
+    by_rtc : (after_rtc tags (with_bit tags seen bit) here ≡ Some rest → length rest < length here) → (found : Bool)
+        → cond found (Some here) (after_rtc tags (with_bit tags seen bit) here) ≡ Some rest → length rest < suc (length here)
     by_rtc on true e = let same : here ≡ rest = cc in omega (arith, ap length same)
     by_rtc on false e = let shorter = on e in omega (arith, shorter)
 
@@ -109,16 +109,16 @@ kind_is encoding false e = rw e (refl, λ other. absurd cc)
 -- RTC of a page
 rtc_of_page : (tags : Bool) (order : BitOrder) (bytes : List ℕ) (settings : DecodeSettings) (rows : List Row) (count : ℕ)
     → settings.encoding ≡ kind_of tags → IsPage settings rows count (bits_in order bytes) → (rest : Bits)
-    × (behind_rtc tags none_seen (bits_in order bytes) ≡ Some rest) × (length rest ≤ 8 * length bytes)
+    × (after_rtc tags none_seen (bits_in order bytes) ≡ Some rest) × (length rest ≤ 8 * length bytes)
     × (count ≡ (8 * length bytes - length rest + 7) / 8)
 rtc_of_page tags order bytes settings rows count kind (IsPage.by_eofb bits begins e) =
     absurd ((kind_is settings.encoding tags kind).1 begins.encoding)
 rtc_of_page tags order bytes settings rows count kind (IsPage.by_rtc bits begins e) =
     let is = kind_is settings.encoding tags kind in
     let rest : Bits = begins.begins.0 in
-    let found : behind_rtc tags none_seen (bits_in order bytes) ≡ Some rest
-    = ap (behind_rtc tags none_seen) begins.begins.1 ∙ ap (λ (t : Bool). behind_rtc t none_seen (bits ++ rest)) (sym is.0)
-    ∙ behind_page settings.encoding settings.columns rows bits rest is.1 begins.picture in
+    let found : after_rtc tags none_seen (bits_in order bytes) ≡ Some rest
+    = ap (after_rtc tags none_seen) begins.begins.1 ∙ ap (λ (t : Bool). after_rtc t none_seen (bits ++ rest)) (sym is.0)
+    ∙ after_page settings.encoding settings.columns rows bits rest is.1 begins.picture in
     let size = ap length begins.begins.1 in
     let sum = length-append bits rest in
     let bytes_size = length-bits_in order bytes in
@@ -142,10 +142,10 @@ page_found None tags order piece seen after some none front more settings rows c
     let page = rtc_of_page tags order bytes settings rows count kind is in
     let split : bits_in order bytes ≡ bits_in order front ++ (bits_in order piece ++ bits_in order more)
     = bits_more order front (piece ++ more) ∙ ap (λ (b : Bits). bits_in order front ++ b) (bits_more order piece more) in
-    let left : behind_rtc tags after (bits_in order more) ≡ Some page.0 =
+    let left : after_rtc tags after (bits_in order more) ≡ Some page.0 =
     sym (none (bits_in order more)) ∙ sym (passes (bits_in order piece ++ bits_in order more))
-    ∙ ap (behind_rtc tags none_seen) (sym split) ∙ page.1 in
-    let shorter = behind_shorter tags after (bits_in order more) page.0 left in
+    ∙ ap (after_rtc tags none_seen) (sym split) ∙ page.1 in
+    let shorter = after_shorter tags after (bits_in order more) page.0 left in
     let more_size = length-bits_in order more in
     let size = length-append front (piece ++ more) in
     let sum = length-append piece more in

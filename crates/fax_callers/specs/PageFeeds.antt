@@ -14,7 +14,7 @@ use Rattle.hayro_ccitt.specs.Rows.{Row}
 use Rattle.hayro_ccitt.specs.RowsRead.{ReadsNext, RowsRead, ended}
 use Rattle.fax_callers.specs.Pages.{page_by, page_bytes}
 use Rattle.fax_callers.specs.Readings.{reading_of}
-use Rattle.fax_callers.specs.Rtc.{GoesOnBehind, none_seen, page_size}
+use Rattle.fax_callers.specs.Rtc.{GoesOnAfter, none_seen, page_size}
 use Rattle.fax_callers.specs.declared.page_feed.PageFed.{PageFed}
 use Rattle.fax_callers.specs.declared.page_feed.PageFed.TheVariants.{NeedsMore, End, PageEnd}
 use Rattle.fax_callers.specs.declared.page_feed.PageFed.TheVariants.{Row as OneRow}
@@ -74,7 +74,7 @@ pub record IsPageReading (order : BitOrder) (bytes : List ℕ) (given : ℕ) (se
   pub counted : fed_bits page ≡ 8 * given
   pub reads : (rest : List ℕ) → (page.finished ≡ true → rest ≡ []) → BitsFit (take given bytes ++ rest)
       → (tried : ℕ) × IsFeedOf (bits_in order (take given bytes ++ rest)) tried page
-  pub sought : page.finished ≡ false → GoesOnBehind page.ctx.held.settings.encoding order (take given bytes) seen
+  pub sought : page.finished ≡ false → GoesOnAfter page.ctx.held.settings.encoding order (take given bytes) seen
   pub found : page.finished ≡ true → given ≡ page_size page.ctx.held.settings.encoding order bytes
   pub has_memory : ended page.rows.stand ≢ Some (Err OutOfMemory)
 
@@ -146,7 +146,7 @@ pub record SameRows (old new : RowsRead) : Type 0 where
   pub cut : new.cut ≡ old.cut
   pub line_start : new.line_start ≡ old.line_start
 
--- The page has ended, after all of its rows, with some bytes. The next one begins at the byte behind it, and none of its rows was
+-- The page has ended, after all of its rows, with some bytes. The next one begins at the byte after it, and none of its rows was
 -- read.
 pub record EndsPage (whole : List ℕ) (start : ℕ) (old new : PageFeeding) : Type 0 where
   pub count : ℕ

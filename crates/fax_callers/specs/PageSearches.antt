@@ -22,7 +22,7 @@ abbrev pub kind_of : Bool → EncodingMode
 kind_of two_dimensional = if two_dimensional then Group3_2D else Group3_1D
 
 -- The end of a page of this many bytes was found, after as many that were passed before and this number of the next ones; if it
--- wasn't found, it is behind all of these.
+-- wasn't found, it is after all of these.
 abbrev pub FoundAt : Option ℕ → ℕ → ℕ → ℕ → Type 0
 FoundAt (Some n) front piece count = front + n ≡ count
 FoundAt None front piece count = front + piece < count

@@ -91,7 +91,7 @@ pub record BeginsWithPageT4 (settings : DecodeSettings) (rows : List Row) (bits 
   pub begins : IsPrefix bits whole
 
 -- The data begins with a page of these rows that occupies this number of bytes, the last one filled up: up to the end of EOFB, or
--- of RTC, which is six EOLs and no more, so that the page behind it keeps its own (T.4, 4.1.4 and 4.2.4; T.6, 2.4.1.1).
+-- of RTC, which is six EOLs and no more, so that the page after it keeps its own (T.4, 4.1.4 and 4.2.4; T.6, 2.4.1.1).
 pub data IsPage (settings : DecodeSettings) (rows : List Row) (count : ℕ) (whole : Bits) : Type 0 where
   by_eofb : (bits : Bits) → BeginsWithPictureT6 settings rows bits whole → count ≡ (length bits + 7) / 8
       → IsPage settings rows count whole

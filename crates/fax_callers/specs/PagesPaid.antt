@@ -20,7 +20,7 @@ abbrev pub ended_size : Feeding → ℕ
 ended_size page = (page.dropped + page.place + 7) / 8
 
 -- A page has ended whose reading was left like this, and was given so many bytes: no more than it may occupy, which are those up
--- to RTC in Group 3. The next one begins at the byte behind it.
+-- to RTC in Group 3. The next one begins at the byte after it.
 pub record EndsPaid (whole : List ℕ) (start : ℕ) (page : Feeding) (given : ℕ) (old new : PageFeeding) : Type 0 where
   pub is_over : ended page.rows.stand ≡ Some (Ok tt)
   pub size : page_by (settings_of old) old.order whole start ≡ Ok (ended_size page)
@@ -48,7 +48,7 @@ pub record PaysNext (whole : List ℕ) (start : ℕ) (old new : PageFeeding) (an
   pub same : (settings_of new ≡ settings_of old) × (new.order ≡ old.order)
 
 -- what was called and counted so far: how many pages have ended, what was counted for them, how many bytes they were given that
--- are behind their ends, and so are given again, how many calls read the next row, and what those cost more that failed for
+-- are after their ends, and so are given again, how many calls read the next row, and what those cost more that failed for
 -- memory
 pub record PagesCount : Type 0 where
   pub pages : ℕ

@@ -42,27 +42,27 @@ is_rtc seen = nat_le 6 seen.eols && not seen.at_tag
 
 -- ---- Where RTC ends
 
--- What follows the first RTC that ends here or later, with tags or without, behind what was seen just before (T.4, 4.1.4 and
+-- What follows the first RTC that ends here or later, with tags or without, after what was seen just before (T.4, 4.1.4 and
 -- 4.2.4).
-abbrev pub behind_rtc : Bool → EolsSeen → Bits → Option Bits
-behind_rtc tags seen [] = None
-behind_rtc tags seen (bit ∷ here) =
-    if is_rtc (with_bit tags seen bit) then Some here else behind_rtc tags (with_bit tags seen bit) here
+abbrev pub after_rtc : Bool → EolsSeen → Bits → Option Bits
+after_rtc tags seen [] = None
+after_rtc tags seen (bit ∷ here) =
+    if is_rtc (with_bit tags seen bit) then Some here else after_rtc tags (with_bit tags seen bit) here
 
 -- no RTC ends within these bits, after which this was seen: whatever follows them, it is sought from there on
 abbrev pub PassesBits : Bool → EolsSeen → Bits → EolsSeen → Type 0
-PassesBits tags seen bits after = (more : Bits) → behind_rtc tags seen (bits ++ more) ≡ behind_rtc tags after more
+PassesBits tags seen bits after = (more : Bits) → after_rtc tags seen (bits ++ more) ≡ after_rtc tags after more
 
--- a page goes on behind these bytes: in Group 3 no RTC ends within them, after which this was seen (T.4, 4.1.4 and 4.2.4)
-abbrev pub GoesOnBehind : EncodingMode → BitOrder → List ℕ → EolsSeen → Type 0
-GoesOnBehind Group4 order front seen = Unit {0}
-GoesOnBehind Group3_1D order front seen = PassesBits false none_seen (bits_in order front) seen
-GoesOnBehind Group3_2D order front seen = PassesBits true none_seen (bits_in order front) seen
+-- a page goes on after these bytes: in Group 3 no RTC ends within them, after which this was seen (T.4, 4.1.4 and 4.2.4)
+abbrev pub GoesOnAfter : EncodingMode → BitOrder → List ℕ → EolsSeen → Type 0
+GoesOnAfter Group4 order front seen = Unit {0}
+GoesOnAfter Group3_1D order front seen = PassesBits false none_seen (bits_in order front) seen
+GoesOnAfter Group3_2D order front seen = PassesBits true none_seen (bits_in order front) seen
 
 -- the first RTC ends within this number of bytes, and not before the last of them, whatever follows
 abbrev pub FindsRtc : Bool → BitOrder → EolsSeen → List ℕ → ℕ → Type 0
 FindsRtc tags order seen bytes count = (rest : Bits)
-    × ((more : Bits) → behind_rtc tags seen (bits_in order bytes ++ more) ≡ Some (rest ++ more))
+    × ((more : Bits) → after_rtc tags seen (bits_in order bytes ++ more) ≡ Some (rest ++ more))
     × (length rest ≤ 8 * length bytes) × (count ≡ (8 * length bytes - length rest + 7) / 8)
 
 -- auxiliary: the bytes before what follows, the last one filled up, or all of them
@@ -72,7 +72,7 @@ size_before bits size (Some rest) = (length bits - length rest + 7) / 8
 
 -- auxiliary: the bytes up to the end of the first RTC, the last one filled up, or all of them if there is none
 abbrev pub rtc_size : Bool → Bits → ℕ → ℕ
-rtc_size tags bits size = size_before bits size (behind_rtc tags none_seen bits)
+rtc_size tags bits size = size_before bits size (after_rtc tags none_seen bits)
 
 -- The bytes that the page at the start of some bytes may occupy: in Group 3 those up to the end of the first RTC, in
 -- two-dimensional data with its tags (T.4, 4.1.4 and 4.2.4); in Group 4 all of them, since the reading finds EOFB (T.6, 2.4.1.1).

@@ -33,7 +33,7 @@ pub enum PageFed {
     End,
 }
 
-/// The fewest bytes that the reading of a page is given at once, if as many are there. What it is given behind its end is given
+/// The fewest bytes that the reading of a page is given at once, if as many are there. What it is given after its end is given
 /// again to that of the next.
 const FEWEST_GIVEN: usize = 64;
 
@@ -63,14 +63,14 @@ fn give_piece(
     requires some { 0 < length piece.now }
     ensures { GivesPiece order piece.now seen.old seen.new page.old page.new result }
 {
-    let mut behind = *seen;
-    let end = find_page_end(page.settings().encoding, order, &mut behind, piece);
+    let mut after = *seen;
+    let end = find_page_end(page.settings().encoding, order, &mut after, piece);
     let count = end.unwrap_or(piece.len());
     page.feed(&piece[..count])?;
     if end.is_some() {
         page.finish();
     }
-    *seen = behind;
+    *seen = after;
     Ok(count)
 }
 
@@ -83,7 +83,7 @@ fn needs_more(answer: &Result<PageFed>) -> bool
 }
 
 /// Reads the rows of pages that follow one another in data that comes in pieces, each row as soon as no data that follows can
-/// change its line. Each page begins at the byte behind the one before, as for [`page_ends_by`](crate::page_ends_by).
+/// change its line. Each page begins at the byte after the one before, as for [`page_ends_by`](crate::page_ends_by).
 ///
 /// # Example
 ///
@@ -160,7 +160,7 @@ impl PageFeed {
         })
     }
 
-    /// Begins the next page behind the one that has ended, unless no byte of it was read.
+    /// Begins the next page after the one that has ended, unless no byte of it was read.
     fn end_page(&mut self) -> Result<PageFed>
         ensures { EndsPageHere self.old self.new result }
     {
@@ -240,7 +240,7 @@ impl PageFeed {
         ensures finished { self.new.finished ≡ self.old.finished }
         ensures failed { (error : DecodeError) → HasFailed self.old error → 0 < fed_from_start self.old
             → (self.new ≡ self.old) × (result ≡ Err error) }
-        // A page that is closed by RTC or EOFB is read as its rows, and ends behind them.
+        // A page that is closed by RTC or EOFB is read as its rows, and ends after them.
         ensures pages { (whole : List ℕ) (start : ℕ) (rows : List Row) (count : ℕ) → IsPageFeedOf whole start self.old
             → IsPage (settings_of self.old) rows count (bits_in self.old.order (drop start whole))
             → GivesPage whole start rows count self.old self.new result }

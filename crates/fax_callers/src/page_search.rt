@@ -10,7 +10,7 @@ ghost use Rattle.fax_callers.specs.Pages.{IsPage};
 use crate::rtc::{EolsSeen, find_rtc, none_seen};
 use hayro_ccitt::bit_reader::BitOrder;
 
-/// Finds where a page of Group 3 ends in data that comes in pieces: behind RTC, the first six EOLs in a row.
+/// Finds where a page of Group 3 ends in data that comes in pieces: after RTC, the first six EOLs in a row.
 ///
 /// # Example
 ///
@@ -56,11 +56,11 @@ impl PageSearch {
         }
     }
 
-    /// Returns after how many of the bytes that come next the page ends, or `None` if it goes on behind them. Once it was found,
+    /// Returns after how many of the bytes that come next the page ends, or `None` if it goes on after them. Once it was found,
     /// a search for the end of the next page is a new one.
     pub fn find_end(&mut self, piece: &[u8]) -> Option<usize>
         requires fit { BitsFit piece.now }
-        // Whatever the bytes before were and those behind are, the first RTC ends within the last of these.
+        // Whatever the bytes before were and those after are, the first RTC ends within the last of these.
         ensures found { IfSome result (λ n. (n ≤ length piece.now) × EndsPageWithin self.old piece.now n) }
         ensures none { IfNone result ((front : List ℕ) → HasPassed self.old front → HasPassed self.new (front ++ piece.now)) }
         // The end of a page is found among the bytes that have it, whatever the pieces are and whatever follows it.

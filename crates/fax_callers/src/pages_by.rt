@@ -67,7 +67,7 @@ fn read_page(order: BitOrder, data: &[u8], begin: usize, ctx: &mut DecoderContex
 /// next page begins there.
 ///
 /// In Group 3 the page is read up to the end of the first RTC, which is six EOLs: [`decode`](hayro_ccitt::decode) also takes the
-/// EOLs behind them, and so the first one of the next page. Without RTC it is read up to the end of the data.
+/// EOLs after them, and so the first one of the next page. Without RTC it is read up to the end of the data.
 ///
 /// # Errors
 ///

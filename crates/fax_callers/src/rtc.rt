@@ -1,9 +1,9 @@
-//! Where a page of Group 3 ends: behind RTC, the first six EOLs in a row.
+//! Where a page of Group 3 ends: after RTC, the first six EOLs in a row.
 
 ghost use Rattle.std.specs.Prelude.{◌≡◌, ◌≤◌, ◌+◌, ◌++◌, ℕ, List, true, false, Some, IfNone, IfSome, length};
 ghost use Rattle.hayro_ccitt.specs.Bits.{Bits, BitsFit, bits_in, here};
-ghost use Rattle.fax_callers.specs.Rtc.{behind_rtc, is_rtc, none_seen, one_more_up_to, page_size, rtc_size, with_bit, with_one};
-ghost use Rattle.fax_callers.specs.Rtc.{FindsRtc, GoesOnBehind, PassesBits};
+ghost use Rattle.fax_callers.specs.Rtc.{after_rtc, is_rtc, none_seen, one_more_up_to, page_size, rtc_size, with_bit, with_one};
+ghost use Rattle.fax_callers.specs.Rtc.{FindsRtc, GoesOnAfter, PassesBits};
 
 use hayro_ccitt::EncodingMode;
 use hayro_ccitt::bit_reader::{BitOrder, BitReader};
@@ -72,13 +72,13 @@ fn is_rtc(seen: EolsSeen) -> bool
     seen.eols >= 6 && !seen.at_tag
 }
 
-/// Moves behind the first RTC that ends here or later, and returns whether there is one; otherwise all bits are passed, and what was
+/// Moves after the first RTC that ends here or later, and returns whether there is one; otherwise all bits are passed, and what was
 /// seen is brought up to date.
 fn pass_rtc(tags: bool, seen: &mut EolsSeen, reader: &mut BitReader<'_>) -> bool
     ensures found { result ≡ true → (more : Bits)
-        → behind_rtc tags seen.old (here reader.old ++ more) ≡ Some (here reader.new ++ more) }
+        → after_rtc tags seen.old (here reader.old ++ more) ≡ Some (here reader.new ++ more) }
     ensures none { result ≡ false → (more : Bits)
-        → behind_rtc tags seen.old (here reader.old ++ more) ≡ behind_rtc tags seen.new more }
+        → after_rtc tags seen.old (here reader.old ++ more) ≡ after_rtc tags seen.new more }
     ensures same_bits { reader.new.bits ≡ reader.old.bits }
 {
     'bits: loop {
@@ -159,7 +159,7 @@ pub(crate) fn page_size(encoding: EncodingMode, order: BitOrder, data: &[u8]) ->
     }
 }
 
-/// Returns how many of the bytes that come next the page ends within; or `None` if it goes on behind them, and brings what was seen
+/// Returns how many of the bytes that come next the page ends within; or `None` if it goes on after them, and brings what was seen
 /// up to date. In Group 3 it ends with the first RTC, and in Group 4 where the reading finds its end.
 pub(crate) fn find_page_end(
     encoding: EncodingMode,
@@ -168,10 +168,10 @@ pub(crate) fn find_page_end(
     piece: &[u8],
 ) -> Option<usize>
     requires fit { BitsFit piece.now }
-    ensures found { IfSome result (λ n. (n ≤ length piece.now) × ((front more : List ℕ) → GoesOnBehind encoding order front seen.old
+    ensures found { IfSome result (λ n. (n ≤ length piece.now) × ((front more : List ℕ) → GoesOnAfter encoding order front seen.old
         → page_size encoding order (front ++ (piece.now ++ more)) ≡ length front + n)) }
-    ensures none { IfNone result ((front : List ℕ) → GoesOnBehind encoding order front seen.old
-        → GoesOnBehind encoding order (front ++ piece.now) seen.new) }
+    ensures none { IfNone result ((front : List ℕ) → GoesOnAfter encoding order front seen.old
+        → GoesOnAfter encoding order (front ++ piece.now) seen.new) }
 {
     match encoding {
         EncodingMode::Group4 => None,

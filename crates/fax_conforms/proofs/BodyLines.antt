@@ -47,45 +47,45 @@ module _ (settings : DecodeSettings) (taken : ℕ) (reference : Row) (here : Bit
 
   -- a line is here
   module _ (unmet : settings.rows ≡ taken → 0 < taken → ⊥) (no_eofb : EofbStands settings here → ⊥) where
-    not_over : (bits behind : Bits) → bits ≡ [] → here ≡ bits ++ behind → BodyEnds settings (taken + 0) behind → ⊥
-    not_over bits behind none is (inl ends) = unmet (ends.0 ∙ none_more taken) (omega (arith, ends.1))
-    not_over bits behind none is (inr ends) =
-        no_eofb (subst (EofbStands settings) (sym (is ∙ ap (λ (x : Bits). x ++ behind) none)) ends.0)
+    not_over : (bits after : Bits) → bits ≡ [] → here ≡ bits ++ after → BodyEnds settings (taken + 0) after → ⊥
+    not_over bits after none is (inl ends) = unmet (ends.0 ∙ none_more taken) (omega (arith, ends.1))
+    not_over bits after none is (inr ends) =
+        no_eofb (subst (EofbStands settings) (sym (is ∙ ap (λ (x : Bits). x ++ after) none)) ends.0)
 
     pub body_fails : Never settings.columns (λ row rest. FilledStands settings reference row here rest)
         → BodyStands settings taken reference here → ⊥
-    body_fails never ([], bits, behind, widths, lines, is, ends) = not_over bits behind lines is ends
-    body_fails never (row ∷ rows, bits, behind, widths, (line, next, is_line, lines, split), is, ends) =
-        never row (next ++ behind) (All-head HasRow row rows widths)
-        (line, is_line, is ∙ ap (λ (x : Bits). x ++ behind) split ∙ simp append_assoc refl)
+    body_fails never ([], bits, after, widths, lines, is, ends) = not_over bits after lines is ends
+    body_fails never (row ∷ rows, bits, after, widths, (line, next, is_line, lines, split), is, ends) =
+        never row (next ++ after) (All-head HasRow row rows widths)
+        (line, is_line, is ∙ ap (λ (x : Bits). x ++ after) split ∙ simp append_assoc refl)
 
     module _ (row : Row) (next : Bits) (len : length row ≡ settings.columns)
         (leads : Leads settings.columns (λ row rest. FilledStands settings reference row here rest) (IsOnly row next)) where
       body_on : BodyStands settings taken reference here → BodyStands settings (taken + 1) row next
-      body_on ([], bits, behind, widths, lines, is, ends) = absurd (not_over bits behind lines is ends)
-      body_on (first ∷ rows, bits, behind, widths, (line, more, is_line, lines, split), is, ends) =
-          let only = (leads first (more ++ behind) (All-head HasRow first rows widths)).0
-          (line, is_line, is ∙ ap (λ (x : Bits). x ++ behind) split ∙ simp append_assoc refl) in (
+      body_on ([], bits, after, widths, lines, is, ends) = absurd (not_over bits after lines is ends)
+      body_on (first ∷ rows, bits, after, widths, (line, more, is_line, lines, split), is, ends) =
+          let only = (leads first (more ++ after) (All-head HasRow first rows widths)).0
+          (line, is_line, is ∙ ap (λ (x : Bits). x ++ after) split ∙ simp append_assoc refl) in (
             rows,
             more,
-            behind,
+            after,
             All-tail HasRow first rows widths,
             subst (λ (r : Row). EncodesRows settings.encoding settings.rows_are_byte_aligned r rows more) only.0 lines,
             sym only.1,
-            subst (λ (n : ℕ). BodyEnds settings n behind) (one_more_row taken rows first) ends,
+            subst (λ (n : ℕ). BodyEnds settings n after) (one_more_row taken rows first) ends,
           )
 
       body_back : BodyStands settings (taken + 1) row next → BodyStands settings taken reference here
-      body_back (rows, bits, behind, widths, lines, is, ends) =
+      body_back (rows, bits, after, widths, lines, is, ends) =
           let (line, is_line, stands) = (leads row next len).1 (refl, refl) in
           let fill : Bits = fill_at settings.rows_are_byte_aligned (length line) in (
             row ∷ rows,
             (line ++ fill) ++ bits,
-            behind,
+            after,
             All-cons HasRow row rows len widths,
             (line, bits, is_line, lines, refl),
             stands ∙ ap (λ (x : Bits). line ++ (fill ++ x)) is ∙ sym (simp append_assoc refl),
-            subst (λ (n : ℕ). BodyEnds settings n behind) (sym (one_more_row taken rows row)) ends,
+            subst (λ (n : ℕ). BodyEnds settings n after) (sym (one_more_row taken rows row)) ends,
           )
 
       pub body_leads : BodyStands settings taken reference here ↔ BodyStands settings (taken + 1) row next

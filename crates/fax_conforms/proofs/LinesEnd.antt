@@ -1,4 +1,4 @@
--- Where lines begin and end, and one step behind another.
+-- Where lines begin and end, and one step after another.
 use Rattle.hayro_ccitt.proofs.Names.{◌≡◌, ℕ, suc, ◌+◌, ◌-◌, [], ◌++◌, length, take, refl, ap, sym, subst, ◌∙◌, arith}
 use Rattle.hayro_ccitt.proofs.Names.{append-nil, length-append, length-replicate, replicate, Color, Bits, Row}
 use Rattle.hayro_ccitt.proofs.Names.{is_black, EncodesLine1D, EncodesLine2D}

@@ -6,7 +6,7 @@ use Rattle.hayro_ccitt.proofs.Names.{Vertical, Bits, Row, is_black, opposite, pi
 use Rattle.hayro_ccitt.proofs.Names.{run_from, read_code, mode_codes, common_steps}
 use Rattle.hayro_ccitt.proofs.PixelRows.ChangePlaces.{a1_next, a2_next, a2_least, b2_above, pixels_same, at_change}
 use Rattle.hayro_ccitt.proofs.PixelRows.ReferencePlaces.{opposite_twice}
-use Rattle.fax_conforms.specs.Standing.{Spot, GoesOnFrom, StepsStand, StepsBehind, LineFrom, ModeFrom, Leads, Never}
+use Rattle.fax_conforms.specs.Standing.{Spot, GoesOnFrom, StepsStand, StepsAfter, LineFrom, ModeFrom, Leads, Never}
 use Rattle.fax_conforms.proofs.PaintedPixels.{IsRunTo, run_before, run_unchanged, next_is, painted_up_to, goes_back}
 use Rattle.fax_conforms.proofs.SpelledRuns.{same_run}
 use Rattle.fax_conforms.proofs.StandingSteps.{mode_of_steps, steps_of_mode}
@@ -44,10 +44,10 @@ turned_at_a1 row at inside goes lt =
     (run_before row at.from (a1 row at.from) (is_black at.color) (run_to_a1 row at inside goes) (a1 row at.from)
     (one.above inside) (omega arith))
 
--- a row that goes on behind a1
-goes_on_behind : (row : Row) (at : Spot) → at.from ≤ length row → length at.front ≡ at.from - 1 → GoesOnFrom row at
+-- a row that goes on after a1
+goes_on_after : (row : Row) (at : Spot) → at.from ≤ length row → length at.front ≡ at.from - 1 → GoesOnFrom row at
     → GoesOnFrom row (painted_on at (a1 row at.from) (opposite at.color))
-goes_on_behind row at inside len goes =
+goes_on_after row at inside len goes =
     let one = a1_next row at.from in
     record {
       front = painted_up_to row at (a1 row at.from) goes inside len (one.above inside) one.within one.before
@@ -70,7 +70,7 @@ a1_again row at place len start above within goes =
           (λ lt. goes.color (omega arith) ∙ other_pixel at.color);
     }
 
--- a2 is the a1 behind a1
+-- a2 is the a1 after a1
 a2_is_a1 : (row : Row) (from : ℕ) → a2 row from ≡ a1 row (suc (a1 row from))
 a2_is_a1 row from = refl
 
@@ -80,27 +80,27 @@ same_place a b e = cc
 module _ (columns : ℕ) (reference : Row) (at : Spot) (small : columns ≤ 4294967295) (ref_len : length reference ≡ columns)
     (len : length at.front ≡ at.from - 1) (inside : at.from ≤ columns) (start : at.from ≡ 0 → at.color ≡ White) where
   -- ---- The mode here.
-  pub mode_leads : (mode : Mode) (here behind : Bits) → read_code mode_codes here ≡ Ok (mode, behind)
-      → Leads columns (LineFrom reference at here) (ModeFrom reference at mode behind)
-  mode_leads mode here behind read row rest row_len = (to, back)
+  pub mode_leads : (mode : Mode) (here after : Bits) → read_code mode_codes here ≡ Ok (mode, after)
+      → Leads columns (LineFrom reference at here) (ModeFrom reference at mode after)
+  mode_leads mode here after read row rest row_len = (to, back)
     where
-      back : ModeFrom reference at mode behind row rest → LineFrom reference at here row rest
+      back : ModeFrom reference at mode after row rest → LineFrom reference at here row rest
       back (goes, steps) =
-          (goes, steps_of_mode reference row at.from at.color here behind rest mode (omega (arith, row_len, inside)) read steps)
+          (goes, steps_of_mode reference row at.from at.color here after rest mode (omega (arith, row_len, inside)) read steps)
 
-      to : LineFrom reference at here row rest → ModeFrom reference at mode behind row rest
+      to : LineFrom reference at here row rest → ModeFrom reference at mode after row rest
       to (goes, steps) =
           let has = mode_of_steps reference row at.from at.color here rest (omega (arith, row_len, inside))
           (omega (arith, row_len, small)) steps in
-          let pair : ◌≡◌ {A = Mode × Bits} (has.mode, has.behind) (mode, behind) = cc in
-          (goes, subst (λ (p : Mode × Bits). StepsBehind reference row at.from at.color p.0 p.1 rest) pair has.steps)
+          let pair : ◌≡◌ {A = Mode × Bits} (has.mode, has.after) (mode, after) = cc in
+          (goes, subst (λ (p : Mode × Bits). StepsAfter reference row at.from at.color p.0 p.1 rest) pair has.steps)
 
   pub no_mode : (here : Bits) → ((mode : Mode) (rest : Bits) → read_code mode_codes here ≡ Ok (mode, rest) → ⊥)
       → Never columns (LineFrom reference at here)
   no_mode here none row rest row_len (goes, steps) =
       let has = mode_of_steps reference row at.from at.color here rest (omega (arith, row_len, inside))
       (omega (arith, row_len, small)) steps in
-      none has.mode has.behind has.read
+      none has.mode has.after has.read
 
   -- ---- Pass.
   pub pass_leads : (here : Bits) (to : ℕ) → b2 reference at.from at.color ≡ to → to < columns
@@ -159,8 +159,8 @@ module _ (columns : ℕ) (reference : Row) (at : Spot) (small : columns ≤ 4294
           (opposite at.color)) here row rest
       on (goes, (exact, steps)) =
           let e : a1 row at.from ≡ place = same_place (a1 row at.from) place (exact ∙ is) in
-          let behind = goes_on_behind row at (omega (arith, row_len, inside)) len goes in
-          (rw e at behind, rw e at steps)
+          let after = goes_on_after row at (omega (arith, row_len, inside)) len goes in
+          (rw e at after, rw e at steps)
 
       back : LineFrom reference (painted_on at place (opposite at.color)) here row rest
           → ModeFrom reference at (Vertical k) here row rest
@@ -182,9 +182,9 @@ module _ (columns : ℕ) (reference : Row) (at : Spot) (small : columns ≤ 4294
     pub one : ℕ
     pub two : ℕ
     pub middle : Bits
-    pub behind : Bits
+    pub after : Bits
     pub read1 : run_from at.color (0, here) ≡ Ok (one, middle)
-    pub read2 : run_from (opposite at.color) (0, middle) ≡ Ok (two, behind)
+    pub read2 : run_from (opposite at.color) (0, middle) ≡ Ok (two, after)
     pub above : at.from ≤ length at.front + one
     pub within1 : length at.front + one ≤ columns
     pub within2 : length at.front + one + two ≤ columns
@@ -193,7 +193,7 @@ module _ (columns : ℕ) (reference : Row) (at : Spot) (small : columns ≤ 4294
   pub horizontal_runs : (here : Bits) (row : Row) (rest : Bits) → length row ≡ columns
       → ModeFrom reference at Horizontal here row rest
       → HasRuns here
-  horizontal_runs here row rest row_len (goes, (middle, behind, read1, read2, steps)) =
+  horizontal_runs here row rest row_len (goes, (middle, after, read1, read2, steps)) =
       let one = a1_next row at.from in
       let two = a2_next row at.from in
       let p : ℕ = a1 row at.from in
@@ -206,7 +206,7 @@ module _ (columns : ℕ) (reference : Row) (at : Spot) (small : columns ≤ 4294
         one = p - (at.from - 1);
         two = r - p;
         middle = middle;
-        behind = behind;
+        after = after;
         read1 = read1;
         read2 = read2;
         above = omega (arith, above1, len);
@@ -215,8 +215,8 @@ module _ (columns : ℕ) (reference : Row) (at : Spot) (small : columns ≤ 4294
         some = λ lt. let over : suc p ≤ r = two.above (omega (arith, lt, len, above1, row_len)) in omega (arith, over);
       }
 
-  module _ (here middle behind : Bits) (one two p r : ℕ) (read1 : run_from at.color (0, here) ≡ Ok (one, middle))
-      (read2 : run_from (opposite at.color) (0, middle) ≡ Ok (two, behind)) (to_p : p ≡ length at.front + one)
+  module _ (here middle after : Bits) (one two p r : ℕ) (read1 : run_from at.color (0, here) ≡ Ok (one, middle))
+      (read2 : run_from (opposite at.color) (0, middle) ≡ Ok (two, after)) (to_p : p ≡ length at.front + one)
       (to_r : r ≡ p + two)
       (above : at.from ≤ p) (within : r ≤ columns) (some : p < columns → 0 < two) where
     -- between the two runs
@@ -224,15 +224,15 @@ module _ (columns : ℕ) (reference : Row) (at : Spot) (small : columns ≤ 4294
     between_runs = painted_on at p (opposite at.color)
 
     -- after them
-    abbrev behind_runs : Spot
-    behind_runs = painted_on between_runs r at.color
+    abbrev after_runs : Spot
+    after_runs = painted_on between_runs r at.color
 
     len_between : length between_runs.front ≡ p
     len_between = length-append at.front (replicate (p - length at.front) (is_black at.color))
         ∙ omega (arith, length-replicate (p - length at.front) (is_black at.color), to_p)
 
-    color_behind : painted_on between_runs r (opposite between_runs.color) ≡ behind_runs
-    color_behind = ap (λ (c : Color). painted_on between_runs r c) (opposite_twice at.color)
+    color_following : painted_on between_runs r (opposite between_runs.color) ≡ after_runs
+    color_following = ap (λ (c : Color). painted_on between_runs r c) (opposite_twice at.color)
 
     -- at the row's end the second run is empty
     nothing_more : columns ≤ p → (row : Row) → between_runs.front ++ replicate (r - length between_runs.front)
@@ -246,16 +246,16 @@ module _ (columns : ℕ) (reference : Row) (at : Spot) (small : columns ≤ 4294
 
     module _ (row : Row) (rest : Bits) (row_len : length row ≡ columns) where
       -- from where the row goes on at a0
-      runs_on : GoesOnFrom row at → a1 row at.from ≡ p → a2 row at.from ≡ r → GoesOnFrom row behind_runs
+      runs_on : GoesOnFrom row at → a1 row at.from ≡ p → a2 row at.from ≡ r → GoesOnFrom row after_runs
       runs_on goes is1 is2 =
           let between : GoesOnFrom row between_runs = subst
           (λ (n : ℕ). GoesOnFrom row (painted_on at n (opposite at.color))) is1
-          (goes_on_behind row at (omega (arith, row_len, inside)) len goes) in
+          (goes_on_after row at (omega (arith, row_len, inside)) len goes) in
           elim (cases_lt p columns) [
             | inl lt ↦
-                let on = goes_on_behind row between_runs (omega (arith, row_len, lt)) (omega (arith, len_between)) between in
+                let on = goes_on_after row between_runs (omega (arith, row_len, lt)) (omega (arith, len_between)) between in
                 let next : a1 row (suc p) ≡ r = ap (λ (n : ℕ). a1 row (suc n)) (sym is1) ∙ sym (a2_is_a1 row at.from) ∙ is2 in
-                subst (GoesOnFrom row) color_behind (rw next at on)
+                subst (GoesOnFrom row) color_following (rw next at on)
             | inr ge ↦ record {
               front = nothing_more ge row ∙ between.front ∙ up_to p row ∙ ap (λ (n : ℕ). take n row) (sym (r_at_end ge))
                   ∙ sym (up_to r row);
@@ -264,11 +264,11 @@ module _ (columns : ℕ) (reference : Row) (at : Spot) (small : columns ≤ 4294
           ]
 
       -- from where it goes on after the runs
-      runs_back : GoesOnFrom row behind_runs → GoesOnFrom row at × (a1 row at.from ≡ p) × (a2 row at.from ≡ r)
+      runs_back : GoesOnFrom row after_runs → GoesOnFrom row at × (a1 row at.from ≡ p) × (a2 row at.from ≡ r)
       runs_back goes = elim (cases_lt p columns) [
         | inl lt ↦
             let second = a1_again row between_runs r (omega (arith, len_between)) (λ e. absurd (omega arith))
-            (omega (arith, to_r, some lt)) (omega (arith, row_len, within)) (subst (GoesOnFrom row) (sym color_behind) goes) in
+            (omega (arith, to_r, some lt)) (omega (arith, row_len, within)) (subst (GoesOnFrom row) (sym color_following) goes) in
             let first = a1_again row at p len start above (omega (arith, row_len, lt)) second.goes in
             (first.goes, first.is, a2_is_a1 row at.from ∙ ap (λ (n : ℕ). a1 row (suc n)) first.is ∙ second.is)
         | inr ge ↦
@@ -283,23 +283,23 @@ module _ (columns : ℕ) (reference : Row) (at : Spot) (small : columns ≤ 4294
             (first.goes, first.is, omega (arith, least, most, first.is, row_len, ge, r_at_end ge, within))
       ]
 
-      horizontal_on : ModeFrom reference at Horizontal here row rest → LineFrom reference behind_runs behind row rest
-      horizontal_on (goes, (middle2, behind2, first, second, steps)) =
+      horizontal_on : ModeFrom reference at Horizontal here row rest → LineFrom reference after_runs after row rest
+      horizontal_on (goes, (middle2, after2, first, second, steps)) =
           let same1 = same_run (a1 row at.from - (at.from - 1)) one middle2 middle (sym first ∙ read1) in
-          let second2 : run_from (opposite at.color) (0, middle) ≡ Ok (a2 row at.from - a1 row at.from, behind2) =
+          let second2 : run_from (opposite at.color) (0, middle) ≡ Ok (a2 row at.from - a1 row at.from, after2) =
           subst (λ (x : Bits). run_from (opposite at.color) (0, x) ≡ Ok
-          (a2 row at.from - a1 row at.from, behind2)) same1.1 second in
-          let same2 = same_run (a2 row at.from - a1 row at.from) two behind2 behind (sym second2 ∙ read2) in
+          (a2 row at.from - a1 row at.from, after2)) same1.1 second in
+          let same2 = same_run (a2 row at.from - a1 row at.from) two after2 after (sym second2 ∙ read2) in
           let right : at.from ≤ a1 row at.from = (a1_next row at.from).above (omega (arith, row_len, inside)) in
           let least : a1 row at.from ≤ a2 row at.from = a2_least row at.from in
           let is1 : a1 row at.from ≡ p = omega (arith, same1.0, right, len, to_p) in
           let is2 : a2 row at.from ≡ r = omega (arith, same2.0, least, is1, to_r) in (
             runs_on goes is1 is2,
             subst (λ (x : Bits). StepsStand reference row (suc r) at.color x rest) same2.1
-                (subst (λ (n : ℕ). StepsStand reference row (suc n) at.color behind2 rest) is2 steps),
+                (subst (λ (n : ℕ). StepsStand reference row (suc n) at.color after2 rest) is2 steps),
           )
 
-      horizontal_back : LineFrom reference behind_runs behind row rest → ModeFrom reference at Horizontal here row rest
+      horizontal_back : LineFrom reference after_runs after row rest → ModeFrom reference at Horizontal here row rest
       horizontal_back (goes, steps) =
           let is = runs_back goes in
           let count1 : one ≡ a1 row at.from - (at.from - 1) = omega (arith, is.1, to_p, len) in
@@ -307,12 +307,12 @@ module _ (columns : ℕ) (reference : Row) (at : Spot) (small : columns ≤ 4294
             is.0,
             (
               middle,
-              behind,
+              after,
               read1 ∙ ap (λ (n : ℕ). Ok (n, middle)) count1,
-              read2 ∙ ap (λ (n : ℕ). Ok (n, behind)) count2,
-              subst (λ (n : ℕ). StepsStand reference row (suc n) at.color behind rest) (sym is.2) steps,
+              read2 ∙ ap (λ (n : ℕ). Ok (n, after)) count2,
+              subst (λ (n : ℕ). StepsStand reference row (suc n) at.color after rest) (sym is.2) steps,
             ),
           )
 
-    pub horizontal_leads : Leads columns (ModeFrom reference at Horizontal here) (LineFrom reference behind_runs behind)
+    pub horizontal_leads : Leads columns (ModeFrom reference at Horizontal here) (LineFrom reference after_runs after)
     horizontal_leads row rest row_len = (horizontal_on row rest row_len, horizontal_back row rest row_len)

@@ -83,7 +83,7 @@ painted_up_to row at place goes inside len above within none =
     take_painted row p n c (omega arith) (λ q ge lt. same q ge (omega arith)) in
     rw (len) (ap (λ (r : Row). r ++ replicate n c) goes.front ∙ sym painted ∙ ap (λ (m : ℕ). take m row) sum)
 
--- where a row goes on behind pixels of one colour, it goes on before them, and they are a run of it
+-- where a row goes on after pixels of one colour, it goes on before them, and they are a run of it
 pub record GoesBack (row : Row) (at : Spot) (place : ℕ) : Type 0 where
   pub goes : GoesOnFrom row at
   pub run : IsRunTo row at.from place (is_black at.color)

@@ -51,7 +51,7 @@ module _ (reference : Row) (pen : Pen) (black : pen.begun ≡ true → pen.paint
       ∙ ap (λ (n : ℕ). b2 reference n pen.color) (right_of_white pen.painted)
 
 -- ---- What is painted.
--- a spot behind more pixels
+-- a spot after more pixels
 pub spot_painted : (pen next : Pen) (places new : List ℕ) (place : ℕ) → AreChanges pen.painted places
     → IsPainted pen next places new place → spot_of next new ≡ painted_on (spot_of pen places) place pen.color
 spot_painted pen next places new place lawful is =
@@ -171,16 +171,16 @@ module _ (columns : ℕ) (pen : Pen) (places : List ℕ) (small : columns ≤ 42
           let same : place ≡ other = cc in none (omega (arith, same, right)) (omega (arith, same, within)))
 
     -- ---- The mode here.
-    pub mode_here_leads : {Q : Row → Bits → Type 0} (mode : Mode) (here behind : Bits)
-        → read_code mode_codes here ≡ Ok (mode, behind) → Leads columns (ModeFrom above_row at mode behind) Q
+    pub mode_here_leads : {Q : Row → Bits → Type 0} (mode : Mode) (here after : Bits)
+        → read_code mode_codes here ≡ Ok (mode, after) → Leads columns (ModeFrom above_row at mode after) Q
         → Leads columns (LineFrom above_row at here) Q
-    mode_here_leads mode here behind read on =
-        leads_on columns (mode_leads columns above_row at small len_above len inside white mode here behind read) on
+    mode_here_leads mode here after read on =
+        leads_on columns (mode_leads columns above_row at small len_above len inside white mode here after read) on
 
-    pub mode_here_never : (mode : Mode) (here behind : Bits) → read_code mode_codes here ≡ Ok (mode, behind)
-        → Never columns (ModeFrom above_row at mode behind) → Never columns (LineFrom above_row at here)
-    mode_here_never mode here behind read none =
-        leads_never columns (mode_leads columns above_row at small len_above len inside white mode here behind read) none
+    pub mode_here_never : (mode : Mode) (here after : Bits) → read_code mode_codes here ≡ Ok (mode, after)
+        → Never columns (ModeFrom above_row at mode after) → Never columns (LineFrom above_row at here)
+    mode_here_never mode here after read none =
+        leads_never columns (mode_leads columns above_row at small len_above len inside white mode here after read) none
 
     pub no_mode_here : (here : Bits) → ((mode : Mode) (rest : Bits) → read_code mode_codes here ≡ Ok (mode, rest) → ⊥)
         → Never columns (LineFrom above_row at here)

@@ -13,30 +13,30 @@ added_none : (n : ℕ) → n ≡ 0 + n
 added_none n = omega arith
 
 -- lines with EOLs begin with one
-begins_with_eol : (settings : DecodeSettings) (reference : Row) (rows : List Row) (bits behind whole : Bits) → 0 < length rows
-    → EncodesRowsWithEols settings.encoding reference rows bits → whole ≡ bits ++ behind → (rest : Bits) × EolStands whole rest
-begins_with_eol settings reference [] bits behind whole some lines is = absurd (omega arith)
-begins_with_eol settings reference (row ∷ rows) bits behind whole some (fill, line, next, is_line, lines, split) is =
-    (line ++ (next ++ behind), (fill, is ∙ ap (λ (x : Bits). x ++ behind) split ∙ simp append_assoc refl))
+begins_with_eol : (settings : DecodeSettings) (reference : Row) (rows : List Row) (bits after whole : Bits) → 0 < length rows
+    → EncodesRowsWithEols settings.encoding reference rows bits → whole ≡ bits ++ after → (rest : Bits) × EolStands whole rest
+begins_with_eol settings reference [] bits after whole some lines is = absurd (omega arith)
+begins_with_eol settings reference (row ∷ rows) bits after whole some (fill, line, next, is_line, lines, split) is =
+    (line ++ (next ++ after), (fill, is ∙ ap (λ (x : Bits). x ++ after) split ∙ simp append_assoc refl))
 
 -- lines of T.4 without EOLs don't
 begins_with_no_eol : (settings : DecodeSettings) → 0 < settings.columns → settings.columns ≤ 4294967295
     → settings.encoding ≢ Group4
-    → (reference : Row) (rows : List Row) (bits behind whole : Bits) → 0 < length rows
+    → (reference : Row) (rows : List Row) (bits after whole : Bits) → 0 < length rows
     → EncodesRows settings.encoding settings.rows_are_byte_aligned reference rows bits
-    → ((row : Row) (more : List Row) → rows ≡ row ∷ more → length row ≡ settings.columns) → whole ≡ bits ++ behind
+    → ((row : Row) (more : List Row) → rows ≡ row ∷ more → length row ≡ settings.columns) → whole ≡ bits ++ after
     → (rest : Bits) → EolStands whole rest → ⊥
-begins_with_no_eol settings wide small three reference [] bits behind whole some lines widths is rest stands = absurd
+begins_with_no_eol settings wide small three reference [] bits after whole some lines widths is rest stands = absurd
     (omega arith)
-begins_with_no_eol settings wide small three reference (row ∷ rows) bits behind whole some
+begins_with_no_eol settings wide small three reference (row ∷ rows) bits after whole some
     (line, next, is_line, lines, split) widths
     is rest (fill, stands) =
     let fill_of : Bits = cond settings.rows_are_byte_aligned (padding (length line)) [] in
-    let start = line_t4_starts settings wide small settings.encoding reference row line (fill_of ++ (next ++ behind))
+    let start = line_t4_starts settings wide small settings.encoding reference row line (fill_of ++ (next ++ after))
     (matches_itself settings three) is_line (widths row rows refl) in
-    let here : whole ≡ line ++ (fill_of ++ (next ++ behind)) =
-    is ∙ ap (λ (x : Bits). x ++ behind) split ∙ append_assoc (line ++ fill_of) next behind
-    ∙ append_assoc line fill_of (next ++ behind) in
+    let here : whole ≡ line ++ (fill_of ++ (next ++ after)) =
+    is ∙ ap (λ (x : Bits). x ++ after) split ∙ append_assoc (line ++ fill_of) next after
+    ∙ append_assoc line fill_of (next ++ after) in
     absurd (let e : Option.Some rest ≡ None = sym (eol_stands fill rest) ∙ ap (after_eol 0) (sym stands ∙ here)
     ∙ start.no_eol in cc)
 
@@ -59,7 +59,7 @@ module _ (settings : DecodeSettings) (wide : 0 < settings.columns) (whole : Bits
               ∙ append_assoc body (eol 0) (eol 0 ++ rest),
           inr (((four, begins.end_of_block), (rest, refl)), subst (Allows settings) (added_none (length rows)) begins.limit),
         )
-    group4_to (rows, inl (count, IsClosedPicture.by_rtc bits behind begins counted)) = absurd (begins.encoding four)
+    group4_to (rows, inl (count, IsClosedPicture.by_rtc bits after begins counted)) = absurd (begins.encoding four)
     group4_to (rows, inr (IsLimitedPicture.of_t6 bits begins)) =
         let (rest, starts) = begins.begins in (
           rows,
@@ -74,7 +74,7 @@ module _ (settings : DecodeSettings) (wide : 0 < settings.columns) (whole : Bits
     group4_to (rows, inr (IsLimitedPicture.of_t4_with_eols bits begins)) = absurd (begins.encoding four)
 
     group4_back : BodyStands settings 0 white whole → Conforms settings whole
-    group4_back (rows, bits, behind, widths, lines, is, inl (limit, some)) = (
+    group4_back (rows, bits, after, widths, lines, is, inl (limit, some)) = (
       rows,
       inr (IsLimitedPicture.of_t6 bits (record {
         encoding = four;
@@ -82,10 +82,10 @@ module _ (settings : DecodeSettings) (wide : 0 < settings.columns) (whole : Bits
         some = omega (arith, some);
         picture = (wide, widths);
         lines = subst (λ (e : EncodingMode). EncodesRows e settings.rows_are_byte_aligned white rows bits) four lines;
-        begins = (behind, is);
+        begins = (after, is);
       })),
     )
-    group4_back (rows, bits, behind, widths, lines, is, inr ((seeks, (rest, stands)), allows)) = (
+    group4_back (rows, bits, after, widths, lines, is, inr ((seeks, (rest, stands)), allows)) = (
       rows,
       inl (
         _,
@@ -117,10 +117,10 @@ module _ (settings : DecodeSettings) (wide : 0 < settings.columns) (whole : Bits
     module _ (first : Bits) (stands_first : EolStands whole first) where
       eols_to : Conforms settings whole → LinesStand settings 0 white whole
       eols_to (rows, inl (count, IsClosedPicture.by_eofb bits begins counted)) = absurd (three begins.encoding)
-      eols_to (rows, inl (count, IsClosedPicture.by_rtc bits behind begins counted)) = (
+      eols_to (rows, inl (count, IsClosedPicture.by_rtc bits after begins counted)) = (
         rows,
         bits,
-        behind,
+        after,
         begins.picture.1,
         begins.lines,
         begins.begins,
@@ -147,7 +147,7 @@ module _ (settings : DecodeSettings) (wide : 0 < settings.columns) (whole : Bits
           )
 
       eols_back : LinesStand settings 0 white whole → Conforms settings whole
-      eols_back (rows, bits, behind, widths, lines, is, inl (limit, some)) = (
+      eols_back (rows, bits, after, widths, lines, is, inl (limit, some)) = (
         rows,
         inr (IsLimitedPicture.of_t4_with_eols bits (record {
           encoding = three;
@@ -155,14 +155,14 @@ module _ (settings : DecodeSettings) (wide : 0 < settings.columns) (whole : Bits
           some = omega (arith, some);
           picture = (wide, widths);
           lines = lines;
-          begins = (behind, is);
+          begins = (after, is);
         })),
       )
-      eols_back (rows, bits, behind, widths, lines, is, inr ((block, some, closing), allows)) = (
+      eols_back (rows, bits, after, widths, lines, is, inr ((block, some, closing), allows)) = (
         rows,
         inl (
           _,
-          IsClosedPicture.by_rtc bits behind (record {
+          IsClosedPicture.by_rtc bits after (record {
             encoding = three;
             end_of_block = block;
             limit = subst (Allows settings) (sym (added_none (length rows))) allows;
@@ -180,15 +180,15 @@ module _ (settings : DecodeSettings) (wide : 0 < settings.columns) (whole : Bits
 
     -- data that don't
     module _ (none : (rest : Bits) → EolStands whole rest → ⊥) where
-      no_eols : (rows : List Row) (bits behind : Bits) → 0 < length rows → EncodesRowsWithEols settings.encoding white rows bits
-          → whole ≡ bits ++ behind → ⊥
-      no_eols rows bits behind some lines is =
-          let eol_here = begins_with_eol settings white rows bits behind whole some lines is in none eol_here.0 eol_here.1
+      no_eols : (rows : List Row) (bits after : Bits) → 0 < length rows → EncodesRowsWithEols settings.encoding white rows bits
+          → whole ≡ bits ++ after → ⊥
+      no_eols rows bits after some lines is =
+          let eol_here = begins_with_eol settings white rows bits after whole some lines is in none eol_here.0 eol_here.1
 
       pub no_eols_conform : settings.end_of_line ≡ true → Conforms settings whole → ⊥
       no_eols_conform ask (rows, inl (count, IsClosedPicture.by_eofb bits begins counted)) = three begins.encoding
-      no_eols_conform ask (rows, inl (count, IsClosedPicture.by_rtc bits behind begins counted)) =
-          no_eols rows bits behind begins.some begins.lines begins.begins
+      no_eols_conform ask (rows, inl (count, IsClosedPicture.by_rtc bits after begins counted)) =
+          no_eols rows bits after begins.some begins.lines begins.begins
       no_eols_conform ask (rows, inr (IsLimitedPicture.of_t6 bits begins)) = three begins.encoding
       no_eols_conform ask (rows, inr (IsLimitedPicture.of_t4 bits begins)) =
           let e : true ≡ false = sym ask ∙ begins.end_of_line in cc
@@ -198,8 +198,8 @@ module _ (settings : DecodeSettings) (wide : 0 < settings.columns) (whole : Bits
       module _ (unasked : settings.end_of_line ≡ false) where
         lines_to : Conforms settings whole → BodyStands settings 0 white whole
         lines_to (rows, inl (count, IsClosedPicture.by_eofb bits begins counted)) = absurd (three begins.encoding)
-        lines_to (rows, inl (count, IsClosedPicture.by_rtc bits behind begins counted)) =
-            absurd (no_eols rows bits behind begins.some begins.lines begins.begins)
+        lines_to (rows, inl (count, IsClosedPicture.by_rtc bits after begins counted)) =
+            absurd (no_eols rows bits after begins.some begins.lines begins.begins)
         lines_to (rows, inr (IsLimitedPicture.of_t6 bits begins)) = absurd (three begins.encoding)
         lines_to (rows, inr (IsLimitedPicture.of_t4 bits begins)) =
             let (rest, starts) = begins.begins in (
@@ -215,7 +215,7 @@ module _ (settings : DecodeSettings) (wide : 0 < settings.columns) (whole : Bits
             let (rest, starts) = begins.begins in absurd (no_eols rows bits rest begins.some begins.lines starts)
 
         lines_back : BodyStands settings 0 white whole → Conforms settings whole
-        lines_back (rows, bits, behind, widths, lines, is, inl (limit, some)) = (
+        lines_back (rows, bits, after, widths, lines, is, inl (limit, some)) = (
           rows,
           inr (IsLimitedPicture.of_t4 bits (record {
             encoding = three;
@@ -224,10 +224,10 @@ module _ (settings : DecodeSettings) (wide : 0 < settings.columns) (whole : Bits
             some = omega (arith, some);
             picture = (wide, widths);
             lines = lines;
-            begins = (behind, is);
+            begins = (after, is);
           })),
         )
-        lines_back (rows, bits, behind, widths, lines, is, inr ((seeks, two), allows)) = absurd (three seeks.0)
+        lines_back (rows, bits, after, widths, lines, is, inr ((seeks, two), allows)) = absurd (three seeks.0)
 
         pub lines_conform : Conforms settings whole ↔ BodyStands settings 0 white whole
         lines_conform = (lines_to, lines_back)

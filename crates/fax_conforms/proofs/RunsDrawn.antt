@@ -44,7 +44,7 @@ module _ (columns : ℕ) (pen : Pen) (places : List ℕ) (small : columns ≤ 42
       → Never columns (RunsFrom spot here)
   run_fails here none row rest row_len stands =
       let has = one_run columns spot here small (omega (arith, front_len, open_end)) row rest row_len stands in
-      none has.run has.behind (record {
+      none has.run has.after (record {
         read = has.read;
         within = omega (arith, has.within, front_len);
         some = λ begun lt. has.some (some_from pen.begun pen.painted begun);
@@ -63,7 +63,7 @@ module _ (columns : ℕ) (pen : Pen) (places : List ℕ) (small : columns ≤ 42
         some = λ begun lt. above_from pen.begun pen.painted has.one (omega (arith, has.above, front_len)) begun;
       })
 
-  module _ (next : Pen) (new : List ℕ) (here behind : Bits) (paints : PaintsRun columns pen next places new here behind) where
+  module _ (next : Pen) (new : List ℕ) (here after : Bits) (paints : PaintsRun columns pen next places new here after) where
     abbrev run : ℕ
     run = paints.run
 
@@ -80,26 +80,26 @@ module _ (columns : ℕ) (pen : Pen) (places : List ℕ) (small : columns ≤ 42
     run_spot = ap (λ (p : Pen). spot_of p new) (sym (turned_is pen next paints.turned))
         ∙ spot_turned pen flat places new (pen.painted + run) drawn.lawful paints.painted
 
-    pub run_drawn : Leads columns (RunsFrom spot here) (RunsFrom (spot_of next new) behind)
-    run_drawn = subst (λ (s : Spot). Leads columns (RunsFrom spot here) (RunsFrom s behind)) (sym run_spot)
-        (run_leads columns spot here small (omega (arith, front_len, open_end)) behind run (pen.painted + run) paints.stands.read
+    pub run_drawn : Leads columns (RunsFrom spot here) (RunsFrom (spot_of next new) after)
+    run_drawn = subst (λ (s : Spot). Leads columns (RunsFrom spot here) (RunsFrom s after)) (sym run_spot)
+        (run_leads columns spot here small (omega (arith, front_len, open_end)) after run (pen.painted + run) paints.stands.read
         (omega (arith, front_len)) paints.stands.within (λ lt. some (from_some pen.begun pen.painted lt)))
 
     -- ---- The second run of horizontal mode.
-    pub second_fails : ((run : ℕ) (rest : Bits) → NextRun columns next behind rest run → ⊥) → (reference : Row)
+    pub second_fails : ((run : ℕ) (rest : Bits) → NextRun columns next after rest run → ⊥) → (reference : Row)
         → length reference ≡ columns → Never columns (ModeFrom reference spot Horizontal here)
     second_fails none reference ref_len row rest row_len stands =
         let has = horizontal_runs columns reference spot small ref_len (len columns pen places small drawn open_end)
         (inside columns pen places small drawn open_end) (white columns pen places small drawn open_end) here row rest row_len
         stands in
-        let same = same_run has.one run has.middle behind (sym has.read1 ∙ paints.stands.read) in
-        none has.two has.behind (record {
+        let same = same_run has.one run has.middle after (sym has.read1 ∙ paints.stands.read) in
+        none has.two has.after (record {
           read = rw (paints.turned, ← same.1) has.read2;
           within = omega (arith, has.within2, front_len, same.0, paints.painted.painted);
           some = λ begun lt. has.some (omega (arith, lt, front_len, same.0, paints.painted.painted));
         })
 
-    module _ (last : Pen) (final : List ℕ) (end : Bits) (second : PaintsRun columns next last new final behind end) where
+    module _ (last : Pen) (final : List ℕ) (end : Bits) (second : PaintsRun columns next last new final after end) where
       abbrev two : ℕ
       two = second.run
 
@@ -145,7 +145,7 @@ module _ (columns : ℕ) (pen : Pen) (places : List ℕ) (small : columns ≤ 42
       horizontal_drawn reference ref_len = subst (λ (s : Spot). Leads columns (ModeFrom reference spot Horizontal here)
           (LineFrom reference s end)) (sym spots)
           (horizontal_leads columns reference spot small ref_len (len columns pen places small drawn open_end)
-          (inside columns pen places small drawn open_end) (white columns pen places small drawn open_end) here behind end run two
+          (inside columns pen places small drawn open_end) (white columns pen places small drawn open_end) here after end run two
           (pen.painted + run) (next.painted + two) paints.stands.read (rw (← paints.turned) second.stands.read)
           (omega (arith, front_len)) (omega (arith, paints.painted.painted)) right second.stands.within
           (λ lt. second.stands.some begun (omega (arith, lt, paints.painted.painted))))

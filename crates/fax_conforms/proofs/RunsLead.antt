@@ -11,18 +11,18 @@ use Rattle.fax_conforms.specs.Standing.{Spot, RunsFrom, Leads}
 use Rattle.fax_conforms.proofs.ModesLead.{other_pixel, painted_on}
 use Rattle.fax_conforms.proofs.SpelledRuns.{run_is_spelled, same_run}
 
--- the first run of the pixels that are left, and the runs behind it
+-- the first run of the pixels that are left, and the runs after it
 pub record HasRun (at : Spot) (here : Bits) (row : Row) (rest : Bits) : Type 0 where
   pub run : ℕ
   pub others : Row
-  pub behind : Bits
-  pub read : run_from at.color (0, here) ≡ Ok (run, behind)
+  pub after : Bits
+  pub read : run_from at.color (0, here) ≡ Ok (run, after)
   pub row_is : row ≡ at.front ++ (replicate run (is_black at.color) ++ others)
   pub some : 0 < run + length others
   pub maximal : (more : Row) → others ≢ is_black at.color ∷ more
   pub line : Bits
   pub encodes : EncodesLine1D (opposite at.color) others line
-  pub stands : behind ≡ line ++ rest
+  pub stands : after ≡ line ++ rest
 
 -- a list of pixels that begins with neither colour is empty
 neither : (row : Row) (c : Bool) → ((more : Row) → row ≢ c ∷ more) → ((more : Row) → row ≢ not c ∷ more) → length row ≡ 0
@@ -53,12 +53,12 @@ has_run at here row rest columns row_len small open_end (others, bits, row_is, f
     absurd (let l : length row ≡ length at.front = ap length (row_is ∙ append-nil at.front) in omega
     (arith, l, row_len, open_end))
 has_run at here row rest columns row_len small open_end
-    (others, bits, row_is, first, EncodesLine1D.run n word {row = behind} {bits = next} spells some maximal line, is) =
-    let few = run_length at n behind row row_is in
+    (others, bits, row_is, first, EncodesLine1D.run n word {row = after} {bits = next} spells some maximal line, is) =
+    let few = run_length at n after row row_is in
     record {
       run = n;
-      others = behind;
-      behind = next ++ rest;
+      others = after;
+      after = next ++ rest;
       read = ap (λ (x : Bits). run_from at.color (0, x)) (is ∙ append_assoc word next rest)
           ∙ run_read at.color n word (next ++ rest) spells (omega (arith, few, row_len, small));
       row_is = row_is;
@@ -73,8 +73,8 @@ module _ (columns : ℕ) (at : Spot) (here : Bits) (small : columns ≤ 42949672
   -- the first run of a lawful line
   pub record HasOneRun : Type 0 where
     pub run : ℕ
-    pub behind : Bits
-    pub read : run_from at.color (0, here) ≡ Ok (run, behind)
+    pub after : Bits
+    pub read : run_from at.color (0, here) ≡ Ok (run, after)
     pub within : length at.front + run ≤ columns
     pub some : 0 < at.from → 0 < run
 
@@ -84,7 +84,7 @@ module _ (columns : ℕ) (at : Spot) (here : Bits) (small : columns ≤ 42949672
       let count = run_length at has.run has.others row has.row_is in
       record {
         run = has.run;
-        behind = has.behind;
+        after = has.after;
         read = has.read;
         within = omega (arith, count, row_len);
         some = λ begun. elim (cases_lt 0 has.run) [
@@ -99,13 +99,13 @@ module _ (columns : ℕ) (at : Spot) (here : Bits) (small : columns ≤ 42949672
         ];
       }
 
-  module _ (behind : Bits) (run place : ℕ) (read : run_from at.color (0, here) ≡ Ok (run, behind))
+  module _ (after : Bits) (run place : ℕ) (read : run_from at.color (0, here) ≡ Ok (run, after))
       (to : place ≡ length at.front + run) (within : place ≤ columns) (some : 0 < at.from → 0 < run) where
     run_on : (row : Row) (rest : Bits) → length row ≡ columns → RunsFrom at here row rest
-        → RunsFrom (painted_on at place (opposite at.color)) behind row rest
+        → RunsFrom (painted_on at place (opposite at.color)) after row rest
     run_on row rest row_len stands =
         let has = has_run at here row rest columns row_len small open_end stands in
-        let same = same_run has.run run has.behind behind (sym has.read ∙ read) in
+        let same = same_run has.run run has.after after (sym has.read ∙ read) in
         let count : place - length at.front ≡ has.run = omega (arith, to, same.0) in (
           has.others,
           has.line,
@@ -116,10 +116,10 @@ module _ (columns : ℕ) (at : Spot) (here : Bits) (small : columns ≤ 42949672
         )
 
     run_back : (row : Row) (rest : Bits) → length row ≡ columns → RunsFrom (painted_on at place
-        (opposite at.color)) behind row rest
+        (opposite at.color)) after row rest
         → RunsFrom at here row rest
     run_back row rest row_len (others, line, row_is, maximal, encodes, stands) =
-        let word = run_is_spelled at.color run here behind read in
+        let word = run_is_spelled at.color run here after read in
         let count : place - length at.front ≡ run = omega (arith, to) in
         let split : row ≡ at.front ++ (replicate run (is_black at.color) ++ others) =
         rw count at row_is ∙ append_assoc at.front (replicate run (is_black at.color)) others in
@@ -136,5 +136,5 @@ module _ (columns : ℕ) (at : Spot) (here : Bits) (small : columns ≤ 42949672
           word.2 ∙ ap (λ (x : Bits). word.0 ++ x) stands ∙ sym (append_assoc word.0 line rest),
         )
 
-    pub run_leads : Leads columns (RunsFrom at here) (RunsFrom (painted_on at place (opposite at.color)) behind)
+    pub run_leads : Leads columns (RunsFrom at here) (RunsFrom (painted_on at place (opposite at.color)) after)
     run_leads row rest row_len = (run_on row rest row_len, run_back row rest row_len)

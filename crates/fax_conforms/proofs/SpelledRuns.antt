@@ -16,10 +16,10 @@ pub record IsSpelled (color : Color) (total n : ℕ) (here rest : Bits) : Type 0
   pub stands : here ≡ word ++ rest
 
 -- one make-up word before the words of a run
-one_word_more : (color : Color) (total m n : ℕ) (here behind rest : Bits) → read_code (codes_of color) here ≡ Ok (m, behind)
-    → 64 ≤ m → IsSpelled color (total + m) n behind rest → IsSpelled color total n here rest
-one_word_more color total m n here behind rest h large on =
-    let word = read_code_found (codes_of color) here m behind h in
+one_word_more : (color : Color) (total m n : ℕ) (here after rest : Bits) → read_code (codes_of color) here ≡ Ok (m, after)
+    → 64 ≤ m → IsSpelled color (total + m) n after rest → IsSpelled color total n here rest
+one_word_more color total m n here after rest h large on =
+    let word = read_code_found (codes_of color) here m after h in
     record {
       run = m + on.run;
       word = word.0 ++ on.word;
@@ -35,11 +35,11 @@ same_run a b x y e =
     (ap (λ (p : ℕ × Bits). p.0) pair, ap (λ (p : ℕ × Bits). p.1) pair)
 
 -- a terminating word alone
-last_word_alone : (color : Color) (total m n : ℕ) (here behind rest : Bits) → read_code (codes_of color) here ≡ Ok (m, behind)
-    → m < 64 → ◌≡◌ {A = Result (ℕ × Bits) DecodeError} (Ok (total + m, behind)) (Ok (n, rest)) → IsSpelled color total n here rest
-last_word_alone color total m n here behind rest h small same =
-    let word = read_code_found (codes_of color) here m behind h in
-    let found = same_run (total + m) n behind rest same in
+last_word_alone : (color : Color) (total m n : ℕ) (here after rest : Bits) → read_code (codes_of color) here ≡ Ok (m, after)
+    → m < 64 → ◌≡◌ {A = Result (ℕ × Bits) DecodeError} (Ok (total + m, after)) (Ok (n, rest)) → IsSpelled color total n here rest
+last_word_alone color total m n here after rest h small same =
+    let word = read_code_found (codes_of color) here m after h in
+    let found = same_run (total + m) n after rest same in
     record {
       run = m;
       word = word.0;
@@ -53,21 +53,21 @@ spelled_by : (k : ℕ) (color : Color) (total n : ℕ) (here rest : Bits) → le
     → IsSpelled color total n here rest
 spelled_by zero color total n here rest lt e = absurd (omega arith)
 spelled_by (suc k) color total n here rest lt e =
-    by_word (read_code (codes_of color) here) refl (λ m behind shorter f. spelled_by k color (total + m) n behind rest
+    by_word (read_code (codes_of color) here) refl (λ m after shorter f. spelled_by k color (total + m) n after rest
     (omega (arith, shorter, lt)) f)
   where
     by_word : (r : Result (ℕ × Bits) DecodeError) → read_code (codes_of color) here ≡ r
-        → ((m : ℕ) (behind : Bits) → length behind < length here → run_from color (total + m, behind) ≡ Ok (n, rest)
-        → IsSpelled color (total + m) n behind rest) → IsSpelled color total n here rest
+        → ((m : ℕ) (after : Bits) → length after < length here → run_from color (total + m, after) ≡ Ok (n, rest)
+        → IsSpelled color (total + m) n after rest) → IsSpelled color total n here rest
     by_word (Err fault) h on = absurd (let f = run_fails color total here fault h in cc)
-    by_word (Ok (m, behind)) h on = elim (cases_lt 4294967295 (total + m)) [
-      | inl over ↦ absurd (let f = run_passes color total m here behind h over in cc)
+    by_word (Ok (m, after)) h on = elim (cases_lt 4294967295 (total + m)) [
+      | inl over ↦ absurd (let f = run_passes color total m here after h over in cc)
       | inr fits ↦ elim (cases_lt m 64) [
-        | inl small ↦ last_word_alone color total m n here behind rest h small
-            (sym (run_ends color total m here behind h fits small) ∙ e)
-        | inr large ↦ one_word_more color total m n here behind rest h large (on m behind
-            (read_code_shorter (codes_of color) here m behind (words_not_empty color) h)
-            (sym (run_goes_on color total m here behind h fits large) ∙ e))
+        | inl small ↦ last_word_alone color total m n here after rest h small
+            (sym (run_ends color total m here after h fits small) ∙ e)
+        | inr large ↦ one_word_more color total m n here after rest h large (on m after
+            (read_code_shorter (codes_of color) here m after (words_not_empty color) h)
+            (sym (run_goes_on color total m here after h fits large) ∙ e))
       ]
     ]
 

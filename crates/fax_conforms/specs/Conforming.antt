@@ -58,9 +58,9 @@ BodyEnds settings taken here = ((settings.rows ≡ taken) × (0 < taken)) ⊎ (E
 
 -- after this number of rows, lines without EOLs stand here, and end (T.4, 4.1.1 and 4.2.1; T.6, 2.2)
 abbrev pub BodyStands : DecodeSettings → ℕ → Row → Bits → Type 0
-BodyStands settings taken reference here = (rows : List Row) × (bits behind : Bits) × HaveWidth settings.columns rows
-    × EncodesRows settings.encoding settings.rows_are_byte_aligned reference rows bits × (here ≡ bits ++ behind)
-    × BodyEnds settings (taken + length rows) behind
+BodyStands settings taken reference here = (rows : List Row) × (bits after : Bits) × HaveWidth settings.columns rows
+    × EncodesRows settings.encoding settings.rows_are_byte_aligned reference rows bits × (here ≡ bits ++ after)
+    × BodyEnds settings (taken + length rows) after
 
 -- an EOL stands here, with its fill (T.4, 4.1.2 and 4.1.3)
 abbrev pub EolStands : Bits → Bits → Type 0
@@ -90,6 +90,6 @@ LinesEnd settings taken here = ((settings.rows ≡ taken) × (0 < taken))
 
 -- after this number of rows, lines stand here, an EOL before each, and end (T.4, 4.1.2)
 abbrev pub LinesStand : DecodeSettings → ℕ → Row → Bits → Type 0
-LinesStand settings taken reference here = (rows : List Row) × (bits behind : Bits) × HaveWidth settings.columns rows
-    × EncodesRowsWithEols settings.encoding reference rows bits × (here ≡ bits ++ behind)
-    × LinesEnd settings (taken + length rows) behind
+LinesStand settings taken reference here = (rows : List Row) × (bits after : Bits) × HaveWidth settings.columns rows
+    × EncodesRowsWithEols settings.encoding reference rows bits × (here ≡ bits ++ after)
+    × LinesEnd settings (taken + length rows) after

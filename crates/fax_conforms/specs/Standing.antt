@@ -59,20 +59,20 @@ abbrev pub LineFrom : Row → Spot → Bits → Row → Bits → Type 0
 LineFrom reference at here row rest = GoesOnFrom row at × StepsStand reference row at.from at.color here rest
 
 -- this mode is lawful at a position, with what stands after its word (T.4, 4.2.1.3; T.6, 2.2)
-abbrev pub StepsBehind : Row → Row → ℕ → Color → Mode → Bits → Bits → Type 0
-StepsBehind reference row from color Pass here rest =
+abbrev pub StepsAfter : Row → Row → ℕ → Color → Mode → Bits → Bits → Type 0
+StepsAfter reference row from color Pass here rest =
     (b2 reference from color < a1 row from) × StepsStand reference row (suc (b2 reference from color)) color here rest
-StepsBehind reference row from color (Vertical k) here rest =
+StepsAfter reference row from color (Vertical k) here rest =
     (pos (a1 row from) ≡ pos (b1 reference from color) +ℤ k)
     × StepsStand reference row (suc (a1 row from)) (opposite color) here rest
-StepsBehind reference row from color Horizontal here rest = (middle behind : Bits)
+StepsAfter reference row from color Horizontal here rest = (middle after : Bits)
     × (read_run color here ≡ Ok (a1 row from - (from - 1), middle))
-    × (read_run (opposite color) middle ≡ Ok (a2 row from - a1 row from, behind))
-    × StepsStand reference row (suc (a2 row from)) color behind rest
+    × (read_run (opposite color) middle ≡ Ok (a2 row from - a1 row from, after))
+    × StepsStand reference row (suc (a2 row from)) color after rest
 
 -- a row goes on from a position with this mode
 abbrev pub ModeFrom : Row → Spot → Mode → Bits → Row → Bits → Type 0
-ModeFrom reference at mode here row rest = GoesOnFrom row at × StepsBehind reference row at.from at.color mode here rest
+ModeFrom reference at mode here row rest = GoesOnFrom row at × StepsAfter reference row at.from at.color mode here rest
 
 -- Runs of a one-dimensional line stand here, for the pixels after the front; the first one of a line alone may be empty (T.4,
 -- 4.1.1).

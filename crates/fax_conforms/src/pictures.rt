@@ -77,7 +77,7 @@ fn limit_met(settings: DecodeSettings, taken: u64) -> bool
 }
 
 /// Returns a reader after the EOL without fill that is here, if there is one (T.4, 4.1.2).
-fn behind_plain_eol<'a>(reader: &BitReader<'a>, ticks: &mut Ticks) -> Option<BitReader<'a>>
+fn after_plain_eol<'a>(reader: &BitReader<'a>, ticks: &mut Ticks) -> Option<BitReader<'a>>
     ensures found { IfSome result (λ after. here reader.now ≡ eol 0 ++ here after) }
     ensures none { IfNone result ((rest : Bits) → here reader.now ≡ eol 0 ++ rest → ⊥) }
 {
@@ -92,8 +92,8 @@ fn behind_plain_eol<'a>(reader: &BitReader<'a>, ticks: &mut Ticks) -> Option<Bit
 fn has_two_eols(reader: &BitReader<'_>, ticks: &mut Ticks) -> bool
     ensures { IsTrue result ↔ TwoEolsStand (here reader.now) }
 {
-    match behind_plain_eol(reader, ticks) {
-        Some(after) => behind_plain_eol(&after, ticks).is_some(),
+    match after_plain_eol(reader, ticks) {
+        Some(after) => after_plain_eol(&after, ticks).is_some(),
         None => false,
     }
 }
@@ -214,7 +214,7 @@ pub fn read_body(
 }
 
 /// Returns a reader after the EOL that is here with its fill, if there is one (T.4, 4.1.2 and 4.1.3).
-fn behind_eol<'a>(reader: &BitReader<'a>, ticks: &mut Ticks) -> Option<BitReader<'a>>
+fn following_eol<'a>(reader: &BitReader<'a>, ticks: &mut Ticks) -> Option<BitReader<'a>>
     ensures found { IfSome result (λ after. EolStands (here reader.now) (here after)) }
     ensures none { IfNone result ((rest : Bits) → EolStands (here reader.now) rest → ⊥) }
     ensures same_bits { IfSome result (λ after. after.bits ≡ reader.now.bits) }
@@ -241,7 +241,7 @@ fn pass_closing_tag(encoding: EncodingMode, reader: &mut BitReader<'_>) -> bool
 }
 
 /// Returns a reader after the EOL of RTC that is here, and its tag, if there is one (T.4, 4.1.4 and 4.2.4).
-fn behind_tagged_eol<'a>(
+fn after_tagged_eol<'a>(
     encoding: EncodingMode,
     reader: &BitReader<'a>,
     ticks: &mut Ticks,
@@ -249,7 +249,7 @@ fn behind_tagged_eol<'a>(
     ensures found { IfSome result (λ after. TaggedEolStands encoding (here reader.now) (here after)) }
     ensures none { IfNone result ((rest : Bits) → TaggedEolStands encoding (here reader.now) rest → ⊥) }
 {
-    match behind_eol(reader, ticks) {
+    match following_eol(reader, ticks) {
         Some(mut after) => {
             if pass_closing_tag(encoding, &mut after) {
                 Some(after)
@@ -265,12 +265,12 @@ fn behind_tagged_eol<'a>(
 fn has_six_eols(encoding: EncodingMode, reader: &BitReader<'_>, ticks: &mut Ticks) -> bool
     ensures { IsTrue result ↔ EolsStand encoding 6 (here reader.now) }
 {
-    let Some(mut next) = behind_tagged_eol(encoding, reader, ticks) else {
+    let Some(mut next) = after_tagged_eol(encoding, reader, ticks) else {
         return false;
     };
     let mut left: usize = 5;
     'eols: while left > 0 {
-        match behind_tagged_eol(encoding, &next, ticks) {
+        match after_tagged_eol(encoding, &next, ticks) {
             Some(after) => next = after,
             None => return false,
         }
@@ -292,7 +292,7 @@ fn pass_eol(reader: &mut BitReader<'_>, ticks: &mut Ticks) -> bool
     ensures none { result ≡ false → (rest : Bits) → EolStands (here reader.old) rest → ⊥ }
     ensures same_bits { reader.new.bits ≡ reader.old.bits }
 {
-    match behind_eol(reader, ticks) {
+    match following_eol(reader, ticks) {
         Some(after) => {
             *reader = after;
             true
@@ -302,7 +302,7 @@ fn pass_eol(reader: &mut BitReader<'_>, ticks: &mut Ticks) -> bool
 }
 
 /// Reads the EOL before a line and the line, and leaves the changes of its row (T.4, 4.1.2).
-fn draw_line_behind_eol(
+fn draw_line_following_eol(
     words: &mut Words,
     reader: &mut BitReader<'_>,
     settings: DecodeSettings,
@@ -346,7 +346,7 @@ pub fn read_lines(
         if limit_met(settings, taken) || is_rtc(settings, taken, reader, &mut words.ticks) {
             return Ok(());
         }
-        draw_line_behind_eol(words, reader, settings, reference.as_slice(), coding)?;
+        draw_line_following_eol(words, reader, settings, reference.as_slice(), coding)?;
         mem::swap(reference, coding);
         taken += 1;
     }
@@ -357,5 +357,5 @@ pub fn has_eol(reader: &BitReader<'_>, ticks: &mut Ticks) -> bool
     ensures found { result ≡ true → (rest : Bits) × EolStands (here reader.now) rest }
     ensures none { result ≡ false → (rest : Bits) → EolStands (here reader.now) rest → ⊥ }
 {
-    behind_eol(reader, ticks).is_some()
+    following_eol(reader, ticks).is_some()
 }

@@ -16,7 +16,7 @@ use Rattle.std.proofs.lemmas.List.{drop_at, take_at}
 use Rattle.std.proofs.lemmas.Bool.{cases_lt}
 use Rattle.std.proofs.Common.{inl, inr}
 use Rattle.fax_encode.proofs.Names.{◌%◌}
-use Rattle.fax_encode.proofs.PaintedWords.{bits_of-take, bits_of-drop, turned_behind}
+use Rattle.fax_encode.proofs.PaintedWords.{bits_of-take, bits_of-drop, turned_following}
 use Rattle.fax_encode.proofs.RunsWritten.{next_is, next_right, next_within, next_ascends, one_part}
 
 -- ---- the black pixels of a word
@@ -139,14 +139,14 @@ word_painted start from to row row' word new front within ascend below long whit
     ∙ ap (λ (b : Bits). inside ++ b) (take-replicate (64 - from) (n + 64) false (omega arith)) in
     let one : ℕ = bit_xor word (2 ^ (64 - from) - 1) in
     let turned : low_bits 64 one ≡ inside ++ replicate (64 - from) true =
-    turned_behind inside (64 - from) word 64 false (omega arith) old in
+    turned_following inside (64 - from) word 64 false (omega arith) old in
     let split : (to - from) + (64 - to) ≡ 64 - from = omega arith in
     let both : low_bits 64 one ≡ (inside ++ replicate (to - from) true) ++ replicate (64 - to) true = turned
     ∙ ap (λ (k : ℕ). inside ++ replicate k true) (sym split) ∙ sym (black_more inside (to - from) (64 - to)) in
     let sum : 64 ≡ length (inside ++ replicate (to - from) true) + (64 - to) =
     omega (arith, longer inside (to - from)) in
     let back : low_bits 64 new ≡ (inside ++ replicate (to - from) true) ++ replicate (64 - to) false =
-    ap (low_bits 64) new_is ∙ turned_behind (inside ++ replicate (to - from) true) (64 - to) one 64 true sum both in
+    ap (low_bits 64) new_is ∙ turned_following (inside ++ replicate (to - from) true) (64 - to) one 64 true sum both in
     let left : 64 - to ≡ 8 * (start + 8) - (length front + (to - from)) = omega arith in
     part_painted start 8 (to - from) row row' front (low_bits 64 new) within (omega arith) (omega arith) white
     (back ∙ ap (λ (k : ℕ). (inside ++ replicate (to - from) true) ++ replicate k false) left) written
@@ -194,7 +194,7 @@ module _ (from to last zeros : ℕ) (row row1 row2 row3 : List ℕ) (front : Bit
   first_long : length first_black ≡ 8 * next
   first_long = omega (arith, longer front (64 - from % 8), long)
 
-  -- the last word begins behind the first
+  -- the last word begins after the first
   apart : next ≤ last → bits_of row3 ≡ then_white (front ++ replicate (to - from) true) (length row)
   apart le =
       let k : ℕ = last - next in
@@ -204,14 +204,14 @@ module _ (from to last zeros : ℕ) (row row1 row2 row3 : List ℕ) (front : Bit
       ∙ take-append-add first_black (replicate whites false) (8 * k)
       ∙ ap (λ (b : Bits). first_black ++ b) (take-replicate (8 * k) whites false (omega (arith, first_long, le, end, within))) in
       let r : ℕ = whites - (8 * k + 64) in
-      let behind : bits_of (drop (last + 8) row1) ≡ replicate r false =
+      let after : bits_of (drop (last + 8) row1) ≡ replicate r false =
       bits_of-drop (last + 8) row1 ∙ ap (drop (8 * (last + 8))) one
       ∙ ap (λ (m : ℕ). drop m (first_black ++ replicate whites false)) (omega (arith, first_long, le))
       ∙ drop-append-add first_black (replicate whites false) (8 * k + 64) ∙ drop-replicate (8 * k + 64) whites false in
       let front_bits : Bits = first_black ++ replicate (8 * k) false in
       let written : bits_of row2 ≡ front_bits ++ (end_word ++ replicate r false) =
       two ∙ ap (λ (b : Bits). b ++ (end_word ++ bits_of (drop (last + 8) row1))) before
-      ∙ ap (λ (b : Bits). front_bits ++ (end_word ++ b)) behind in
+      ∙ ap (λ (b : Bits). front_bits ++ (end_word ++ b)) after in
       let long_front : length front_bits ≡ 8 * last =
       omega (arith, length-append first_black (replicate (8 * k) false), length-replicate (8 * k) false, first_long, le) in
       let head : bits_of (take next row2) ≡ first_black = bits_of-take next row2 ∙ ap (take (8 * next)) (written

@@ -33,10 +33,10 @@ same_bytes order (a ∷ one) (b ∷ two) fit fits e =
     let front : bits_of_byte order a ≡ bits_of_byte order b
     = sym (take-append_seam (bits_of_byte order a) (bits_in order one)) ∙ ap (λ (n : ℕ). take n (bits_in order (a ∷ one))) long
     ∙ ap (take (length (bits_of_byte order b))) e ∙ take-append_seam (bits_of_byte order b) (bits_in order two) in
-    let behind : bits_in order one ≡ bits_in order two
+    let after : bits_in order one ≡ bits_in order two
     = sym (drop-append_seam (bits_of_byte order a) (bits_in order one)) ∙ ap (λ (n : ℕ). drop n (bits_in order (a ∷ one))) long
     ∙ ap (drop (length (bits_of_byte order b))) e ∙ drop-append_seam (bits_of_byte order b) (bits_in order two) in
     let byte : a ≡ b = sym (its_number order a (All-head (λ byte. byte < 256) a one fit)) ∙ ap (number order 0) front
     ∙ its_number order b (All-head (λ byte. byte < 256) b two fits) in
     ap (λ (n : ℕ). n ∷ one) byte ∙ ap (λ (l : List ℕ). b ∷ l)
-    (same_bytes order one two (All-tail (λ byte. byte < 256) a one fit) (All-tail (λ byte. byte < 256) b two fits) behind)
+    (same_bytes order one two (All-tail (λ byte. byte < 256) a one fit) (All-tail (λ byte. byte < 256) b two fits) after)

@@ -22,8 +22,8 @@ use Rattle.hayro_ccitt.proofs.DamagedLines.DamageByK.{eol_before_lines}
 -- rows that are the same but fewer are the same but more
 same_but : (index count more : ℕ) (rows others : List Row) → count ≤ more → SameBut index count rows others
     → SameBut index more rows others
-same_but index count more rows others le (as_many, before, behind) =
-    (as_many, before, further others ∙ ap (drop (more - count)) behind ∙ sym (further rows))
+same_but index count more rows others le (as_many, before, after) =
+    (as_many, before, further others ∙ ap (drop (more - count)) after ∙ sym (further rows))
   where
     further : (list : List Row) → drop (index + more) list ≡ drop (more - count) (drop (index + count) list)
     further list = ap (λ (n : ℕ). drop n list) (let sum : index + more ≡ index + count + (more - count) = omega arith in sum)
@@ -295,7 +295,7 @@ module _ (effort : Effort) (k : ℕ) (fills aligned : Bool) (order : BitOrder) (
   reaches : (two : Bits) (to2 : ℕ) → AreWholeBytes two
       → DamagedLine d one two (tag_after settings columns before) (line_end settings columns before row) to2
       → ChangesAtMost d one two (tag_after settings columns before) k
-  reaches two to2 whole_two (same_before, same_behind, other) =
+  reaches two to2 whole_two (same_before, same_following, other) =
       let le = left_below effort k so_far.left so_far.last row
       (left_most settings refl (no_rows settings columns) before refl (omega arith)) in
       let both = locality_by_k d one are (filled_is_whole (chosen settings columns (before ++ row ∷ later))) two
@@ -303,7 +303,7 @@ module _ (effort : Effort) (k : ℕ) (fills aligned : Bool) (order : BitOrder) (
         encoding = refl;
         lenient = refl;
         before = same_before;
-        behind = same_behind;
+        after = same_following;
         body = body;
         other = other;
         sought = inl refl;

@@ -67,20 +67,20 @@ left_of_next first width (p ∷ q ∷ places) zero (suc zero) place is ascend he
 left_of_next first width (p ∷ []) (suc i) (suc j) place is ascend here lt = absurd (omega arith)
 left_of_next first width (p ∷ q ∷ places) (suc i) (suc j) place is ascend here lt =
     let next : suc p ≤ q = ascend.2.0 in
-    let behind = left_of_next (suc p) width (q ∷ places) i j place (omega arith) ascend.2 here lt in
-    one_more p q places place j (omega arith) next behind
+    let after = left_of_next (suc p) width (q ∷ places) i j place (omega arith) ascend.2 here lt in
+    one_more p q places place j (omega arith) next after
   where
     one_more : (p q : ℕ) (places : List ℕ) (place j : ℕ) → 0 < j → suc p ≤ q → AreAllLeft (q ∷ places) (place + 1) j
         → AreAllLeft (p ∷ q ∷ places) (place + 1) (suc j)
-    one_more p q places place j some next behind =
-        let within : j ≤ length (q ∷ places) = behind.left.within in
-        record { left = record { within = omega arith; left = earlier }; right = λ l. behind.right (omega arith) }
+    one_more p q places place j some next after =
+        let within : j ≤ length (q ∷ places) = after.left.within in
+        record { left = record { within = omega arith; left = earlier }; right = λ l. after.right (omega arith) }
       where
         earlier : (k : ℕ) → k < suc j → get_or (p ∷ q ∷ places) k 0 < place + 1
         earlier zero l =
-            let one : q < place + 1 = behind.left.left 0 some in
+            let one : q < place + 1 = after.left.left 0 some in
             omega arith
-        earlier (suc k) l = behind.left.left k (omega arith)
+        earlier (suc k) l = after.left.left k (omega arith)
 
 -- further right, where the next change isn't passed
 pub still_left : (columns : ℕ) (changes : List ℕ) (from to left : ℕ) → from ≤ to → AreAllLeft changes from left

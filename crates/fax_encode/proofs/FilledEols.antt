@@ -1,4 +1,4 @@
--- EOLs with fill, and tags behind them.
+-- EOLs with fill, and tags after them.
 use Rattle.fax_encode.proofs.Names.{◌≡◌, ℕ, suc, ◌+◌, ◌^◌, ◌<◌, Bool, true, false, ◌∷◌, [], ◌++◌, length, replicate, ap, ◌∙◌}
 use Rattle.fax_encode.proofs.Names.{arith, append_assoc, length-append, length-replicate, pow-add, EncodingMode, Bits, low_bits}
 use Rattle.fax_encode.proofs.Names.{eol, tag_of, fill_of, chosen_eols, low_bits-append}

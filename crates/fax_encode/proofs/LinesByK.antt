@@ -12,13 +12,13 @@ shorter_is before after two runs one from to answer e f t same is =
 
 -- what was written before it is left
 module _ (written : Written) (mark : Marked) (after more : Bits) (marked : mark
-    ≡ record { count = length written.bytes; rest = written.rest }) (behind : after ≡ all_bits written ++ more) where
+    ≡ record { count = length written.bytes; rest = written.rest }) (following : after ≡ all_bits written ++ more) where
   pub marked_within : 8 * mark.count + length mark.rest ≤ length after
   marked_within = omega (
     arith,
     ap (λ (m : Marked). m.count) marked,
     ap (λ (m : Marked). length m.rest) marked,
-    ap length behind,
+    ap length following,
     length-append (all_bits written) more,
     length-append (bits_of written.bytes) written.rest,
     length-bits_of written.bytes,
@@ -27,4 +27,4 @@ module _ (written : Written) (mark : Marked) (after more : Bits) (marked : mark
   pub cut_to_mark : (now : Bits) → now ≡ take (8 * mark.count) after ++ mark.rest → now ≡ all_bits written
   cut_to_mark now e =
       e ∙ ap (λ (m : Marked). take (8 * m.count) after ++ m.rest) marked
-      ∙ ap (λ (b : Bits). take (8 * length written.bytes) b ++ written.rest) behind ∙ cut_to written.bytes written.rest more
+      ∙ ap (λ (b : Bits). take (8 * length written.bytes) b ++ written.rest) following ∙ cut_to written.bytes written.rest more

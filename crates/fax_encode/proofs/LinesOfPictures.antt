@@ -1,4 +1,4 @@
--- The lines of a picture one by one, and what stands behind them.
+-- The lines of a picture one by one, and what stands after them.
 use Rattle.fax_encode.proofs.Names.{◌≡◌, ℕ, ◌+◌, Bool, true, false, cond, List, [], ◌∷◌, ◌++◌, length, refl, sym, ap, ◌∙◌, arith}
 use Rattle.fax_encode.proofs.Names.{append_assoc, append-nil, length-append, EncodingMode, Group4, Group3_1D, Group3_2D, Bits}
 use Rattle.fax_encode.proofs.Names.{Row, white_row, eol, padding, EncodeSettings, RowsAreChosen, RowsEncoded, no_rows, with_row}
@@ -98,7 +98,7 @@ same_lines columns rows settings = by_with_eols (has_eols settings.encoding sett
     by_with_eols true = refl
     by_with_eols false = refl
 
--- lines, and what stands behind them
+-- lines, and what stands after them
 pub whole_picture : (settings : EncodeSettings) (columns : ℕ) (rows : List Row) (lines : Bits)
     → lines ≡ lines_left settings 0 0 (white_row columns) rows → with_end settings lines ≡ chosen settings columns rows
 whole_picture settings columns rows lines e =

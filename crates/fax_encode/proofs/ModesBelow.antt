@@ -85,7 +85,7 @@ module _ (columns : ℕ) (reference changes : List ℕ) (lawful : AreChanges col
     left_after_one = left_of_next 0 columns changes next (next + 1) (get_or changes next columns) refl are refl
         (left_of_end 0 columns changes next are more)
 
-  -- the line that is left behind the changes from one on up to another, which are all below changes of the reference row
+  -- the line that is left after the changes from one on up to another, which are all below changes of the reference row
   pub record IsBelow (n from next last to reach : ℕ) : Type 0 where
     pub bits : chosen_from above row (at from next) ≡ replicate (suc n) true ++ chosen_from above row (at
         (get_or changes last columns + 1) to)

@@ -115,7 +115,7 @@ module _ (columns : ℕ) (reference changes : List ℕ) (lawful : AreChanges col
       sym (append-nil now) ∙ ap (λ (b : Bits). now ++ b) (sym (chosen_over (pixels columns reference)
       (pixels columns changes) one_width at (omega (arith, length-pixels columns changes are)))) ∙ e
 
--- the modes of a line are written, behind these bits, up to there
+-- the modes of a line are written, after these bits, up to there
 pub record IsCodedUpTo (columns : ℕ) (reference changes : List ℕ) (before so_far : Bits) (at : Coding) : Type 0 where
   pub within : at.from ≤ columns + 1
   pub near : IsNear columns reference (place_of at) at.above

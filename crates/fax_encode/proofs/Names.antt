@@ -71,7 +71,7 @@ pub use Rattle.hayro_ccitt.specs.Locality.{EndAlike, IsEolAt}
 pub use Rattle.hayro_ccitt.specs.LocalityByK.{ComeBefore1D, IsTaggedBody, RowsDiffer, SameBut}
 pub use Rattle.hayro_ccitt.specs.Pictures.{BeginsWithPictureT4, BeginsWithPictureT6, BeginsWithRowsAndEolsT4, BeginsWithRowsT4}
 pub use Rattle.hayro_ccitt.specs.Pictures.{BeginsWithRowsT6, IsClosedPicture}
-pub use Rattle.hayro_ccitt.specs.PlainReading.{Ending, Reading, end_of, ending_behind, eols_here, first_gap, plain}
+pub use Rattle.hayro_ccitt.specs.PlainReading.{Ending, Reading, end_of, ending_after, eols_here, first_gap, plain}
 pub use Rattle.hayro_ccitt.specs.Repetition.{Turn}
 pub use Rattle.hayro_ccitt.specs.Rows.{AreChanges, AscendFrom, HaveWidth, Row, a1, a2, b1, b2, changes, is_black, is_change}
 pub use Rattle.hayro_ccitt.specs.Rows.{last_pixel, least_below, opposite, pixels, pixels_from, white_row}

@@ -30,10 +30,10 @@ pub word_written : (start count word word' : ℕ) (old now bytes : List ℕ) (co
     → count ≡ 8 → start + 8 ≤ length old → now ≡ put_mid start count old bytes → low_bits 64 word' ≡ replicate 64 color
     → bits_of (take (start + 8) now) ++ low_bits 64 word' ≡ (bits_of (take start old) ++ low_bits 64 word) ++ replicate 64 color
 word_written start count word word' old now bytes color eight spelled is_eight within put plain =
-    let behind : start + 8 ≡ start + length bytes = omega arith in
+    let after : start + 8 ≡ start + length bytes = omega arith in
     let written : bits_of (take (start + 8) now) ≡ bits_of (take start old) ++ low_bits 64 word =
     ap (λ (row : List ℕ). bits_of (take (start + 8) row)) put
-    ∙ ap bits_of (take-put_mid start count old bytes (start + 8) behind (omega arith)) ∙ flat_map-append
+    ∙ ap bits_of (take-put_mid start count old bytes (start + 8) after (omega arith)) ∙ flat_map-append
     (bits_of_byte HighestFirst) (take start old) bytes ∙ ap (λ (b : Bits). bits_of (take start old) ++ b) spelled in
     ap (λ (b : Bits). b ++ low_bits 64 word') written
     ∙ ap (λ (b : Bits). (bits_of (take start old) ++ low_bits 64 word) ++ b) plain
@@ -70,7 +70,7 @@ pub words_filled : (start count byte word word' : ℕ) (row one two : List ℕ) 
     ≡ (bits_of (take start row) ++ low_bits 64 word) ++ replicate (8 * (start + 8 + count - start)) color
 words_filled start count byte word word' row one two color within same written filled plain begun =
     let before : Bits = bits_of (take start row) ++ low_bits 64 word in
-    let behind : Bits = bits_of (drop (start + 8) row) in
+    let after : Bits = bits_of (drop (start + 8) row) in
     let end : start + 8 + count ≡ start + 8 + length (replicate count byte) = omega (arith, length-replicate count byte) in
     let long : length before ≡ 8 * (start + 8) =
     omega (
@@ -83,7 +83,7 @@ words_filled start count byte word word' row one two color within same written f
     ) in
     let first : bits_of (take (start + 8) one) ≡ before =
     bits_of-take (start + 8) one ∙ ap (take (8 * (start + 8))) (written
-    ∙ sym (append_assoc (bits_of (take start row)) (low_bits 64 word) behind)) ∙ take_at before behind (8 * (start + 8)) long in
+    ∙ sym (append_assoc (bits_of (take start row)) (low_bits 64 word) after)) ∙ take_at before after (8 * (start + 8)) long in
     let sum : 8 * count + 64 ≡ 8 * (start + 8 + count - start) = omega arith in
     let all : bits_of (take (start + 8 + count) two) ≡ before ++ replicate (8 * count) color =
     ap (λ (l : List ℕ). bits_of (take (start + 8 + count) l)) filled
@@ -123,16 +123,16 @@ module _ (row row' : List ℕ) (brush at : Brush) (place next : ℕ) (front : Bi
   painted_to =
       let before : ℕ = 8 * brush.start + 64 - place in
       let moving : ℕ = 8 * (at.start - brush.start) in
-      let behind : ℕ = 8 * at.start + 64 - next in
+      let after : ℕ = 8 * at.start + 64 - next in
       let from = stands.from in
       let below = stands.below in
       let from' = there.from in
       let below' = there.below in
-      let sum : before + moving ≡ (next - place) + behind = omega arith in
+      let sum : before + moving ≡ (next - place) + after = omega arith in
       moved ∙ ap (λ (b : Bits). b ++ replicate moving brush.is_black) painted ∙ append_assoc front (replicate before
       brush.is_black) (replicate moving brush.is_black) ∙ ap (λ (b : Bits). front ++ b) (replicate-append-replicate before moving
-      brush.is_black ∙ ap (λ (n : ℕ). replicate n brush.is_black) sum ∙ sym (replicate-append-replicate (next - place) behind
-      brush.is_black)) ∙ sym (append_assoc front (replicate (next - place) brush.is_black) (replicate behind brush.is_black))
+      brush.is_black ∙ ap (λ (n : ℕ). replicate n brush.is_black) sum ∙ sym (replicate-append-replicate (next - place) after
+      brush.is_black)) ∙ sym (append_assoc front (replicate (next - place) brush.is_black) (replicate after brush.is_black))
 
 -- the colour turns at the position
 pub turned_there : (row : List ℕ) (at new : Brush) (place : ℕ) (front : Bits) (color : Bool)

@@ -79,18 +79,18 @@ turned_low (suc k) m n color le e =
     cc
 
 -- from a position on the colour turns
-pub turned_behind : (front : Bits) (m n total : ℕ) (color : Bool) → total ≡ length front + m
+pub turned_following : (front : Bits) (m n total : ℕ) (color : Bool) → total ≡ length front + m
     → low_bits total n ≡ front ++ replicate m color → low_bits total (bit_xor n (2 ^ m - 1)) ≡ front ++ replicate m (not color)
-turned_behind [] m n total color is e =
+turned_following [] m n total color is e =
     let same : total ≡ m = omega arith in
     ap (λ (k : ℕ). low_bits k (bit_xor n (2 ^ m - 1))) same
     ∙ turned_low m m n color (omega arith) (sym (ap (λ (k : ℕ). low_bits k n) same) ∙ e)
-turned_behind (b ∷ front) m n zero color is e = absurd (omega arith)
-turned_behind (b ∷ front) m n (suc total) color is e =
+turned_following (b ∷ front) m n zero color is e = absurd (omega arith)
+turned_following (b ∷ front) m n (suc total) color is e =
     let first : bit_of n total ≡ b = cc in
     let rest : low_bits total n ≡ front ++ replicate m color = cc in
     let one = kept_at m n total (omega arith) in
-    let others = turned_behind front m n total color (omega arith) rest in
+    let others = turned_following front m n total color (omega arith) rest in
     cc
 
 -- the same of bytes and the word after them

@@ -4,7 +4,7 @@ use Rattle.fax_encode.proofs.Names.{length, replicate, refl, sym, ap, subst, ◌
 use Rattle.fax_encode.proofs.Names.{length-replicate, DecodeSettings, EncodingMode, Group4, Group3_1D, Group3_2D, BitOrder, Bits}
 use Rattle.fax_encode.proofs.Names.{AreWholeBytes, bits_in, Row, eol, tag_of, padding, eols, past_tag, eols_with_tags}
 use Rattle.fax_encode.proofs.Names.{pass_last_tag, one_more, GivesAll, BeginsWithRowsT6, BeginsWithRowsT4}
-use Rattle.fax_encode.proofs.Names.{BeginsWithRowsAndEolsT4, Ending, Reading, end_of, eols_here, ending_behind, first_gap}
+use Rattle.fax_encode.proofs.Names.{BeginsWithRowsAndEolsT4, Ending, Reading, end_of, eols_here, ending_after, first_gap}
 use Rattle.fax_encode.proofs.Names.{AreSettings, length-bits_in, bits_are_whole, eols-some, eols_with_tags-some}
 use Rattle.fax_encode.proofs.Names.{eols_with_tags-none, eols_here_counted, body_end, rows_t4_end, ended_with, plain_ends}
 use Rattle.fax_encode.proofs.Names.{eol_stands, eols_here_one, eols_here_two, limited_t4_end, matches_itself, filled_up}
@@ -20,9 +20,9 @@ eols_first : (encoding : EncodingMode) (fills : Bool) (at n : ℕ) (more : Bits)
     → chosen_eols encoding fills at (suc n) ++ more ≡ eol (fill_of fills at)
     ++ (tag_of encoding ++ (chosen_eols encoding fills (at + 12 + fill_of fills at + length (tag_of encoding)) n ++ more))
 eols_first encoding fills at n more =
-    let behind : Bits = chosen_eols encoding fills (at + 12 + fill_of fills at + length (tag_of encoding)) n in
-    append_assoc (eol (fill_of fills at) ++ tag_of encoding) behind more
-    ∙ append_assoc (eol (fill_of fills at)) (tag_of encoding) (behind ++ more)
+    let after : Bits = chosen_eols encoding fills (at + 12 + fill_of fills at + length (tag_of encoding)) n in
+    append_assoc (eol (fill_of fills at) ++ tag_of encoding) after more
+    ∙ append_assoc (eol (fill_of fills at)) (tag_of encoding) (after ++ more)
 
 -- of one-dimensional data
 one_closing : (fills : Bool) (most at n k : ℕ) → n ≤ most → (eols most (chosen_eols Group3_1D fills at n ++ zeros k)).1 ≡ zeros k
@@ -36,7 +36,7 @@ one_closing fills (suc most) at (suc n) k le =
     ap (λ (b : Bits). (eols (suc most) b).1) here ∙ ap (λ (f : ℕ × Bits). f.1)
     (eols-some most (eol fill ++ rest) rest (eol_stands fill rest)) ∙ one_closing fills most next n k (omega arith)
 
--- an EOL stands behind a tag, or none
+-- an EOL stands after a tag, or none
 tag_before_eol : (fill : ℕ) (more : Bits) → past_tag (true ∷ (eol fill ++ more)) ≡ eol fill ++ more
 tag_before_eol fill more = rw (eol_stands fill more, past_tag) refl
 
@@ -57,15 +57,15 @@ two_closing fills (suc most) at zero k le =
 two_closing fills (suc most) at (suc n) k le =
     let fill : ℕ = fill_of fills at in
     let next : ℕ = at + 12 + fill + 1 in
-    let behind : Bits = chosen_eols Group3_2D fills next (suc n) ++ zeros k in
-    let rest : Bits = true ∷ behind in
+    let after : Bits = chosen_eols Group3_2D fills next (suc n) ++ zeros k in
+    let rest : Bits = true ∷ after in
     let here : chosen_eols Group3_2D fills at (suc (suc n)) ++ zeros k ≡ eol fill ++ rest
     = eols_first Group3_2D fills at (suc n) (zeros k) in
-    let fill_behind : ℕ = fill_of fills next in
-    let last : Bits = true ∷ (chosen_eols Group3_2D fills (next + 12 + fill_behind + 1) n ++ zeros k) in
-    let begins : behind ≡ eol fill_behind ++ last = eols_first Group3_2D fills next n (zeros k) in
-    let tag : past_tag rest ≡ behind =
-    ap (λ (b : Bits). past_tag (true ∷ b)) begins ∙ tag_before_eol fill_behind last ∙ sym begins in
+    let fill_after : ℕ = fill_of fills next in
+    let last : Bits = true ∷ (chosen_eols Group3_2D fills (next + 12 + fill_after + 1) n ++ zeros k) in
+    let begins : after ≡ eol fill_after ++ last = eols_first Group3_2D fills next n (zeros k) in
+    let tag : past_tag rest ≡ after =
+    ap (λ (b : Bits). past_tag (true ∷ b)) begins ∙ tag_before_eol fill_after last ∙ sym begins in
     ap (eols_with_tags (suc most)) here ∙ eols_with_tags-some most (eol fill ++ rest) rest (eol_stands fill rest)
     ∙ ap (λ (b : Bits). one_more (eols_with_tags most b)) tag ∙ ap one_more (two_closing fills most next n k (omega arith))
 
@@ -87,7 +87,7 @@ long_enough : (encoding : EncodingMode) (fills : Bool) (at k : ℕ) → 6 ≤ le
 long_enough encoding fills at k =
     omega (arith, length-append (chosen_eols encoding fills at 6) (zeros k), eols_are_long encoding fills at 6)
 
--- nothing but zeros is left behind RTC
+-- nothing but zeros is left after RTC
 pub rtc_left : (d : DecodeSettings) (encoding : EncodingMode) (fills : Bool) (at k : ℕ) → d.encoding ≡ encoding
     → encoding ≢ Group4 → (eols_here d (chosen_eols encoding fills at 6 ++ zeros k)).1 ≡ zeros k
 rtc_left d Group4 fills at k is not_t6 = absurd (not_t6 refl)
@@ -148,7 +148,7 @@ module _ (order : BitOrder) (d : DecodeSettings) (rows : List Row) (bytes : List
       let more : Bits = begins.begins.0 in
       let found : Bits = (eols_here d more).1 in
       let ends_whole : AreWholeBytes (bits ++ more) = subst AreWholeBytes begins.begins.1 (bits_are_whole order bytes) in
-      let ends = ap (λ (e : EncodingMode). ending_behind d (first_gap e d (bits ++ more))) begins.encoding
+      let ends = ap (λ (e : EncodingMode). ending_after d (first_gap e d (bits ++ more))) begins.encoding
       ∙ body_end d begins.picture.0 (omega (arith, are.columns)) Group4 begins.encoding rows bits more begins.some begins.limit
       begins.picture (λ e. ends_whole) begins.lines in
       read_all (ended_with rows found) found begins.picture.0 (ap (end_of d) begins.begins.1 ∙ ends) refl refl (few_left more few)

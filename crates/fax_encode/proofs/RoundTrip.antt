@@ -75,14 +75,14 @@ closing_eols n =
     ∙ ap (λ (f : ℕ × Bits). f.1) (eols_of_closing (66 + length rest) n)
 
 -- what follows the lines
-abbrev pub behind : List Row → Bits
-behind rows = return_to_control ++ padding (length (chosen_t4 rows))
+abbrev pub after : List Row → Bits
+after rows = return_to_control ++ padding (length (chosen_t4 rows))
 
 -- data of a chosen T.4 picture begins with it
 pub begins_with_chosen_t4 : (settings : DecodeSettings) (columns : ℕ) (lists : List (List ℕ)) (whole : Bits)
     → ReadToTheEnd settings columns → settings.encoding ≡ Group3_1D → 0 < columns → 0 < length lists → AreRows columns lists
     → whole ≡ filled_up (chosen_t4 (rows_of columns lists)) → BeginsWithPictureT4 settings (rows_of columns lists)
-    (chosen_lines_1d (rows_of columns lists)) (behind (rows_of columns lists)) whole
+    (chosen_lines_1d (rows_of columns lists)) (after (rows_of columns lists)) whole
 begins_with_chosen_t4 settings columns lists whole to_end group3 wide some are e =
     let rows : List Row = rows_of columns lists in
     let lines : Bits = chosen_lines_1d rows in

@@ -55,14 +55,14 @@ pub long_rest : (color : Color) (n : ℕ) (first last : Word) → 64 ≤ n % 256
 long_rest color n first last more one two =
     let rest : ℕ = n % 2560 in
     let front : Bits = word_of_length color (64 * (rest / 64)) in
-    let behind : Bits = word_of_length color (rest % 64) in
+    let after : Bits = word_of_length color (rest % 64) in
     omega (
       arith,
       run_parts color n,
       ap length (rest_more color rest more),
-      length-append front behind,
+      length-append front after,
       word_length front first one,
-      word_length behind last two,
+      word_length after last two,
     )
 
 -- ---- whole rows

@@ -88,16 +88,16 @@ last_run columns place i changes last few ascend =
     ∙ ap (λ (l : List ℕ). chosen_run White (get_or changes i 0 - place) ++ chosen_runs columns Black (get_or changes i 0) l)
     (nil_from_length (drop (i + 1) changes) (omega (arith, few, length-drop (i + 1) changes)))
 
--- the changes behind two of them
+-- the changes after two of them
 pub two_ascend : (columns place i : ℕ) (color : Color) (changes : List ℕ) → i + 1 < length changes
     → AscendFrom place columns (drop i changes)
     → (get_or changes (i + 1) 0 ≤ columns) × AscendFrom (get_or changes (i + 1) 0) columns (drop (i + 2) changes)
 two_ascend columns place i color changes second ascend =
-    let behind = next_ascends columns place i color changes (omega (arith, second)) ascend in
+    let following = next_ascends columns place i color changes (omega (arith, second)) ascend in
     let two : i + 1 + 1 ≡ i + 2 = omega arith in (
-      next_within columns (get_or changes i 0) (i + 1) (opposite color) changes second behind,
+      next_within columns (get_or changes i 0) (i + 1) (opposite color) changes second following,
       subst (λ (n : ℕ). AscendFrom (get_or changes (i + 1) 0) columns (drop n changes)) two
-          (next_ascends columns (get_or changes i 0) (i + 1) (opposite color) changes second behind),
+          (next_ascends columns (get_or changes i 0) (i + 1) (opposite color) changes second following),
     )
 
 -- and the one after it
@@ -154,12 +154,12 @@ module _ (columns place i : ℕ) (changes : List ℕ) (fourth : i + 3 < length c
       let rest : Bits = chosen_runs columns White four (drop (i + 4) changes) in
       let last : i + 2 + 1 ≡ i + 3 = omega arith in
       let after : i + 2 + 1 + 1 ≡ i + 4 = omega arith in
-      let behind : i + 1 + 1 ≡ i + 2 = omega arith in
+      let following : i + 1 + 1 ≡ i + 2 = omega arith in
       let ahead : chosen_runs columns White two (drop (i + 2) changes) ≡ back ++ rest =
       two_runs columns two (i + 2) White changes (omega arith) (omega arith) third_ascends
       ∙ ap (λ (n : ℕ). (chosen_run White (three - two) ++ chosen_run Black (get_or changes n 0 - three))
       ++ chosen_runs columns White (get_or changes n 0) (drop (i + 2 + 1 + 1) changes)) last
       ∙ ap (λ (n : ℕ). back ++ chosen_runs columns White four (drop n changes)) after in
       two_runs columns place i White changes (omega arith) (omega arith) ascend
-      ∙ ap (λ (n : ℕ). front ++ chosen_runs columns White two (drop n changes)) behind
+      ∙ ap (λ (n : ℕ). front ++ chosen_runs columns White two (drop n changes)) following
       ∙ ap (λ (b : Bits). front ++ b) ahead ∙ sym (append_assoc front back rest)

@@ -30,8 +30,8 @@ module _ (start n before word ones : ℕ) (rest : List ℕ) (some : 64 ≤ n)
   abbrev here : Bits
   here = bits_of (take 8 rest)
 
-  abbrev behind : Bits
-  behind = bits_of (drop 8 rest)
+  abbrev following : Bits
+  following = bits_of (drop 8 rest)
 
   long : length here ≡ 64
   long = length-first 8 rest (omega arith)
@@ -40,15 +40,15 @@ module _ (start n before word ones : ℕ) (rest : List ℕ) (some : 64 ≤ n)
   word_here =
       let e : 64 ≡ length here + 0 = omega (arith, long) in
       word-is ∙ ap (λ (b : Bits). take 64 (b ++ replicate 64 false)) (bits_of-parts 8 rest) ∙ ap (take 64)
-      (append_assoc here behind (replicate 64 false)) ∙ ap (λ (m : ℕ). take m (here ++ (behind ++ replicate 64 false))) e
-      ∙ take-append-add here (behind ++ replicate 64 false) 0 ∙ append-nil here
+      (append_assoc here following (replicate 64 false)) ∙ ap (λ (m : ℕ). take m (here ++ (following ++ replicate 64 false))) e
+      ∙ take-append-add here (following ++ replicate 64 false) 0 ∙ append-nil here
 
   pub word_scanned : changes_from start (bit_of before 0) (take n (bits_of rest))
-      ≡ ones_from start (take 64 (low_bits 64 ones)) ++ changes_from (start + 64) (bit_of word 0) (take (n - 64) behind)
+      ≡ ones_from start (take 64 (low_bits 64 ones)) ++ changes_from (start + 64) (bit_of word 0) (take (n - 64) following)
   word_scanned =
       let e : n ≡ length here + (n - 64) = omega (arith, long) in
-      let row : take n (bits_of rest) ≡ here ++ take (n - 64) behind
-      = ap (take n) (bits_of-parts 8 rest) ∙ ap (λ (m : ℕ). take m (here ++ behind)) e ∙ take-append-add here behind (n - 64) in
+      let row : take n (bits_of rest) ≡ here ++ take (n - 64) following
+      = ap (take n) (bits_of-parts 8 rest) ∙ ap (λ (m : ℕ). take m (here ++ following)) e ∙ take-append-add here following (n - 64) in
       let whole : take 64 (low_bits 64 ones) ≡ low_bits 64 ones =
       take_all 64 (low_bits 64 ones) (omega (arith, length-low_bits 64 ones)) in
       let first : changes_from start (bit_of before 0) here ≡ ones_from start (take 64 (low_bits 64 ones)) =
@@ -56,18 +56,18 @@ module _ (start n before word ones : ℕ) (rest : List ℕ) (some : 64 ≤ n)
       (sym word_here) ∙ ap (ones_from start) (sym ones-are ∙ sym whole) in
       let last : last_pixel (bit_of before 0) here ≡ bit_of word 0 =
       ap (last_pixel (bit_of before 0)) (sym word_here) ∙ last_of_word 63 word (bit_of before 0) in
-      ap (changes_from start (bit_of before 0)) row ∙ changes_from-append start (bit_of before 0) here (take (n - 64) behind) ∙ ap
-      (λ (l : List ℕ). l ++ changes_from (start + length here) (last_pixel (bit_of before 0) here) (take (n - 64) behind)) first
+      ap (changes_from start (bit_of before 0)) row ∙ changes_from-append start (bit_of before 0) here (take (n - 64) following) ∙ ap
+      (λ (l : List ℕ). l ++ changes_from (start + length here) (last_pixel (bit_of before 0) here) (take (n - 64) following)) first
       ∙ ap (λ (m : ℕ). ones_from start (take 64 (low_bits 64 ones))
-      ++ changes_from (start + m) (last_pixel (bit_of before 0) here) (take (n - 64) behind)) long
-      ∙ ap (λ (b : Bool). ones_from start (take 64 (low_bits 64 ones)) ++ changes_from (start + 64) b (take (n - 64) behind)) last
+      ++ changes_from (start + m) (last_pixel (bit_of before 0) here) (take (n - 64) following)) long
+      ∙ ap (λ (b : Bool). ones_from start (take 64 (low_bits 64 ones)) ++ changes_from (start + 64) b (take (n - 64) following)) last
 
 -- words of one colour, and one more
-pub plain_more : (count word : ℕ) (color : Bool) (bytes behind : List ℕ) → 8 * count + 8 ≤ length bytes
-    → behind ≡ drop (8 * count) bytes → low_bits 64 word ≡ take 64 (bits_of behind ++ replicate 64 false)
+pub plain_more : (count word : ℕ) (color : Bool) (bytes following : List ℕ) → 8 * count + 8 ≤ length bytes
+    → following ≡ drop (8 * count) bytes → low_bits 64 word ≡ take 64 (bits_of following ++ replicate 64 false)
     → low_bits 64 word ≡ replicate 64 color → bits_of (take (8 * count) bytes) ≡ replicate (64 * count) color
     → bits_of (take (8 * (count + 1)) bytes) ≡ replicate (64 * (count + 1)) color
-plain_more count word color bytes behind room is word-is plain before =
+plain_more count word color bytes following room is word-is plain before =
     let n : ℕ = 8 * count in
     let first : List ℕ = take 8 (drop n bytes) in
     let parts : take (n + 8) bytes ≡ take n bytes ++ first = take-add n 8 bytes in
@@ -85,9 +85,9 @@ plain_more count word color bytes behind room is word-is plain before =
     ∙ replicate-append-replicate (64 * count) 64 color ∙ ap (λ (m : ℕ). replicate m color) more
 
 -- bytes of one colour after bytes of that colour
-pub plain_both : (m n k : ℕ) (color : Bool) (bytes behind : List ℕ) → k ≡ m + n → behind ≡ drop m bytes → bits_of (take m bytes) ≡
-    replicate (8 * m) color → bits_of (take n behind) ≡ replicate (8 * n) color → bits_of (take k bytes) ≡ replicate (8 * k) color
-plain_both m n k color bytes behind sum is front back =
+pub plain_both : (m n k : ℕ) (color : Bool) (bytes following : List ℕ) → k ≡ m + n → following ≡ drop m bytes → bits_of (take m bytes) ≡
+    replicate (8 * m) color → bits_of (take n following) ≡ replicate (8 * n) color → bits_of (take k bytes) ≡ replicate (8 * k) color
+plain_both m n k color bytes following sum is front back =
     let more : 8 * m + 8 * n ≡ 8 * k = omega arith in
     ap (λ (j : ℕ). bits_of (take j bytes)) sum ∙ ap bits_of (take-add m n bytes) ∙ flat_map-append (bits_of_byte HighestFirst)
     (take m bytes) (take n (drop m bytes)) ∙ ap (λ (b : Bits). b ++ bits_of (take n (drop m bytes))) front
@@ -95,15 +95,15 @@ plain_both m n k color bytes behind sum is front back =
     ∙ replicate-append-replicate (8 * m) (8 * n) color ∙ ap (λ (j : ℕ). replicate j color) more
 
 -- and so are more words of it
-pub plain_words : (count more : ℕ) (color : Bool) (bytes behind : List ℕ) → behind ≡ drop (8 * count) bytes
+pub plain_words : (count more : ℕ) (color : Bool) (bytes following : List ℕ) → following ≡ drop (8 * count) bytes
     → bits_of (take (8 * count) bytes) ≡ replicate (64 * count) color
-    → bits_of (take (8 * more) behind) ≡ replicate (8 * (8 * more)) color
+    → bits_of (take (8 * more) following) ≡ replicate (8 * (8 * more)) color
     → bits_of (take (8 * (count + more)) bytes) ≡ replicate (64 * (count + more)) color
-plain_words count more color bytes behind is front back =
+plain_words count more color bytes following is front back =
     let before : 64 * count ≡ 8 * (8 * count) = omega arith in
     let sum : 8 * (count + more) ≡ 8 * count + 8 * more = omega arith in
     let after : 8 * (8 * (count + more)) ≡ 64 * (count + more) = omega arith in
-    plain_both (8 * count) (8 * more) (8 * (count + more)) color bytes behind sum is
+    plain_both (8 * count) (8 * more) (8 * (count + more)) color bytes following sum is
     (front ∙ ap (λ (n : ℕ). replicate n color) before) back ∙ ap (λ (n : ℕ). replicate n color) after
 
 -- a word of one colour
@@ -120,16 +120,16 @@ plain_scanned start n before words color rest is within room plain =
     let m : ℕ = 64 * words in
     let b : Bool = bit_of before 0 in
     let front : Row = replicate m b in
-    let behind : Bits = bits_of (drop (8 * words) rest) in
+    let following : Bits = bits_of (drop (8 * words) rest) in
     let long : length front ≡ m = length-replicate m b in
     let split : n ≡ length front + (n - m) = omega arith in
-    let row : take n (bits_of rest) ≡ front ++ take (n - m) behind =
-    ap (take n) (bits_of-parts (8 * words) rest ∙ ap (λ (x : Bits). x ++ behind) (plain ∙ ap (replicate m) is))
-    ∙ ap (λ (k : ℕ). take k (front ++ behind)) split ∙ take-append-add front behind (n - m) in
-    ap (changes_from start b) row ∙ changes_from-append start b front (take (n - m) behind)
-    ∙ ap (λ (l : List ℕ). l ++ changes_from (start + length front) (last_pixel b front) (take (n - m) behind))
-    (changes_from-same start m b) ∙ ap (λ (k : ℕ). changes_from (start + k) (last_pixel b front) (take (n - m) behind)) long
-    ∙ ap (λ (c : Bool). changes_from (start + m) c (take (n - m) behind)) (last_pixel-same m b)
+    let row : take n (bits_of rest) ≡ front ++ take (n - m) following =
+    ap (take n) (bits_of-parts (8 * words) rest ∙ ap (λ (x : Bits). x ++ following) (plain ∙ ap (replicate m) is))
+    ∙ ap (λ (k : ℕ). take k (front ++ following)) split ∙ take-append-add front following (n - m) in
+    ap (changes_from start b) row ∙ changes_from-append start b front (take (n - m) following)
+    ∙ ap (λ (l : List ℕ). l ++ changes_from (start + length front) (last_pixel b front) (take (n - m) following))
+    (changes_from-same start m b) ∙ ap (λ (k : ℕ). changes_from (start + k) (last_pixel b front) (take (n - m) following)) long
+    ∙ ap (λ (c : Bool). changes_from (start + m) c (take (n - m) following)) (last_pixel-same m b)
 
 -- fewer pixels than a word has are left
 pub last_scanned : (start n before word ones : ℕ) (rest : List ℕ) → n < 64 → bytes_of_row n ≤ length rest → low_bits 64 word

@@ -107,7 +107,7 @@ shortest_chosen k left aligned reference (row ∷ rows) =
     (shortest_line_2d reference row))) []) ++ b)
     (shortest_chosen k (left_after Shortest Group4 k left reference row) aligned row rows)
 
--- the same end behind fewer bits
+-- the same end after fewer bits
 pub end_least : (mine other end : Bits) → length mine ≤ length other → length (mine ++ end) ≤ length (other ++ end)
 end_least mine other end le = omega (arith, le, length-append mine end, length-append other end)
 

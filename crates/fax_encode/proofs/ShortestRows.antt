@@ -42,9 +42,9 @@ least_from color row bits EncodesLine1D.over place width (change ∷ places) lt 
       ap length first,
       length-append (replicate (change - place) (is_black color)) (pixels_from change (not (is_black color)) width places),
     ))
-least_from color row bits (EncodesLine1D.run n word {row = behind} {bits = more} spells some other rest) place width []
+least_from color row bits (EncodesLine1D.run n word {row = after} {bits = more} spells some other rest) place width []
     lt ascend e =
-    let same = same_run (is_black color) n (width - place) behind [] other (λ r f. absurd cc)
+    let same = same_run (is_black color) n (width - place) after [] other (λ r f. absurd cc)
     (e ∙ sym (append-nil (replicate (width - place) (is_black color)))) in
     omega (
       arith,
@@ -52,11 +52,11 @@ least_from color row bits (EncodesLine1D.run n word {row = behind} {bits = more}
       ap (λ (m : ℕ). length (shortest_run color m)) same.0,
       length-append word more,
     )
-least_from color row bits (EncodesLine1D.run n word {row = behind} {bits = more} spells some other rest) place width
+least_from color row bits (EncodesLine1D.run n word {row = after} {bits = more} spells some other rest) place width
     (change ∷ places) lt ascend e =
-    let same = same_run (is_black color) n (change - place) behind (pixels_from change (not (is_black color)) width places) other
+    let same = same_run (is_black color) n (change - place) after (pixels_from change (not (is_black color)) width places) other
     (begins_other color change width places ascend.1 ascend.2) e in
-    let on = least_from (opposite color) behind more rest change width places ascend.1
+    let on = least_from (opposite color) after more rest change width places ascend.1
     (AscendFrom-wider change (suc change) width width places (omega arith) (omega arith) ascend.2)
     (same.1 ∙ ap (λ (c : Bool). pixels_from change c width places) (not_black color)) in
     omega (

@@ -339,11 +339,11 @@ usual_bits color n =
     let times : rest / 64 ≡ n / 64 % 40 = omega arith in
     let same : rest % 64 ≡ n % 64 = omega arith in
     let long : n / 2560 ≡ n / 64 / 40 = omega arith in
-    let behind = rest_bits color rest (omega arith) in
+    let after = rest_bits color rest (omega arith) in
     let few = total_few color (rest / 64) (omega arith) in
     let word : one color (rest / 64) ≡ one color (n / 64 % 40) = ap (one color) times in
     let last : ends color (rest % 64) ≡ ends color (n % 64) = ap (ends color) same in
-    omega (arith, run_parts color n, long, behind, few, word, last)
+    omega (arith, run_parts color n, long, after, few, word, last)
 
 -- the first word is T.4's, or T.4's words have more bits
 is_dearer : Color → ℕ → Bool
@@ -417,8 +417,8 @@ chosen_seam color n many few =
     let kept : last % 64 ≡ last = omega arith in
     let mine : chosen_rest color n ≡ word_of_length color 2560 ++ word_of_length color last
     = rw (e, word, same) refl in
-    let behind : chosen_rest color last ≡ word_of_length color last = rw (f, kept) refl in
-    mine ∙ (ap (λ (b : Bits). word_of_length color 2560 ++ b) (sym (run_rest color last (omega arith) ∙ behind))
+    let after : chosen_rest color last ≡ word_of_length color last = rw (f, kept) refl in
+    mine ∙ (ap (λ (b : Bits). word_of_length color 2560 ++ b) (sym (run_rest color last (omega arith) ∙ after))
     ∙ sym (run_more color n many))
 
 usual_kept : (color : Color) (words n : ℕ) → n < 1664 * suc words

@@ -270,21 +270,21 @@ module _ (columns : ℕ) (reference changes : List ℕ) (are : AreChanges column
   now = passed_by (pixels columns reference) at k
 
   -- the numbers that an encoder adds up
-  pub found_adds : (start to second after behind : ℕ) → b1 (pixels columns reference) now.from now.color ≡ start
+  pub found_adds : (start to second after following : ℕ) → b1 (pixels columns reference) now.from now.color ≡ start
       → a1 (pixels columns changes) now.from ≡ to
       → a2 (pixels columns changes) now.from ≡ second
       → after ≡ bits_right_of columns reference changes (n + 1)
-      → behind ≡ length (shortest_run (opposite now.color) (second - to)) + 3 + bits_right_of columns reference changes (n + 2)
+      → following ≡ length (shortest_run (opposite now.color) (second - to)) + 3 + bits_right_of columns reference changes (n + 2)
       → way.passes ≡ k
       → way.is_vertical ≡ (is_near start to && leb (bits_of_vertical start to + after)
-      (length (shortest_run now.color (to - (now.from - 1))) + behind))
+      (length (shortest_run now.color (to - (now.from - 1))) + following))
       → way.bits ≡ k * 4 + cond way.is_vertical (bits_of_vertical start to + after)
-      (length (shortest_run now.color (to - (now.from - 1))) + behind)
+      (length (shortest_run now.color (to - (now.from - 1))) + following)
       → IsWord (word_of_mode (cond way.is_vertical (vertical_mode start to) Horizontal)) (mode_word way)
       → (way.is_vertical ≡ false → way.first ≡ to - (now.from - 1))
       → IsFound (pixels columns reference) (pixels columns changes) at k way
   unfolding bits_right_of way_bits near bits_of_vertical
-  found_adds start to second after behind e f g one two passes vertical bits word first =
+  found_adds start to second after following e f g one two passes vertical bits word first =
       let place : Place = passed_by (pixels columns reference) at k in
       let R : Row = pixels columns reference in
       let C : Row = pixels columns changes in
@@ -309,12 +309,12 @@ module _ (columns : ℕ) (reference changes : List ℕ) (are : AreChanges column
       let in_vertical : length (begun_in R C place (vertical_at R C place)) ≡ bits_of_vertical start to + after
       = omega (arith, vertical_length R C place, after_vertical, ap length words) in
       let in_horizontal : length (begun_in R C place Horizontal) ≡ length (shortest_run place.color (to -
-      (place.from - 1))) + behind
+      (place.from - 1))) + following
       = omega (arith, horizontal_length R C place, after_horizontal, is_first, is_second, two) in
       let nearly : is_near (b1 R place.from place.color) (a1 C place.from) ≡ is_near start to
       = ap (λ (m : ℕ). is_near m (a1 C place.from)) e ∙ ap (is_near start) f in
       let less : leb (length (begun_in R C place (vertical_at R C place))) (length (begun_in R C place Horizontal))
-      ≡ leb (bits_of_vertical start to + after) (length (shortest_run place.color (to - (place.from - 1))) + behind)
+      ≡ leb (bits_of_vertical start to + after) (length (shortest_run place.color (to - (place.from - 1))) + following)
       = ap (λ (m : ℕ). leb m (length (begun_in R C place Horizontal))) in_vertical
       ∙ ap (leb (bits_of_vertical start to + after)) in_horizontal in
       record {
@@ -350,7 +350,7 @@ pub record Adds (columns : ℕ) (reference changes : List ℕ) (n k : ℕ) (at :
   pub to : ℕ
   pub second : ℕ
   pub after : ℕ
-  pub behind : ℕ
+  pub following : ℕ
   pub from : ℕ
   pub color : Color
   pub from_is : from ≡ at.from
@@ -359,13 +359,13 @@ pub record Adds (columns : ℕ) (reference changes : List ℕ) (n k : ℕ) (at :
   pub to_is : to ≡ get_or changes n columns
   pub second_is : second ≡ get_or changes (n + 1) columns
   pub after_is : after ≡ bits_right_of columns reference changes (n + 1)
-  pub behind_is : behind ≡ length (shortest_run (opposite color) (second - to)) + 3 + bits_right_of columns reference changes
+  pub following_is : following ≡ length (shortest_run (opposite color) (second - to)) + 3 + bits_right_of columns reference changes
       (n + 2)
   pub passes : way.passes ≡ k
   pub vertical : way.is_vertical ≡ (is_near start to && leb (bits_of_vertical start to + after)
-      (length (shortest_run color (to - (from - 1))) + behind))
+      (length (shortest_run color (to - (from - 1))) + following))
   pub bits : way.bits ≡ k * 4 + cond way.is_vertical (bits_of_vertical start to + after)
-      (length (shortest_run color (to - (from - 1))) + behind)
+      (length (shortest_run color (to - (from - 1))) + following)
   pub word : IsWord (word_of_mode (cond way.is_vertical (vertical_mode start to) Horizontal)) (mode_word way)
   pub first : way.is_vertical ≡ false → way.first ≡ to - (from - 1)
 
@@ -385,11 +385,11 @@ found_by columns reference changes are n k at p way stands e adds =
     let other = ap (λ (k : Color). length (shortest_run (opposite k)
     (a.second - a.to)) + 3 + bits_right_of columns reference changes (n + 2))
     a.color_is in
-    found_adds columns reference changes are n k at way stands a.start a.to a.second a.after a.behind a.b1_is
+    found_adds columns reference changes are n k at way stands a.start a.to a.second a.after a.following a.b1_is
     (a1_here columns changes are n place stands ∙ sym a.to_is) (a2_here columns changes are n place stands ∙ sym a.second_is)
-    a.after_is (a.behind_is ∙ other) a.passes
-    (a.vertical ∙ ap (λ (m : ℕ). is_near a.start a.to && leb (word + a.after) (m + a.behind)) first)
-    (a.bits ∙ ap (λ (m : ℕ). k * 4 + cond way.is_vertical (word + a.after) (m + a.behind)) first)
+    a.after_is (a.following_is ∙ other) a.passes
+    (a.vertical ∙ ap (λ (m : ℕ). is_near a.start a.to && leb (word + a.after) (m + a.following)) first)
+    (a.bits ∙ ap (λ (m : ℕ). k * 4 + cond way.is_vertical (word + a.after) (m + a.following)) first)
     a.word (λ e. a.first e ∙ ap (λ (m : ℕ). a.to - (m - 1)) a.from_is)
 
 -- the numbers of a way, with what is ahead
@@ -412,7 +412,7 @@ found_ahead columns reference changes are n k at now way ahead start color stand
       to = ahead.a1;
       second = ahead.a2;
       after = ahead.after_a1;
-      behind = length (shortest_run (opposite color) (ahead.a2 - ahead.a1)) + 3 + ahead.after_a2;
+      following = length (shortest_run (opposite color) (ahead.a2 - ahead.a1)) + 3 + ahead.after_a2;
       from = now.from;
       color = color;
       from_is = refl;
@@ -421,7 +421,7 @@ found_ahead columns reference changes are n k at now way ahead start color stand
       to_is = right.a1;
       second_is = right.a2;
       after_is = right.after_a1;
-      behind_is = ap (λ (m : ℕ). length (shortest_run (opposite color) (ahead.a2 - ahead.a1)) + 3 + m) right.after_a2;
+      following_is = ap (λ (m : ℕ). length (shortest_run (opposite color) (ahead.a2 - ahead.a1)) + 3 + m) right.after_a2;
       passes = counts.passes;
       vertical = counts.vertical;
       bits = counts.bits;

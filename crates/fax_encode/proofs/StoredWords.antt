@@ -3,7 +3,7 @@ use Rattle.fax_encode.proofs.Names.{◌≡◌, ℕ, ◌+◌, ◌-◌, ◌*◌, �
 use Rattle.fax_encode.proofs.Names.{to_be_bytes, w64, bit_or, flat_map-append, HighestFirst, Bits, bits_of, bits_of_byte}
 use Rattle.fax_encode.proofs.Names.{low_bits, low_bits-append}
 use Rattle.fax_encode.proofs.PaintedWords.{bits_of_word}
-use Rattle.fax_encode.proofs.WrittenBits.{put_behind}
+use Rattle.fax_encode.proofs.WrittenBits.{put_after}
 use Rattle.std.proofs.lemmas.Nat.{shr_below}
 
 -- 64 bits are full and stored, and the word's other bits are pending
@@ -18,7 +18,7 @@ stored old new waiting room width word full le over short fits is new-is =
     let all : count + room ≡ 64 = omega arith in
     let fits_both : word < 2 ^ (room + rest) = rw sum fits in
     let front : low_bits 64 full ≡ low_bits count waiting ++ low_bits room (word / 2 ^ rest) = ap (λ (m : ℕ). low_bits m full)
-    (sym all) ∙ put_behind waiting count room (word / 2 ^ rest) full (omega arith) (shr_below word room rest fits_both) is in
+    (sym all) ∙ put_after waiting count room (word / 2 ^ rest) full (omega arith) (shr_below word room rest fits_both) is in
     let bits : bits_of new ≡ bits_of old ++ (low_bits count waiting ++ low_bits room (word / 2 ^ rest)) =
     ap bits_of new-is ∙ flat_map-append (bits_of_byte HighestFirst) old (to_be_bytes w64 full)
     ∙ ap (λ (b : Bits). bits_of old ++ b) (bits_of_word full ∙ front) in

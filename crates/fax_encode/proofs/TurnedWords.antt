@@ -79,12 +79,12 @@ all_after_black [] = refl
 all_after_black (bit ∷ bits) = ap (λ (b : Bits). not bit ∷ b) (all_after_black bits)
 
 -- the pixels after pixels are turned from a position on
-turned_behind_part : (front bits : Bits) (k n : ℕ) → k ≡ length front + n
+turned_after_part : (front bits : Bits) (k n : ℕ) → k ≡ length front + n
     → turned_from k (front ++ bits) ≡ front ++ turned_from n bits
 unfolding turned_from
-turned_behind_part [] bits k n is = ap (λ (m : ℕ). turned_from m bits) (let same : k ≡ n = omega arith in same)
-turned_behind_part (bit ∷ front) bits zero n is = absurd (omega arith)
-turned_behind_part (bit ∷ front) bits (suc k) n is = ap (λ (b : Bits). bit ∷ b) (turned_behind_part front bits k n (omega arith))
+turned_after_part [] bits k n is = ap (λ (m : ℕ). turned_from m bits) (let same : k ≡ n = omega arith in same)
+turned_after_part (bit ∷ front) bits zero n is = absurd (omega arith)
+turned_after_part (bit ∷ front) bits (suc k) n is = ap (λ (b : Bits). bit ∷ b) (turned_after_part front bits k n (omega arith))
 
 -- from a position of the first part on, the part and all after it are turned
 turned_in_part : (color : Bool) (p : ℕ) (bits rest : Bits) → p ≤ length bits
@@ -209,7 +209,7 @@ word_turned color (suc i) r mask (word ∷ words) lt below is =
     let place : 64 * suc i + r ≡ length front + (64 * i + r) =
     omega (arith, length-map (low_bits 64 word) (turned_after color), length-low_bits 64 word) in
     ap (λ (b : Bits). front ++ b) (word_turned last i r mask words (omega arith) below is)
-    ∙ sym (turned_behind_part front (joined_pixels last words) (64 * suc i + r) (64 * i + r) place)
+    ∙ sym (turned_after_part front (joined_pixels last words) (64 * suc i + r) (64 * i + r) place)
 
 -- ---- the pixels of a row
 all_turned : (n : ℕ) (color : Bool) → map not (replicate n color) ≡ replicate n (not color)

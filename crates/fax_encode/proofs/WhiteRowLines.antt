@@ -56,10 +56,10 @@ white_shown columns width (suc n) bytes below some w within white is =
     let zeros : bits_of (take (width + n * width) bytes) ≡ replicate (8 * (width + n * width)) false =
     ap (λ (m : ℕ). bits_of (take m bytes)) (sym sum) ∙ white ∙ ap (λ (m : ℕ). replicate (8 * m) false) sum in
     let rest : List ℕ = drop width bytes in
-    let behind : below ≡ drop (n * width) rest =
+    let after : below ≡ drop (n * width) rest =
     is ∙ ap (λ (m : ℕ). drop m bytes) sum ∙ sym (drop-drop (n * width) width bytes) in
     let more = white_shown columns width n rest below some w (omega (arith, length-drop width bytes))
-    (white_rest width (n * width) bytes fit zeros) behind in
+    (white_rest width (n * width) bytes fit zeros) after in
     shown-row columns bytes (omega arith) (omega arith)
     ∙ ap (λ (r : Row). r ∷ shown columns (drop (bytes_of_row columns) bytes))
     (white_first columns (width + n * width) bytes (omega (arith, w)) fit zeros)

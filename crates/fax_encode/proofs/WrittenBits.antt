@@ -42,9 +42,9 @@ shifted_up a j k =
     a % 2 ^ j * 2 ^ k + m) (mul-mod_left a (2 ^ k)) ∙ (let e : a % 2 ^ j * 2 ^ k + 0 ≡ a % 2 ^ j * 2 ^ k = omega arith in e)
 
 -- a word is put after the pending bits
-pub put_behind : (waiting count width word bits : ℕ) → count + width ≤ 64 → word < 2 ^ width → bits
+pub put_after : (waiting count width word bits : ℕ) → count + width ≤ 64 → word < 2 ^ width → bits
     ≡ bit_or (waiting * 2 ^ width % 2 ^ 64) word → low_bits (count + width) bits ≡ low_bits count waiting ++ low_bits width word
-put_behind waiting count width word bits room fits is =
+put_after waiting count width word bits room fits is =
     let above : ℕ = 64 - width in
     let sum : above + width ≡ 64 = omega arith in
     let kept : waiting * 2 ^ width % 2 ^ 64 ≡ waiting % 2 ^ above * 2 ^ width
@@ -68,7 +68,7 @@ pub put_more : (old : List ℕ) (waiting room width word bits : ℕ) → width <
 put_more old waiting room width word bits lt le fits is =
     let n : 64 - (room - width) ≡ (64 - room) + width = omega arith in
     ap (λ (m : ℕ). bits_of old ++ low_bits m bits) n
-    ∙ ap (λ (b : Bits). bits_of old ++ b) (put_behind waiting (64 - room) width word bits (omega arith) fits is)
+    ∙ ap (λ (b : Bits). bits_of old ++ b) (put_after waiting (64 - room) width word bits (omega arith) fits is)
     ∙ sym (append_assoc (bits_of old) (low_bits (64 - room) waiting) (low_bits width word))
 
 -- ---- Zeros up to a whole byte.
@@ -93,7 +93,7 @@ finished old new waiting room left shifted le is few same e =
     let shift : shifted ≡ bit_or (waiting * 2 ^ (room % 8) % 2 ^ 64) 0 =
     is ∙ sym (or_zero_r (waiting * 2 ^ (room % 8) % 2 ^ 64)) in
     sym (append-nil (bits_of new)) ∙ ap (λ (m : ℕ). bits_of new ++ low_bits m shifted) (sym none) ∙ e
-    ∙ ap (λ (b : Bits). bits_of old ++ b) (put_behind waiting (64 - room) (room % 8) 0 shifted (omega arith) fits shift)
+    ∙ ap (λ (b : Bits). bits_of old ++ b) (put_after waiting (64 - room) (room % 8) 0 shifted (omega arith) fits shift)
     ∙ sym (append_assoc (bits_of old) (low_bits (64 - room) waiting) (low_bits (room % 8) 0))
     ∙ ap (λ (b : Bits). (bits_of old ++ low_bits (64 - room) waiting) ++ b) (missing old room waiting le)
 

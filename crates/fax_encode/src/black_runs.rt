@@ -46,7 +46,7 @@ fn paint_in_word(row: &mut [u8], start: usize, from: usize, to: usize, is_cleare
     put_pixels(row, start, word ^ black_between(from, to));
 }
 
-/// Paints the bytes between two positions, if the second is behind the first.
+/// Paints the bytes between two positions, if the second is after the first.
 #[inline(always)]
 fn paint_bytes(row: &mut [u8], from: usize, to: usize)
     requires within { to ≤ length row.old }
@@ -74,7 +74,7 @@ fn paint_short_run(row: &mut [u8], from: usize, to: usize, is_cleared: bool)
     paint_in_word(row, start, from - 8 * start, to - 8 * start, is_cleared);
 }
 
-/// Paints a black run that ends behind the eight bytes from its first one on: the first eight, the last eight, and those between
+/// Paints a black run that ends after the eight bytes from its first one on: the first eight, the last eight, and those between
 /// them, which is the last call.
 #[inline(always)]
 fn paint_long_run(row: &mut [u8], from: usize, to: u32, is_cleared: bool)

@@ -42,10 +42,10 @@ fn next_word(row: &mut [u8], brush: Brush) -> Brush
     ensures painted { under result row.new ≡ under brush row.old ++ replicate 64 brush.is_black }
     ensures length { length row.new ≡ length row.old }
 {
-    let behind = brush.start + 8;
-    row[brush.start..behind].copy_from_slice(&brush.word.to_be_bytes());
+    let after = brush.start + 8;
+    row[brush.start..after].copy_from_slice(&brush.word.to_be_bytes());
     Brush {
-        start: behind,
+        start: after,
         word: plain_word(brush.is_black),
         is_black: brush.is_black,
     }
@@ -144,9 +144,9 @@ fn paint_from_left(row: &mut [u8], columns: u32, changes: &[u32], are_far: bool)
     let mut done = 0;
     'runs: while done + 1 < changes.len() {
         let first = changes[done];
-        let behind = changes[done + 1];
+        let after = changes[done + 1];
         brush = turned(move_to(row, brush, first, are_far), first);
-        brush = turned(move_to(row, brush, behind, are_far), behind);
+        brush = turned(move_to(row, brush, after, are_far), after);
         done += 2;
         // The black runs that lie within the word.
         'word: while done + 1 < changes.len()

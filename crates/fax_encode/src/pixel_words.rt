@@ -96,8 +96,8 @@ pub fn put_pixels(bytes: &mut [u8], start: usize, word: u64)
         ≡ bits_of (take start bytes.old) ++ (low_bits 64 word ++ bits_of (drop (start + 8) bytes.old)) }
     ensures length { length bytes.new ≡ length bytes.old }
 {
-    let behind = start + 8;
-    bytes[start..behind].copy_from_slice(&word.to_be_bytes());
+    let after = start + 8;
+    bytes[start..after].copy_from_slice(&word.to_be_bytes());
 }
 
 /// The most bytes of white rows that one call fills. Rows of more bytes are painted as wide ones.

@@ -43,12 +43,12 @@ pub struct Ahead {
     pub after_a2: u64,
 }
 
-/// Returns the way with this number of passes and then vertical mode of this word. Takes the number of bits behind it.
+/// Returns the way with this number of passes and then vertical mode of this word. Takes the number of bits after it.
 #[inline(always)]
-fn vertical_way(passes: u64, word: Word, behind: u64) -> Way
-    requires few { (passes < 2 ^ 40) × (word.count ≤ 13) × (behind < 2 ^ 41) }
+fn vertical_way(passes: u64, word: Word, after: u64) -> Way
+    requires few { (passes < 2 ^ 40) × (word.count ≤ 13) × (after < 2 ^ 41) }
     ensures { result ≡ record {
-      bits = passes * 4 + (word.count + behind);
+      bits = passes * 4 + (word.count + after);
       passes = passes;
       first = 0;
       word = word.bits;
@@ -57,7 +57,7 @@ fn vertical_way(passes: u64, word: Word, behind: u64) -> Way
     } }
 {
     Way {
-        bits: passes * 4 + (u64::from(word.count) + behind),
+        bits: passes * 4 + (u64::from(word.count) + after),
         passes,
         first: 0,
         word: word.bits,

@@ -19,7 +19,7 @@ pub const MOST_TURNED: usize = 511;
 
 /// Turns the colour from a position to the end of its word.
 #[inline(always)]
-fn turn_behind(words: &mut [u64], place: usize)
+fn turn_following(words: &mut [u64], place: usize)
     requires { place / 64 < length words.old }
     ensures turned { joined_pixels false words.new ≡ turned_from place (joined_pixels false words.old) }
     ensures length { length words.new ≡ length words.old }
@@ -40,10 +40,10 @@ fn turn_quarters(words: &mut [u64], _columns: u32, changes: &[u32])
     let part = changes.len() / 4;
     let mut done = 0;
     'quarters: while done < part {
-        turn_behind(words, changes[done] as usize);
-        turn_behind(words, changes[part + done] as usize);
-        turn_behind(words, changes[2 * part + done] as usize);
-        turn_behind(words, changes[3 * part + done] as usize);
+        turn_following(words, changes[done] as usize);
+        turn_following(words, changes[part + done] as usize);
+        turn_following(words, changes[2 * part + done] as usize);
+        turn_following(words, changes[3 * part + done] as usize);
         done += 1;
     }
 }
@@ -61,11 +61,11 @@ fn turn_at_changes(words: &mut [u64], columns: u32, changes: &[u32])
     turn_quarters(words, columns, changes);
     let mut done = 4 * (changes.len() / 4);
     'changes: while done < changes.len() {
-        turn_behind(words, changes[done] as usize);
+        turn_following(words, changes[done] as usize);
         done += 1;
     }
     if changes.len() % 2 == 1 {
-        turn_behind(words, columns as usize);
+        turn_following(words, columns as usize);
     }
 }
 
@@ -81,7 +81,7 @@ fn after(color: u64, word: u64) -> u64
 
 /// Returns a word of the colour of a word's last pixel.
 #[inline(always)]
-fn color_behind(word: u64) -> u64
+fn color_following(word: u64) -> u64
     ensures plain { result ≡ plain_pixels (bit_of result 0) }
     ensures same { bit_of result 0 ≡ bit_of word 0 }
 {
@@ -99,7 +99,7 @@ fn put_words(row: &mut [u8], words: &[u64])
     'words: while 8 * at + 8 <= row.len() {
         let word = after(color, words[at]);
         put_pixels(row, 8 * at, word);
-        color = color_behind(word);
+        color = color_following(word);
         at += 1;
     }
     let start = 8 * at;

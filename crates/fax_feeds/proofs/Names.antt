@@ -14,7 +14,7 @@ pub use Rattle.fax_reading.specs.Lines.{Line, line_1d, line_2d}
 pub use Rattle.fax_reading.specs.Lines.{start}
 pub use Rattle.fax_reading.specs.PlainReading.{Gap, Progress, at_end, at_front, at_gap}
 pub use Rattle.fax_reading.specs.PlainReading.{eols_by, eols_here}
-pub use Rattle.fax_reading.specs.PlainReading.{gap_behind_row, limit_met}
+pub use Rattle.fax_reading.specs.PlainReading.{gap_after_row, limit_met}
 pub use Rattle.fax_reading.specs.PlainReading.{line_by, line_here, lines_of, misses_eol}
 pub use Rattle.fax_reading.specs.PlainReading.{row_of_line}
 pub use Rattle.fax_bits.specs.Repetition.{Turn}
@@ -35,7 +35,7 @@ pub use Rattle.fax_bits.specs.declared.codes.Mode.TheVariants.{Pass, Vertical}
 pub use Rattle.fax_bits.specs.declared.error.DecodeError.{DecodeError}
 pub use Rattle.fax_bits.specs.declared.error.DecodeError.TheVariants.{InvalidCode}
 pub use Rattle.fax_rows.specs.declared.row_reader.Stand.{Stand}
-pub use Rattle.fax_rows.specs.declared.row_reader.Stand.TheVariants.{AtEnd, AtFault, AtLine, BehindRow}
+pub use Rattle.fax_rows.specs.declared.row_reader.Stand.TheVariants.{AtEnd, AtFault, AtLine, AfterRow}
 pub use Rattle.fax_bits.specs.declared.settings.DecodeSettings.{DecodeSettings}
 pub use Rattle.fax_bits.specs.declared.settings.EncodingMode.{EncodingMode}
 pub use Rattle.fax_bits.specs.declared.settings.EncodingMode.TheVariants.{Group3_1D, Group3_2D, Group4}

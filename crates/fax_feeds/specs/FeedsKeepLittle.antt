@@ -10,7 +10,7 @@ use Rattle.fax_reading.specs.Context.{Context}
 use Rattle.fax_reading.specs.Continuations.{is_short}
 use Rattle.fax_reading.specs.GapsContinued.{first_gap_is_settled, gap_is_settled}
 use Rattle.fax_reading.specs.Lines.{Line}
-use Rattle.fax_reading.specs.PlainReading.{Gap, Move, Progress, first_gap, gap_behind_row, line_here, line_of_turn, move_on}
+use Rattle.fax_reading.specs.PlainReading.{Gap, Move, Progress, first_gap, gap_after_row, line_here, line_of_turn, move_on}
 use Rattle.fax_reading.specs.PlainReading.{row_before, row_of_line}
 use Rattle.fax_bits.specs.Repetition.{Reaches, Turn}
 use Rattle.fax_feeds.specs.RowFeeds.{Feeding, FeedsNext, FeedsRow, HoldsMore, IsFeedOf, IsOpenAt}
@@ -23,31 +23,31 @@ use Rattle.fax_reading.specs.Rows.{Row}
 abbrev pub AreNeeded : Bool → Stand → Context → Bits → Type 0
 AreNeeded begun stand ctx bits = (first rest : Bits) → bits ≡ first ++ rest → IsOpenAt begun stand ctx first
 
--- the bits behind a gap; none are passed where it is faulty (T.4, 4.1.2)
+-- the bits after a gap; none are passed where it is faulty (T.4, 4.1.2)
 abbrev pub left_by : Bits → Gap → Bits
 left_by here (Gap.line_at has_eols rest) = rest
 left_by here (Gap.over (Ok rest)) = rest
 left_by here (Gap.over (Err fault)) = here
 
--- the bits behind the first gap
+-- the bits after the first gap
 abbrev pub left_by_first : Bits → Move → Bits
 left_by_first here (Turn.next so_far) = so_far.rest
 left_by_first here (Turn.done end) = left_by here (Gap.over end.outcome)
 
 -- Of the bits that leave open what a line or a gap is, whatever follows them, few aren't part of it. A line that is whole has
 -- all of them, and at least one more. No EOL ends among those of a line; so of a broken line, which is repaired, they are part
--- of the gap behind it, in which the next EOL after the line's start is passed. A gap passes all but eleven, as where a tag of
--- one and ten zeros are behind its last EOL (T.4, 4.1.2, 4.2.2 and 4.2.4; T.6, 2.4.1.1).
+-- of the gap after it, in which the next EOL after the line's start is passed. A gap passes all but eleven, as where a tag of
+-- one and ten zeros are after its last EOL (T.4, 4.1.2, 4.2.2 and 4.2.4; T.6, 2.4.1.1).
 pub record OpenBitsAreRead : Type 0 where
   pub line : (settings : DecodeSettings) (reference row : Row) (first more rest : Bits)
       → is_short (line_here settings reference first) ≡ true
       → line_here settings reference (first ++ more) ≡ Line.whole row rest → length rest < length more
-  pub eol : (settings : DecodeSettings) (reference : Row) (first more fill behind : Bits)
+  pub eol : (settings : DecodeSettings) (reference : Row) (first more fill after : Bits)
       → is_short (line_here settings reference first) ≡ true
-      → first ++ more ≡ fill ++ replicate 11 false ++ true ∷ behind → length first < length fill + 12
+      → first ++ more ≡ fill ++ replicate 11 false ++ true ∷ after → length first < length fill + 12
   pub gap : (settings : DecodeSettings) (taken : ℕ) (has_eols : Bool) (first more : Bits)
       → gap_is_settled settings taken has_eols first ≡ false → gap_is_settled settings taken has_eols (first ++ more) ≡ true
-      → length (left_by (first ++ more) (gap_behind_row settings taken has_eols (first ++ more))) ≤ length more + 11
+      → length (left_by (first ++ more) (gap_after_row settings taken has_eols (first ++ more))) ≤ length more + 11
   pub first_gap : (settings : DecodeSettings) (first more : Bits)
       → first_gap_is_settled settings.encoding settings first ≡ false
       → first_gap_is_settled settings.encoding settings (first ++ more) ≡ true
@@ -69,8 +69,8 @@ pub record AreOpenFor (most taken : ℕ) (settings : DecodeSettings) (whole : Bi
   pub line : (turn : Progress) (first rest : Bits) → IsTurn settings whole turn → length turn.rows ≤ taken
       → turn.rest ≡ first ++ rest
       → is_short (line_here settings (row_before settings.columns turn.rows) first) ≡ true → length first ≤ most
-  pub gap : (turn : Progress) (row : Row) (behind first rest : Bits) → IsTurn settings whole turn → length turn.rows < taken
-      → row_of_line settings turn.has_eols turn.rest (line_of_turn settings turn) ≡ Ok (row, behind) → behind ≡ first ++ rest
+  pub gap : (turn : Progress) (row : Row) (after first rest : Bits) → IsTurn settings whole turn → length turn.rows < taken
+      → row_of_line settings turn.has_eols turn.rest (line_of_turn settings turn) ≡ Ok (row, after) → after ≡ first ++ rest
       → gap_is_settled settings (length turn.rows + 1) turn.has_eols first ≡ false → length first ≤ most
 
 -- ---- What is called

@@ -9,7 +9,7 @@ use Rattle.fax_reading.specs.PlainReading.{limit_met}
 use Rattle.fax_feeds.specs.declared.gap_look.GapLook.{GapLook}
 use Rattle.fax_feeds.specs.declared.gap_look.GapRules.{GapRules}
 use Rattle.fax_feeds.specs.declared.gap_look.GapStage.{GapStage}
-use Rattle.fax_feeds.specs.declared.gap_look.GapStage.TheVariants.{Start, Damage, BehindEol, BehindTag, Settled}
+use Rattle.fax_feeds.specs.declared.gap_look.GapStage.TheVariants.{Start, Damage, AfterEol, AfterTag, Settled}
 
 -- ---- On what it depends
 
@@ -26,8 +26,8 @@ ends_at_two Group3_1D end_of_block = false
 ends_at_two Group4 end_of_block = end_of_block
 
 -- after a row: an EOL that is missing is sought in a lenient reading (T.4, 4.1.2)
-abbrev pub rules_behind_row : DecodeSettings → ℕ → Bool → GapRules
-rules_behind_row settings taken has_eols = record {
+abbrev pub rules_after_row : DecodeSettings → ℕ → Bool → GapRules
+rules_after_row settings taken has_eols = record {
   has_tags = has_tags settings.encoding;
   ends_at_two = ends_at_two settings.encoding settings.end_of_block;
   seeks = has_eols && not (limit_met settings taken) && not settings.strict;
@@ -40,43 +40,43 @@ first_rules encoding end_of_block =
 
 -- once what is before the first line was passed, or before
 abbrev pub rules_for : Bool → Held → GapRules
-rules_for true held = rules_behind_row held.settings held.taken held.has_eols
+rules_for true held = rules_after_row held.settings held.taken held.has_eols
 rules_for false held = first_rules held.settings.encoding held.settings.end_of_block
 
 -- ---- What is found
 
--- an EOL more is behind the first one: two may be the end
+-- an EOL more is after the first one: two may be the end
 abbrev pub one_eol_more : Bool → GapStage
 one_eol_more true = Settled
-one_eol_more false = BehindEol
+one_eol_more false = AfterEol
 
 -- after a one before which so many zeros were seen: they are an EOL, or a tag, or neither
 abbrev pub stage_after : GapRules → GapStage → ℕ → GapStage
 stage_after rules Start seen =
-    if nat_le 11 seen then BehindEol else (if rules.seeks then Damage else Settled)
-stage_after rules Damage seen = if nat_le 11 seen then BehindEol else Damage
-stage_after rules BehindEol seen =
-    if nat_le 11 seen then one_eol_more rules.ends_at_two else (if (seen == 0) && rules.has_tags then BehindTag else Settled)
-stage_after rules BehindTag seen = if nat_le 11 seen then one_eol_more rules.ends_at_two else Settled
+    if nat_le 11 seen then AfterEol else (if rules.seeks then Damage else Settled)
+stage_after rules Damage seen = if nat_le 11 seen then AfterEol else Damage
+stage_after rules AfterEol seen =
+    if nat_le 11 seen then one_eol_more rules.ends_at_two else (if (seen == 0) && rules.has_tags then AfterTag else Settled)
+stage_after rules AfterTag seen = if nat_le 11 seen then one_eol_more rules.ends_at_two else Settled
 stage_after rules Settled seen = Settled
 
 -- after some bits, before which so many seen were
-abbrev pub stage_behind : GapRules → GapStage → ℕ → Bits → GapStage
-stage_behind rules stage seen [] = stage
-stage_behind rules stage seen (false ∷ here) = stage_behind rules stage (suc seen) here
-stage_behind rules stage seen (true ∷ here) = stage_behind rules (stage_after rules stage seen) 0 here
+abbrev pub stage_following : GapRules → GapStage → ℕ → Bits → GapStage
+stage_following rules stage seen [] = stage
+stage_following rules stage seen (false ∷ here) = stage_following rules stage (suc seen) here
+stage_following rules stage seen (true ∷ here) = stage_following rules (stage_after rules stage seen) 0 here
 
 -- the zeros at their end
-abbrev pub zeros_behind : ℕ → Bits → ℕ
-zeros_behind seen [] = seen
-zeros_behind seen (false ∷ here) = zeros_behind (suc seen) here
-zeros_behind seen (true ∷ here) = zeros_behind 0 here
+abbrev pub zeros_after : ℕ → Bits → ℕ
+zeros_after seen [] = seen
+zeros_after seen (false ∷ here) = zeros_after (suc seen) here
+zeros_after seen (true ∷ here) = zeros_after 0 here
 
 abbrev pub is_settled : GapStage → Bool
 is_settled Start = false
 is_settled Damage = false
-is_settled BehindEol = false
-is_settled BehindTag = false
+is_settled AfterEol = false
+is_settled AfterTag = false
 is_settled Settled = true
 
 -- how many of some bits are looked at: up to the one with which nothing that follows changes the gap, or all
@@ -95,8 +95,8 @@ nothing_seen = record { stage = Start; zeros = 0; bits = 0 }
 pub record LooksTo (rules : GapRules) (old new : GapLook) (here rest : Bits) : Type 0 where
   pub looked : Bits
   pub are : here ≡ looked ++ rest
-  pub stage : new.stage ≡ stage_behind rules old.stage old.zeros looked
-  pub zeros : new.zeros ≡ zeros_behind old.zeros looked
+  pub stage : new.stage ≡ stage_following rules old.stage old.zeros looked
+  pub zeros : new.zeros ≡ zeros_after old.zeros looked
   pub bits : new.bits ≡ old.bits + length looked
   -- none was looked at beyond those needed
   pub needed : (others : Bits) → bits_needed rules old.stage old.zeros (looked ++ others)

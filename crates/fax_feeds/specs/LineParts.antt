@@ -83,13 +83,13 @@ pub record GoesOnBy (settings : DecodeSettings) (reference : Row) (turn_of : Row
   pub leads : (front : Row) → length front ≡ old.painted → Leads word new rest (turn_of front)
   pub lawful : IsLawfulPart settings reference new
 
--- it goes on behind this mode (T.4, 4.2.1.3)
+-- it goes on after this mode (T.4, 4.2.1.3)
 abbrev pub GoesOnByMode : Mode → Held → KeptPart → KeptPart → Word → Type 0
 GoesOnByMode mode held old new word = (rest : Bits) → GoesOnBy held.settings held.reference
     (λ front. (mode_added held.settings.strict held.settings.columns held.reference (pen_of_part old front rest) mode).turn)
     old new rest word
 
--- A call that goes on behind a mode counts a tick for each change that it passes, and at most one more.
+-- A call that goes on after a mode counts a tick for each change that it passes, and at most one more.
 pub record CountsMode (old new : KeptPart) (ctx now : Context) : Type 0 where
   pub frame : now ≡ record ctx { ticks = now.ticks }
   pub counts : ctx.ticks ≤ now.ticks

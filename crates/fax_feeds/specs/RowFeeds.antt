@@ -12,7 +12,7 @@ use Rattle.fax_feeds.specs.declared.row_feed.LineState.{LineState}
 use Rattle.fax_feeds.specs.declared.row_feed.RowFeed.TheInside.{Inside}
 use Rattle.fax_rows.specs.declared.row_reader.RowState.{RowState}
 use Rattle.fax_rows.specs.declared.row_reader.Stand.{Stand}
-use Rattle.fax_rows.specs.declared.row_reader.Stand.TheVariants.{AtLine, BehindRow, AtEnd, AtFault}
+use Rattle.fax_rows.specs.declared.row_reader.Stand.TheVariants.{AtLine, AfterRow, AtEnd, AtFault}
 use Rattle.fax_reading.specs.Answers.{HasBlack, PaintsBlack, front_of, meaning_after}
 use Rattle.fax_bits.specs.Bits.{AreWholeBytes, Bits, BitsAt, bits_in, here}
 use Rattle.fax_reading.specs.Context.{Context, Held, fresh, redrawn}
@@ -116,7 +116,7 @@ pub record LieIn (whole : Bits) (dropped : ℕ) (finished : Bool) (kept : Bits) 
 pub record IsAtFront (from : ℕ) (rows : RowState) (ctx : Context) (place : ℕ) : Type 0 where
   pub fresh : ctx.held ≡ fresh ctx.held.settings
   pub ticks : ctx.ticks ≡ from
-  pub state : rows ≡ record { started_at = 0; damage = None; cut = false; missed = None; stand = Stand.BehindRow }
+  pub state : rows ≡ record { started_at = 0; damage = None; cut = false; missed = None; stand = Stand.AfterRow }
   pub start : place ≡ 0
 
 -- where the reading is by the plain reading of these bits, with the work of all tries that were left
@@ -158,7 +158,7 @@ pub record StaysThere (old new : RowsRead) : Type 0 where
 abbrev pub IsOpenAt : Bool → Stand → Context → Bits → Type 0
 IsOpenAt false stand ctx next = first_gap_is_settled ctx.held.settings.encoding ctx.held.settings next ≡ false
 IsOpenAt true AtLine ctx next = is_short (line_here ctx.held.settings ctx.held.reference next) ≡ true
-IsOpenAt true BehindRow ctx next = gap_is_settled ctx.held.settings ctx.held.taken ctx.held.has_eols next ≡ false
+IsOpenAt true AfterRow ctx next = gap_is_settled ctx.held.settings ctx.held.taken ctx.held.has_eols next ≡ false
 IsOpenAt true AtEnd ctx next = ⊥
 IsOpenAt true (AtFault error) ctx next = ⊥
 
@@ -216,8 +216,8 @@ pub record LineWork (old new : Feeding) (answer : Result Fed DecodeError) (count
 -- an EOL is among some bits, which begin at this offset, and ends no later than another (T.4, 4.1.2)
 pub record PassesEol (gap : Bits) (from to : ℕ) : Type 0 where
   pub fill : Bits
-  pub behind : Bits
-  pub place : gap ≡ fill ++ replicate 11 false ++ true ∷ behind
+  pub after : Bits
+  pub place : gap ≡ fill ++ replicate 11 false ++ true ∷ after
   pub passed : from + length fill + 12 ≤ to
 
 -- A row is read from a line that begins at this offset. It has no more changes than the line has bits, and but one more than
@@ -229,8 +229,8 @@ pub record DrawsRow (old new : Feeding) : Type 0 where
       → PassesEol (drop old.place old.kept) (old.dropped + old.place) start
   pub most : start + length (changes new.ctx.held.reference) ≤ new.dropped + length new.kept + 1
   pub drawn : (start + length (changes new.ctx.held.reference) ≤ new.dropped + new.place)
-      ⊎ ((new.ctx.held.has_eols ≡ true) × ((more fill behind : Bits)
-      → drop new.place new.kept ++ more ≡ fill ++ replicate 11 false ++ true ∷ behind
+      ⊎ ((new.ctx.held.has_eols ≡ true) × ((more fill after : Bits)
+      → drop new.place new.kept ++ more ≡ fill ++ replicate 11 false ++ true ∷ after
       → start + length (changes new.ctx.held.reference) ≤ new.dropped + new.place + length fill + 13))
 
 -- How a call goes on in the data, and what it counts for that: where a gap is passed, no more than twelve bits beyond it were
@@ -252,7 +252,7 @@ pub record CallGoesOn (old new : Feeding) (answer : Result Fed DecodeError) (gap
   pub past_eol : old.finished ≡ false → old.begun ≡ true → is_at_line old.rows.stand ≡ false → old.ctx.held.has_eols ≡ true
       → ended new.rows.stand ≡ None → (answer ≡ Ok Fed.NeedsMore → is_at_line new.rows.stand ≡ true)
       → PassesEol (drop old.place old.kept) (old.dropped + old.place) (new.dropped + new.place)
-  pub behind : answer ≡ Ok Fed.Row → is_at_line new.rows.stand ≡ false
+  pub after : answer ≡ Ok Fed.Row → is_at_line new.rows.stand ≡ false
   pub tried : HasNone answer → (old.begun && is_at_line old.rows.stand) ≡ true
       → (new.tried_at ≡ old.tried_at) ⊎ (new.tried_at ≡ new.dropped + new.place)
   pub sought : answer ≡ Ok Fed.Row → (old.begun && is_at_line old.rows.stand) ≡ true
@@ -340,7 +340,7 @@ pub record TriesLine (is_last : Bool) (line_start : ℕ) (rows kept : RowState) 
   pub same_bits : after.bits ≡ before.bits
   pub within : after.place ≤ length after.bits
   pub left : IsLeft answer → (kept ≡ rows) × (after ≡ before)
-  pub behind : answer ≡ Ok true → kept.stand ≡ BehindRow
+  pub after : answer ≡ Ok true → kept.stand ≡ AfterRow
   pub reads : (from : ℕ) (whole : Bits) (dropped : ℕ) → (IsLeft answer → ⊥) → LieIn whole dropped is_last before.bits
       → line_start ≡ dropped + before.place → IsStandingAtLine from rows old (record { bits = whole; place = line_start })
       → ReadsNext (seen rows old (record { bits = whole; place = line_start }))
@@ -378,16 +378,16 @@ pub record CountsRow (old new : Feeding) (answer : Result Fed DecodeError) : Typ
   pub settings : new.ctx.held.settings ≡ old.ctx.held.settings
   pub taken : answer ≡ Ok Fed.Row → (new.ctx.held.taken ≡ old.ctx.held.taken + 1) × (new.ctx.held.taken < 2 ^ 64)
   pub width : answer ≡ Ok Fed.Row → length new.ctx.held.reference ≡ old.ctx.held.settings.columns
-  pub stands : answer ≡ Ok Fed.Row → (new.begun ≡ true) × (new.rows.stand ≡ BehindRow) × (new.part ≡ None)
+  pub stands : answer ≡ Ok Fed.Row → (new.begun ≡ true) × (new.rows.stand ≡ AfterRow) × (new.part ≡ None)
 
--- how a reading goes on behind what is before its first line
+-- how a reading goes on after what is before its first line
 abbrev pub line_first : Stand → Result Bool DecodeError
 line_first AtLine = Ok true
-line_first BehindRow = Ok true
+line_first AfterRow = Ok true
 line_first AtEnd = Ok false
 line_first (AtFault error) = Err error
 
--- a line is reached behind a gap
+-- a line is reached after a gap
 pub record ReachesLine (old new : Feeding) (extra : ℕ) : Type 0 where
   pub counts : old.ctx.ticks + extra ≤ new.ctx.ticks
   pub onward : old.dropped + old.place ≤ new.dropped + new.place
@@ -475,7 +475,7 @@ pub record ReadsInFeed (old new : Feeding) (answer : Result Bool DecodeError) : 
   pub looked : new.looked ≡ old.looked
   pub done : answer ≢ Ok false → new.part ≡ None
   pub tried : (new.tried_at ≡ old.tried_at) ⊎ (new.tried_at ≡ new.dropped + new.place)
-  pub behind : answer ≡ Ok true → new.rows.stand ≡ BehindRow
+  pub after : answer ≡ Ok true → new.rows.stand ≡ AfterRow
   pub within : new.place ≤ length new.kept
   pub paid : paid_for_line new ≤ most_for_line new + 2
   pub row_is : (whole : Bits) (tried : ℕ) → answer ≡ Ok true → IsFeedOf whole tried old
@@ -621,7 +621,7 @@ fed_bits feed = feed.dropped + length feed.kept
 abbrev pub unused : Feeding → Bits
 unused feed = drop (8 * ((feed.place + 7) / 8)) feed.kept
 
--- These bits are held behind those that were, and the reading is at the same offset. Before it fewer than eight bits are held.
+-- These bits are held after those that were, and the reading is at the same offset. Before it fewer than eight bits are held.
 -- There is room for no more bits than before, or than twice those held.
 pub record HoldsMore (next : Bits) (old new : Feeding) : Type 0 where
   pub unread : drop new.place new.kept ≡ drop old.place old.kept ++ next

@@ -3,9 +3,9 @@
 ghost use Rattle.std.specs.Prelude.{◌≡◌, ◌≤◌, ◌+◌, false, true, length, None, Some};
 ghost use Rattle.fax_bits.specs.Bits.{here};
 ghost use Rattle.fax_bits.specs.EndOfLine.{after_eol};
-ghost use Rattle.fax_reading.specs.GapsContinued.{behind_line_tag, holds_one};
-ghost use Rattle.fax_feeds.specs.GapsSeen.{LooksOn, first_rules, is_settled, nothing_seen, rules_behind_row, stage_after};
-ghost use Rattle.fax_feeds.specs.GapsSeen.{stage_behind};
+ghost use Rattle.fax_reading.specs.GapsContinued.{after_line_tag, holds_one};
+ghost use Rattle.fax_feeds.specs.GapsSeen.{LooksOn, first_rules, is_settled, nothing_seen, rules_after_row, stage_after};
+ghost use Rattle.fax_feeds.specs.GapsSeen.{stage_following};
 
 use fax_bits::bit_reader::{BitReader, copy};
 use fax_bits::codes::Ticks;
@@ -21,9 +21,9 @@ pub(crate) enum GapStage {
     /// No EOL is here, so the next one is sought.
     Damage,
     /// An EOL was the last with a one in it.
-    BehindEol,
+    AfterEol,
     /// A tag of one after an EOL was.
-    BehindTag,
+    AfterTag,
     /// Nothing that follows can change the gap.
     Settled,
 }
@@ -50,8 +50,8 @@ pub(crate) struct GapLook {
 }
 
 /// Returns what the look at a gap after a row depends on.
-pub(crate) fn rules_behind_row(ctx: &DecoderContext) -> GapRules
-    ensures { result ≡ rules_behind_row ctx.now.held.settings ctx.now.held.taken ctx.now.held.has_eols }
+pub(crate) fn rules_after_row(ctx: &DecoderContext) -> GapRules
+    ensures { result ≡ rules_after_row ctx.now.held.settings ctx.now.held.taken ctx.now.held.has_eols }
 {
     let settings = ctx.settings();
     GapRules {
@@ -85,15 +85,15 @@ fn stage_after(rules: &GapRules, stage: GapStage, zeros: usize) -> GapStage
     ensures { result ≡ stage_after rules.now stage zeros }
 {
     match stage {
-        GapStage::Start if zeros >= 11 => GapStage::BehindEol,
+        GapStage::Start if zeros >= 11 => GapStage::AfterEol,
         GapStage::Start if rules.seeks => GapStage::Damage,
         GapStage::Start => GapStage::Settled,
-        GapStage::Damage if zeros >= 11 => GapStage::BehindEol,
+        GapStage::Damage if zeros >= 11 => GapStage::AfterEol,
         GapStage::Damage => GapStage::Damage,
-        GapStage::BehindEol | GapStage::BehindTag if zeros >= 11 && !rules.ends_at_two =>
-            GapStage::BehindEol,
-        GapStage::BehindEol if zeros == 0 && rules.has_tags => GapStage::BehindTag,
-        GapStage::BehindEol | GapStage::BehindTag | GapStage::Settled => GapStage::Settled,
+        GapStage::AfterEol | GapStage::AfterTag if zeros >= 11 && !rules.ends_at_two =>
+            GapStage::AfterEol,
+        GapStage::AfterEol if zeros == 0 && rules.has_tags => GapStage::AfterTag,
+        GapStage::AfterEol | GapStage::AfterTag | GapStage::Settled => GapStage::Settled,
     }
 }
 
@@ -128,31 +128,31 @@ fn pass_near_eol(reader: &mut BitReader<'_>) -> bool
 /// Passes a tag of one here, if there is one (T.4, 4.2.2).
 #[inline(always)]
 fn pass_tag_of_one(reader: &mut BitReader<'_>)
-    ensures { here reader.new ≡ behind_line_tag (1, here reader.old) }
+    ensures { here reader.new ≡ after_line_tag (1, here reader.old) }
 {
-    let mut behind = copy(reader);
-    if let Ok(1) = behind.read_bit() {
-        *reader = behind;
+    let mut after = copy(reader);
+    if let Ok(1) = after.read_bit() {
+        *reader = after;
     }
 }
 
 /// Returns whether the next bits alone, as far as a window has them, settle the gap: no EOL is here nor sought, or one is, and
-/// none behind it and its tag. Nothing is counted.
+/// none after it and its tag. Nothing is counted.
 #[inline(always)]
 pub(crate) fn is_settled_at_once(rules: &GapRules, reader: &BitReader<'_>) -> bool
-    ensures { result ≡ true → is_settled (stage_behind rules.now GapStage.Start 0 (here reader.now)) ≡ true }
+    ensures { result ≡ true → is_settled (stage_following rules.now GapStage.Start 0 (here reader.now)) ≡ true }
 {
     if holds_near_one(reader) {
         return !rules.seeks;
     }
-    let mut behind = copy(reader);
-    if !pass_near_eol(&mut behind) {
+    let mut after = copy(reader);
+    if !pass_near_eol(&mut after) {
         return false;
     }
     if rules.has_tags {
-        pass_tag_of_one(&mut behind);
+        pass_tag_of_one(&mut after);
     }
-    holds_near_one(&behind)
+    holds_near_one(&after)
 }
 
 impl GapLook {

@@ -17,7 +17,7 @@ use fax_bits::bit_reader::{BitReader, BitScanner};
 use fax_bits::codes::{Color, Mode};
 use fax_bits::{DecodeError, DecodeSettings, EncodingMode};
 use fax_lines::changes::vertical_place;
-use fax_lines::context::{DecoderContext, places_behind, read_word};
+use fax_lines::context::{DecoderContext, places_after, read_word};
 
 /// Where in a line its next word begins. Of its front only the number of pixels is kept.
 #[derive(Clone, Copy)]
@@ -83,7 +83,7 @@ fn word_of_fault(error: DecodeError) -> Word
     }
 }
 
-/// Goes on behind a pass: the colour continues to below b2 (T.4, 4.2.1.3).
+/// Goes on after a pass: the colour continues to below b2 (T.4, 4.2.1.3).
 #[inline(always)]
 fn pass(ctx: &mut DecoderContext, part: &mut KeptPart) -> Word
     requires lawful { IsLawfulPart ctx.old.held.settings ctx.old.held.reference part.old }
@@ -93,14 +93,14 @@ fn pass(ctx: &mut DecoderContext, part: &mut KeptPart) -> Word
     ensures counts { CountsMode part.old part.new ctx.old ctx.new }
     ensures known { result ≢ Word.Missing }
 {
-    let (_, b2) = places_behind(ctx, part.painted, part.color, &mut part.passed);
+    let (_, b2) = places_after(ctx, part.painted, part.color, &mut part.passed);
     if !paint(part, ctx.settings(), b2.saturating_sub(part.painted)) {
         return Word::Ends;
     }
     Word::GoesOn
 }
 
-/// Goes on behind a vertical mode: the colour turns this far from b1 (T.4, 4.2.1.3).
+/// Goes on after a vertical mode: the colour turns this far from b1 (T.4, 4.2.1.3).
 #[inline(always)]
 fn turn(ctx: &mut DecoderContext, part: &mut KeptPart, offset: i8) -> Word
     requires lawful { IsLawfulPart ctx.old.held.settings ctx.old.held.reference part.old }
@@ -110,7 +110,7 @@ fn turn(ctx: &mut DecoderContext, part: &mut KeptPart, offset: i8) -> Word
     ensures counts { CountsMode part.old part.new ctx.old ctx.new }
     ensures known { result ≢ Word.Missing }
 {
-    let (b1, _) = places_behind(ctx, part.painted, part.color, &mut part.passed);
+    let (b1, _) = places_after(ctx, part.painted, part.color, &mut part.passed);
     let Some(place) = vertical_place(b1, part.painted, offset) else {
         return Word::Ends;
     };
@@ -121,7 +121,7 @@ fn turn(ctx: &mut DecoderContext, part: &mut KeptPart, offset: i8) -> Word
     Word::GoesOn
 }
 
-/// Goes on behind V0: the colour turns at b1 (T.4, 4.2.1.3), which is in the row and not left of a0.
+/// Goes on after V0: the colour turns at b1 (T.4, 4.2.1.3), which is in the row and not left of a0.
 #[inline(always)]
 fn turn_below(ctx: &mut DecoderContext, part: &mut KeptPart)
     requires lawful { IsLawfulPart ctx.old.held.settings ctx.old.held.reference part.old }
@@ -130,12 +130,12 @@ fn turn_below(ctx: &mut DecoderContext, part: &mut KeptPart)
     ensures goes { GoesOnByMode (Mode.Vertical (pos 0)) ctx.old.held part.old part.new Word.GoesOn }
     ensures counts { CountsMode part.old part.new ctx.old ctx.new }
 {
-    let (b1, _) = places_behind(ctx, part.painted, part.color, &mut part.passed);
+    let (b1, _) = places_after(ctx, part.painted, part.color, &mut part.passed);
     part.painted = b1;
     part.color = part.color.opposite();
 }
 
-/// Goes on behind a mode (T.4, 4.2.1.3).
+/// Goes on after a mode (T.4, 4.2.1.3).
 #[inline(always)]
 fn add_mode(ctx: &mut DecoderContext, part: &mut KeptPart, mode: Mode) -> Word
     requires lawful { IsLawfulPart ctx.old.held.settings ctx.old.held.reference part.old }
@@ -157,7 +157,7 @@ fn add_mode(ctx: &mut DecoderContext, part: &mut KeptPart, mode: Mode) -> Word
     }
 }
 
-/// Goes on behind a mode that is read here.
+/// Goes on after a mode that is read here.
 #[inline(always)]
 fn read_any_mode(ctx: &mut DecoderContext, reader: &mut BitScanner<'_>, part: &mut KeptPart) -> Word
     requires lawful { IsLawfulPart ctx.old.held.settings ctx.old.held.reference part.old }
@@ -172,7 +172,7 @@ fn read_any_mode(ctx: &mut DecoderContext, reader: &mut BitScanner<'_>, part: &m
     }
 }
 
-/// Goes on behind a mode that is read here: mostly V0, which is looked for first.
+/// Goes on after a mode that is read here: mostly V0, which is looked for first.
 #[inline(always)]
 fn read_mode(ctx: &mut DecoderContext, reader: &mut BitScanner<'_>, part: &mut KeptPart) -> Word
     requires lawful { IsLawfulPart ctx.old.held.settings ctx.old.held.reference part.old }
@@ -189,7 +189,7 @@ fn read_mode(ctx: &mut DecoderContext, reader: &mut BitScanner<'_>, part: &mut K
     read_any_mode(ctx, reader, part)
 }
 
-/// Goes on behind a word of a run (T.4, 4.1.1).
+/// Goes on after a word of a run (T.4, 4.1.1).
 #[inline(always)]
 fn add_word(part: &mut KeptPart, settings: DecodeSettings, n: u32) -> Word
     requires within { part.old.painted ≤ settings.columns }
@@ -221,7 +221,7 @@ fn add_word(part: &mut KeptPart, settings: DecodeSettings, n: u32) -> Word
     Word::GoesOn
 }
 
-/// Goes on behind a word of a run that is read here.
+/// Goes on after a word of a run that is read here.
 #[inline(always)]
 fn read_run(ctx: &mut DecoderContext, reader: &mut BitScanner<'_>, part: &mut KeptPart) -> Word
     requires lawful { IsLawfulPart ctx.old.held.settings ctx.old.held.reference part.old }
@@ -249,7 +249,7 @@ fn begin_run(_ctx: &DecoderContext, _reader: &BitScanner<'_>, part: &mut KeptPar
     part.total = 0;
 }
 
-/// Goes on behind the step that is next, unless the row is full: behind a mode, or to the start of a run of a one-dimensional
+/// Goes on after the step that is next, unless the row is full: after a mode, or to the start of a run of a one-dimensional
 /// line, which reads nothing.
 #[inline(always)]
 fn read_step(ctx: &mut DecoderContext, reader: &mut BitScanner<'_>, part: &mut KeptPart) -> Word

@@ -6,7 +6,7 @@ ghost use Rattle.std.specs.Prelude.{IfOk, IfErr, OnErr, OnOk, IsOkUnless, Result
 ghost use Rattle.fax_bits.specs.Bits.{AreWholeBytes, Bits, bits_in, here};
 ghost use Rattle.fax_reading.specs.Context.{fresh, redrawn};
 ghost use Rattle.fax_reading.specs.GapsContinued.{first_gap_is_settled, gap_is_settled};
-ghost use Rattle.fax_feeds.specs.GapsSeen.{CountsLooks, IsSeen, is_settled, nothing_seen, rules_for, stage_behind};
+ghost use Rattle.fax_feeds.specs.GapsSeen.{CountsLooks, IsSeen, is_settled, nothing_seen, rules_for, stage_following};
 ghost use Rattle.fax_rows.specs.RowsRead.{at_end_of_rows, ended, is_at_line};
 ghost use Rattle.fax_rows.specs.RowsTried.{IsLeft};
 ghost use Rattle.fax_feeds.specs.RowFeeds.{Begins, ComeNext, ComesInFeed, DropsRead, ReadsInFeed, ComesOn, FeedsNext};
@@ -19,7 +19,7 @@ ghost use Rattle.fax_reading.specs.Rows.{AreChanges, changes};
 ghost use Rattle.fax_lines.specs.SinkStates.{state_of};
 
 use crate::gap_look::{
-    GapLook, GapRules, GapStage, first_rules, is_settled_at_once, rules_behind_row,
+    GapLook, GapRules, GapStage, first_rules, is_settled_at_once, rules_after_row,
 };
 use crate::line_parts::{KeptPart, begin_part, continue_line, continue_runs, is_1d, is_in_1d_run};
 use fax_bits::bit_reader::{
@@ -83,7 +83,7 @@ fn look_waits(
     is_last: bool,
 ) -> bool
     requires seen { IsSeen rules.now look.old (here reader.now) }
-    ensures waits { result ≡ (not is_last && not (is_settled (stage_behind rules.now GapStage.Start 0 (here reader.now)))) }
+    ensures waits { result ≡ (not is_last && not (is_settled (stage_following rules.now GapStage.Start 0 (here reader.now)))) }
     ensures held { ctx.new.held ≡ ctx.old.held }
     ensures looked { CountsLooks look.old look.new ctx.old.ticks ctx.new.ticks }
     ensures onward { look.old.bits ≤ look.new.bits }
@@ -116,7 +116,7 @@ fn gap_waits(
     ensures seen { IsSeen (rules_for true ctx.old.held) look.new (here reader.now) }
     ensures space { ctx.new.space ≡ ctx.old.space }
 {
-    let rules = rules_behind_row(ctx);
+    let rules = rules_after_row(ctx);
     look_waits(ctx, look, &rules, reader, is_last)
 }
 
@@ -141,7 +141,7 @@ fn front_waits(
     look_waits(ctx, look, &rules, reader, is_last)
 }
 
-/// Returns whether a line is here behind a gap that was passed.
+/// Returns whether a line is here after a gap that was passed.
 fn some_line(line: Result<bool>) -> Result<Option<bool>>
     ensures { result ≡ some_line line }
 {
@@ -214,12 +214,12 @@ fn is_read(row: &Result<bool>) -> bool
     matches!(row, Ok(true))
 }
 
-/// Returns whether a row was the last that was read, and no gap behind it yet.
+/// Returns whether a row was the last that was read, and no gap after it yet.
 #[inline(always)]
-fn is_behind_row(stand: Stand) -> bool
-    ensures { result ≡ true → stand ≡ Stand.BehindRow }
+fn is_after_row(stand: Stand) -> bool
+    ensures { result ≡ true → stand ≡ Stand.AfterRow }
 {
-    matches!(&stand, Stand::BehindRow)
+    matches!(&stand, Stand::AfterRow)
 }
 
 /// Returns whether a call read a row.
@@ -433,7 +433,7 @@ impl RowFeed {
     {
         Ok(RowFeed {
             ctx: DecoderContext::new(alloc, settings)?,
-            rows: RowState::new(Stand::BehindRow),
+            rows: RowState::new(Stand::AfterRow),
             order,
             begun: false,
             is_last: false,
@@ -748,7 +748,7 @@ impl RowFeed {
         fed_row(row)
     }
 
-    /// Reads the first row, behind what is before it.
+    /// Reads the first row, after what is before it.
     #[cold]
     #[inline(never)]
     fn read_first(&mut self) -> Result<Fed>
@@ -818,7 +818,7 @@ impl RowFeed {
         match self.rows.stand {
             Stand::AtEnd => Ok(Fed::End),
             Stand::AtFault(error) => Err(error),
-            Stand::AtLine | Stand::BehindRow => {
+            Stand::AtLine | Stand::AfterRow => {
                 if self.begun {
                     self.read_from_gap()
                 } else {
@@ -828,12 +828,12 @@ impl RowFeed {
         }
     }
 
-    /// Reads each row behind the last one, with one reader of the bits that are kept.
+    /// Reads each row after the last one, with one reader of the bits that are kept.
     #[inline(never)]
     fn push_on<D: Decoder>(&mut self, decoder: &mut D) -> Result<Fed>
         requires width { self.old.ctx.held.settings.columns ≤ D.width decoder.old }
         requires begun { self.old.begun ≡ true }
-        requires behind { self.old.rows.stand ≡ Stand.BehindRow }
+        requires after { self.old.rows.stand ≡ Stand.AfterRow }
         requires none_kept { self.old.part ≡ None }
         ensures width { D.width decoder.new ≡ D.width decoder.old }
         ensures pushes { PushesRows (D.step (D.width decoder.old))
@@ -913,7 +913,7 @@ impl RowFeed {
         fed_row(fed)
     }
 
-    /// Reads the next row and each behind it.
+    /// Reads the next row and each after it.
     #[inline(always)]
     fn push_from_next<D: Decoder>(&mut self, decoder: &mut D) -> Result<Fed>
         requires width { self.old.ctx.held.settings.columns ≤ D.width decoder.old }
@@ -938,7 +938,7 @@ impl RowFeed {
     /// # Errors
     ///
     /// Those of [`next_row`](RowFeed::next_row), and `Refused` if the sink refuses a row. That row was read, and
-    /// [`row`](RowFeed::row) returns it; the next call goes on behind it.
+    /// [`row`](RowFeed::row) returns it; the next call goes on after it.
     ///
     /// # Example
     ///
@@ -959,7 +959,7 @@ impl RowFeed {
         ensures pushes { PushesRows (D.step (D.width decoder.old))
             (state_of D.Decoder decoder.old) (state_of D.Decoder decoder.new) self.old self.new result }
     {
-        if self.begun && is_behind_row(self.rows.stand) && self.part.is_none() {
+        if self.begun && is_after_row(self.rows.stand) && self.part.is_none() {
             return self.push_on(decoder);
         }
         self.push_from_next(decoder)
@@ -1166,7 +1166,7 @@ impl RowFeed {
     }
 
     /// Returns the bytes that were fed and aren't consumed; of a byte that is partly read nothing is left. At the end of the
-    /// image they are what was fed behind it.
+    /// image they are what was fed after it.
     pub fn unused(&self) -> &[u8]
         ensures { bits_in self.now.order result.now ≡ unused self.now }
     {

@@ -11,7 +11,7 @@ pub use Rattle.fax_reading.specs.Encodings.{Spells}
 pub use Rattle.fax_lines.specs.DrawnModes.{CanDraw, Draws}
 pub use Rattle.fax_bits.specs.EndOfLine.{after_eol}
 pub use Rattle.fax_reading.specs.Lines.{Line, Pen, draw_2d, draw_mode, draw_run, drawn, found_1d, line_1d, line_2d, start}
-pub use Rattle.fax_reading.specs.Lines.{turn_behind, words_behind, words_drawn}
+pub use Rattle.fax_reading.specs.Lines.{turn_following, words_after, words_drawn}
 pub use Rattle.fax_bits.specs.LookUps.{is_short, pair_entry, mode_told, padded}
 pub use Rattle.fax_reading.specs.PlainReading.{line_here}
 pub use Rattle.fax_bits.specs.Repetition.{Turn}

@@ -6,9 +6,9 @@ use Rattle.fax_bits.specs.Bits.{bit_of}
 abbrev pub AreSet : ℕ → ℕ → Type 0
 AreSet mask count = (k : ℕ) → k < count → bit_of mask k ≡ true
 
--- A vertical mode is regular: its place is right of a0, left of the change behind b1, and not left of the change before b1. Then
--- that change behind b1 is the next mode's b1.
+-- A vertical mode is regular: its place is right of a0, left of the change after b1, and not left of the change before b1. Then
+-- that change after b1 is the next mode's b1.
 pub record IsRegular (columns : ℕ) (places : List ℕ) (painted index place : ℕ) : Type 0 where
   pub right : painted < place
   pub left : place < get_or places (index + 1) columns
-  pub behind : 0 < index → get_or places (index - 1) columns ≤ place
+  pub after : 0 < index → get_or places (index - 1) columns ≤ place

@@ -37,7 +37,7 @@ module _ {A : Type 0} where
         (pen_at place longer.items color rest.at) ticks now
     pub reached : IsReached settings.columns place color longer.items
 
-  -- no bit is behind, and the bits and the row's room stay
+  -- no bit is after, and the bits and the row's room stay
   pub record MovesOn (hand : AtHand) (row : Vec ℕ A) (rest : AtHand) (longer : Vec ℕ A) : Type 0 where
     pub same_bits : rest.at.bits ≡ hand.at.bits
     pub onward : hand.at.place ≤ rest.at.place

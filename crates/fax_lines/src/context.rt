@@ -3,7 +3,7 @@
 ghost use Rattle.std.specs.Prelude.{◌≡◌, ◌+◌, ◌-◌, ◌*◌, ◌^◌, ◌<◌, ◌≤◌, ◌↔◌, ℕ, Ok, Err, OnOk, OnErr, IfOk, true};
 ghost use Rattle.std.specs.Prelude.{false, suc, max, pos, vec_capacity};
 ghost use Rattle.std.specs.Prelude.{◌||◌, IsOkUnless, IsTrue, if◌then◌else◌, is_some, option_map, length, get_or, []};
-ghost use Rattle.fax_reading.specs.LocalityByK.{behind_mode};
+ghost use Rattle.fax_reading.specs.LocalityByK.{after_mode};
 ghost use Rattle.fax_bits.specs.Ticks.{run_found};
 ghost use Rattle.fax_reading.specs.Work.{mode_found};
 ghost use Rattle.fax_bits.specs.ReaderSteps.{Reads};
@@ -1024,7 +1024,7 @@ pub fn read_word(ctx: &mut DecoderContext, color: Color, reader: &mut BitScanner
 /// `passed` is how many changes of the reference row are known not to be right of a0; afterwards it is the number of all such
 /// changes.
 #[inline(always)]
-pub fn places_behind(
+pub fn places_after(
     ctx: &mut DecoderContext,
     painted: u32,
     color: Color,
@@ -1076,7 +1076,7 @@ pub fn pass_mode(
     color: Color,
     reader: &mut BitReader<'_>,
 ) -> Option<Color>
-    ensures behind { option_map (λ behind. (behind, here reader.new)) result ≡ behind_mode color (here reader.old) }
+    ensures after { option_map (λ after. (after, here reader.new)) result ≡ after_mode color (here reader.old) }
     ensures same_bits { reader.new.bits ≡ reader.old.bits }
     ensures only_ticks { OnlyCounts ctx.old ctx.new }
     ensures cut { ctx.new.cut ≡ ctx.old.cut }

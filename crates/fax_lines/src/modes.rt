@@ -32,7 +32,7 @@ pub(crate) struct CodingLine<'a> {
     pub(crate) columns: u32,
     /// Whether the data is strict. Only contracts read this.
     pub(crate) strict: bool,
-    /// The changes of the reference row, and the row's end six times behind them.
+    /// The changes of the reference row, and the row's end six times after them.
     pub(crate) places: &'a [u32],
     /// The look-up tables of runs.
     pub(crate) tables: &'a Tables,
@@ -119,7 +119,7 @@ pub(crate) fn has_no_room(changes: &Vec<u32>) -> bool
     changes.capacity() == 0
 }
 
-/// Returns the change of the reference row at an index, or the row's end behind the last one.
+/// Returns the change of the reference row at an index, or the row's end after the last one.
 #[inline(always)]
 fn change_at(line: &CodingLine<'_>, index: usize) -> u32
     requires ended { AreEnded line.now.columns line.now.places.now }
@@ -615,7 +615,7 @@ fn draw_vertical(
     }
 }
 
-/// Returns the colour of the next pixels: white behind an even number of changes.
+/// Returns the colour of the next pixels: white after an even number of changes.
 #[inline(always)]
 pub(crate) fn next_color(row: &Vec<u32>) -> Color
     ensures turns { TurnsFrom (vec_len row.now) result }
@@ -684,7 +684,7 @@ fn are_regular(modes: &ModesHere) -> bool
     (15 - modes.regular) & modes.group.used() == 0
 }
 
-/// Stores four places behind a row's changes.
+/// Stores four places after a row's changes.
 #[inline(always)]
 fn push_places(row: &mut Vec<u32>, places: [u32; 4])
     requires room { vec_len row.old + 4 ≤ vec_capacity row.old }
@@ -698,7 +698,7 @@ fn push_places(row: &mut Vec<u32>, places: [u32; 4])
     turn_at(row, places[3]);
 }
 
-/// Stores the first of four places behind a row's changes, as many as are counted.
+/// Stores the first of four places after a row's changes, as many as are counted.
 #[inline(always)]
 fn turn_at_places(row: &mut Vec<u32>, places: [u32; 4], count: usize)
     requires few { count ≤ 4 }
@@ -847,7 +847,7 @@ fn painted_by(row: &Vec<u32>, start: usize, count: usize, painted: u32) -> u32
     row[start + count - 1]
 }
 
-/// Draws the regular modes that a group begins with, and the mode behind them if it leads to a place right of them in the row, or
+/// Draws the regular modes that a group begins with, and the mode after them if it leads to a place right of them in the row, or
 /// to the row's end. Returns how far the row is drawn then, and whether it isn't full; or `None` if no mode is drawn.
 #[inline(always)]
 fn draw_first_modes(
@@ -1258,7 +1258,7 @@ fn has_room_for_ends(changes: &Vec<u32>) -> bool
     changes.capacity() - changes.len() >= 6
 }
 
-/// Puts a row's end six times behind its changes, so that b1 is among them with four places after it, and returns whether there
+/// Puts a row's end six times after its changes, so that b1 is among them with four places after it, and returns whether there
 /// is room; otherwise the changes stay as they are.
 #[inline(always)]
 pub(crate) fn put_ends(changes: &mut Vec<u32>, columns: u32) -> bool
@@ -1282,7 +1282,7 @@ pub(crate) fn put_ends(changes: &mut Vec<u32>, columns: u32) -> bool
     true
 }
 
-/// Removes the ends behind a row's changes.
+/// Removes the ends after a row's changes.
 #[inline(always)]
 pub(crate) fn take_ends(changes: &mut Vec<u32>)
     requires { 6 ≤ length changes.old.items }
@@ -1297,7 +1297,7 @@ pub(crate) fn take_ends(changes: &mut Vec<u32>)
     let _first = changes.take_last();
 }
 
-/// Stores the changes of a row behind those of another one.
+/// Stores the changes of a row after those of another one.
 #[inline(always)]
 pub(crate) fn repeat_changes(changes: &[u32], row: &mut Vec<u32>)
     requires room { vec_len row.old + length changes.now ≤ vec_capacity row.old }

@@ -53,7 +53,7 @@ pub(crate) fn run_at_hand(
 
 /// Fills the window if it has fewer than 26 bits after so many; returns false if it can't be filled.
 #[inline(always)]
-fn has_run_behind(hand: &mut BitsAtHand<'_>, width: usize) -> bool
+fn has_run_after(hand: &mut BitsAtHand<'_>, width: usize) -> bool
     requires { width ≤ 26 }
     ensures same { hand.new.at ≡ hand.old.at }
     ensures enough { result ≡ true → width + 26 ≤ hand.new.left }
@@ -254,7 +254,7 @@ pub(crate) fn draw_two_runs(
     ensures left { IfNone result (DrawsNothing hand.old row.old ticks.old hand.new row.new ticks.new) }
     ensures kept { MovesOn hand.old row.old hand.new row.new }
 {
-    if !has_run_behind(hand, 0) {
+    if !has_run_after(hand, 0) {
         return None;
     }
     let (first, width, words) = run_at_hand(hand, 0, Color::White, tables.lookup(Color::White))?;
@@ -274,7 +274,7 @@ pub(crate) fn draw_two_runs(
     if !has_room_for_pair(row) {
         return None;
     }
-    if !has_run_behind(hand, width) {
+    if !has_run_after(hand, width) {
         return None;
     }
     let (second, width2, words2) = run_at_hand(

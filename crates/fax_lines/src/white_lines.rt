@@ -87,7 +87,7 @@ fn second_line(encoding: EncodingMode, columns: u32) -> CodeWord
 
 /// Returns a white line with the EOL before it, in data that have EOLs.
 #[inline(always)]
-fn behind_eol(has_eols: bool, line: CodeWord) -> CodeWord
+fn following_eol(has_eols: bool, line: CodeWord) -> CodeWord
     requires { FitsIn line 21 }
     ensures { (encoding : EncodingMode) (columns most : ℕ) → IsLine encoding columns most line
         → IsWhiteLine encoding columns has_eols (12 + most) result }
@@ -121,8 +121,8 @@ pub(crate) fn white_lines(settings: DecodeSettings, has_eols: bool) -> WhiteLine
     WhiteLines {
         has_eols,
         gap: if has_eols { 12 } else { 0 },
-        first: behind_eol(has_eols, first),
-        second: behind_eol(has_eols, second),
+        first: following_eol(has_eols, first),
+        second: following_eol(has_eols, second),
         limit: row_limit(settings.rows),
     }
 }

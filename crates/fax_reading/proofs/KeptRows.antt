@@ -1,5 +1,5 @@
 pub mod EqualFronts
 pub mod RowsBeforeDamage
-pub mod RowsBehindDamage
+pub mod RowsAfterDamage
 pub mod StepsTold
 pub mod TurnsLeave

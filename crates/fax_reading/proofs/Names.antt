@@ -10,11 +10,11 @@ pub use Rattle.fax_reading.specs.Context.{Context, Held, Repairs, continued, fre
 pub use Rattle.fax_reading.specs.Context.{right_of_painted, with_missed, exceeds, painted_front}
 pub use Rattle.fax_reading.specs.Continuations.{LineIsSettled, LinesSettle, StaysAsRead, is_short, line_before}
 pub use Rattle.fax_reading.specs.Continuations.{row_continued}
-pub use Rattle.fax_reading.specs.Damage.{Damaged, damage_of, damaged_by_turn, missed_behind, missed_by_turn, misses_by_line}
+pub use Rattle.fax_reading.specs.Damage.{Damaged, damage_of, damaged_by_turn, missed_after, missed_by_turn, misses_by_line}
 pub use Rattle.fax_reading.specs.Damage.{repaired_by_turn, repaired_in, repairs_by_line, cut_by_turn, cut_in, cuts_by_line}
 pub use Rattle.fax_reading.specs.Damage.{cuts_run, start_in}
 pub use Rattle.fax_reading.specs.Decoding.{cuts_with, cut_since, FailsHere, SinkState, StopsShort, TakesOneRow, TakesRows}
-pub use Rattle.fax_reading.specs.Decoding.{gap_said, repairs_behind, repairs_with, with_row_taken, context_at, missed_since}
+pub use Rattle.fax_reading.specs.Decoding.{gap_said, repairs_after, repairs_with, with_row_taken, context_at, missed_since}
 pub use Rattle.fax_reading.specs.Encodings.{ClosesWithEols, EncodesLine, EncodesLine1D, EncodesLine2D, EncodesRows}
 pub use Rattle.fax_reading.specs.Encodings.{EncodesRowsWithEols, IsPicture, PictureT4, PictureT6, Spells, eol, padding, tag_of}
 pub use Rattle.fax_bits.specs.EndOfLine.{after_eol, all_eols, eols, eols_with_tags, next_eol, one_more, pass_last_tag, past_tag}
@@ -25,13 +25,13 @@ pub use Rattle.fax_reading.specs.Laws.{EveryPictureHasAnEncoding, HoldsZeros, Is
 pub use Rattle.fax_reading.specs.Laws.{PicturesAreUndamaged, PicturesComeToEofb, ReadsClosedPictures, ReadsLimitedPictureT4}
 pub use Rattle.fax_reading.specs.Laws.{ReadsLimitedPictures, ReadsLimitedRowsT4, ReadsLimitedRowsT6, ReadsPictureT4}
 pub use Rattle.fax_reading.specs.Laws.{ReadsPictureT6, RowLimit, StrictIsUndamaged, StrictThenLenient, Synchronised}
-pub use Rattle.fax_reading.specs.Laws.{add_row_alone, each_word, for_t6, gap_and_row, joined, row_behind}
+pub use Rattle.fax_reading.specs.Laws.{add_row_alone, each_word, for_t6, gap_and_row, joined, row_after}
 pub use Rattle.fax_reading.specs.Lines.{Drawing, Line, Pen, draw_1d, draw_2d, draw_mode, draw_run, drawn, finds, found_1d}
 pub use Rattle.fax_reading.specs.Lines.{found_2d, go_on, line_1d, line_2d, line_found, mode_here, painted, painted_to, place_by}
-pub use Rattle.fax_reading.specs.Lines.{place_from, run_here, start, tag_at, turn_behind, unless_fault, unless_full, words_behind}
+pub use Rattle.fax_reading.specs.Lines.{place_from, run_here, start, tag_at, turn_following, unless_fault, unless_full, words_after}
 pub use Rattle.fax_reading.specs.Lines.{words_drawn, ◌>>=◌}
 pub use Rattle.fax_reading.specs.LinesGoOn.{GoesOnFrom, LacksWord, LinePart, LinesGoOn, OpenRun, begin_line, begin_step}
-pub use Rattle.fax_reading.specs.LinesGoOn.{behind_run, draw_step, finish_run, finish_step, left_of, line_after_turn}
+pub use Rattle.fax_reading.specs.LinesGoOn.{after_run, draw_step, finish_run, finish_step, left_of, line_after_turn}
 pub use Rattle.fax_reading.specs.LinesGoOn.{line_from_part, mode_added, part_before, read_on, rest_of_run, run_summed, sum_with}
 pub use Rattle.fax_reading.specs.LinesGoOn.{word_added, word_here}
 pub use Rattle.fax_reading.specs.Locality.{ComesToLine, DamageStaysInRow, Descends, EndAlike, EndsAt, EndsBefore, IsEol, IsEolAt}
@@ -39,15 +39,15 @@ pub use Rattle.fax_reading.specs.Locality.{IsLocal, IsLocalByTests, IsStart, Lin
 pub use Rattle.fax_reading.specs.Locality.{StartsAre, StaysBefore, begins_line, later_starts, row_at, row_of, starts}
 pub use Rattle.fax_reading.specs.LocalityByK.{ComeBefore1D, ComesBefore1D, DamageEndsAt1D, EncodedLinesAreBodies, IsFollowedBy}
 pub use Rattle.fax_reading.specs.LocalityByK.{IsLine2D, IsTagOfLine, IsTaggedBody, LocalityByK, ModesEndBefore, ReadsModes}
-pub use Rattle.fax_reading.specs.LocalityByK.{RowsDiffer, behind_first_run, behind_mode, behind_read, behind_second_run}
-pub use Rattle.fax_reading.specs.LocalityByK.{behind_word}
+pub use Rattle.fax_reading.specs.LocalityByK.{RowsDiffer, after_first_run, after_mode, after_read, after_second_run}
+pub use Rattle.fax_reading.specs.LocalityByK.{after_word}
 pub use Rattle.fax_reading.specs.Pictures.{Allows, IsClosedPicture, IsLimitedPicture}
 pub use Rattle.fax_reading.specs.PlainReading.{Ending, Gap, Move, Progress, Reading, add_row, after_line, aligned, at_end}
-pub use Rattle.fax_reading.specs.PlainReading.{at_front, at_gap, behind_eols, behind_row, bytes_before, end_of, ending_behind}
+pub use Rattle.fax_reading.specs.PlainReading.{at_front, at_gap, after_eols, aligned_after_row, bytes_before, end_of, ending_after}
 pub use Rattle.fax_reading.specs.PlainReading.{ending_from, ends_with, eols_by, eols_here, failed_at, is_end_of_block, first_gap}
-pub use Rattle.fax_reading.specs.PlainReading.{first_line, from_next_eol, gap_behind_row, is_over, limit_met, line_by, line_here}
+pub use Rattle.fax_reading.specs.PlainReading.{first_line, from_next_eol, gap_after_row, is_over, limit_met, line_by, line_here}
 pub use Rattle.fax_reading.specs.PlainReading.{line_of_turn, lines_of, misses_eol, missing_eol, move_on, nothing_read, pass_gap}
-pub use Rattle.fax_reading.specs.PlainReading.{plain, row_before, row_of_line, turns_behind, turns_from, turns_of, whole_reading}
+pub use Rattle.fax_reading.specs.PlainReading.{plain, row_before, row_of_line, turns_after, turns_from, turns_of, whole_reading}
 pub use Rattle.fax_reading.specs.PlainReading.{with_row}
 pub use Rattle.fax_bits.specs.Repetition.{Reaches, Turn, gathered, repeated}
 pub use Rattle.fax_reading.specs.Rows.{too_many_pixels}
@@ -55,13 +55,13 @@ pub use Rattle.fax_reading.specs.Rows.{AreChanges, AscendFrom, HaveWidth, Row, a
 pub use Rattle.fax_reading.specs.Rows.{last_pixel, least_below, opposite, paint, pixel, pixel_before, pixels, pixels_from}
 pub use Rattle.fax_reading.specs.Rows.{repaired, right_of, white_row}
 pub use Rattle.fax_reading.specs.RowsKept.{AreInStep, ComesTo, EndsByWords, IsInStepFrom, MakesNoRtc, PutsInStep, RowsBefore}
-pub use Rattle.fax_reading.specs.RowsKept.{RowsBehind, RowsFollow, TellsStep}
+pub use Rattle.fax_reading.specs.RowsKept.{RowsAfter, RowsFollow, TellsStep}
 pub use Rattle.fax_bits.specs.Runs.{codes_of, read_run, run_from, run_of_word, run_turn}
 pub use Rattle.fax_reading.specs.Settings.{AreSettings}
 pub use Rattle.fax_bits.specs.Ticks.{looked, looked_ahead, run_found, run_gives, tag_tests, word_found}
 pub use Rattle.fax_reading.specs.UsualModes.{AreEnded, GoesOn2d, IsB1, IsNear, TurnsFrom, changes_in}
 pub use Rattle.fax_reading.specs.UsualRuns.{GoesOn}
-pub use Rattle.fax_reading.specs.Work.{IsPaidUpTo, found_here, mode_found, most_for_lines, runs_found, runs_found_behind}
+pub use Rattle.fax_reading.specs.Work.{IsPaidUpTo, found_here, mode_found, most_for_lines, runs_found, runs_found_after}
 pub use Rattle.fax_reading.specs.Work.{second_run_found}
 pub use Rattle.fax_bits.specs.declared.bit_reader.BitOrder.{BitOrder}
 pub use Rattle.fax_bits.specs.declared.bit_reader.BitOrder.TheVariants.{HighestFirst, LowestFirst}

@@ -41,7 +41,7 @@ pub record StaysAsRead (settings : DecodeSettings) (reference : Row) (here : Bit
       → row_of_line settings has_eols (here ++ more) (line_here settings reference (here ++ more))
       ≡ row_continued more (row_of_line settings has_eols here (line_here settings reference here))
 
--- Exactly the lines that aren't short are settled. A line that isn't short stays as it was read; with two bytes of zeros behind
+-- Exactly the lines that aren't short are settled. A line that isn't short stays as it was read; with two bytes of zeros after
 -- it no line is short (T.4, 4.1 and 4.2; T.6, 2.2).
 pub record LinesSettle : Type 0 where
   pub exactly : (settings : DecodeSettings) (reference : Row) (here : Bits)

@@ -8,7 +8,7 @@ use Rattle.fax_bits.specs.declared.settings.DecodeSettings.{DecodeSettings}
 use Rattle.fax_reading.specs.Answers.{is_broken}
 use Rattle.fax_bits.specs.Bits.{Bits}
 use Rattle.fax_reading.specs.Lines.{Line}
-use Rattle.fax_reading.specs.PlainReading.{Progress, turns_of, line_of_turn, misses_eol, behind_row}
+use Rattle.fax_reading.specs.PlainReading.{Progress, turns_of, line_of_turn, misses_eol, aligned_after_row}
 
 -- damage: the index of the row, an offset in bits, and the fault. It is the offset of the line's first bit, where the line is
 -- repaired or a run of it is cut; or that at which an EOL is missed after a whole line.
@@ -78,21 +78,21 @@ cut_in (cut ∷ more) = true
 -- ---- EOLs that are missed
 
 -- what is missed after a line: its EOL, if the line is whole and other bits follow, in lenient data with EOLs (T.4, 4.1.2)
-abbrev pub missed_behind : DecodeSettings → Bits → Progress → Line → List Damaged
-missed_behind settings bits so_far (Line.whole row rest) =
+abbrev pub missed_after : DecodeSettings → Bits → Progress → Line → List Damaged
+missed_after settings bits so_far (Line.whole row rest) =
     if misses_eol settings (length so_far.rows + 1) so_far.has_eols
-    (behind_row settings so_far.has_eols rest) && not settings.strict
+    (aligned_after_row settings so_far.has_eols rest) && not settings.strict
     then record {
       row = length so_far.rows;
-      start = length bits - length (behind_row settings so_far.has_eols rest);
+      start = length bits - length (aligned_after_row settings so_far.has_eols rest);
       fault = InvalidCode;
     } ∷ []
     else []
-missed_behind settings bits so_far (Line.broken front fault) = []
+missed_after settings bits so_far (Line.broken front fault) = []
 
 -- auxiliary: after the line of a turn
 abbrev pub missed_by_turn : DecodeSettings → Bits → Progress → List Damaged
-missed_by_turn settings bits so_far = missed_behind settings bits so_far (line_of_turn settings so_far)
+missed_by_turn settings bits so_far = missed_after settings bits so_far (line_of_turn settings so_far)
 
 -- What is missed after each line of the plain reading, in the order of `lines_of`: one EOL or none.
 abbrev pub misses_by_line : DecodeSettings → Bits → List (List Damaged)

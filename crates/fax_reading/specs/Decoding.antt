@@ -132,9 +132,9 @@ repairs_with (Line.whole row rest) strict taken before = cuts_with (is_broken st
 repairs_with (Line.broken front fault) strict taken before =
     record before { rows = before.rows + 1; fault = fault; last = taken + 1 }
 
--- what is counted after the gap behind the accepted rows, which begins here: a missed EOL, in lenient data (T.4, 4.1.2)
-abbrev pub repairs_behind : Held → Bits → Repairs
-repairs_behind held here =
+-- what is counted after the gap after the accepted rows, which begins here: a missed EOL, in lenient data (T.4, 4.1.2)
+abbrev pub repairs_after : Held → Bits → Repairs
+repairs_after held here =
     if misses_eol held.settings held.taken held.has_eols here && not held.settings.strict then with_missed held.taken held.repairs
     else held.repairs
 

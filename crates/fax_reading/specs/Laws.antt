@@ -121,11 +121,11 @@ ReadsPictureT6 = (settings : DecodeSettings) (rows : List Row) (bits whole : Bit
 -- A T.4 picture closed by RTC yields its rows, whatever follows. The count is the end of the EOLs where the last line
 -- ends, rounded up to a byte (T.4, 4.1.4 and 4.2.4).
 abbrev pub ReadsPictureT4 : Type 0
-ReadsPictureT4 = (settings : DecodeSettings) (rows : List Row) (bits behind whole : Bits) → AreSettings settings
-    → BeginsWithPictureT4 settings rows bits behind whole
+ReadsPictureT4 = (settings : DecodeSettings) (rows : List Row) (bits after whole : Bits) → AreSettings settings
+    → BeginsWithPictureT4 settings rows bits after whole
     → plain settings whole ≡ record {
       rows = rows;
-      outcome = Ok ((length whole - length (eols_here settings behind).1 + 7) / 8);
+      outcome = Ok ((length whole - length (eols_here settings after).1 + 7) / 8);
       has_eols = true;
     }
 
@@ -206,14 +206,14 @@ add_row_alone so_far (Ok (row, rest)) = Turn.next (with_row so_far row rest)
 add_row_alone so_far (Err fault) = ends_with so_far (Err fault)
 
 -- auxiliary: the row of the line after a gap, where one is there
-abbrev pub row_behind : DecodeSettings → Move → Move
-row_behind settings (Turn.next so_far) =
+abbrev pub row_after : DecodeSettings → Move → Move
+row_after settings (Turn.next so_far) =
     add_row_alone so_far (row_of_line settings so_far.has_eols so_far.rest (line_of_turn settings so_far))
-row_behind settings (Turn.done end) = Turn.done end
+row_after settings (Turn.done end) = Turn.done end
 
 -- a gap, and the row after it: from one position between lines to the next
 abbrev pub gap_and_row : DecodeSettings → Progress → Move
-gap_and_row settings so_far = row_behind settings (pass_gap settings so_far)
+gap_and_row settings so_far = row_after settings (pass_gap settings so_far)
 
 -- auxiliary: the same settings, for T.6 data
 abbrev pub for_t6 : DecodeSettings → DecodeSettings

@@ -40,21 +40,21 @@ pub record Drawing (A : Type 0) : Type 0 where
   pub words : List Bits
 
 -- a turn, and the one after it
-abbrev pub turn_behind : {A B : Type 0} → Turn A Line → (A → Turn B Line) → Turn B Line
-turn_behind (Turn.next x) behind = behind x
-turn_behind (Turn.done line) behind = Turn.done line
+abbrev pub turn_following : {A B : Type 0} → Turn A Line → (A → Turn B Line) → Turn B Line
+turn_following (Turn.next x) after = after x
+turn_following (Turn.done line) after = Turn.done line
 
 -- the words that are found after a turn
-abbrev pub words_behind : {A : Type 0} → Turn A Line → (A → List Bits) → List Bits
-words_behind (Turn.next x) behind = behind x
-words_behind (Turn.done line) behind = []
+abbrev pub words_after : {A : Type 0} → Turn A Line → (A → List Bits) → List Bits
+words_after (Turn.next x) after = after x
+words_after (Turn.done line) after = []
 
 -- one step after another, unless the line ends with the first: the sequence in a `do`
 infixl 10 ◌>>=◌
 abbrev pub ◌>>=◌ : {A B : Type 0} → Drawing A → (A → Drawing B) → Drawing B
-drawing >>= behind = record {
-  turn = turn_behind drawing.turn (λ x. (behind x).turn);
-  words = drawing.words ++ words_behind drawing.turn (λ x. (behind x).words);
+drawing >>= after = record {
+  turn = turn_following drawing.turn (λ x. (after x).turn);
+  words = drawing.words ++ words_after drawing.turn (λ x. (after x).words);
 }
 
 -- drawing continues with this

@@ -73,8 +73,8 @@ finish_step strict columns run pen = do
 
 -- the line, where a turn goes on to this or ends it (auxiliary)
 abbrev pub line_after_turn : (Pen → Line) → Turn Pen Line → Line
-line_after_turn behind (Turn.next pen) = behind pen
-line_after_turn behind (Turn.done line) = line
+line_after_turn after (Turn.next pen) = after pen
+line_after_turn after (Turn.done line) = line
 
 -- The line from a part of it on (T.4, 4.1 and 4.2; T.6, 2.2).
 abbrev pub line_from_part : DecodeSettings → Row → LinePart → Line
@@ -96,8 +96,8 @@ abbrev pub sum_with : ℕ → ℕ → Result ℕ DecodeError
 sum_with total n = if nat_lt 4294967295 (total + n) then Err Overflow else Ok (total + n)
 
 -- where a line goes on after a run: with the other run of its horizontal mode, or with the next step (T.4, 4.1.1 and 4.2.1.3)
-abbrev pub behind_run : OpenRun → Pen → LinePart
-behind_run run pen =
+abbrev pub after_run : OpenRun → Pen → LinePart
+after_run run pen =
     if run.another then LinePart.in_run (record { is_2d = run.is_2d; another = false; total = 0 }) pen
     else LinePart.at_step run.is_2d pen
 
@@ -106,7 +106,7 @@ abbrev pub run_summed : Bool → ℕ → OpenRun → Pen → ℕ → ℕ → Dra
 run_summed strict columns run pen n total =
     if nat_lt n 64 then (do
       front ← painted strict columns pen total
-      go_on (behind_run run (record pen { front = front; color = opposite pen.color })))
+      go_on (after_run run (record pen { front = front; color = opposite pen.color })))
     else go_on (LinePart.in_run (record run { total = total }) pen)
 
 -- what a word of a run adds to it (T.4, 4.1.1)

@@ -166,7 +166,7 @@ pub data EndAlike (settings : DecodeSettings) (one two : Bits) (from differ : �
 -- Two data differ only within one body, which is local in both; and EOLs are sought from the start (T.4, 4.1.2).
 pub record DifferInOneBody (settings : DecodeSettings) (one two : Bits) (from to to2 : ℕ) : Type 0 where
   pub before : take from one ≡ take from two
-  pub behind : drop to one ≡ drop to2 two
+  pub after : drop to one ≡ drop to2 two
   pub body : IsLocal settings one from to
   pub other : IsLocal settings two from to2
   pub sought : (settings.end_of_line ≡ true) ⊎ ((end : ℕ) × (end ≤ from) × IsEol one 0 end)

@@ -36,7 +36,7 @@ IsReadBefore settings bits place after = (so_far : Progress)
     → Reaches (move_on settings) (first_line settings bits) so_far → so_far.rest ≡ drop place bits
     → (row : Row) (rest : Bits) → line_of_turn settings so_far ≡ Line.whole row rest → length after + 12 ≤ length rest
 
--- The tag and the body of a line lie between two positions: an EOL ends where the tag is, or the data begin there; behind
+-- The tag and the body of a line lie between two positions: an EOL ends where the tag is, or the data begin there; after
 -- the tag is a one, and no EOL is in between; an EOL follows, and the line, as it is read, ends before the last twelve
 -- bits of that EOL if it is whole (T.4, 4.1.2 and 4.2.2).
 pub record IsTaggedBody (settings : DecodeSettings) (bits : Bits) (from to : ℕ) : Type 0 where
@@ -47,7 +47,7 @@ pub record IsTaggedBody (settings : DecodeSettings) (bits : Bits) (from to : ℕ
   pub no_eol : (place end : ℕ) → from ≤ place → end ≤ to → IsEol bits place end → ⊥
   pub closes : (after : Bits) × (after_eol 0 (drop to bits) ≡ Some after) × IsReadBefore settings bits from after
 
--- ---- the lines behind it
+-- ---- the lines after it
 
 -- here is an EOL; it and those that follow it with their tags are RTC, which is looked for, or come before a
 -- one-dimensional line or the end of the data (T.4, 4.2.2 and 4.2.4)
@@ -57,35 +57,35 @@ ComesBefore1D settings here = IsEolAt here
     ⊎ (((line : Bits) × ((tagged_eols here).1 ≡ true ∷ line)) ⊎ ((tagged_eols here).1 ≡ [])))
 
 -- auxiliary: what follows the second run of a horizontal mode, if it is read (T.4, 4.2.1.3)
-abbrev pub behind_second_run : Color → Result (ℕ × Bits) DecodeError → Option (Color × Bits)
-behind_second_run color (Ok run) = Some (color, run.1)
-behind_second_run color (Err fault) = None
+abbrev pub after_second_run : Color → Result (ℕ × Bits) DecodeError → Option (Color × Bits)
+after_second_run color (Ok run) = Some (color, run.1)
+after_second_run color (Err fault) = None
 
 -- auxiliary: the same, from the first run on
-abbrev pub behind_first_run : Color → Result (ℕ × Bits) DecodeError → Option (Color × Bits)
-behind_first_run color (Ok run) = behind_second_run color (read_run (opposite color) run.1)
-behind_first_run color (Err fault) = None
+abbrev pub after_first_run : Color → Result (ℕ × Bits) DecodeError → Option (Color × Bits)
+after_first_run color (Ok run) = after_second_run color (read_run (opposite color) run.1)
+after_first_run color (Err fault) = None
 
--- auxiliary: the same, behind the word of any mode: a vertical one turns the colour (T.4, 4.2.1.3)
-abbrev pub behind_word : Color → Mode → Bits → Option (Color × Bits)
-behind_word color Pass rest = Some (color, rest)
-behind_word color (Vertical k) rest = Some (opposite color, rest)
-behind_word color Horizontal rest = behind_first_run color (read_run color rest)
+-- auxiliary: the same, after the word of any mode: a vertical one turns the colour (T.4, 4.2.1.3)
+abbrev pub after_word : Color → Mode → Bits → Option (Color × Bits)
+after_word color Pass rest = Some (color, rest)
+after_word color (Vertical k) rest = Some (opposite color, rest)
+after_word color Horizontal rest = after_first_run color (read_run color rest)
 
 -- auxiliary: the same, if the word is read
-abbrev pub behind_read : Color → Result (Mode × Bits) DecodeError → Option (Color × Bits)
-behind_read color (Ok mode) = behind_word color mode.0 mode.1
-behind_read color (Err fault) = None
+abbrev pub after_read : Color → Result (Mode × Bits) DecodeError → Option (Color × Bits)
+after_read color (Ok mode) = after_word color mode.0 mode.1
+after_read color (Err fault) = None
 
--- the mode here is read in a line of this colour, with the runs of a horizontal one: the colour behind it, and what follows;
+-- the mode here is read in a line of this colour, with the runs of a horizontal one: the colour after it, and what follows;
 -- this doesn't need the reference row (T.4, 4.2.1.3)
-abbrev pub behind_mode : Color → Bits → Option (Color × Bits)
-behind_mode color here = behind_read color (read_code mode_codes here)
+abbrev pub after_mode : Color → Bits → Option (Color × Bits)
+after_mode color here = after_read color (read_code mode_codes here)
 
 -- modes that are read in a line of this colour, and what follows them (T.4, 4.2.1.3)
 pub data ReadsModes : Color → Bits → Bits → Type 0 where
   over : {color : Color} {here : Bits} → ReadsModes color here here
-  mode : (next : Color) (rest : Bits) {color : Color} {here last : Bits} → behind_mode color here ≡ Some (next, rest)
+  mode : (next : Color) (rest : Bits) {color : Color} {here last : Bits} → after_mode color here ≡ Some (next, rest)
       → ReadsModes next rest last → ReadsModes color here last
 
 -- the modes of a line, with their runs, as many as can be read, end before the last twelve bits of an EOL; `after` is what
@@ -93,14 +93,14 @@ pub data ReadsModes : Color → Bits → Bits → Type 0 where
 abbrev pub ModesEndBefore : Bits → Bits → Type 0
 ModesEndBefore after line = (rest : Bits) → ReadsModes White line rest → length after + 12 ≤ length rest
 
--- Here is a two-dimensional line, behind its tag of zero: no EOL is at the tag, and the modes of the line end before the
+-- Here is a two-dimensional line, after its tag of zero: no EOL is at the tag, and the modes of the line end before the
 -- last twelve bits of the next EOL, so that it ends there whatever row it is read against (T.4, 4.1.2 and 4.2).
 pub record IsLine2D (line next : Bits) : Type 0 where
   pub no_eol : after_eol 0 (false ∷ line) ≡ None
   pub next_is : next_eol (false ∷ line) ≡ Some next
   pub ends : (after : Bits) × (after_eol 0 next ≡ Some after) × ModesEndBefore after line
 
--- here are as many two-dimensional lines, an EOL before each and behind the last, which comes before a one-dimensional
+-- here are as many two-dimensional lines, an EOL before each and after the last, which comes before a one-dimensional
 -- line, RTC or the end (T.4, 4.2)
 abbrev pub ComeBefore1D : DecodeSettings → ℕ → Bits → Type 0
 ComeBefore1D settings zero here = ComesBefore1D settings here
@@ -123,7 +123,7 @@ pub record DifferInOneLine (settings : DecodeSettings) (one two : Bits) (from to
   pub encoding : settings.encoding ≡ Group3_2D
   pub lenient : settings.strict ≡ false
   pub before : take from one ≡ take from two
-  pub behind : drop to one ≡ drop to2 two
+  pub after : drop to one ≡ drop to2 two
   pub body : IsTaggedBody settings one from to
   pub other : IsTaggedBody settings two from to2
   pub sought : (settings.end_of_line ≡ true) ⊎ ((end : ℕ) × (end ≤ from) × IsEol one 0 end)
@@ -154,7 +154,7 @@ abbrev pub LocalityByK : Type 0
 LocalityByK = (settings : DecodeSettings) (bits : Bits) → AreSettings settings → AreWholeBytes bits
     → DamageEndsAt1D settings bits (plain settings bits).rows (plain settings bits).outcome
 
--- A line of an encoding, after lines of one with an EOL before each, is such a body in data that have an EOL behind it
+-- A line of an encoding, after lines of one with an EOL before each, is such a body in data that have an EOL after it
 -- (T.4, 4.1.2 and 4.2).
 abbrev pub EncodedLinesAreBodies : Type 0
 EncodedLinesAreBodies = (settings : DecodeSettings) (reference above row : Row) (rows : List Row) (front line next : Bits)

@@ -24,15 +24,15 @@ pub record BeginsWithPictureT6 (settings : DecodeSettings) (rows : List Row) (bi
 
 -- The data begins with T.4 lines of these rows, an EOL before each, and with RTC after them; the settings look for RTC
 -- and allow as many rows (T.4, 4.1.4 and 4.2.4).
-pub record BeginsWithPictureT4 (settings : DecodeSettings) (rows : List Row) (bits behind whole : Bits) : Type 0 where
+pub record BeginsWithPictureT4 (settings : DecodeSettings) (rows : List Row) (bits after whole : Bits) : Type 0 where
   pub encoding : settings.encoding ≢ Group4
   pub end_of_block : settings.end_of_block ≡ true
   pub limit : Allows settings (length rows)
   pub some : 0 < length rows
   pub picture : IsPicture settings.columns rows
   pub lines : EncodesRowsWithEols settings.encoding (white_row settings.columns) rows bits
-  pub closing : (closing : Bits) × ClosesWithEols settings.encoding 6 closing × IsPrefix closing behind
-  pub begins : whole ≡ bits ++ behind
+  pub closing : (closing : Bits) × ClosesWithEols settings.encoding 6 closing × IsPrefix closing after
+  pub begins : whole ≡ bits ++ after
 
 -- The data begins with a closed picture of these rows that occupies this number of bytes, the last one rounded up (T.4,
 -- 4.1.4 and 4.2.4; T.6, 2.4.1.1).
@@ -41,8 +41,8 @@ pub data IsClosedPicture (settings : DecodeSettings) (rows : List Row) (count : 
   by_eofb : (bits : Bits) → BeginsWithPictureT6 settings rows bits whole → count ≡ (length bits + 7) / 8
       → IsClosedPicture settings rows count whole
   -- in T.4 up to the end of all the EOLs where the last line ends, RTC being the first six (T.4, 4.1.4 and 4.2.4)
-  by_rtc : (bits behind : Bits) → BeginsWithPictureT4 settings rows bits behind whole
-      → count ≡ (length whole - length (eols_here settings behind).1 + 7) / 8 → IsClosedPicture settings rows count whole
+  by_rtc : (bits after : Bits) → BeginsWithPictureT4 settings rows bits after whole
+      → count ≡ (length whole - length (eols_here settings after).1 + 7) / 8 → IsClosedPicture settings rows count whole
 
 -- ---- Pictures that the row limit ends
 

@@ -71,14 +71,14 @@ is_over settings taken (count, rest) =
     is_end_of_block settings count || limit_met settings taken || at_end rest
 
 -- a line follows these EOLs, unless the reading is over (T.4, 4.1.4; T.6, 2.4.1.1)
-abbrev pub behind_eols : DecodeSettings → ℕ → Bool → ℕ × Bits → Gap
-behind_eols settings taken has_eols (count, rest) =
+abbrev pub after_eols : DecodeSettings → ℕ → Bool → ℕ × Bits → Gap
+after_eols settings taken has_eols (count, rest) =
     if is_over settings taken (count, rest) then Gap.over (Ok rest) else Gap.line_at has_eols rest
 
 -- The next EOL was looked for. If there is one, the EOLs there are counted; else a line is here, and EOLs are no longer
 -- sought (T.4, 4.1.2).
 abbrev pub from_next_eol : DecodeSettings → ℕ → Bits → Option Bits → Gap
-from_next_eol settings taken here (Some found) = behind_eols settings taken true (eols_here settings found)
+from_next_eol settings taken here (Some found) = after_eols settings taken true (eols_here settings found)
 from_next_eol settings taken here None = Gap.line_at false here
 
 -- there is no EOL here, in data that have them: a strict reading fails, and a lenient one looks for the next EOL (T.4,
@@ -94,11 +94,11 @@ misses_eol settings taken has_eols here =
 
 -- What follows this number of rows: EOLs, which are counted, and searched for if there are none although the data have EOLs,
 -- the limit isn't met and bits are left (T.4, 4.1.2).
-abbrev pub gap_behind_row : DecodeSettings → ℕ → Bool → Bits → Gap
-gap_behind_row settings taken has_eols here =
+abbrev pub gap_after_row : DecodeSettings → ℕ → Bool → Bits → Gap
+gap_after_row settings taken has_eols here =
     if misses_eol settings taken has_eols here
     then missing_eol settings taken here
-    else behind_eols settings taken has_eols (eols_here settings here)
+    else after_eols settings taken has_eols (eols_here settings here)
 
 -- ---- One row (T.4, 4.1 and 4.2; T.6, 2.2)
 
@@ -122,17 +122,17 @@ abbrev pub line_here : DecodeSettings → Row → Bits → Line
 line_here settings reference here = line_by settings.encoding settings.strict settings.columns reference here
 
 -- the bits after a row: where rows are aligned and the data have no EOLs, they begin at a whole byte (T.4, 4.1.3)
-abbrev pub behind_row : DecodeSettings → Bool → Bits → Bits
-behind_row settings has_eols rest = if settings.rows_are_byte_aligned && not has_eols then aligned rest else rest
+abbrev pub aligned_after_row : DecodeSettings → Bool → Bits → Bits
+aligned_after_row settings has_eols rest = if settings.rows_are_byte_aligned && not has_eols then aligned rest else rest
 
 -- What a line yields: its row, and the bits after it, or its fault. In lenient data with EOLs a broken row is repaired: its
 -- front is continued in white, and the reader goes back to the line's start (T.4, 4.1.2). Data without EOLs, such as those
 -- of Group 4, are never repaired (T.6, 2.2).
 abbrev pub row_of_line : DecodeSettings → Bool → Bits → Line → Result (Row × Bits) DecodeError
-row_of_line settings has_eols start (Line.whole row rest) = Ok (row, behind_row settings has_eols rest)
+row_of_line settings has_eols start (Line.whole row rest) = Ok (row, aligned_after_row settings has_eols rest)
 row_of_line settings has_eols start (Line.broken front fault) =
     if settings.strict || not has_eols then Err fault
-    else Ok (repaired settings.columns front, behind_row settings has_eols start)
+    else Ok (repaired settings.columns front, aligned_after_row settings has_eols start)
 
 -- ---- One turn: a row, and the gap after it
 
@@ -151,7 +151,7 @@ at_gap so_far (Gap.line_at has_eols here) = Turn.next (record so_far { has_eols 
 
 -- the gap after the rows so far
 abbrev pub pass_gap : DecodeSettings → Progress → Move
-pass_gap settings so_far = at_gap so_far (gap_behind_row settings (length so_far.rows) so_far.has_eols so_far.rest)
+pass_gap settings so_far = at_gap so_far (gap_after_row settings (length so_far.rows) so_far.has_eols so_far.rest)
 
 -- auxiliary: a row is added and the gap after it passed, or its fault ends the reading
 abbrev pub add_row : DecodeSettings → Progress → Result (Row × Bits) DecodeError → Move
@@ -192,13 +192,13 @@ ending_from move so_far =
     (suc (suc (length so_far.rest))) so_far
 
 -- auxiliary: how the reading ends after a gap
-abbrev pub ending_behind : DecodeSettings → Move → Ending
-ending_behind settings (Turn.next so_far) = ending_from (move_on settings) so_far
-ending_behind settings (Turn.done end) = end
+abbrev pub ending_after : DecodeSettings → Move → Ending
+ending_after settings (Turn.next so_far) = ending_from (move_on settings) so_far
+ending_after settings (Turn.done end) = end
 
 -- how the reading of data with these settings ends
 abbrev pub end_of : DecodeSettings → Bits → Ending
-end_of settings bits = ending_behind settings (first_gap settings.encoding settings bits)
+end_of settings bits = ending_after settings (first_gap settings.encoding settings bits)
 
 -- a reading of whole data: the rows, the number of bytes read or the fault, and whether EOLs were sought to the end
 pub record Reading : Type 0 where
@@ -230,15 +230,15 @@ abbrev pub turns_from : (Progress → Move) → Progress → List Progress
 turns_from move so_far = gathered move (λ turn. turn ∷ []) (suc (suc (length so_far.rest))) so_far
 
 -- the same after a gap
-abbrev pub turns_behind : DecodeSettings → Move → List Progress
-turns_behind settings (Turn.next so_far) = turns_from (move_on settings) so_far
-turns_behind settings (Turn.done end) = []
+abbrev pub turns_after : DecodeSettings → Move → List Progress
+turns_after settings (Turn.next so_far) = turns_from (move_on settings) so_far
+turns_after settings (Turn.done end) = []
 
 -- The states before the turns of the plain reading, in order: the one with index n is before the line that is read after n
 -- rows. Without columns there are none.
 abbrev pub turns_of : DecodeSettings → Bits → List Progress
 turns_of settings bits =
-    if settings.columns == 0 then [] else turns_behind settings (first_gap settings.encoding settings bits)
+    if settings.columns == 0 then [] else turns_after settings (first_gap settings.encoding settings bits)
 
 -- the line that a turn reads
 abbrev pub line_of_turn : DecodeSettings → Progress → Line

@@ -1,4 +1,4 @@
--- Which rows of damaged data are as they were: those before the damage, and those behind the second EOL after it.
+-- Which rows of damaged data are as they were: those before the damage, and those after the second EOL after it.
 use Rattle.std.specs.Prelude.{◌≡◌, ℕ, ◌+◌, ◌*◌, ◌<◌, ◌≤◌, ◌⊎◌, Some, Result, Ok, Err, true, false, List}
 use Rattle.std.specs.Prelude.{[], ◌∷◌, ◌++◌, length, take, drop}
 use Rattle.fax_bits.specs.declared.error.DecodeError.{DecodeError}
@@ -42,17 +42,17 @@ abbrev pub RowsBefore : Type 0
 RowsBefore =
     (settings : DecodeSettings) (bits : Bits) → AreWholeBytes bits → RowsBeforeStay settings bits (plain settings bits).rows
 
--- ---- the rows behind the damage
+-- ---- the rows after the damage
 
 -- fewer than six EOLs are counted from each position before a line: the bits up to it make no RTC (T.4, 4.1.4 and 4.2.4)
 abbrev pub MakesNoRtc : DecodeSettings → Bits → Bits → Type 0
 MakesNoRtc settings bits line =
     (before here : Bits) → bits ≡ before ++ here → length line < length here → (eols_here settings here).0 < 6
 
--- An EOL is here, and no other; the line behind it, whatever row it is read against, is broken or ends before the last
--- twelve bits of the next EOL. Behind this one, and those that follow it, some bits are left: RTC or a line without a
+-- An EOL is here, and no other; the line after it, whatever row it is read against, is broken or ends before the last
+-- twelve bits of the next EOL. After this one, and those that follow it, some bits are left: RTC or a line without a
 -- reference row (T.4, 4.1.2 and 4.2).
-pub record PutsInStep (settings : DecodeSettings) (here line behind : Bits) : Type 0 where
+pub record PutsInStep (settings : DecodeSettings) (here line following : Bits) : Type 0 where
   pub eol : after_eol 0 here ≡ Some line
   pub alone : eols_here settings here ≡ (1, line)
   pub next : Bits
@@ -62,19 +62,19 @@ pub record PutsInStep (settings : DecodeSettings) (here line behind : Bits) : Ty
   pub ends : (reference row : Row) (rest : Bits) → line_here settings reference line ≡ Line.whole row rest
       → length after + 12 ≤ length rest
   pub count : ℕ
-  pub behind_is : eols_here settings next ≡ (count, behind)
+  pub following_is : eols_here settings next ≡ (count, following)
   pub unreferred : (is_end_of_block settings count ≡ true)
-      ⊎ ((reference other : Row) → line_here settings reference behind ≡ line_here settings other behind)
+      ⊎ ((reference other : Row) → line_here settings reference following ≡ line_here settings other following)
 
--- Lenient data of Group 3 without a row limit are the same from a position of each on, where an EOL and the line behind it
+-- Lenient data of Group 3 without a row limit are the same from a position of each on, where an EOL and the line after it
 -- put them in step; EOLs are sought from the start of both, and what is before makes no RTC (T.4, 4.1.2 and 4.1.4).
-pub record AreAlikeBehind (settings : DecodeSettings) (one two : Bits) (to to2 : ℕ) (line behind : Bits) : Type 0 where
+pub record AreAlikeAfter (settings : DecodeSettings) (one two : Bits) (to to2 : ℕ) (line following : Bits) : Type 0 where
   pub encoding : (settings.encoding ≡ Group3_1D) ⊎ (settings.encoding ≡ Group3_2D)
   pub lenient : settings.strict ≡ false
   pub unlimited : settings.rows ≡ 0
   pub wide : 0 < settings.columns
   pub same : drop to one ≡ drop to2 two
-  pub step : PutsInStep settings (drop to one) line behind
+  pub step : PutsInStep settings (drop to one) line following
   pub sought : (settings.end_of_line ≡ true) ⊎ IsEolAt one
   pub sought_too : (settings.end_of_line ≡ true) ⊎ IsEolAt two
   pub no_rtc : MakesNoRtc settings one line
@@ -82,34 +82,34 @@ pub record AreAlikeBehind (settings : DecodeSettings) (one two : Bits) (to to2 :
 
 -- the reading of some data comes to a line after this number of rows, with these bits from there on; or it ends there
 abbrev pub ComesTo : DecodeSettings → Bits → Bits → ℕ → Type 0
-ComesTo settings bits behind index = ((last : Progress) × Reaches (move_on settings) (first_line settings bits) last
-    × (last.rest ≡ behind) × (length last.rows ≡ index))
-    ⊎ (((end_of settings bits).outcome ≡ Ok behind) × (length (plain settings bits).rows ≡ index))
+ComesTo settings bits following index = ((last : Progress) × Reaches (move_on settings) (first_line settings bits) last
+    × (last.rest ≡ following) × (length last.rows ≡ index))
+    ⊎ (((end_of settings bits).outcome ≡ Ok following) × (length (plain settings bits).rows ≡ index))
 
 -- How two readings are in step: from these rows on both have the same ones, and both end with the same fault, or at the
 -- same number of bytes before the end of their data (T.4, 4.1.2).
-pub record AreInStep (settings : DecodeSettings) (one two behind : Bits) (rows others : List Row)
+pub record AreInStep (settings : DecodeSettings) (one two following : Bits) (rows others : List Row)
     (outcome other : Result ℕ DecodeError) : Type 0 where
   pub index : ℕ
   pub index2 : ℕ
-  pub comes : ComesTo settings one behind index
-  pub comes_too : ComesTo settings two behind index2
+  pub comes : ComesTo settings one following index
+  pub comes_too : ComesTo settings two following index2
   pub same_rows : drop index rows ≡ drop index2 others
   pub ends : ((fault : DecodeError) × (outcome ≡ Err fault) × (other ≡ Err fault))
       ⊎ ((count count2 : ℕ) × (outcome ≡ Ok count) × (other ≡ Ok count2)
       × (8 * count + length two ≡ 8 * count2 + length one))
 
--- Some data were read as these rows, with this result. Whatever is changed, lost or added before an EOL, behind the EOL
+-- Some data were read as these rows, with this result. Whatever is changed, lost or added before an EOL, after the EOL
 -- after it the rows are the same again, if the line in between ends before its EOL (T.4, 4.1.2).
-abbrev pub RowsBehindStay : DecodeSettings → Bits → List Row → Result ℕ DecodeError → Type 0
-RowsBehindStay settings one rows outcome =
-    (two line behind : Bits) (to to2 : ℕ) → AreWholeBytes two → AreAlikeBehind settings one two to to2 line behind
-    → AreInStep settings one two behind rows (plain settings two).rows outcome (plain settings two).outcome
+abbrev pub RowsAfterStay : DecodeSettings → Bits → List Row → Result ℕ DecodeError → Type 0
+RowsAfterStay settings one rows outcome =
+    (two line following : Bits) (to to2 : ℕ) → AreWholeBytes two → AreAlikeAfter settings one two to to2 line following
+    → AreInStep settings one two following rows (plain settings two).rows outcome (plain settings two).outcome
 
 -- This is true of the plain reading (T.4, 4.1.2).
-abbrev pub RowsBehind : Type 0
-RowsBehind = (settings : DecodeSettings) (bits : Bits) → AreWholeBytes bits
-    → RowsBehindStay settings bits (plain settings bits).rows (plain settings bits).outcome
+abbrev pub RowsAfter : Type 0
+RowsAfter = (settings : DecodeSettings) (bits : Bits) → AreWholeBytes bits
+    → RowsAfterStay settings bits (plain settings bits).rows (plain settings bits).outcome
 
 -- ---- where the bits tell that they are in step
 
@@ -122,10 +122,10 @@ EndsByWords Group3_2D columns after (true ∷ line) = EndsBefore columns after l
 EndsByWords Group3_2D columns after (false ∷ line) = ModesEndBefore after line
 EndsByWords Group4 columns after line = ModesEndBefore after line
 
--- An EOL and the line behind it put readings in step. In two-dimensional data modes and tags tell it, whatever the rows
+-- An EOL and the line after it put readings in step. In two-dimensional data modes and tags tell it, whatever the rows
 -- are: a two-dimensional line there ends by its modes, and a one-dimensional line, RTC or the end follows (T.4, 4.2).
-pub record TellsStep (settings : DecodeSettings) (here line behind : Bits) : Type 0 where
-  pub step : PutsInStep settings here line behind
+pub record TellsStep (settings : DecodeSettings) (here line following : Bits) : Type 0 where
+  pub step : PutsInStep settings here line following
   pub modes : settings.encoding ≡ Group3_2D → (modes : Bits) → line ≡ false ∷ modes → ModesEndBefore step.after modes
   pub tag : settings.encoding ≡ Group3_2D → ComesBefore1D settings step.next
 

@@ -6,7 +6,7 @@ use Rattle.fax_bits.specs.declared.codes.Color.TheVariants.{White, Black}
 use Rattle.fax_reading.specs.Lines.{Pen, draw_2d, drawn, words_drawn}
 use Rattle.fax_reading.specs.Rows.{Row, AreChanges, pixels}
 
--- Places are the changes of a row, and its end six times behind them, so that b1 is always among them, with four places after it:
+-- Places are the changes of a row, and its end six times after them, so that b1 is always among them, with four places after it:
 -- the changes
 abbrev pub changes_in : List ℕ → List ℕ
 changes_in places = take (length places - 6) places

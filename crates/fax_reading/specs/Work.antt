@@ -66,20 +66,20 @@ abbrev pub second_run_found : Color → Result (ℕ × Bits) DecodeError → Lis
 second_run_found color (Ok run) = run_found (opposite color) (0, run.1)
 second_run_found color (Err fault) = []
 
--- auxiliary: the words of the runs behind the word of a mode (T.4, 4.2.1.3)
+-- auxiliary: the words of the runs after the word of a mode (T.4, 4.2.1.3)
 abbrev pub runs_found : Color → Mode → Bits → List Bits
 runs_found color Pass rest = []
 runs_found color (Vertical k) rest = []
 runs_found color Horizontal rest = run_found color (0, rest) ++ second_run_found color (read_run color rest)
 
 -- auxiliary: the same, if the word is read
-abbrev pub runs_found_behind : Color → Result (Mode × Bits) DecodeError → List Bits
-runs_found_behind color (Ok mode) = runs_found color mode.0 mode.1
-runs_found_behind color (Err fault) = []
+abbrev pub runs_found_after : Color → Result (Mode × Bits) DecodeError → List Bits
+runs_found_after color (Ok mode) = runs_found color mode.0 mode.1
+runs_found_after color (Err fault) = []
 
 -- the words that the mode here finds in a line of this colour, with those of its runs, even if one is broken (T.4, 4.2.1.3)
 abbrev pub mode_found : Color → Bits → List Bits
-mode_found color here = word_found mode_codes here ++ runs_found_behind color (read_code mode_codes here)
+mode_found color here = word_found mode_codes here ++ runs_found_after color (read_code mode_codes here)
 
 -- The most that passing lines counts, as long as each is two-dimensional and ends before the next EOL, with this number
 -- of bits from the first EOL on: the zeros of an EOL and the bits of a line are examined a few times (T.4, 4.1.2 and 4.2).

@@ -17,7 +17,7 @@ ghost use Rattle.fax_reading.specs.Laws.{RowsOfChanges, ChangesOfRows};
 ghost use Rattle.fax_reading.specs.GapsContinued.{GapsSettle};
 ghost use Rattle.fax_reading.specs.Locality.{LinesByEols, StartsAre, Locality, LocalByTests};
 ghost use Rattle.fax_reading.specs.LocalityByK.{LocalityByK, EncodedLinesAreBodies};
-ghost use Rattle.fax_reading.specs.RowsKept.{RowsBefore, RowsBehind};
+ghost use Rattle.fax_reading.specs.RowsKept.{RowsBefore, RowsAfter};
 
 /// Code words contain few zeros. Each word of a run has at most seven at its start and three at its end, each word of a
 /// mode at most five and one; none has eight consecutive ones, and each contains a one.
@@ -117,7 +117,7 @@ pub fn locality()
 {}
 
 /// Two-dimensional lenient data of Group 3 with EOLs. A line lies between two EOLs, or at the start of the data before the
-/// first, with its tag; behind the tag is a one, no EOL is in between, and the line as it is read, if it is whole, ends before
+/// first, with its tag; after the tag is a one, no EOL is in between, and the line as it is read, if it is whole, ends before
 /// the last twelve bits of the EOL after it. If the two-dimensional lines that follow it, up to the next one-dimensional
 /// one, are lines of encodings, then another such line instead of it changes at most its row and theirs, and the reading
 /// ends alike. Each line of an encoding is such a line (T.4, 4.1.2 and 4.2).
@@ -134,15 +134,15 @@ pub fn rows_before()
 {}
 
 /// Whatever damage there is between two EOLs of lenient Group 3 data, bits that are changed, lost or added, the rows are the
-/// same again behind the next EOL. The line between that EOL and the damage is broken or ends before the last twelve bits of
+/// same again after the next EOL. The line between that EOL and the damage is broken or ends before the last twelve bits of
 /// the EOL, whatever row it is read against; the damage makes no RTC; and in two-dimensional data a one-dimensional line
 /// follows the EOL. The readings have no row limit, seek EOLs, and end alike (T.4, 4.1.2).
 /// `hayro_ccitt::in_step_from` finds where.
-pub fn rows_behind()
-    ensures { RowsBehind }
+pub fn rows_after()
+    ensures { RowsAfter }
 {}
 
-/// `gap_is_settled` tests the bits that are known behind a row: it says exactly whether the gap there is the same whatever bits
+/// `gap_is_settled` tests the bits that are known after a row: it says exactly whether the gap there is the same whatever bits
 /// follow. Then whether an EOL is missed is the same too, and so is what is counted of it. Where the test fails, whole bytes
 /// can follow that change the gap. `first_gap_is_settled` says so of the first gap of the data (T.4, 4.1.2 and 4.1.4; T.6,
 /// 2.4.1.1).
@@ -172,7 +172,7 @@ pub fn every_picture_has_an_encoding()
 
 /// A line is short if the bits end within it before any of its words is wrong. Exactly the lines that aren't short are the
 /// same whatever bits follow; so are the strict reading of such a line, its words and, if whole bytes follow, its row or
-/// its fault. No line is short that has two bytes of zeros behind it.
+/// its fault. No line is short that has two bytes of zeros after it.
 pub fn lines_settle()
     ensures { LinesSettle }
 {}

@@ -8,14 +8,14 @@ pub use Rattle.fax_reading.specs.Damage.{Damaged, fault_in, missed_by_turn, miss
 pub use Rattle.fax_reading.specs.Damage.{repaired_in, repairs_by_line, cut_by_turn, cut_in, cuts_by_line, cuts_run, start_in}
 pub use Rattle.fax_reading.specs.Damage.{strict_line_of_turn}
 pub use Rattle.fax_reading.specs.Decoding.{cut_since, DecodesRows, SinkState, StopsShort, TakesOneRow}
-pub use Rattle.fax_reading.specs.Decoding.{gap_said, leaving, repairs_behind, repairs_with, with_row_taken, context_at}
+pub use Rattle.fax_reading.specs.Decoding.{gap_said, leaving, repairs_after, repairs_with, with_row_taken, context_at}
 pub use Rattle.fax_reading.specs.Decoding.{damage_since, missed_since}
 pub use Rattle.fax_bits.specs.EndOfLine.{after_eol, all_eols, next_eol, tagged_eols}
 pub use Rattle.fax_reading.specs.Lines.{Line, line_found}
 pub use Rattle.fax_reading.specs.PlainReading.{Ending, Gap, Progress, Reading, add_row, at_end, at_front, at_gap}
-pub use Rattle.fax_reading.specs.PlainReading.{behind_eols, end_of, end_of_row, end_of_turn, ending_behind, ending_from}
+pub use Rattle.fax_reading.specs.PlainReading.{after_eols, end_of, end_of_row, end_of_turn, ending_after, ending_from}
 pub use Rattle.fax_reading.specs.PlainReading.{ends_with, eols_by, eols_here, failed_at, first_gap, first_line, from_next_eol}
-pub use Rattle.fax_reading.specs.PlainReading.{gap_behind_row, is_over, limit_met}
+pub use Rattle.fax_reading.specs.PlainReading.{gap_after_row, is_over, limit_met}
 pub use Rattle.fax_reading.specs.PlainReading.{line_here, line_of_turn, line_starts, lines_of, misses_eol, move_on}
 pub use Rattle.fax_reading.specs.PlainReading.{plain, row_before, row_ends, row_of_line, start_of_turn}
 pub use Rattle.fax_reading.specs.PlainReading.{turns_of, whole_reading, with_row}
@@ -23,8 +23,8 @@ pub use Rattle.fax_bits.specs.Repetition.{Reaches, Turn}
 pub use Rattle.fax_reading.specs.Rows.{Row, changes}
 pub use Rattle.fax_reading.specs.Rows.{pixels}
 pub use Rattle.fax_rows.specs.RowsRead.{DamageIsCounted, HasEnded, HasFailed, IsPaid, IsStanding, IsStandingAtLine, Misses}
-pub use Rattle.fax_rows.specs.RowsRead.{MissesAreCounted, MissesBehindRow, PaidAtLine, PaidBehindRow, ReachesNextLine}
-pub use Rattle.fax_rows.specs.RowsRead.{ReaderStands, ReadsNext, RowsRead, StandsAtLine, StandsBehindRow, WorkIsPaid, ended}
+pub use Rattle.fax_rows.specs.RowsRead.{MissesAreCounted, MissesAfterRow, PaidAtLine, PaidAfterRow, ReachesNextLine}
+pub use Rattle.fax_rows.specs.RowsRead.{ReaderStands, ReadsNext, RowsRead, StandsAtLine, StandsAfterRow, WorkIsPaid, ended}
 pub use Rattle.fax_rows.specs.RowsRead.{is_at_line, line_after, IsWhole, MissIsTold, row_came, seen, stand_after}
 pub use Rattle.fax_rows.specs.RowsRead.{start_after}
 pub use Rattle.fax_reading.specs.Space.{most_room, most_stored, room_for}
@@ -34,7 +34,7 @@ pub use Rattle.fax_bits.specs.declared.codes.Color.TheVariants.{White}
 pub use Rattle.fax_bits.specs.declared.error.DecodeError.{DecodeError}
 pub use Rattle.fax_bits.specs.declared.error.DecodeError.TheVariants.{InvalidCode, OutOfMemory, Refused}
 pub use Rattle.fax_rows.specs.declared.row_reader.Stand.{Stand}
-pub use Rattle.fax_rows.specs.declared.row_reader.Stand.TheVariants.{AtEnd, AtFault, AtLine, BehindRow}
+pub use Rattle.fax_rows.specs.declared.row_reader.Stand.TheVariants.{AtEnd, AtFault, AtLine, AfterRow}
 pub use Rattle.fax_bits.specs.declared.settings.DecodeSettings.{DecodeSettings}
 pub use Rattle.fax_bits.specs.declared.settings.EncodingMode.{EncodingMode}
 pub use Rattle.fax_bits.specs.declared.settings.EncodingMode.TheVariants.{Group3_1D, Group3_2D, Group4}

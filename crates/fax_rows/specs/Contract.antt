@@ -14,7 +14,7 @@ use Rattle.fax_reading.specs.LocalityByK.{DamageEndsAt1D}
 use Rattle.fax_reading.specs.Pictures.{IsClosedPicture, IsLimitedPicture}
 use Rattle.fax_reading.specs.PlainReading.{plain, lines_of, failed_at}
 use Rattle.fax_reading.specs.Rows.{Row, HaveWidth}
-use Rattle.fax_reading.specs.RowsKept.{RowsBeforeStay, RowsBehindStay}
+use Rattle.fax_reading.specs.RowsKept.{RowsBeforeStay, RowsAfterStay}
 use Rattle.fax_reading.specs.Work.{CountsWork}
 pub use Rattle.fax_lines.specs.PassedRows.{PassesRow}
 
@@ -91,6 +91,6 @@ pub record Decodes {M : Type 0} (settings : DecodeSettings) (bits : Bits) (step 
   pub damage_by_k : OnAnswer answer (DamageEndsAt1D settings bits (take held.taken (plain settings bits).rows) answer)
   -- Whatever other data begin with the same bits up to a line have the same rows before that line (T.4, 4.1; T.6, 2.2).
   pub before_damage : OnAnswer answer (RowsBeforeStay settings bits (take held.taken (plain settings bits).rows))
-  -- In lenient data of Group 3 with EOLs, whatever is before an EOL, the rows are the same again behind the next one, if the
+  -- In lenient data of Group 3 with EOLs, whatever is before an EOL, the rows are the same again after the next one, if the
   -- line in between ends before it (T.4, 4.1.2).
-  pub behind_damage : OnAnswer answer (RowsBehindStay settings bits (take held.taken (plain settings bits).rows) answer)
+  pub after_damage : OnAnswer answer (RowsAfterStay settings bits (take held.taken (plain settings bits).rows) answer)

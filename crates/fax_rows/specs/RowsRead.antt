@@ -7,7 +7,7 @@ use Rattle.fax_bits.specs.declared.error.DecodeError.TheVariants.{OutOfMemory, R
 use Rattle.fax_rows.specs.declared.row_reader.RowReader.TheInside.{Inside}
 use Rattle.fax_rows.specs.declared.row_reader.RowState.{RowState}
 use Rattle.fax_rows.specs.declared.row_reader.Stand.{Stand}
-use Rattle.fax_rows.specs.declared.row_reader.Stand.TheVariants.{AtLine, BehindRow, AtEnd, AtFault}
+use Rattle.fax_rows.specs.declared.row_reader.Stand.TheVariants.{AtLine, AfterRow, AtEnd, AtFault}
 use Rattle.fax_bits.specs.declared.settings.DecodeSettings.{DecodeSettings}
 use Rattle.fax_reading.specs.Answers.{IsFault, PaintsBlack}
 use Rattle.fax_bits.specs.Bits.{Bits, BitsAt}
@@ -27,14 +27,14 @@ use Rattle.fax_reading.specs.Work.{IsPaidUpTo, found_here, most_counted, words_o
 -- how a reading has ended, if it has: well, or with an error
 abbrev pub ended : Stand → Option (Result (Unit {0}) DecodeError)
 ended AtLine = None
-ended BehindRow = None
+ended AfterRow = None
 ended AtEnd = Some (Ok tt)
 ended (AtFault error) = Some (Err error)
 
 -- whether a line is here, and no gap before it
 abbrev pub is_at_line : Stand → Bool
 is_at_line AtLine = true
-is_at_line BehindRow = false
+is_at_line AfterRow = false
 is_at_line AtEnd = false
 is_at_line (AtFault error) = false
 
@@ -99,7 +99,7 @@ abbrev pub start_after : Result Bool DecodeError → ℕ → ℕ → ℕ
 start_after (Ok over) place before = before
 start_after (Err error) place before = place
 
--- the number of rows whose gap was passed: that behind the last row is passed with the next call, unless the reading has ended
+-- the number of rows whose gap was passed: that after the last row is passed with the next call, unless the reading has ended
 abbrev pub gaps_before : Option (Result (Unit {0}) DecodeError) → Bool → ℕ → ℕ
 gaps_before (Some end) at_line taken = taken
 gaps_before None true taken = taken
@@ -187,7 +187,7 @@ pub record StandsAtLine (settings : DecodeSettings) (bits : Bits) (held : Held) 
   pub rest_is : rest ≡ so_far.rest
 
 -- the reading reached a line, and its row was read
-pub record StandsBehindRow (settings : DecodeSettings) (bits : Bits) (held : Held) (rest : Bits) : Type 0 where
+pub record StandsAfterRow (settings : DecodeSettings) (bits : Bits) (held : Held) (rest : Bits) : Type 0 where
   pub wide : 0 < settings.columns
   pub first : Progress
   pub so_far : Progress
@@ -211,7 +211,7 @@ pub record IsWhole (settings : DecodeSettings) (bits : Bits) (held : Held) (outc
 -- the state of a reader of rows
 abbrev pub ReaderStands : Stand → DecodeSettings → Bits → Held → ℕ → Type 0
 ReaderStands AtLine settings bits held place = StandsAtLine settings bits held (drop place bits)
-ReaderStands BehindRow settings bits held place = StandsBehindRow settings bits held (drop place bits)
+ReaderStands AfterRow settings bits held place = StandsAfterRow settings bits held (drop place bits)
 ReaderStands AtEnd settings bits held place =
     HasEnded settings bits held.taken place × (0 < settings.columns → IsWhole settings bits held (Ok (drop place bits)))
 ReaderStands (AtFault error) settings bits held place =
@@ -223,8 +223,8 @@ pub record MissesAreCounted (settings : DecodeSettings) (bits : Bits) (repairs :
   pub last : repairs.last ≤ gaps
   pub counted : repairs.missed ≡ sum_by length (take gaps (misses_by_line settings bits))
 
--- behind a row they were counted up to its line
-pub record MissesBehindRow (settings : DecodeSettings) (bits : Bits) (held : Held) : Type 0 where
+-- after a row they were counted up to its line
+pub record MissesAfterRow (settings : DecodeSettings) (bits : Bits) (held : Held) : Type 0 where
   pub line : Line
   pub strict : Line
   pub before : Repairs
@@ -234,7 +234,7 @@ pub record MissesBehindRow (settings : DecodeSettings) (bits : Bits) (held : Hel
 
 abbrev pub Misses : Stand → DecodeSettings → Bits → Held → Type 0
 Misses AtLine settings bits held = MissesAreCounted settings bits held.repairs held.taken
-Misses BehindRow settings bits held = MissesBehindRow settings bits held
+Misses AfterRow settings bits held = MissesAfterRow settings bits held
 Misses AtEnd settings bits held = MissesAreCounted settings bits held.repairs held.taken
 Misses (AtFault error) settings bits held = MissesAreCounted settings bits held.repairs held.taken
 
@@ -250,7 +250,7 @@ pub record DamageIsCounted (stand : Stand) (settings : DecodeSettings) (bits : B
 -- once a gap was passed, it is known where it lacked an EOL (T.4, 4.1.2)
 abbrev pub MissIsTold : Stand → DecodeSettings → Bits → ℕ → Option ℕ → Type 0
 MissIsTold AtLine settings bits taken missed = missed ≡ missed_before settings bits taken
-MissIsTold BehindRow settings bits taken missed = Unit {0}
+MissIsTold AfterRow settings bits taken missed = Unit {0}
 MissIsTold AtEnd settings bits taken missed = missed ≡ missed_before settings bits taken
 MissIsTold (AtFault error) settings bits taken missed = missed ≡ missed_before settings bits taken
 
@@ -266,7 +266,7 @@ pub record PaidAtLine (from : ℕ) (settings : DecodeSettings) (bits : Bits) (he
   pub short : length (changes held.reference) ≤ suc (min settings.columns (length bits))
 
 -- What was counted up to the line of the last row is paid, and that line counted as much as it may.
-pub record PaidBehindRow (from : ℕ) (settings : DecodeSettings) (bits : Bits) (held : Held) (rest : Bits)
+pub record PaidAfterRow (from : ℕ) (settings : DecodeSettings) (bits : Bits) (held : Held) (rest : Bits)
     (ticks : ℕ) : Type 0 where
   pub before : Held
   pub start : Bits
@@ -282,7 +282,7 @@ pub record PaidBehindRow (from : ℕ) (settings : DecodeSettings) (bits : Bits) 
 -- the account of a reader of rows
 abbrev pub IsPaid : ℕ → Stand → DecodeSettings → Bits → Held → ℕ → ℕ → Type 0
 IsPaid from AtLine settings bits held place ticks = PaidAtLine from settings bits held (drop place bits) ticks
-IsPaid from BehindRow settings bits held place ticks = PaidBehindRow from settings bits held (drop place bits) ticks
+IsPaid from AfterRow settings bits held place ticks = PaidAfterRow from settings bits held (drop place bits) ticks
 IsPaid from AtEnd settings bits held place ticks = ticks ≤ from + most_counted settings.encoding (length bits)
 IsPaid from (AtFault error) settings bits held place ticks = ticks ≤ from + most_counted settings.encoding (length bits)
 

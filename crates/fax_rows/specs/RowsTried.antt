@@ -13,9 +13,9 @@ use Rattle.fax_bits.specs.Faults.{misses_end, no_memory}
 use Rattle.fax_reading.specs.GapsContinued.{first_gap_is_settled, gap_is_settled}
 use Rattle.fax_rows.specs.declared.row_reader.RowState.{RowState}
 use Rattle.fax_rows.specs.declared.row_reader.Stand.{Stand}
-use Rattle.fax_reading.specs.Decoding.{TakesOneRow, cut_since, damage_since, gap_said, missed_since, repairs_behind}
+use Rattle.fax_reading.specs.Decoding.{TakesOneRow, cut_since, damage_since, gap_said, missed_since, repairs_after}
 use Rattle.fax_rows.specs.RowsRead.{DamageIsCounted, IsPaid, ReaderStands, line_after, stand_after, start_after}
-use Rattle.fax_reading.specs.PlainReading.{gap_behind_row, line_here, row_of_line}
+use Rattle.fax_reading.specs.PlainReading.{gap_after_row, line_here, row_of_line}
 use Rattle.fax_reading.specs.Rows.{changes}
 use Rattle.fax_reading.specs.Space.{most_stored, room_for}
 use Rattle.fax_bits.specs.Ticks.{looked, looked_ahead, tag_tests}
@@ -41,9 +41,9 @@ pub record ReadsRow (old new : Context) (answer : Result (Unit {0}) DecodeError)
 -- What a call that passes the gap that begins some bits leaves, with these bits after it: whether the image ends there, the
 -- EOLs that were missed, and its work (T.4, 4.1.2 and 4.1.4; T.6, 2.4.1.1).
 pub record PassesGap (old new : Context) (answer : Result Bool DecodeError) (start rest : Bits) : Type 0 where
-  pub gap : gap_behind_row old.held.settings old.held.taken old.held.has_eols start ≡ gap_said answer new.held.has_eols rest
+  pub gap : gap_after_row old.held.settings old.held.taken old.held.has_eols start ≡ gap_said answer new.held.has_eols rest
   pub held : new.held ≡ record old.held { has_eols = new.held.has_eols; repairs = new.held.repairs }
-  pub missed : new.held.repairs ≡ repairs_behind old.held start
+  pub missed : new.held.repairs ≡ repairs_after old.held start
   pub given_up : IfOk answer (λ over. over ≡ true → new.held.has_eols ≡ old.held.has_eols)
   pub only_code : IfErr answer (λ e. e ≡ InvalidCode)
   pub unchanged : OnErr answer (new.held ≡ old.held)
@@ -108,8 +108,8 @@ pub record TriesRow (is_last : Bool) (old new : Context) (answer : Result Bool D
 -- ---- What is kept between two rows
 
 -- after a gap that begins at this offset
-abbrev pub rows_behind_gap : RowState → Result Bool DecodeError → ℕ → Context → Context → RowState
-rows_behind_gap rows over place old new = record {
+abbrev pub rows_after_gap : RowState → Result Bool DecodeError → ℕ → Context → Context → RowState
+rows_after_gap rows over place old new = record {
   started_at = start_after over place rows.started_at;
   damage = rows.damage;
   cut = rows.cut;
@@ -119,15 +119,15 @@ rows_behind_gap rows over place old new = record {
 
 -- after a line that begins at this offset, before which so many rows were damaged, and so many had a cut run: its row, or its
 -- fault
-abbrev pub rows_behind_line : RowState → Result (Unit {0}) DecodeError → ℕ → ℕ → ℕ → Repairs → RowState
-rows_behind_line rows (Ok x) place damaged cut repairs = record {
+abbrev pub rows_after_line : RowState → Result (Unit {0}) DecodeError → ℕ → ℕ → ℕ → Repairs → RowState
+rows_after_line rows (Ok x) place damaged cut repairs = record {
   started_at = place;
   damage = damage_since repairs damaged;
   cut = cut_since repairs cut;
   missed = rows.missed;
-  stand = Stand.BehindRow;
+  stand = Stand.AfterRow;
 }
-rows_behind_line rows (Err error) place damaged cut repairs = record {
+rows_after_line rows (Err error) place damaged cut repairs = record {
   started_at = place;
   damage = rows.damage;
   cut = rows.cut;
@@ -141,7 +141,7 @@ pub record PassesGapHere (gap_start : ℕ) (rows kept : RowState) (old new : Con
     (answer : Result Bool DecodeError) : Type 0 where
   pub over : Result Bool DecodeError
   pub said : answer ≡ line_after over
-  pub kept_is : kept ≡ rows_behind_gap rows over gap_start old new
+  pub kept_is : kept ≡ rows_after_gap rows over gap_start old new
   pub passes : (more : Bits)
       → (more ≡ []) ⊎ (gap_is_settled old.held.settings old.held.taken old.held.has_eols (here before) ≡ true)
       → PassesGap old new over (here before ++ more) (here after ++ more)

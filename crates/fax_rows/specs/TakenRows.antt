@@ -5,11 +5,11 @@ use Rattle.fax_bits.specs.declared.error.DecodeError.{DecodeError}
 use Rattle.fax_bits.specs.Bits.{BitsAt, here}
 use Rattle.fax_reading.specs.Answers.{IsRepairable, RepairStoresChange}
 use Rattle.fax_reading.specs.Context.{Context, Held}
-use Rattle.fax_reading.specs.PlainReading.{behind_row}
+use Rattle.fax_reading.specs.PlainReading.{aligned_after_row}
 
 -- A row was taken, and the reader is where the next line, or its EOL, begins. No tick was counted, and no room was needed.
-pub record MovesBehindRow (before after : Context) (from to : BitsAt) : Type 0 where
-  pub rest : here to ≡ behind_row before.held.settings before.held.has_eols (here from)
+pub record MovesAfterRow (before after : Context) (from to : BitsAt) : Type 0 where
+  pub rest : here to ≡ aligned_after_row before.held.settings before.held.has_eols (here from)
   pub width : length after.held.reference ≡ before.held.settings.columns
   pub same_bits : to.bits ≡ from.bits
   pub count : after.ticks ≡ before.ticks

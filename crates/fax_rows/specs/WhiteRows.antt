@@ -5,7 +5,7 @@ use Rattle.fax_bits.specs.Bits.{BitsAt}
 use Rattle.fax_bits.specs.declared.error.DecodeError.{DecodeError}
 use Rattle.fax_bits.specs.declared.error.DecodeError.TheVariants.{Refused}
 use Rattle.fax_rows.specs.declared.row_reader.RowState.{RowState}
-use Rattle.fax_rows.specs.declared.row_reader.Stand.TheVariants.{BehindRow}
+use Rattle.fax_rows.specs.declared.row_reader.Stand.TheVariants.{AfterRow}
 use Rattle.fax_lines.specs.declared.white_lines.WhiteLines.{WhiteLines}
 use Rattle.fax_reading.specs.Context.{Context}
 use Rattle.fax_reading.specs.Decoding.{SinkState}
@@ -18,7 +18,7 @@ pub record TakesWhite (lines : WhiteLines) (start : ℕ) (rows kept : RowState) 
   pub unmet : limit_met old.held.settings old.held.taken ≡ false
   pub room : old.held.taken + 1 < 2 ^ 64
   pub passes : PassesLine lines before after
-  pub kept_is : kept ≡ record { started_at = start + lines.gap; damage = None; cut = false; missed = None; stand = BehindRow }
+  pub kept_is : kept ≡ record { started_at = start + lines.gap; damage = None; cut = false; missed = None; stand = AfterRow }
   pub new_is : new ≡ record old { held = record old.held { taken = old.held.taken + 1 }; ticks = old.ticks + 2 }
 
 -- where a reading is, and what a sink means then
@@ -28,7 +28,7 @@ pub record Pushed (M : Type 0) : Type 0 where
   pub at : BitsAt
   pub meaning : M
 
--- a white line is read that may follow, so many bits behind the first one of the data
+-- a white line is read that may follow, so many bits after the first one of the data
 pub record ReadsWhite {M : Type 0} (lines : WhiteLines) (dropped : ℕ) (old new : Pushed M) : Type 0 where
   pub follow : MayFollow old.ctx.held.settings old.ctx.held.has_eols old.ctx.held.reference lines
   pub takes : TakesWhite lines (dropped + old.at.place) old.rows new.rows old.ctx new.ctx old.at new.at

@@ -117,7 +117,7 @@ impl RowCursor {
         match self.rows.stand {
             Stand::AtEnd => Ok(false),
             Stand::AtFault(error) => Err(error),
-            Stand::AtLine | Stand::BehindRow => self.read_on(data),
+            Stand::AtLine | Stand::AfterRow => self.read_on(data),
         }
     }
 

@@ -16,7 +16,7 @@ ghost use Rattle.fax_reading.specs.Decoding.{damage_since, cut_since, missed_sin
 ghost use Rattle.fax_rows.specs.RowsRead.{ReachesNextLine};
 ghost use Rattle.fax_rows.specs.RowsRead.{stand_after, line_after, is_at_line, at_end_of_rows, ended, seen, IsStanding};
 ghost use Rattle.fax_reading.specs.PlainReading.{failed_at};
-ghost use Rattle.fax_rows.specs.RowsTried.{PassesGapHere, StandsAlone, StandsFirst, TakesNone, rows_behind_line};
+ghost use Rattle.fax_rows.specs.RowsTried.{PassesGapHere, StandsAlone, StandsFirst, TakesNone, rows_after_line};
 ghost use Rattle.fax_rows.specs.WhiteRows.{TakesWhite};
 ghost use Rattle.fax_lines.specs.WhiteLines.{MayFollow};
 ghost use Rattle.fax_rows.specs.RowsRead.{IsStandingAtLine, DamageIsCounted, ReadsNext, gaps_passed, row_came};
@@ -38,7 +38,7 @@ pub enum Stand {
     /// At the first bit of a line.
     AtLine,
     /// After a row, at the gap before the next line.
-    BehindRow,
+    AfterRow,
     /// At the end of the image.
     AtEnd,
     /// After an error.
@@ -241,14 +241,14 @@ impl RowState {
         damaged_rows: u64,
         cut_rows: u64,
     )
-        ensures { self.new ≡ rows_behind_line self.old row.now line_start damaged_rows cut_rows ctx.now.held.repairs }
+        ensures { self.new ≡ rows_after_line self.old row.now line_start damaged_rows cut_rows ctx.now.held.repairs }
     {
         self.started_at = line_start;
         match row {
             Ok(()) => {
                 self.damage = damage_since(ctx, damaged_rows);
                 self.cut = cut_since(ctx, cut_rows);
-                self.stand = Stand::BehindRow;
+                self.stand = Stand::AfterRow;
             }
             Err(error) => {
                 self.stand = Stand::AtFault(*error);
@@ -270,7 +270,7 @@ impl RowState {
             → ReadsNext (seen self.old ctx.old reader.old) (seen self.new ctx.new reader.new) (row_came result) }
         ensures stands { (from : ℕ) → IsStandingAtLine from self.old ctx.old reader.old
             → IsStanding from self.new ctx.new reader.new }
-        ensures behind_row { OnOk result (self.new.stand ≡ Stand.BehindRow) }
+        ensures aligned_after_row { OnOk result (self.new.stand ≡ Stand.AfterRow) }
         ensures kept { (ctx.new.held.settings ≡ ctx.old.held.settings) × (ctx.new.held.has_eols ≡ ctx.old.held.has_eols) }
         ensures same_bits { reader.new.bits ≡ reader.old.bits }
         ensures put_back { OnErr result (reader.new ≡ reader.old) }
@@ -321,7 +321,7 @@ impl RowState {
         self.damage = None;
         self.cut = false;
         self.missed = None;
-        self.stand = Stand::BehindRow;
+        self.stand = Stand::AfterRow;
         true
     }
 
@@ -330,7 +330,7 @@ impl RowState {
     pub(crate) fn take_white_rows(&mut self, count: u64, start: usize, ctx: &mut DecoderContext)
         requires { ctx.old.held.taken + count < 2 ^ 64 }
         ensures kept { self.new
-            ≡ record { started_at = start; damage = None; cut = false; missed = None; stand = Stand.BehindRow } }
+            ≡ record { started_at = start; damage = None; cut = false; missed = None; stand = Stand.AfterRow } }
         ensures frame { ctx.new ≡ record ctx.old {
           held = record ctx.old.held { taken = ctx.old.held.taken + count };
           ticks = ctx.old.ticks + count + count;
@@ -341,7 +341,7 @@ impl RowState {
         self.damage = None;
         self.cut = false;
         self.missed = None;
-        self.stand = Stand::BehindRow;
+        self.stand = Stand::AfterRow;
     }
 
     /// Reads the next row, and returns whether there was one. It is `UnexpectedEof` if more rows were read than these bits
@@ -457,7 +457,7 @@ impl<'a> RowReader<'a> {
         match self.rows.stand {
             Stand::AtEnd => Ok(false),
             Stand::AtFault(error) => Err(error),
-            Stand::AtLine | Stand::BehindRow => self.rows.next_row(&mut self.ctx, &mut self.reader),
+            Stand::AtLine | Stand::AfterRow => self.rows.next_row(&mut self.ctx, &mut self.reader),
         }
     }
 

@@ -8,13 +8,13 @@ ghost use Rattle.fax_lines.specs.Counting.{OnlyCounts};
 ghost use Rattle.fax_reading.specs.Answers.{IsFault, IsRepairable, RepairStoresChange};
 ghost use Rattle.fax_bits.specs.Bits.{BitsAt, here};
 ghost use Rattle.fax_reading.specs.Context.{Context, after_repair, redrawn};
-ghost use Rattle.fax_reading.specs.Decoding.{ReadsLine, TakesOneRow, cuts_with, gap_said, repairs_behind, with_row_taken};
-ghost use Rattle.fax_reading.specs.PlainReading.{eols_by, eols_here, is_end_of_block, is_over, gap_behind_row, row_of_line};
-ghost use Rattle.fax_reading.specs.PlainReading.{behind_row, limit_met, line_here};
+ghost use Rattle.fax_reading.specs.Decoding.{ReadsLine, TakesOneRow, cuts_with, gap_said, repairs_after, with_row_taken};
+ghost use Rattle.fax_reading.specs.PlainReading.{eols_by, eols_here, is_end_of_block, is_over, gap_after_row, row_of_line};
+ghost use Rattle.fax_reading.specs.PlainReading.{aligned_after_row, limit_met, line_here};
 ghost use Rattle.fax_reading.specs.Rows.{changes};
 ghost use Rattle.fax_rows.specs.RowsRead.{row_came};
 ghost use Rattle.fax_rows.specs.RowsTried.{LacksEol, PassesGap, ReadsRow, TriesRow, lacks_memory, needs_more};
-ghost use Rattle.fax_rows.specs.TakenRows.{CanTakeRow, FailsToRepair, IsFull, MovesBehindRow};
+ghost use Rattle.fax_rows.specs.TakenRows.{CanTakeRow, FailsToRepair, IsFull, MovesAfterRow};
 ghost use Rattle.fax_bits.specs.Ticks.{looked, looked_ahead, tag_tests};
 ghost use Rattle.fax_reading.specs.Work.{found_here};
 
@@ -37,7 +37,7 @@ pub fn limit_met(ctx: &DecoderContext) -> bool
 
 /// Moves to the next whole byte after a row, if rows are aligned and the data has no EOLs.
 fn align_row(ctx: &DecoderContext, reader: &mut BitReader<'_>)
-    ensures rest { here reader.new ≡ behind_row ctx.now.held.settings ctx.now.held.has_eols (here reader.old) }
+    ensures rest { here reader.new ≡ aligned_after_row ctx.now.held.settings ctx.now.held.has_eols (here reader.old) }
     ensures same_bits { reader.new.bits ≡ reader.old.bits }
 {
     if ctx.settings().rows_are_byte_aligned && !ctx.has_eols() {
@@ -51,7 +51,7 @@ fn take_row(ctx: &mut DecoderContext, reader: &mut BitReader<'_>)
     requires full { IsFull ctx.old.held }
     requires rows { ctx.old.held.taken + 1 < 2 ^ 64 }
     ensures taken { ctx.new.held ≡ with_row_taken ctx.old.held ctx.old.held.front }
-    ensures moves { MovesBehindRow ctx.old ctx.new reader.old reader.new }
+    ensures moves { MovesAfterRow ctx.old ctx.new reader.old reader.new }
 {
     end_line(ctx);
     align_row(ctx, reader);
@@ -65,7 +65,7 @@ fn take_whole_row(ctx: &mut DecoderContext, reader: &mut BitReader<'_>)
     ensures taken { ctx.new.held ≡ record (with_row_taken ctx.old.held ctx.old.held.front) {
       repairs = cuts_with ctx.old.cut ctx.old.held.taken ctx.old.held.repairs;
     } }
-    ensures moves { MovesBehindRow ctx.old ctx.new reader.old reader.new }
+    ensures moves { MovesAfterRow ctx.old ctx.new reader.old reader.new }
 {
     if is_cut(ctx) {
         count_cut_row(ctx);
@@ -85,7 +85,7 @@ fn take_damaged_row(ctx: &mut DecoderContext, reader: &mut BitReader<'_>, fault:
         last = ctx.old.held.taken + 1;
       };
     } }
-    ensures moves { MovesBehindRow ctx.old ctx.new reader.old reader.new }
+    ensures moves { MovesAfterRow ctx.old ctx.new reader.old reader.new }
 {
     take_row(ctx, reader);
     count_damaged_row(ctx, fault);

@@ -32,13 +32,13 @@ digit_count [] = 0
 digit_count (byte ∷ bytes) = if is_ascii_digit byte then suc (digit_count bytes) else 0
 
 -- a number of one to ten digits after white space and comments, and the number of bytes of all of it
-abbrev pub number_behind : ℕ → List ℕ → Option Number
-number_behind gap rest = do
+abbrev pub number_after : ℕ → List ℕ → Option Number
+number_after gap rest = do
   value ← number_of (take (digit_count rest) rest)
   Some (record { value = value; length = gap + digit_count rest })
 
 abbrev pub number_at : List ℕ → Option Number
-number_at bytes = number_behind (gap_length false bytes) (drop (gap_length false bytes) bytes)
+number_at bytes = number_after (gap_length false bytes) (drop (gap_length false bytes) bytes)
 
 -- a header that ends with a byte of white space
 abbrev pub header_with : List ℕ → Number → Number → Option Header
@@ -48,21 +48,21 @@ header_with input columns rows =
     else None
 
 -- the width, the height, and a byte of white space, after `P4`
-abbrev pub header_behind : List ℕ → Option Header
-header_behind input = do
+abbrev pub header_after : List ℕ → Option Header
+header_after input = do
   columns ← number_at (drop 2 input)
   rows ← number_at (drop (2 + columns.length) input)
   header_with input columns rows
 
 -- the header: `P4`, and what must follow it
 abbrev pub header_of : List ℕ → Option Header
-header_of input = if (get_or input 0 0 == 80) && (get_or input 1 0 == 52) then header_behind input else None
+header_of input = if (get_or input 0 0 == 80) && (get_or input 1 0 == 52) then header_after input else None
 
 -- ---- the bitmap
 
 -- the rows of a picture of this header: the input has all of them
-abbrev pub place_behind : Header → ℕ → Result Place PictureFault
-place_behind header size =
+abbrev pub place_following : Header → ℕ → Result Place PictureFault
+place_following header size =
     if header.columns == 0 then Err NoColumns
     else if nat_lt (size - header.length) (header.rows * bytes_of_row header.columns) then Err Cut
     else Ok (record { columns = header.columns; start = header.length; length = header.rows * bytes_of_row header.columns })
@@ -70,7 +70,7 @@ place_behind header size =
 -- the rows after a header, if there is one
 abbrev pub place_if : Option Header → ℕ → Result Place PictureFault
 place_if None size = Err NoPicture
-place_if (Some header) size = place_behind header size
+place_if (Some header) size = place_following header size
 
 -- the rows of a PBM picture
 abbrev pub pbm_place : List ℕ → Result Place PictureFault

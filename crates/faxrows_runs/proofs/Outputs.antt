@@ -21,9 +21,9 @@ passes_both a b c waited text waits more last p q = (
 )
 
 -- after a text a front of what waits and of the next one was written
-pub front_behind : (a b c : Option (List ℕ)) (waited text waits more : List ℕ)
+pub front_following : (a b c : Option (List ℕ)) (waited text waits more : List ℕ)
     → PassesOn a b waited text waits → AppendsFront b c (waits ++ more) → AppendsFront a c (waited ++ (text ++ more))
-front_behind a b c waited text waits more p q = (
+front_following a b c waited text waits more p q = (
   p.0 ++ q.0,
   q.1,
   Appends-trans a b c p.0 q.0 p.1 q.2,
@@ -78,7 +78,7 @@ module _ {W : Type 0} {contents : W → Option (List ℕ)} {begun mid now : W ×
     ok = on_ok_weaker result
         (passes_both (contents begun.0) (contents mid.0) (contents now.0) waited text waits more last first.ok) next.ok;
     front = on_err_weaker result
-        (front_behind (contents begun.0) (contents mid.0) (contents now.0) waited text waits more first.ok) next.front;
+        (front_following (contents begun.0) (contents mid.0) (contents now.0) waited text waits more first.ok) next.front;
     fails = record {
       flag = on_ok_weaker result (λ same. same ∙ first.fails.flag) next.fails.flag;
       failed = next.fails.failed;

@@ -8,7 +8,7 @@ use Rattle.faxrows_runs.proofs.Names.{PutsRows, Used, WritesAsRead, bytes_after,
 use Rattle.faxrows_runs.proofs.Names.{line_of_row}
 use Rattle.faxrows_runs.proofs.Names.{lines_of_rows, outcome_of, rows_of, text_after, whole_text, Bool, Some, HasPut, IfErr}
 use Rattle.faxrows_runs.proofs.Names.{bits_in, true}
-use Rattle.faxrows_runs.proofs.{Outputs.passes_both, Outputs.front_behind, Outputs.front_of_more, Outputs.front_of_waiting}
+use Rattle.faxrows_runs.proofs.{Outputs.passes_both, Outputs.front_following, Outputs.front_of_more, Outputs.front_of_waiting}
 use Rattle.faxrows_runs.proofs.{Outputs.front_of_longer, Outputs.pieces_rest, RunsByRow.text_by_row, Texts.whole_end}
 use Rattle.faxrows_runs.proofs.RowsUnderWay.{front_as_read, text_as_read, way_put}
 
@@ -113,7 +113,7 @@ module _ {R W : Type 0} {settings : DecodeSettings} {order : BitOrder} {reader :
         done_of outcome,
         text whole,
         is_text whole begun,
-        front_behind (bytes_before writer) first (bytes_after writer) [] _ waits (line_of_outcome outcome) (lines whole begun)
+        front_following (bytes_before writer) first (bytes_after writer) [] _ waits (line_of_outcome outcome) (lines whole begun)
             front,
       )) failed
 

@@ -6,7 +6,7 @@ use Rattle.faxrows_runs.proofs.Names.{AppendsFront, EndsByRow, PassesOn, line_of
 use Rattle.faxrows_runs.proofs.Names.{Bool, KeepsBits, None, PutsRows, Result, RunFault, Some, Used, bytes_after, bytes_before}
 use Rattle.faxrows_runs.proofs.Names.{ended, used}
 use Rattle.faxrows_runs.proofs.Names.{Fed, Feeding, FeedsNext, HasPut, IsFeedOf, PaintsBlack, ReadsNext, fed_over, lines_of}
-use Rattle.faxrows_runs.proofs.{Outputs.passes_both, Outputs.front_behind, Outputs.front_of_longer, Outputs.pieces_rest}
+use Rattle.faxrows_runs.proofs.{Outputs.passes_both, Outputs.front_following, Outputs.front_of_longer, Outputs.pieces_rest}
 use Rattle.faxrows_runs.proofs.RowsInTurn.{Came, came, ended_badly, ended_well, failed_so}
 use Rattle.faxrows_runs.proofs.Names.{Outcome, ReaderStands, StandsIn, false, fed_end, length-map, plain, rules, true}
 use Rattle.hayro_ccitt.proofs.Readings.RowByRow.{ended_stands, failed_stands}
@@ -54,7 +54,7 @@ module _ {start before : Option (List ℕ)} {whole : Bits} {old new : Feeding} {
     row_front now front =
         subst (AppendsFront start now) (pieces_rest line_of_row (rows_of old.ctx.held.settings whole) new.ctx.held.taken)
         (front_of_longer start now [] (lines_of_rows (take new.ctx.held.taken (rows_of old.ctx.held.settings whole))) _
-        (subst (AppendsFront start now) row_came.lines (front_behind start before now [] _ waited _ put.lines front)))
+        (subst (AppendsFront start now) row_came.lines (front_following start before now [] _ waited _ put.lines front)))
 
   -- the reading ends well
   pub ends_well : FeedsNext whole put.tried old new (Ok Fed.End) → (count : ℕ)

@@ -18,10 +18,10 @@ use Rattle.hayro_ccitt.proofs.BitReading.BitLists.{bits_are_whole, length-bits_i
 
 -- ---- Bits of bytes
 
--- the bits behind those of the first bytes
-bits_behind : (order : BitOrder) (first next more : List ℕ)
+-- the bits after those of the first bytes
+bits_after : (order : BitOrder) (first next more : List ℕ)
     → drop (8 * length first) (bits_in order ((first ++ next) ++ more)) ≡ bits_in order next ++ bits_in order more
-bits_behind order first next more =
+bits_after order first next more =
     let rest = bits_in order next ++ bits_in order more in
     let bits : bits_in order ((first ++ next) ++ more) ≡ bits_in order first ++ rest =
     ap (bits_in order) (append_assoc first next more) ∙ flat_map-append (bits_of_byte order) first (next ++ more)
@@ -137,7 +137,7 @@ module _ {R : Type 0} {settings : DecodeSettings} {order : BitOrder} (bytes : R 
       rest = bits_in order begun.more;
       bits = ap (λ (n : ℕ). drop n (bits_in order whole)) way.counted
           ∙ ap (λ (w : List ℕ). drop (8 * length way.input) (bits_in order w)) begun.begins
-          ∙ bits_behind order way.input piece.bytes begun.more
+          ∙ bits_after order way.input piece.bytes begun.more
           ∙ ap (λ (o : BitOrder). bits_in o piece.bytes ++ bits_in order begun.more) (sym way.order_is);
       bytes = bits_are_whole order begun.more;
     }

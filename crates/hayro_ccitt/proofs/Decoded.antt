@@ -6,14 +6,14 @@ use Rattle.hayro_ccitt.proofs.Names.{Group4, OnAnswer, meaning_after, Bits, AreW
 use Rattle.hayro_ccitt.proofs.Names.{IsClosedPicture, IsLimitedPicture, flat_map, cuts_by_line, sum_by, length, ◌↔◌}
 use Rattle.hayro_ccitt.proofs.Names.{DamageStaysInRow, DamageEndsAt1D}
 use Rattle.hayro_ccitt.proofs.Names.{repairs_by_line, misses_by_line, SinkState, TakesRows, StopsShort, CountsDamage, Line, plain}
-use Rattle.hayro_ccitt.proofs.Names.{lines_of, failed_at, Row, AreSettings, CountsWork, RowsBeforeStay, RowsBehindStay}
+use Rattle.hayro_ccitt.proofs.Names.{lines_of, failed_at, Row, AreSettings, CountsWork, RowsBeforeStay, RowsAfterStay}
 use Rattle.hayro_ccitt.proofs.{DamagedLines.Damage.damage_stays_in_row, Readings.PlainAnswers.LeavesRows}
 use Rattle.hayro_ccitt.proofs.Readings.TurnsMoveOn.{plain_width}
 use Rattle.hayro_ccitt.proofs.DamagedLines.DamageByK.{damage_ends}
 use Rattle.hayro_ccitt.proofs.DrawingLines.CountedLines.{on_answer_weaker}
 use Rattle.hayro_ccitt.proofs.EncodedPictures.PicturesOfEachKind.{closed_pictures, limited_pictures}
 use Rattle.hayro_ccitt.proofs.KeptRows.RowsBeforeDamage.{rows_before}
-use Rattle.hayro_ccitt.proofs.KeptRows.RowsBehindDamage.{rows_behind}
+use Rattle.hayro_ccitt.proofs.KeptRows.RowsAfterDamage.{rows_after}
 use Rattle.hayro_ccitt.proofs.Readings.Undamaged.{none_damaged, closed_strict, limited_strict}
 use Rattle.hayro_ccitt.proofs.Readings.Undamaged.{ok_of_strict, strict_if_undamaged}
 
@@ -86,7 +86,7 @@ decodes settings bits step before after held place ticks answer are whole
       damage = stays;
       damage_by_k = ends;
       before_damage = stay_before;
-      behind_damage = stay_behind;
+      after_damage = stay_after;
     }
   where
     accepted : List Row
@@ -129,10 +129,10 @@ decodes settings bits step before after held place ticks answer are whole
     stay_before =
         on_answer_weaker answer (λ e. subst (RowsBeforeStay settings bits) (sym e.0) (rows_before settings bits whole)) end
 
-    stay_behind : OnAnswer answer (RowsBehindStay settings bits accepted answer)
-    stay_behind = on_answer_weaker answer (λ e. subst (RowsBehindStay settings bits accepted) (sym e.1)
-        (subst (λ (rows : List Row). RowsBehindStay settings bits rows (plain settings bits).outcome) (sym e.0)
-        (rows_behind settings bits whole))) end
+    stay_after : OnAnswer answer (RowsAfterStay settings bits accepted answer)
+    stay_after = on_answer_weaker answer (λ e. subst (RowsAfterStay settings bits accepted) (sym e.1)
+        (subst (λ (rows : List Row). RowsAfterStay settings bits rows (plain settings bits).outcome) (sym e.0)
+        (rows_after settings bits whole))) end
 
     unrepaired : IsOk (plain (record settings { strict = true }) bits).outcome → held.repairs.rows ≡ 0
     unrepaired ok = repaired.of_taken ∙ (none_damaged settings bits held.taken ok).0

@@ -15,21 +15,21 @@ pub use Rattle.hayro_ccitt.specs.Encodings.{eol, padding, tag_of}
 pub use Rattle.hayro_ccitt.specs.EndOfLine.{after_eol, all_eols, next_eol, tagged_eols}
 pub use Rattle.hayro_ccitt.specs.Lines.{Line, found_1d, line_1d}
 pub use Rattle.hayro_ccitt.specs.Locality.{DamageStaysInRow, EndsBefore, IsLocal}
-pub use Rattle.hayro_ccitt.specs.LocalityByK.{ComesBefore1D, DamageEndsAt1D, ReadsModes, behind_mode}
+pub use Rattle.hayro_ccitt.specs.LocalityByK.{ComesBefore1D, DamageEndsAt1D, ReadsModes, after_mode}
 pub use Rattle.hayro_ccitt.specs.Pictures.{Allows, IsClosedPicture, IsLimitedPicture}
 pub use Rattle.hayro_ccitt.specs.PlainReading.{Ending, Gap, Progress, add_row, aligned, at_end, at_front, at_gap}
 pub use Rattle.hayro_ccitt.specs.PlainReading.{end_of}
 pub use Rattle.hayro_ccitt.specs.PlainReading.{eols_here, failed_at, first_gap}
-pub use Rattle.hayro_ccitt.specs.PlainReading.{gap_behind_row, is_over, limit_met}
+pub use Rattle.hayro_ccitt.specs.PlainReading.{gap_after_row, is_over, limit_met}
 pub use Rattle.hayro_ccitt.specs.PlainReading.{line_here, line_starts, lines_of, misses_eol, move_on}
 pub use Rattle.hayro_ccitt.specs.PlainReading.{plain, row_before, row_ends, row_of_line}
 pub use Rattle.hayro_ccitt.specs.PlainReading.{whole_reading, with_row}
 pub use Rattle.hayro_ccitt.specs.Repetition.{Reaches, Turn}
 pub use Rattle.hayro_ccitt.specs.Rows.{AreChanges, HaveWidth, Row, a1, a2, b1, b2, is_black, is_change}
 pub use Rattle.hayro_ccitt.specs.Rows.{opposite, pixel, pixel_before, pixels, repaired, right_of, white_row}
-pub use Rattle.hayro_ccitt.specs.RowsKept.{EndsByWords, IsInStepFrom, RowsBeforeStay, RowsBehindStay, RowsFollow, TellsStep}
+pub use Rattle.hayro_ccitt.specs.RowsKept.{EndsByWords, IsInStepFrom, RowsBeforeStay, RowsAfterStay, RowsFollow, TellsStep}
 pub use Rattle.fax_rows.specs.RowsRead.{HasEnded, HasFailed}
-pub use Rattle.fax_rows.specs.RowsRead.{ReaderStands, ReadsNext, RowsRead, StandsAtLine, StandsBehindRow, ended}
+pub use Rattle.fax_rows.specs.RowsRead.{ReaderStands, ReadsNext, RowsRead, StandsAtLine, StandsAfterRow, ended}
 pub use Rattle.fax_rows.specs.RowsRead.{MissIsTold}
 pub use Rattle.hayro_ccitt.specs.Runs.{codes_of, read_run, run_from}
 pub use Rattle.hayro_ccitt.specs.Settings.{AreSettings}
@@ -44,7 +44,7 @@ pub use Rattle.fax_bits.specs.declared.codes.Mode.TheVariants.{Horizontal, Pass,
 pub use Rattle.fax_bits.specs.declared.error.DecodeError.{DecodeError}
 pub use Rattle.fax_bits.specs.declared.error.DecodeError.TheVariants.{OutOfMemory, Refused}
 pub use Rattle.fax_rows.specs.declared.row_reader.Stand.{Stand}
-pub use Rattle.fax_rows.specs.declared.row_reader.Stand.TheVariants.{AtEnd, AtFault, AtLine, BehindRow}
+pub use Rattle.fax_rows.specs.declared.row_reader.Stand.TheVariants.{AtEnd, AtFault, AtLine, AfterRow}
 pub use Rattle.fax_bits.specs.declared.settings.DecodeSettings.{DecodeSettings}
 pub use Rattle.fax_bits.specs.declared.settings.EncodingMode.{EncodingMode}
 pub use Rattle.fax_bits.specs.declared.settings.EncodingMode.TheVariants.{Group3_1D, Group3_2D, Group4}

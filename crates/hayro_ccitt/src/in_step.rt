@@ -110,17 +110,17 @@ fn line_ends_before(ctx: &mut DecoderContext, line: &BitReader<'_>, end: &BitRea
     }
 }
 
-/// Returns whether the line behind EOLs that were counted needs no reference row: it is one-dimensional, or RTC or the end is
+/// Returns whether the line after EOLs that were counted needs no reference row: it is one-dimensional, or RTC or the end is
 /// there.
-fn needs_no_reference(settings: DecodeSettings, count: usize, behind: &BitReader<'_>) -> bool
+fn needs_no_reference(settings: DecodeSettings, count: usize, after: &BitReader<'_>) -> bool
     requires group3 { (settings.encoding ≡ EncodingMode.Group3_1D) ⊎ (settings.encoding ≡ EncodingMode.Group3_2D) }
-    ensures tag { (next : Bits) → IsEolAt next → eols_here settings next ≡ (count, here behind.now)
+    ensures tag { (next : Bits) → IsEolAt next → eols_here settings next ≡ (count, here after.now)
         → IsTrue result ↔ (settings.encoding ≡ EncodingMode.Group3_2D → ComesBefore1D settings next) }
 {
     if matches!(settings.encoding, EncodingMode::Group3_1D) {
         return true;
     }
-    is_before_1d(settings, count, behind)
+    is_before_1d(settings, count, after)
 }
 
 /// Returns whether as many consecutive EOLs are one alone.
@@ -130,14 +130,14 @@ fn is_alone(count: usize) -> bool
     count == 1
 }
 
-/// Returns whether an EOL and the line behind it put readings in step, and then moves behind the next EOL and those that
+/// Returns whether an EOL and the line after it put readings in step, and then moves after the next EOL and those that
 /// follow it.
 fn pass_to_step(ctx: &mut DecoderContext, reader: &mut BitReader<'_>) -> bool
     requires group3 { (ctx.old.held.settings.encoding ≡ EncodingMode.Group3_1D)
         ⊎ (ctx.old.held.settings.encoding ≡ EncodingMode.Group3_2D) }
     requires lenient { ctx.old.held.settings.strict ≡ false }
     ensures step { result ≡ true → (line : Bits) × TellsStep ctx.old.held.settings (here reader.old) line (here reader.new) }
-    ensures no_step { result ≡ false → (line behind : Bits) → TellsStep ctx.old.held.settings (here reader.old) line behind
+    ensures no_step { result ≡ false → (line after : Bits) → TellsStep ctx.old.held.settings (here reader.old) line after
         → ⊥ }
     ensures same_bits { reader.new.bits ≡ reader.old.bits }
     ensures only_ticks { OnlyCounts ctx.old ctx.new }
@@ -171,17 +171,17 @@ fn are_unlimited(settings: DecodeSettings) -> bool
 }
 
 /// Returns from which bit on the rows of damaged data are the same again, if the damage lies before the EOL that begins at
-/// `to`: the offset behind the next EOL (T.4, 4.1.2). It is `None`, and nothing is said, if no EOL begins at `to` or another
+/// `to`: the offset after the next EOL (T.4, 4.1.2). It is `None`, and nothing is said, if no EOL begins at `to` or another
 /// follows it at once, and if the line between the two EOLs, with the context's `columns`, reaches into the last twelve bits
 /// of the latter. In two-dimensional data the modes of that line tell where it ends, and a one-dimensional line, RTC with
-/// `end_of_block` or the end must come behind it; else it is `None` too, and with other settings than those of lenient
+/// `end_of_block` or the end must come after it; else it is `None` too, and with other settings than those of lenient
 /// Group 3 data without a row limit.
 ///
-/// [`laws::rows_behind`](crate::laws::rows_behind) says what follows, whatever was changed, lost or added before `to`:
+/// [`laws::rows_after`](crate::laws::rows_after) says what follows, whatever was changed, lost or added before `to`:
 /// undamaged data that are the same from there on have the same rows from that bit on, if EOLs are sought and the damage
 /// makes no RTC. Offsets are counted in bits. It allocates nothing, and no row is read.
 ///
-/// The work is in proportion to the bits from `to` on; if there is another EOL, none behind it and its zeros are examined.
+/// The work is in proportion to the bits from `to` on; if there is another EOL, none after it and its zeros are examined.
 pub fn in_step_from(data: &[u8], ctx: &mut DecoderContext, to: usize) -> Option<usize>
     requires fit { BitsFit «data».now }
     ensures place { (place : ℕ) → (result ≡ Some place)

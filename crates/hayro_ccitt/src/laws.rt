@@ -10,7 +10,7 @@ use crate::Decoder;
 pub use fax_reading::laws::{
     after_eofb, bits_of_bytes, changes_are_rows, code_reading, code_words,
     every_picture_has_an_encoding, gaps_settle, lines_by_eols, lines_go_on, lines_settle, locality,
-    locality_by_k, no_damage, one_picture, pictures, row_limit, rows_before, rows_behind,
+    locality_by_k, no_damage, one_picture, pictures, row_limit, rows_before, rows_after,
     strict_then_lenient, synchronised, t4_pictures, t6_pictures,
 };
 
@@ -36,7 +36,7 @@ pub fn feeds_keep_little()
 
 /// The rows that a call of [`RowFeed::push_rows`](crate::RowFeed::push_rows) passes to its sink: those that the plain reading has
 /// next, of each data of which the bytes fed so far are a beginning, in whatever pieces they came. Its end, its fault, or the
-/// refusal of the sink comes behind them (T.4, 4; T.6, 2).
+/// refusal of the sink comes after them (T.4, 4; T.6, 2).
 pub fn feeds_pass_rows<D: Decoder>()
     ensures { PassesPlainRows D.meaning D.has_refused D.refuses }
 {}

@@ -31,10 +31,10 @@ fn wants_memory(error: DecodeError) -> bool
 }
 
 /// Returns whether an EOL ends at an offset, or the data begin there. Each bit that is examined is a tick.
-fn is_behind_eol(data: &[u8], place: usize, ticks: &mut Ticks) -> bool
+fn is_following_eol(data: &[u8], place: usize, ticks: &mut Ticks) -> bool
     requires fit { BitsFit «data».now }
     requires within { place ≤ 8 * length «data».now }
-    ensures behind { IsTrue result ↔ ((place ≡ 0) ⊎ ((12 ≤ place)
+    ensures after { IsTrue result ↔ ((place ≡ 0) ⊎ ((12 ≤ place)
         × (after_eol 0 (drop (place - 12) (bits_of «data».now)) ≡ Some (drop place (bits_of «data».now))))) }
     ensures counts { ticks.old ≤ ticks.new }
     ensures at_most { ticks.new ≤ ticks.old + looked (drop (place - 12) (bits_of «data».now)) }
@@ -155,7 +155,7 @@ pub fn body_is_local(data: &[u8], ctx: &mut DecoderContext, from: usize, to: usi
     if !is_lenient_1d(ctx.settings()) || from > to || to > data.len() * 8 {
         return Ok(false);
     }
-    if !is_behind_eol(data, from, ctx.ticks()) {
+    if !is_following_eol(data, from, ctx.ticks()) {
         return Ok(false);
     }
     if !holds_one(data, from, to, ctx.ticks()) {

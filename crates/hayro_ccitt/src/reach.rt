@@ -26,8 +26,8 @@ pub(crate) fn pass_modes(ctx: &mut DecoderContext, reader: &mut BitReader<'_>)
     'modes: loop {
         let mut next = copy(reader);
         match pass_mode(ctx, color, &mut next) {
-            Some(behind) => {
-                color = behind;
+            Some(after) => {
+                color = after;
                 *reader = next;
             }
             None => return,
@@ -74,18 +74,18 @@ fn is_at_zero(reader: &BitReader<'_>) -> bool
 }
 
 /// Returns whether a one-dimensional line, RTC or the end follows EOLs that were counted; else a two-dimensional line does.
-pub(crate) fn is_before_1d(settings: DecodeSettings, count: usize, behind: &BitReader<'_>) -> bool
+pub(crate) fn is_before_1d(settings: DecodeSettings, count: usize, after: &BitReader<'_>) -> bool
     ensures ends { result ≡ true → ((settings.end_of_block ≡ true) × (6 ≤ count))
-        ⊎ (((line : Bits) × (here behind.now ≡ true ∷ line)) ⊎ (here behind.now ≡ [])) }
+        ⊎ (((line : Bits) × (here after.now ≡ true ∷ line)) ⊎ (here after.now ≡ [])) }
     ensures no_rtc { result ≡ false → settings.end_of_block ≡ true → 6 ≤ count → ⊥ }
-    ensures zero { result ≡ false → (line : Bits) × (here behind.now ≡ false ∷ line) }
+    ensures zero { result ≡ false → (line : Bits) × (here after.now ≡ false ∷ line) }
 {
     if settings.end_of_block {
         if count >= 6 {
             return true;
         }
     }
-    !is_at_zero(behind)
+    !is_at_zero(after)
 }
 
 /// Returns one more than the number of two-dimensional lines that follow here up to a one-dimensional line, RTC or the end.
@@ -103,9 +103,9 @@ fn rows_before_1d(ctx: &mut DecoderContext, reader: &mut BitReader<'_>) -> Optio
         if !pass_eol(&mut line, ctx.ticks()) {
             return None;
         }
-        let mut behind = copy(reader);
-        let count = behind.read_tagged_eols(ctx.ticks());
-        if is_before_1d(ctx.settings(), count, &behind) {
+        let mut after = copy(reader);
+        let count = after.read_tagged_eols(ctx.ticks());
+        if is_before_1d(ctx.settings(), count, &after) {
             return Some(rows);
         }
         if !pass_line(ctx, &mut line) {
@@ -126,11 +126,11 @@ fn is_lenient_2d(settings: DecodeSettings) -> bool
 /// Returns how many rows damage to the line whose body ends at `to`, where its EOL begins, may change in lenient
 /// two-dimensional data of Group 3 (T.4, 4.2): its own, and one for each two-dimensional line that follows up to
 /// the next one-dimensional line, RTC with `end_of_block`, or the end of the data. It is `None`, and nothing is said, with
-/// other settings, if no EOL begins at `to`, and if one of the lines that follow has no EOL behind it, or reaches into it
+/// other settings, if no EOL begins at `to`, and if one of the lines that follow has no EOL after it, or reaches into it
 /// with its modes and their runs.
 ///
 /// [`laws::locality_by_k`](crate::laws::locality_by_k) says which damage it is: an EOL or the start of the data is before
-/// the line's tag and that EOL behind its body, both before and after the damage. `to` is counted in bits. It allocates
+/// the line's tag and that EOL after its body, both before and after the damage. `to` is counted in bits. It allocates
 /// nothing, and no row is read.
 ///
 /// The work is in proportion to the bits from `to` on: the modes of a line and the zeros of an EOL are read a few times.

@@ -9,7 +9,7 @@ use Rattle.hayro_ccitt.specs.Rows.{HaveWidth, Row, changes}
 use Rattle.hayro_ccitt.specs.RowFeeds.{Feeding as RowsFed, FeedsRow, FeedsRows, PushesRows, last_left, rows_left}
 use Rattle.hayro_ccitt.specs.Fed.{Fed}
 use Rattle.hayro_ccitt_c.specs.GivenRows.{ComesToNone, GivesEach, GivesRows, PassesAll, RefusesOne, columns_of, feeding_after}
-use Rattle.hayro_ccitt_c.specs.GivenRows.{rows_given, status_behind}
+use Rattle.hayro_ccitt_c.specs.GivenRows.{rows_given, status_after}
 use Rattle.hayro_ccitt_c.specs.Packing.{bytes_of_row}
 use Rattle.hayro_ccitt_c.specs.RowsFed.{GivesFed, TurnsToFed, is_fed_row, status_of_fed}
 use Rattle.hayro_ccitt_c.specs.declared.feeding.Feeding.{Feeding}
@@ -215,12 +215,12 @@ module _ {M : Type 0} {step : M → List ℕ → M} {start final : SinkState M} 
     layout = layout_is;
   }
 
-  status_kept : (count : ℕ) → (status_behind answer count true ≡ OK → 0 < count)
-      × (status_behind answer count true ≡ REFUSED → count ≡ 0)
+  status_kept : (count : ℕ) → (status_after answer count true ≡ OK → 0 < count)
+      × (status_after answer count true ≡ REFUSED → count ≡ 0)
   status_kept zero = (λ e. absurd (omega (arith, e)), λ _. refl)
   status_kept (suc count) = (λ _. omega arith, λ e. absurd (omega (arith, e)))
 
-  kept_ends : (count : ℕ) → status_behind answer count true ≢ OK → status_behind answer count true ≡ REFUSED
+  kept_ends : (count : ℕ) → status_after answer count true ≢ OK → status_after answer count true ≡ REFUSED
   kept_ends zero other = refl
   kept_ends (suc count) other = absurd (other refl)
 
@@ -228,11 +228,11 @@ module _ {M : Type 0} {step : M → List ℕ → M} {start final : SinkState M} 
       → AreWritten old (rows_given passes.given) before after
       → (final.refused ≡ true → final.refuses (changes new.rows.ctx.held.reference)
       → length after < need left (rows_given passes.given))
-      → status ≡ status_behind answer count left.is_kept → GivesRows AreWritten need old left before after count status
+      → status ≡ status_after answer count left.is_kept → GivesRows AreWritten need old left before after count status
   gives_rows before after count status many written room told = elim passes.ends [
     | inl end ↦
         let status_is : status ≡ status_of_fed answer =
-        told ∙ ap (status_behind answer count) (flag ∙ end.flag) in
+        told ∙ ap (status_after answer count) (flag ∙ end.flag) in
         record {
           given = passes.given;
           each = passes.each;
@@ -247,8 +247,8 @@ module _ {M : Type 0} {step : M → List ℕ → M} {start final : SinkState M} 
           ends = λ _. subst (GivesFed last left) (sym status_is) (gives_none end);
         }
     | inr end ↦
-        let status_is : status ≡ status_behind answer count true =
-        told ∙ ap (status_behind answer count) (flag ∙ end.flag) in
+        let status_is : status ≡ status_after answer count true =
+        told ∙ ap (status_after answer count) (flag ∙ end.flag) in
         record {
           given = passes.given;
           each = passes.each;

@@ -14,7 +14,7 @@ use Rattle.hayro_ccitt_c.proofs.Reporting.{counts}
 pub few_changes : (from width : ℕ) (places : List ℕ) → from ≤ width → AscendFrom from width places → from + length places ≤ width
 few_changes from width [] le ascend = omega arith
 few_changes from width (place ∷ places) le ascend =
-    let behind = ascend.0 in
+    let after = ascend.0 in
     let within = ascend.1 in
     let rest = few_changes (suc place) width places (omega arith) ascend.2 in
     omega arith
@@ -37,12 +37,12 @@ listed_more end row lists part within room is =
     let same : length part ≡ length row = ap length is in
     let inside : end < length lists = omega arith in
     let begun : end + 1 ≤ length now = omega (arith, length-set lists end (length row)) in
-    let behind : end + 1 + length row ≡ (end + 1) + length part = omega arith in
+    let after : end + 1 + length row ≡ (end + 1) + length part = omega arith in
     let reach : (end + 1) + count ≤ end + 1 + length row = omega arith in
     let whole : length part ≡ count = omega arith in
     let more : end + 1 + length row ≡ end + length (listed_row row) = omega arith in
     let before : end < end + 1 + length row = omega arith in (
-      take-put_mid (end + 1) count now part (end + 1 + length row) behind begun ∙ ap (λ (l : List ℕ). l ++ part)
+      take-put_mid (end + 1) count now part (end + 1 + length row) after begun ∙ ap (λ (l : List ℕ). l ++ part)
           (take_more_set lists end (length row) inside) ∙ ap (λ (l : List ℕ). (take end lists ++ length row ∷ []) ++ l) is
           ∙ append_assoc (take end lists) (length row ∷ []) row,
       drop-put_mid (end + 1) count now part (end + 1 + length row) reach begun whole ∙ drop-set-lt (end + 1 + length row) lists

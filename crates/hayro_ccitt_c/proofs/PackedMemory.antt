@@ -32,12 +32,12 @@ use Rattle.std.proofs.lemmas.List.{nil_from_length}
 
 -- ---- one row
 -- the first elements of a list in two parts
-pub take_into : {X : Type 0} (front behind : List X) (n more : ℕ) → n ≡ length front + more
-    → take n (front ++ behind) ≡ front ++ take more behind
-take_into [] behind n more is = let same : n ≡ more = omega (arith, is) in ap (λ (m : ℕ). take m behind) same
-take_into (x ∷ front) behind zero more is = absurd (omega (arith, is))
-take_into (x ∷ front) behind (suc n) more is =
-    ap (λ (l : List _). x ∷ l) (take_into front behind n more (omega (arith, is)))
+pub take_into : {X : Type 0} (front following : List X) (n more : ℕ) → n ≡ length front + more
+    → take n (front ++ following) ≡ front ++ take more following
+take_into [] following n more is = let same : n ≡ more = omega (arith, is) in ap (λ (m : ℕ). take m following) same
+take_into (x ∷ front) following zero more is = absurd (omega (arith, is))
+take_into (x ∷ front) following (suc n) more is =
+    ap (λ (l : List _). x ∷ l) (take_into front following n more (omega (arith, is)))
 
 -- a row is packed after the earlier ones
 module _ (layout : Layout) (columns start bytes : ℕ) (list bitmap row : List ℕ) (is : bytes ≡ bytes_of_row columns)
@@ -51,11 +51,11 @@ module _ (layout : Layout) (columns start bytes : ℕ) (list bitmap row : List �
   long = omega (arith, same, length-take (start + bytes - start) (drop start bitmap), length-drop start bitmap)
 
   -- the bytes after the row
-  abbrev behind : List ℕ
-  behind = post_of start (start + bytes - start) bitmap
+  abbrev following : List ℕ
+  following = post_of start (start + bytes - start) bitmap
 
-  behind_is : behind ≡ drop (bytes_of_row columns) (drop start bitmap)
-  behind_is =
+  following_is : following ≡ drop (bytes_of_row columns) (drop start bitmap)
+  following_is =
       let e : start + bytes - start ≡ bytes_of_row columns = omega (arith, is) in
       ap (λ (n : ℕ). drop n (drop start bitmap)) e
 
@@ -65,18 +65,18 @@ module _ (layout : Layout) (columns start bytes : ℕ) (list bitmap row : List �
   abbrev gap : ℕ
   gap = layout.stride - bytes_of_row columns
 
-  taken : take (start + layout.stride) now ≡ take start bitmap ++ (row ++ take gap behind)
+  taken : take (start + layout.stride) now ≡ take start bitmap ++ (row ++ take gap following)
   taken =
-      take_into (take start bitmap) (row ++ behind) (start + layout.stride) layout.stride (omega (arith, front))
-      ∙ ap (λ (l : List ℕ). take start bitmap ++ l) (take_into row behind layout.stride gap (omega (arith, long, is, reaches)))
+      take_into (take start bitmap) (row ++ following) (start + layout.stride) layout.stride (omega (arith, front))
+      ∙ ap (λ (l : List ℕ). take start bitmap ++ l) (take_into row following layout.stride gap (omega (arith, long, is, reaches)))
 
   pub bits_more : bits_of (take (start + layout.stride) now)
       ≡ bits_of (take start bitmap) ++ row_and_gap layout columns (pixels columns list) (drop start bitmap)
   bits_more =
-      ap bits_of taken ∙ flat_map-append (bits_of_byte HighestFirst) (take start bitmap) (row ++ take gap behind)
-      ∙ ap (λ (b : Bits). bits_of (take start bitmap) ++ b) (flat_map-append (bits_of_byte HighestFirst) row (take gap behind)
-      ∙ ap (λ (b : Bits). b ++ bits_of (take gap behind)) packs
-      ∙ ap (λ (l : List ℕ). packed_row layout.black_is_0 (pixels columns list) ++ bits_of (take gap l)) behind_is)
+      ap bits_of taken ∙ flat_map-append (bits_of_byte HighestFirst) (take start bitmap) (row ++ take gap following)
+      ∙ ap (λ (b : Bits). bits_of (take start bitmap) ++ b) (flat_map-append (bits_of_byte HighestFirst) row (take gap following)
+      ∙ ap (λ (b : Bits). b ++ bits_of (take gap following)) packs
+      ∙ ap (λ (l : List ℕ). packed_row layout.black_is_0 (pixels columns list) ++ bits_of (take gap l)) following_is)
 
   pub rest_more : drop (start + layout.stride) now ≡ drop layout.stride (drop start bitmap)
   rest_more =
@@ -91,8 +91,8 @@ module _ (layout : Layout) (columns start bytes : ℕ) (list bitmap row : List �
         front,
         room,
         within,
-        length-append (take start bitmap) (row ++ behind),
-        length-append row behind,
+        length-append (take start bitmap) (row ++ following),
+        length-append row following,
         length-drop (start + bytes - start) (drop start bitmap),
         length-drop start bitmap,
       )
@@ -166,7 +166,7 @@ module _ (gap : ℕ) (before after : List ℕ) (rest : Bits) (same : length afte
   long_front : length (bits_of (take gap before)) ≡ 8 * min gap (length before)
   long_front = omega (arith, length-bits_of (take gap before), length-take gap before)
 
-  -- no bits are behind memory that is shorter
+  -- no bits are after memory that is shorter
   nothing : length before ≤ gap → rest ≡ []
   nothing short = nil_from_length rest (omega (
     arith,
@@ -188,8 +188,8 @@ module _ (gap : ℕ) (before after : List ℕ) (rest : Bits) (same : length afte
         ∙ take_all (8 * gap) (bits_of (take gap before)) (omega (arith, long_front))
   ]
 
-  behind_is_rest : bits_of (drop gap after) ≡ rest
-  behind_is_rest = bits_of-drop gap after ∙ ap (drop (8 * gap)) is ∙ elim (cases_lt gap (length before)) [
+  after_is_rest : bits_of (drop gap after) ≡ rest
+  after_is_rest = bits_of-drop gap after ∙ ap (drop (8 * gap)) is ∙ elim (cases_lt gap (length before)) [
     | inl long ↦ drop_at (bits_of (take gap before)) rest (8 * gap) (omega (arith, long_front, long))
     | inr short ↦
         ap (λ (b : Bits). drop (8 * gap) (bits_of (take gap before) ++ b)) (nothing short)
@@ -215,34 +215,34 @@ stand_where_laid layout columns (row ∷ rows) before after reaches have same fi
     let line : Bits = packed_row layout.black_is_0 row in
     let long : length line ≡ 8 * width =
     long_row layout.black_is_0 columns row (All-head (λ r. length r ≡ columns) row rows have) in
-    let behind : List ℕ = drop width before in
-    let behind' : List ℕ = drop width after in
+    let following : List ℕ = drop width before in
+    let following' : List ℕ = drop width after in
     let rest : Bits = laid layout columns rows (drop layout.stride before) in
-    let parts : bits_of after ≡ line ++ (bits_of (take gap behind) ++ rest) =
-    is ∙ append_assoc line (bits_of (take gap behind)) rest in
+    let parts : bits_of after ≡ line ++ (bits_of (take gap following) ++ rest) =
+    is ∙ append_assoc line (bits_of (take gap following)) rest in
     let here : bits_of (take width after) ≡ line = bits_of-take width after ∙ ap (take (8 * width)) parts
-    ∙ take_at line (bits_of (take gap behind) ++ rest) (8 * width) long in
-    let there : bits_of behind' ≡ bits_of (take gap behind) ++ rest = bits_of-drop width after ∙ ap (drop (8 * width)) parts
-    ∙ drop_at line (bits_of (take gap behind) ++ rest) (8 * width) long in
-    let same_behind : length behind' ≡ length behind = omega (arith, same, length-drop width before, length-drop width after) in
-    let gaps : take gap behind' ≡ take gap behind = same_bytes HighestFirst (take gap behind') (take gap behind)
-    (All-take (λ byte. byte < 256) gap behind' (All-drop (λ byte. byte < 256) width after fit))
-    (All-take (λ byte. byte < 256) gap behind (All-drop (λ byte. byte < 256) width before fits))
-    (front_is gap behind behind' rest same_behind there) in
+    ∙ take_at line (bits_of (take gap following) ++ rest) (8 * width) long in
+    let there : bits_of following' ≡ bits_of (take gap following) ++ rest = bits_of-drop width after ∙ ap (drop (8 * width)) parts
+    ∙ drop_at line (bits_of (take gap following) ++ rest) (8 * width) long in
+    let same_following : length following' ≡ length following = omega (arith, same, length-drop width before, length-drop width after) in
+    let gaps : take gap following' ≡ take gap following = same_bytes HighestFirst (take gap following') (take gap following)
+    (All-take (λ byte. byte < 256) gap following' (All-drop (λ byte. byte < 256) width after fit))
+    (All-take (λ byte. byte < 256) gap following (All-drop (λ byte. byte < 256) width before fits))
+    (front_is gap following following' rest same_following there) in
     let whole : width + gap ≡ layout.stride = omega (arith, reaches) in
-    let next : drop gap behind' ≡ drop layout.stride after =
+    let next : drop gap following' ≡ drop layout.stride after =
     drop-drop gap width after ∙ ap (λ (n : ℕ). drop n after) whole in
     let others : StandWhereLaid layout columns rows (drop layout.stride before) (drop layout.stride after) =
     stand_where_laid layout columns rows (drop layout.stride before) (drop layout.stride after) reaches
     (All-tail (λ r. length r ≡ columns) row rows have)
     (omega (arith, same, length-drop layout.stride before, length-drop layout.stride after))
     (All-drop (λ byte. byte < 256) layout.stride before fits) (All-drop (λ byte. byte < 256) layout.stride after fit)
-    (ap bits_of (sym next) ∙ behind_is_rest gap behind behind' rest same_behind there) in
+    (ap bits_of (sym next) ∙ after_is_rest gap following following' rest same_following there) in
     record {
       rows_are = ap (λ (b : Bits). b ∷ rows_at layout.stride columns (length rows) (drop layout.stride after)) here
           ∙ ap (λ (l : List Bits). line ∷ l) others.rows_are;
       others = ap (λ (l : List ℕ). l ++ outside_rows layout.stride columns (length rows) (drop layout.stride after)) gaps
-          ∙ ap (λ (l : List ℕ). take gap behind ++ l) others.others;
+          ∙ ap (λ (l : List ℕ). take gap following ++ l) others.others;
     }
 
 -- the room that n rows need

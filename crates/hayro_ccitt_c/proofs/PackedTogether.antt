@@ -22,11 +22,11 @@ all_bits columns (suc n) memory =
     let width : ℕ = bytes_of_row columns in
     let here : take width (take (width + n * width) memory) ≡ take width memory =
     take-take width (width + n * width) memory (omega arith) in
-    let behind : drop width (take (width + n * width) memory) ≡ take (n * width) (drop width memory) =
+    let after : drop width (take (width + n * width) memory) ≡ take (n * width) (drop width memory) =
     drop-take width (n * width) memory in
     ap (λ (m : ℕ). bits_of (take m memory)) (one_row_more n width) ∙ bits_of-parts width (take (width + n * width) memory)
     ∙ ap (λ (l : List ℕ). bits_of l ++ bits_of (drop width (take (width + n * width) memory))) here
-    ∙ ap (λ (l : List ℕ). bits_of (take width memory) ++ bits_of l) behind
+    ∙ ap (λ (l : List ℕ). bits_of (take width memory) ++ bits_of l) after
     ∙ ap (λ (b : Bits). bits_of (take width memory) ++ b) (all_bits columns n (drop width memory))
 
 nothing_between : (columns n : ℕ) (memory : List ℕ)

@@ -29,7 +29,7 @@ pub some_within : (stride columns bytes : ℕ) → bytes_of_row columns ≤ byte
     → rows_within stride columns bytes ≡ suc ((bytes - bytes_of_row columns) / stride)
 some_within stride columns bytes some = rw (le-ltb bytes (bytes_of_row columns) some) refl
 
--- and those behind a stride
+-- and those after a stride
 pub one_within : (stride columns bytes : ℕ) → 0 < columns → bytes_of_row columns ≤ stride → bytes_of_row columns ≤ bytes
     → rows_within stride columns bytes ≡ suc (rows_within stride columns (bytes - stride))
 one_within stride columns bytes wide reaches some =
@@ -56,15 +56,15 @@ rows_read-none layout columns memory few =
     ap (λ (n : ℕ). map (row_read layout.black_is_0 columns) (rows_at layout.stride columns n memory))
     (none_within layout.stride columns (length memory) few)
 
--- a row, and those behind the stride
+-- a row, and those after the stride
 pub rows_read-row : (layout : Layout) (columns : ℕ) (memory : List ℕ) → 0 < columns → bytes_of_row columns ≤ layout.stride
     → bytes_of_row columns ≤ length memory
     → rows_read layout columns memory ≡ row_read layout.black_is_0 columns (bits_of (take (bytes_of_row columns) memory))
     ∷ rows_read layout columns (drop layout.stride memory)
 rows_read-row layout columns memory wide reaches some =
     let read : List Bits → List Row = map (row_read layout.black_is_0 columns) in
-    let behind : List ℕ = drop layout.stride memory in
-    let count : rows_within layout.stride columns (length memory) ≡ suc (rows_within layout.stride columns (length behind)) =
+    let after : List ℕ = drop layout.stride memory in
+    let count : rows_within layout.stride columns (length memory) ≡ suc (rows_within layout.stride columns (length after)) =
     one_within layout.stride columns (length memory) wide reaches some
     ∙ ap (λ (n : ℕ). suc (rows_within layout.stride columns n)) (sym (length-drop layout.stride memory)) in
     ap (λ (n : ℕ). read (rows_at layout.stride columns n memory)) count
@@ -99,8 +99,8 @@ shown_together columns zero memory room = refl
 shown_together columns (suc n) memory room =
     let w : ℕ = bytes_of_row columns in
     let more : suc n * w ≡ w + n * w = omega arith in
-    let behind : n * w ≤ length (drop w memory) = omega (arith, more, room, length-drop w memory) in
-    let below = shown_together columns n (drop w memory) behind in
+    let after : n * w ≤ length (drop w memory) = omega (arith, more, room, length-drop w memory) in
+    let below = shown_together columns n (drop w memory) after in
     let here : take columns (bits_of (take w memory)) ≡ take columns (bits_of memory) = elim (row_read-front columns memory) [
       | inl same ↦ same
       | inr few ↦ absurd (omega (arith, more, room, few))

@@ -87,14 +87,14 @@ one_white layout columns start written bytes [] memory changes more name none is
     (ap (λ (n : ℕ). drop (start + n) memory) whole ∙ sym (drop-drop layout.stride start memory)) refl count
 
 -- A row more that is in memory, as all before it: with it the memory means more than what it meant before they were.
-pub packed_behind : (layout : Layout) (columns start written bytes : ℕ) (list memory row : List ℕ) (changes more name : ℕ)
+pub packed_after : (layout : Layout) (columns start written bytes : ℕ) (list memory row : List ℕ) (changes more name : ℕ)
     → written ≡ start → bytes ≡ bytes_of_row columns → bytes_of_row columns ≤ layout.stride → start ≤ length memory
     → bytes ≤ length memory - start → length row ≡ length (take (start + bytes - start) (drop start memory))
     → bits_of row ≡ packed_row layout.black_is_0 (pixels columns list) → more ≡ counted changes (length list)
     → (width : ℕ) (before : Packing) → packing_up_to layout start written memory changes name ≡ before → columns ≡ width
     → packing_up_to layout (start + layout.stride) (start + layout.stride) (put_mid start (start + bytes - start) memory row)
     more name ≡ with_packed width before list
-packed_behind layout columns start written bytes list memory row changes more name all is reaches within room same packs count
+packed_after layout columns start written bytes list memory row changes more name all is reaches within room same packs count
     width before means wide =
     all_in_memory layout (start + layout.stride) (start + layout.stride) (put_mid start (start + bytes - start) memory row)
     more name refl
@@ -128,8 +128,8 @@ module _ (written start bytes : ℕ) (memory filled : List ℕ) (le : written �
   abbrev before_row : List ℕ
   before_row = put_mid written (start - written) memory (replicate (start - written) 0)
 
-  abbrev behind : List ℕ
-  behind = drop (start + bytes - written) (drop written memory)
+  abbrev after : List ℕ
+  after = drop (start + bytes - written) (drop written memory)
 
   zeros_long : length filled ≡ start + bytes - written
   zeros_long = ap length is ∙ length-replicate {A = ℕ} (start + bytes - written) 0
@@ -137,15 +137,15 @@ module _ (written start bytes : ℕ) (memory filled : List ℕ) (le : written �
   front_long : length (take written memory) ≡ written
   front_long = omega (arith, length-take written memory, room, le)
 
-  from_row : drop start cleared ≡ replicate bytes 0 ++ behind
+  from_row : drop start cleared ≡ replicate bytes 0 ++ after
   from_row =
       let sum : start ≡ length (take written memory) + (start - written) = omega (arith, front_long, le) in
       let fewer : start - written ≤ length filled = omega (arith, zeros_long, le) in
       let left : start + bytes - written - (start - written) ≡ bytes = omega (arith, le) in
-      ap (λ (n : ℕ). drop n cleared) sum ∙ drop-append-add (take written memory) (filled ++ behind) (start - written)
-      ∙ drop-append-le (start - written) filled behind fewer
-      ∙ ap (λ (l : List ℕ). drop (start - written) l ++ behind) is
-      ∙ ap (λ (l : List ℕ). l ++ behind) (drop-replicate (start - written) (start + bytes - written) 0
+      ap (λ (n : ℕ). drop n cleared) sum ∙ drop-append-add (take written memory) (filled ++ after) (start - written)
+      ∙ drop-append-le (start - written) filled after fewer
+      ∙ ap (λ (l : List ℕ). drop (start - written) l ++ after) is
+      ∙ ap (λ (l : List ℕ). l ++ after) (drop-replicate (start - written) (start + bytes - written) 0
       ∙ ap (λ (n : ℕ). replicate n 0) left)
 
   pub row_cleared : take (start + bytes - start) (drop start cleared)
@@ -154,7 +154,7 @@ module _ (written start bytes : ℕ) (memory filled : List ℕ) (le : written �
       let count : start + bytes - start ≡ bytes = omega arith in
       let there : take (start + bytes - start) (drop start cleared) ≡ replicate bytes 0 =
       ap (λ (n : ℕ). take n (drop start cleared)) count ∙ ap (take bytes) from_row
-      ∙ take_at (replicate bytes 0) behind bytes (length-replicate {A = ℕ} bytes 0) in
+      ∙ take_at (replicate bytes 0) after bytes (length-replicate {A = ℕ} bytes 0) in
       there ∙ ap (λ (n : ℕ). replicate n 0) (sym (ap length there ∙ length-replicate {A = ℕ} bytes 0))
 
   front_cleared : take start cleared ≡ take written memory ++ replicate (start - written) 0
@@ -162,8 +162,8 @@ module _ (written start bytes : ℕ) (memory filled : List ℕ) (le : written �
       let sum : start ≡ length (take written memory) + (start - written) = omega (arith, front_long, le) in
       let fewer : start - written ≤ length filled = omega (arith, zeros_long, le) in
       let within : start - written ≤ start + bytes - written = omega (arith, le) in
-      take_into (take written memory) (filled ++ behind) start (start - written) sum
-      ∙ ap (λ (l : List ℕ). take written memory ++ l) (take-append-le (start - written) filled behind fewer
+      take_into (take written memory) (filled ++ after) start (start - written) sum
+      ∙ ap (λ (l : List ℕ). take written memory ++ l) (take-append-le (start - written) filled after fewer
       ∙ ap (take (start - written)) is ∙ take-replicate (start - written) (start + bytes - written) 0 within)
 
   front_before : take start before_row ≡ take written memory ++ replicate (start - written) 0
@@ -224,12 +224,12 @@ module _ (written start bytes : ℕ) (memory filled : List ℕ) (le : written �
         arith,
         length-take k (drop start cleared),
         ap length from_row,
-        length-append (replicate bytes 0) behind,
+        length-append (replicate bytes 0) after,
         length-replicate {A = ℕ} bytes 0,
       ) in
       let fits : length row ≡ length (take k (drop start before_row)) =
       omega (arith, long, there, length-take k (drop start before_row), length-drop start before_row, size_before, room) in
       ap (λ (l : List ℕ). packing_up_to layout (start + layout.stride) (start + layout.stride) l more name) (same_with_row row)
-      ∙ packed_behind layout columns start start bytes list before_row row changes more name refl whole reaches
+      ∙ packed_after layout columns start start bytes list before_row row changes more name refl whole reaches
       (omega (arith, size_before, room)) (omega (arith, size_before, room)) fits packs count columns
       (packing_up_to layout start written memory changes name) (means_before layout changes name plain) refl

@@ -32,9 +32,9 @@ rows_given (next ∷ more) = next.rows.ctx.held.reference ∷ rows_given more
 abbrev pub columns_of : Feeding → ℕ
 columns_of feeding = feeding.rows.ctx.held.settings.columns
 
--- How rows are written to memory, and how much room there has to be for the last row of a reading behind them.
+-- How rows are written to memory, and how much room there has to be for the last row of a reading after them.
 module _ (AreWritten : Feeding → List Row → List ℕ → List ℕ → Type 0) (need : Feeding → List Row → ℕ) where
-  -- a row is kept since there is no room for it behind those that were given
+  -- a row is kept since there is no room for it after those that were given
   pub record KeepsRow (rows : List Row) (size : ℕ) (old new : Feeding) : Type 0 where
     pub gives : GivesFed old new REFUSED
     pub room : size < need new rows
@@ -59,7 +59,7 @@ pub record StandPacked (layout : Layout) (columns : ℕ) (rows : List Row) (befo
   pub others : outside_rows layout.stride columns (length rows) after ≡ outside_rows layout.stride columns (length rows) before
   pub room : bytes_of_rows layout.stride columns (length rows) ≤ length after
 
--- Packed rows, each a stride behind the one before; rows without columns, which have no bytes, a byte behind.
+-- Packed rows, each a stride after the one before; rows without columns, which have no bytes, a byte after.
 abbrev pub ArePackedRows : Feeding → List Row → List ℕ → List ℕ → Type 0
 ArePackedRows old rows before after = StandPacked (spaced old.layout) (columns_of old) rows before after
 
@@ -85,11 +85,11 @@ ListsRows = GivesRows AreListedRows room_of_lists
 
 -- ---- Rows that are passed to a sink (auxiliary)
 
--- the status of a call that comes to this behind this number of rows, or keeps a row
-abbrev pub status_behind : Result Fed DecodeError → ℕ → Bool → ℕ
-status_behind answer count false = status_of_fed answer
-status_behind answer zero true = REFUSED
-status_behind answer (suc count) true = OK
+-- the status of a call that comes to this after this number of rows, or keeps a row
+abbrev pub status_after : Result Fed DecodeError → ℕ → Bool → ℕ
+status_after answer count false = status_of_fed answer
+status_after answer zero true = REFUSED
+status_after answer (suc count) true = OK
 
 -- a call after these rows comes to no row
 pub record ComesToNone (refused : Bool) (last new : Feeding) (answer : Result Fed DecodeError) : Type 0 where

@@ -1,7 +1,7 @@
 //! What a call says that reads a row of data in pieces.
 
 ghost use Rattle.std.specs.Prelude.{◌≡◌, ◌≢◌, Ok, false, true};
-ghost use Rattle.hayro_ccitt_c.specs.GivenRows.{status_behind};
+ghost use Rattle.hayro_ccitt_c.specs.GivenRows.{status_after};
 ghost use Rattle.hayro_ccitt_c.specs.RowsFed.{is_fed_row, status_of_fed};
 ghost use Rattle.hayro_ccitt_c.specs.declared.status.TheConstants.{OK, REFUSED};
 
@@ -37,9 +37,9 @@ pub(crate) fn status_of_fed(answer: Result<Fed>) -> u32
     }
 }
 
-/// Returns the status of a call that comes to this behind this number of rows, or keeps a row.
-pub(crate) fn status_behind(answer: Result<Fed>, count: usize, is_kept: bool) -> u32
-    ensures { result ≡ status_behind answer count is_kept }
+/// Returns the status of a call that comes to this after this number of rows, or keeps a row.
+pub(crate) fn status_after(answer: Result<Fed>, count: usize, is_kept: bool) -> u32
+    ensures { result ≡ status_after answer count is_kept }
 {
     if !is_kept {
         status_of_fed(answer)

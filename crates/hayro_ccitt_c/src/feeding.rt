@@ -5,7 +5,7 @@ ghost use Rattle.hayro_ccitt_c.specs.Packing.{bytes_of_row};
 ghost use Rattle.hayro_ccitt_c.specs.RowsTold.{IsToldStill};
 ghost use Rattle.hayro_ccitt.specs.SinkStates.{state_of};
 
-use crate::fed_status::{is_fed_row, needs_more, status_behind, status_of_fed};
+use crate::fed_status::{is_fed_row, needs_more, status_after, status_of_fed};
 use crate::listed_rows::ListedRows;
 use crate::packed_rows::{Layout, PackedRows, spaced};
 use crate::row_outcome::{RowOutcome, damage_told, miss_told};
@@ -221,10 +221,10 @@ impl Feeding {
         sink.write_white();
         *count = sink.rows();
         self.is_kept = sink.has_refused();
-        status_behind(answer, *count, self.is_kept)
+        status_after(answer, *count, self.is_kept)
     }
 
-    /// Packs the row that is next and those behind it, as `pack_rows` does.
+    /// Packs the row that is next and those after it, as `pack_rows` does.
     #[cold]
     #[inline(never)]
     fn pack_next_rows(&mut self, bytes: &mut [u8], count: &mut usize) -> u32
@@ -239,7 +239,7 @@ impl Feeding {
         self.pack_kept(bytes, count)
     }
 
-    /// Packs the next rows, as many as there is room for, each a stride behind the one before. `count` is how many.
+    /// Packs the next rows, as many as there is room for, each a stride after the one before. `count` is how many.
     pub(crate) fn pack_rows(&mut self, bytes: &mut [u8], count: &mut usize) -> u32
         ensures { PacksRows self.old self.new bytes.old bytes.new count.new result }
     {
@@ -259,10 +259,10 @@ impl Feeding {
         let answer = self.push_all(&mut sink);
         *count = sink.rows();
         self.is_kept = sink.has_refused();
-        status_behind(answer, *count, self.is_kept)
+        status_after(answer, *count, self.is_kept)
     }
 
-    /// Lists the row that is next and those behind it, as `list_rows` does.
+    /// Lists the row that is next and those after it, as `list_rows` does.
     #[cold]
     #[inline(never)]
     fn list_next_rows(&mut self, lists: &mut [u32], count: &mut usize) -> u32

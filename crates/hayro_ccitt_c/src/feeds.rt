@@ -186,7 +186,7 @@ fn nothing_given(count: &mut usize, outcome: &mut RowOutcome) -> u32
 }
 
 /// Reads the next rows, as many as there is room for, and packs them into `bitmap`, each as [`hayro_ccitt_feed_next_packed`] does,
-/// and each a stride behind the one before. `count` is how many. The bytes between them, and after the last one, keep their values.
+/// and each a stride after the one before. `count` is how many. The bytes between them, and after the last one, keep their values.
 ///
 /// `OK` says that there is no room for one more, which was read: the next call gives it first. The other statuses are those of
 /// [`hayro_ccitt_feed_next_packed`] after these rows: of them `REFUSED` says that there is no room for the first. `outcome`

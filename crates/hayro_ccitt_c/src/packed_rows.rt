@@ -268,7 +268,7 @@ impl<'a> PackedRows<'a> {
         }
     }
 
-    /// Goes on behind a row that is in memory, as all before it.
+    /// Goes on after a row that is in memory, as all before it.
     #[inline(always)]
     fn go_on(&mut self, changes: &[u32])
         requires room { self.old.start + (self.old.columns + 7) / 8 ≤ length self.old.bitmap.now }

@@ -13,7 +13,7 @@ use Rattle.hayro_ccitt.specs.LocalityByK.{IsTaggedBody}
 use Rattle.hayro_ccitt.proofs.DamagedLines.DamageByK.{encoded_follows}
 use Rattle.hayro_ccitt.proofs.DamagedLines.EncodedBodies.{encoded_lines_are_bodies}
 use Rattle.worked_rows.specs.Examples.{hex, EncodesTwoLines, EncodesTaggedRows, with_eols, three_rows, bits_changed, bits_added}
-use Rattle.worked_rows.specs.Examples.{words_added, group3_1d, HaveLocalBodies, ReadsDamage, LimitBehindTheBody, OneLineFollows}
+use Rattle.worked_rows.specs.Examples.{words_added, group3_1d, HaveLocalBodies, ReadsDamage, LimitAfterTheBody, OneLineFollows}
 use Rattle.worked_rows.specs.Examples.{reading_of}
 use Rattle.worked_rows.specs.Examples.{OneLineDiffers, ReadsDamageByK, with_tags, four_rows}
 use Rattle.hayro_ccitt.specs.EndOfLine.{after_eol, next_eol}
@@ -184,18 +184,18 @@ not_before_two (so_far, reaches, rest, count) = by_none (reaches_parts (move_on 
 count_is : (count n : ℕ) → ◌≡◌ {A = Result ℕ DecodeError} (Ok count) (Ok n) → count ≡ n
 count_is count n e = cc
 
-pub limit_behind : LimitBehindTheBody
-limit_behind rows count count2 (EndAlike.faults fault e f) = absurd cc
-limit_behind rows count count2 (EndAlike.no_columns e f g) = absurd (omega (arith, e))
-limit_behind rows count count2 (EndAlike.before place n le one two) =
+pub limit_after : LimitAfterTheBody
+limit_after rows count count2 (EndAlike.faults fault e f) = absurd cc
+limit_after rows count count2 (EndAlike.no_columns e f g) = absurd (omega (arith, e))
+limit_after rows count count2 (EndAlike.before place n le one two) =
     let end : 0 ≡ length one.rest =
     ap (λ (r : Result Bits DecodeError). elim r [ Ok rest ↦ length rest | Err fault ↦ 0 ]) one.ends in
     let place_is : place + length one.rest ≡ 56 = one.place_is in
     absurd (omega (arith, le, end, place_is))
-limit_behind rows count count2 (EndAlike.past place place2 n n2 lt lt2 one two counts) =
+limit_after rows count count2 (EndAlike.past place place2 n n2 lt lt2 one two counts) =
     let sum : 8 * n + 128 ≡ 8 * n2 + 56 = counts in
     omega (arith, sum, count_is count n one.count_is, count_is count2 n2 two.count_is)
-limit_behind rows count count2 (EndAlike.at_limit index place place2 n n2 comes comes2 met limit many le le2 one two) =
+limit_after rows count count2 (EndAlike.at_limit index place place2 n n2 comes comes2 met limit many le le2 one two) =
     let second : index ≡ 2 = omega (arith, met, limit) in
     absurd (not_before_two (subst (ComesToLine limit_of_three (bits_of (hex three_rows)) 29) second comes))
 
@@ -244,7 +244,7 @@ one_line_differs = record {
   encoding = refl;
   lenient = refl;
   before = refl;
-  behind = refl;
+  after = refl;
   body = body_of 3 (true ∷ false ∷ false ∷ false ∷ []) (eights _ refl)
       (EncodesLine2D.horizontal 0 (false ∷ false ∷ true ∷ []) (omega arith) (inr (inl (refl, refl)))
       (Spells.terminating 3 (true ∷ false ∷ false ∷ false ∷ []) (inr (inr (inr (inl (refl, refl))))) (omega arith))

@@ -139,8 +139,8 @@ ReadsDamage = (reading_of with_eols three_rows ≡ ([] ∷ (3 ∷ 5 ∷ []) ∷ 
 
 -- if a later row than the body's meets the row limit, `EndAlike` fixes the counts: they differ by as much as the
 -- lengths
-abbrev pub LimitBehindTheBody : Type 0
-LimitBehindTheBody = (rows : List Row) (count count2 : ℕ)
+abbrev pub LimitAfterTheBody : Type 0
+LimitAfterTheBody = (rows : List Row) (count count2 : ℕ)
     → EndAlike (group3_1d 8 3 "l") (bits_of (hex three_rows)) (bits_of (hex words_added)) 29 1 rows (Ok count) (Ok count2)
     → count + 16 ≡ count2 + 7
 

@@ -8,7 +8,7 @@ ghost use Rattle.std.specs.Prelude.{◌≡◌, [], ◌∷◌, Ok, Err};
 ghost use Rattle.worked_rows.specs.Examples.{damage_in, repairs_in, cuts_in, misses_in, reading_of, low_first_reading_of, group4};
 ghost use Rattle.worked_rows.specs.Examples.{group3_1d, group3_2d};
 ghost use Rattle.worked_rows.specs.Examples.{EncodesTwoLines, EncodesTaggedRows, HaveLocalBodies, ReadsDamage};
-ghost use Rattle.worked_rows.specs.Examples.{LimitBehindTheBody};
+ghost use Rattle.worked_rows.specs.Examples.{LimitAfterTheBody};
 ghost use Rattle.worked_rows.specs.Examples.{OneLineFollows, OneLineDiffers, ReadsDamageByK};
 
 use hayro_ccitt::DecodeError;
@@ -81,8 +81,8 @@ pub fn group3_1d_examples()
     ensures skip_to_the_next_line_end { reading_of (group3_1d 8 2 "l") "0019F800CC" ≡ (([] ∷ [] ∷ []), Ok 5) }
     ensures no_line_end_at_once_strict { reading_of (group3_1d 8 2 "ls") "0019F800CC" ≡ (([] ∷ []), Err DecodeError.InvalidCode) }
     ensures a_longer_spelling_of_a_line { reading_of (group3_1d 8 0 "l") "0019800C06F80033" ≡ (([] ∷ [] ∷ [] ∷ []), Ok 8) }
-    ensures limit_behind_a_body_of_eight_bits { reading_of (group3_1d 8 3 "l") "0019800C700033" ≡ (([] ∷ (3 ∷ 5 ∷ []) ∷ [] ∷ []), Ok 7) }
-    ensures limit_behind_a_body_of_more_words { reading_of (group3_1d 8 3 "l") "0019800C06E6A1B9A86E6A1B9AF00033"
+    ensures limit_after_a_body_of_eight_bits { reading_of (group3_1d 8 3 "l") "0019800C700033" ≡ (([] ∷ (3 ∷ 5 ∷ []) ∷ [] ∷ []), Ok 7) }
+    ensures limit_after_a_body_of_more_words { reading_of (group3_1d 8 3 "l") "0019800C06E6A1B9A86E6A1B9AF00033"
         ≡ (([] ∷ (3 ∷ 5 ∷ []) ∷ [] ∷ []), Ok 16) }
     ensures cut_to_0_bytes { reading_of (group3_1d 8 0 "b") "" ≡ ([], Err DecodeError.UnexpectedEof) }
     ensures cut_to_1_bytes { reading_of (group3_1d 8 0 "b") "00" ≡ ([], Err DecodeError.InvalidCode) }
@@ -148,7 +148,7 @@ pub fn damage_examples()
         ≡ record { row = 0; start = 12; fault = DecodeError.InvalidCode } ∷ [] }
     ensures a_cut_run_in_group4 { cuts_in (group4 8 1 "") "34C0" ≡ record { row = 0; start = 0; fault = DecodeError.InvalidCode } ∷ [] }
     ensures none_is_cut { cuts_in (group4 8 1 "") "31C0" ≡ [] }
-    ensures none_behind_a_repair { misses_in (group3_1d 8 0 "l") "0019800C400033" ≡ [] }
+    ensures none_after_a_repair { misses_in (group3_1d 8 0 "l") "0019800C400033" ≡ [] }
 {}
 
 /// Encodings: two lines of T.6, and two of T.4 closed by RTC.
@@ -162,7 +162,7 @@ pub fn encoding_examples()
 pub fn locality_examples()
     ensures bodies { HaveLocalBodies }
     ensures damage { ReadsDamage }
-    ensures limit { LimitBehindTheBody }
+    ensures limit { LimitAfterTheBody }
 {}
 
 /// Locality in two dimensions: a damaged line, one that is read against its row, and the one-dimensional line after them.

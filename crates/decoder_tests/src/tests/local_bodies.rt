@@ -101,7 +101,7 @@ fn bodies_of_random_lines(rt: HostRuntime) {
     );
 }
 
-/// The EOL behind a line, and how many rows damage to that line may change: its own, and those of the two-dimensional lines
+/// The EOL after a line, and how many rows damage to that line may change: its own, and those of the two-dimensional lines
 /// up to the next one-dimensional one.
 #[test]
 fn rows_that_damage_reaches(rt: HostRuntime) {
@@ -140,7 +140,7 @@ fn rows_that_damage_reaches(rt: HostRuntime) {
     );
 }
 
-/// EOLs behind damage, and from which bit on the rows are the same again: behind the next EOL, if the line in between ends
+/// EOLs after damage, and from which bit on the rows are the same again: after the next EOL, if the line in between ends
 /// before it.
 #[test]
 fn bits_from_which_rows_are_in_step(rt: HostRuntime) {
@@ -166,7 +166,7 @@ fn bits_from_which_rows_are_in_step(rt: HostRuntime) {
         Group3_1D 8 columns 0 rows l | 001F400660 | in_step_from 0 = None
         Group3_1D 8 columns 0 rows l | 001F400330 | in_step_from 0 = Some(31)
         Group3_1D 8 columns 0 rows l | 001F001980 | in_step_from 0 = Some(28)
-        // In two dimensions the tag behind the second EOL decides.
+        // In two dimensions the tag after the second EOL decides.
         Group3_2D 8 columns 0 rows l | 001CC00463800B800073 | in_step_from 0 = None
         Group3_2D 8 columns 0 rows l | 001CC00463800B800073 | in_step_from 41 = Some(74)
         Group3_2D 8 columns 0 rows l s | 001CC00463800B800073 | in_step_from 41 = None

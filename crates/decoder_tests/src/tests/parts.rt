@@ -111,7 +111,7 @@ fn decodes_from_a_reader(rt: HostRuntime) {
 
 /// The ends of an image and the EOLs after a white row.
 #[test]
-fn looks_behind_a_row(rt: HostRuntime) {
+fn looks_after_a_row(rt: HostRuntime) {
     calls_each(
         &rt,
         "Group3_1D 8 columns 0 rows | 001001 | next_line = Ok(()); set_has_eols true = (); \

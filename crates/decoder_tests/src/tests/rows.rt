@@ -270,7 +270,7 @@ fn rows_one_at_a_time(rt: HostRuntime) {
     );
 }
 
-/// Bits stand behind a whole line, and then an EOL, which is missed once the second line is read; or no EOL is left.
+/// Bits stand after a whole line, and then an EOL, which is missed once the second line is read; or no EOL is left.
 #[test]
 fn missed_eols_are_told(rt: HostRuntime) {
     reads_each(
@@ -336,7 +336,7 @@ fn rows_are_pushed_in_pieces(rt: HostRuntime) {
     }
 }
 
-/// A row that the sink refuses was read, and the next call goes on behind it.
+/// A row that the sink refuses was read, and the next call goes on after it.
 #[test]
 fn pushed_rows_are_refused(rt: HostRuntime) {
     let settings = settings_in(&rt, "Group4 8 columns 4 rows");
@@ -352,7 +352,7 @@ fn pushed_rows_are_refused(rt: HostRuntime) {
     same(&rt, found, (Ok(Fed::NeedsMore), 2, 3));
 }
 
-/// A line of 64 pixels in turn white and black that comes byte by byte goes on from a part of it; behind it none does.
+/// A line of 64 pixels in turn white and black that comes byte by byte goes on from a part of it; after it none does.
 #[test]
 fn a_line_goes_on_where_it_stopped(rt: HostRuntime) {
     let settings = settings_in(&rt, "Group3_1D 64 columns 1 rows");
@@ -378,9 +378,9 @@ fn a_line_goes_on_where_it_stopped(rt: HostRuntime) {
         }
     }
     same(&rt, feed.rows_read(), 1);
-    // Of 36 bytes not behind the first, where nothing is kept yet, and the last, where the row was read.
+    // Of 36 bytes not after the first, where nothing is kept yet, and the last, where the row was read.
     same(&rt, within, 34);
-    // Nor behind the second, where it was kept.
+    // Nor after the second, where it was kept.
     same(&rt, stays, 33);
 }
 

@@ -21,6 +21,6 @@ one_in_word at w small held some =
     ap holds_one (run_ahead at w small held few) ∙ holds_one-run (count_leading_zeros 32 w) _
 
 -- what zeros end: a one or the data
-pub one_behind : (first : Bits) (n : ℕ) (bits : Bits) (place : ℕ) (result : Bool) → first ≡ replicate n false ++ drop place bits
+pub one_after : (first : Bits) (n : ℕ) (bits : Bits) (place : ℕ) (result : Bool) → first ≡ replicate n false ++ drop place bits
     → (result ≡ true → slice_get bits place ≡ Some true) → (result ≡ false → drop place bits ≡ []) → result ≡ holds_one first
-one_behind first n bits place result e one end = grind (arith, drop_some, holds_one-run, append-nil, holds_one-zeros)
+one_after first n bits place result e one end = grind (arith, drop_some, holds_one-run, append-nil, holds_one-zeros)

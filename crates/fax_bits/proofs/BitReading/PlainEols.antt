@@ -44,33 +44,33 @@ module _ (at : BitsAt) (w : ℕ) (small : w < 2 ^ 32) (held : HoldsNextBits w at
     abbrev ten : ℕ
     ten = (w / 512) % 1024
 
-    abbrev zeros_behind : ℕ
-    zeros_behind = count_trailing_zeros 32 ten
+    abbrev zeros_after : ℕ
+    zeros_after = count_trailing_zeros 32 ten
 
-    lowest : (zeros_behind < 32) × (bit_at ten zeros_behind ≡ 1)
+    lowest : (zeros_after < 32) × (bit_at ten zeros_after ≡ 1)
     lowest = grind (arith, common_steps, bit_at-trailing_zeros w32 ten, cases_lt 0 ten)
 
-    within_ten : zeros_behind < 10
-    within_ten = elim (cases_lt zeros_behind 10) [
+    within_ten : zeros_after < 10
+    within_ten = elim (cases_lt zeros_after 10) [
       | inl lt ↦ lt
       | inr ge ↦
-          absurd (let none = bit_at_above ten 10 zeros_behind (omega arith) ge in let one = lowest.1 in omega (arith, none, one))
+          absurd (let none = bit_at_above ten 10 zeros_after (omega arith) ge in let one = lowest.1 in omega (arith, none, one))
     ]
 
-    one_there : get_or at.bits (at.place + (22 - zeros_behind)) false ≡ true
-    one_there = let e : 9 + zeros_behind ≡ 31 - (22 - zeros_behind) = omega (arith, within_ten) in
+    one_there : get_or at.bits (at.place + (22 - zeros_after)) false ≡ true
+    one_there = let e : 9 + zeros_after ≡ 31 - (22 - zeros_after) = omega (arith, within_ten) in
         let whole : w / 512 ≡ (w / 512 / 1024) * 2 ^ 10 + ten = omega arith in
-        let low : bit_at (w / 512) zeros_behind ≡ bit_at ten zeros_behind = ap (λ (n : ℕ). bit_at n zeros_behind) whole
-        ∙ bit_at_cat_low (w / 512 / 1024) 10 ten zeros_behind within_ten in
-        let bit : bit_of w (9 + zeros_behind) ≡ true = sym (ap (λ (m : ℕ). eqb (m % 2) 1) (shr-shr w 9 zeros_behind))
+        let low : bit_at (w / 512) zeros_after ≡ bit_at ten zeros_after = ap (λ (n : ℕ). bit_at n zeros_after) whole
+        ∙ bit_at_cat_low (w / 512 / 1024) 10 ten zeros_after within_ten in
+        let bit : bit_of w (9 + zeros_after) ≡ true = sym (ap (λ (m : ℕ). eqb (m % 2) 1) (shr-shr w 9 zeros_after))
         ∙ ap (λ (m : ℕ). eqb m 1) (low ∙ lowest.1) in
-        sym (held (22 - zeros_behind) (omega arith)) ∙ ap (bit_of w) (sym e) ∙ bit
+        sym (held (22 - zeros_after) (omega arith)) ∙ ap (bit_of w) (sym e) ∙ bit
 
     -- no EOL begins after the twelve bits before it, nor a bit later
-    pub none_behind : (next : BitsAt) → next.bits ≡ at.bits → next.place ≡ at.place + 12 → (after_eol 0 (here next) ≡ None)
+    pub none_after : (next : BitsAt) → next.bits ≡ at.bits → next.place ≡ at.place + 12 → (after_eol 0 (here next) ≡ None)
         × (after_eol 0 (drop 1 (here next)) ≡ None)
-    none_behind next same place = let step = one_near 0 (9 - zeros_behind) (drop 1 (here next)) (omega arith) in
-        let step2 = get_or-drop next.place next.bits (10 - zeros_behind) false in
+    none_after next same place = let step = one_near 0 (9 - zeros_after) (drop 1 (here next)) (omega arith) in
+        let step2 = get_or-drop next.place next.bits (10 - zeros_after) false in
         grind (arith, one_near, get_or-drop, one_there, within_ten)
 
 -- ---- The EOLs.

@@ -79,21 +79,21 @@ one_or_none most seen = by_word (word_at mode_codes seen) refl
     by_word None e = inl (words_none most seen e)
     by_word (Some found) e = by_offset found (offset_of found.0) e refl
 
--- what is behind a word
-behind_word : (at : BitsAt) (seen more word rest : Bits) → here at ≡ seen ++ more → seen ≡ word ++ rest
+-- what is after a word
+after_word : (at : BitsAt) (seen more word rest : Bits) → here at ≡ seen ++ more → seen ≡ word ++ rest
     → here (moved (length word) at) ≡ rest ++ more
-behind_word at seen more word rest is there = sym (drop-drop (length word) at.place at.bits)
+after_word at seen more word rest is there = sym (drop-drop (length word) at.place at.bits)
     ∙ ap (λ (x : Bits). drop (length word) x) (is ∙ ap (λ (x : Bits). x ++ more) there ∙ append_assoc word rest more)
     ∙ drop_at word (rest ++ more) (length word) refl
 
 -- a mode in the first bits here is next
 pub read_on : (at : BitsAt) (seen more word rest : Bits) (mode : Mode) → here at ≡ seen ++ more → Has mode_codes mode word
     → seen ≡ word ++ rest → read_code mode_codes (here at) ≡ Ok (mode, here (moved (length word) at))
-read_on at seen more word rest mode is has there = grind (arith, append_assoc, read_code_again, modes_free, behind_word)
+read_on at seen more word rest mode is has there = grind (arith, append_assoc, read_code_again, modes_free, after_word)
 
 pub next_words : (most : ℕ) (at : BitsAt) (seen more : Bits) → here at ≡ seen ++ more → AreNextWords (vertical_words most seen) at
 next_words zero at seen more is = rw (words_zero seen) tt
-next_words (suc most) at seen more is = grind (arith, next_words most, one_or_none, read_on, behind_word)
+next_words (suc most) at seen more is = grind (arith, next_words most, one_or_none, read_on, after_word)
 
 -- ---- How many there are, and their bits
 pub words_few : (most : ℕ) (seen : Bits) → length (vertical_words most seen) ≤ most

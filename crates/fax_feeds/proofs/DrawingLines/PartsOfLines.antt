@@ -18,7 +18,7 @@ use Rattle.fax_feeds.specs.declared.line_parts.KeptPart.{KeptPart}
 use Rattle.fax_feeds.specs.declared.line_parts.Word.{Word}
 use Rattle.fax_reading.specs.Continuations.{is_short}
 use Rattle.fax_reading.specs.Lines.{Pen, place_from}
-use Rattle.fax_reading.specs.LinesGoOn.{LinePart, OpenRun, behind_run, left_of, line_from_part, mode_added, part_before}
+use Rattle.fax_reading.specs.LinesGoOn.{LinePart, OpenRun, after_run, left_of, line_from_part, mode_added, part_before}
 use Rattle.fax_reading.specs.LinesGoOn.{read_on, word_added}
 use Rattle.fax_feeds.specs.LineParts.{GoesOnBy, ContinuesLine, IsLawfulPart, IsPartOf, Leads, ReadsWord, EndsLine}
 use Rattle.fax_feeds.proofs.Names.{Option, None, Some}
@@ -85,10 +85,10 @@ before_at more true run pen = refl
 
 module _ (settings : DecodeSettings) (reference : Row) {start : Bits} (old new : KeptPart) (rest after : Bits)
     (part : IsPartOf settings reference start old rest) where
-  -- behind a word it goes on from the part that the word leads to
-  pub goes_on_behind : LeadsToPart new after (read_on settings reference (part_at old part.front rest)).turn
+  -- after a word it goes on from the part that the word leads to
+  pub goes_on_after : LeadsToPart new after (read_on settings reference (part_at old part.front rest)).turn
       → IsPartOf settings reference start new after
-  goes_on_behind leads = record {
+  goes_on_after leads = record {
     front = leads.0;
     painted = leads.1;
     line = λ more. part.line more
@@ -99,9 +99,9 @@ module _ (settings : DecodeSettings) (reference : Row) {start : Bits} (old new :
   }
 
   -- if the line ends with the word, that is the line
-  pub ends_behind : {short : Bool} → EndsLine short (read_on settings reference (part_at old part.front rest)).turn
+  pub ends_following : {short : Bool} → EndsLine short (read_on settings reference (part_at old part.front rest)).turn
       → is_short (line_here settings reference start) ≡ short
-  ends_behind ends =
+  ends_following ends =
       let here : line_here settings reference start ≡ line_from_part settings reference (part_at old part.front rest)
       = ap (line_here settings reference) (sym (append-nil start)) ∙ part.line []
       ∙ ap (λ (b : Bits). line_from_part settings reference (part_at old part.front b)) (append-nil rest) in
@@ -154,7 +154,7 @@ module _ (settings : DecodeSettings) (reference : Row) (front : Row) (color : Co
   abbrev by_mode : Mode → Turn LinePart Line
   by_mode mode = (mode_added settings.strict settings.columns reference pen mode).turn
 
-  -- pixels that fit, or don't, behind a pass
+  -- pixels that fit, or don't, after a pass
   pub pass_goes : (count painted : ℕ) → b2 reference (right_of_painted (length front)) color - length front ≡ count
       → PaintsTo settings front color count painted
       → LeadsToFront painted (λ row. at_mode row color rest) (by_mode Pass)
@@ -167,7 +167,7 @@ module _ (settings : DecodeSettings) (reference : Row) (front : Row) (color : Co
       = ap (λ (n : ℕ). b2 reference n color - length front) (right_is front) ∙ is in
       (Line.broken front too_many_pixels, rw (place, fails) refl, refl)
 
-  -- behind a vertical mode
+  -- after a vertical mode
   pub turn_goes : (k : ℤ) (place painted : ℕ)
       → place_from (length front) (pos (b1 reference (right_of_painted (length front)) color) +ℤ k) ≡ Ok place
       → PaintsTo settings front color (place - length front) painted
@@ -194,7 +194,7 @@ module _ (settings : DecodeSettings) (reference : Row) (front : Row) (color : Co
       = ap (λ (n : ℕ). place_from (length front) (pos (b1 reference n color) +ℤ k)) (right_is front) ∙ is in
       (Line.broken front Overflow, rw there refl, refl)
 
-  -- behind a word of a run
+  -- after a word of a run
   abbrev by_word : OpenRun → ℕ → Turn LinePart Line
   by_word run n = (word_added settings.strict settings.columns run pen n).turn
 
@@ -211,7 +211,7 @@ module _ (settings : DecodeSettings) (reference : Row) (front : Row) (color : Co
 
   pub run_turns : (run : OpenRun) (n : ℕ) (row : Row) → run.total + n ≤ 4294967295 → n < 64
       → paint settings.strict settings.columns front color (run.total + n) ≡ Ok row
-      → by_word run n ≡ Turn.next (behind_run run (record { front = row; color = opposite color; rest = rest }))
+      → by_word run n ≡ Turn.next (after_run run (record { front = row; color = opposite color; rest = rest }))
   run_turns run n row le last paints = rw (fits_32 (run.total + n) le, lt-ltb n 64 last, paints) refl
 
   -- ---- One word more
@@ -247,10 +247,10 @@ pub passed_on : (places : List ℕ) (painted more passed : ℕ) → painted ≤ 
     → ArePassed places more passed
 passed_on places painted more passed le are = grind (arith, common_steps)
 
-pub lawful_behind : (settings : DecodeSettings) (reference : Row) (part : KeptPart) (painted passed : ℕ)
+pub lawful_after : (settings : DecodeSettings) (reference : Row) (part : KeptPart) (painted passed : ℕ)
     → ArePassed (changes reference) painted passed → part.passed ≡ passed → painted ≤ part.painted
     → part.painted ≤ settings.columns → IsLawfulPart settings reference part
-lawful_behind settings reference part painted passed are same more within = grind (arith, common_steps, passed_on)
+lawful_after settings reference part painted passed are same more within = grind (arith, common_steps, passed_on)
 
 -- ---- A line begins with a part
 
@@ -270,7 +270,7 @@ module _ (settings : DecodeSettings) (reference : Row) (bits : Bits) where
       → IsPartOf settings reference bits (first_kept is_2d) bits
   begins_by is_2d is = record { front = []; painted = refl; line = λ more. is more ∙ kind_is is_2d (bits ++ more) }
 
-  -- behind its tag
+  -- after its tag
   pub begins_tagged : (rest : Bits) (tag : Bool) → settings.encoding ≡ Group3_2D → bits ≡ tag ∷ rest
       → IsPartOf settings reference bits (first_kept (not tag)) rest
   begins_tagged rest tag encoding is = record {
@@ -299,7 +299,7 @@ module _ (old part new : KeptPart) (ctx : Context) (ticks : ℕ) (now : Context)
   went_on reads = record {
     part = λ start is.
         let there = so_far.part start is in
-        goes_on_behind ctx.held.settings ctx.held.reference part new (here at) (here after) there
+        goes_on_after ctx.held.settings ctx.held.reference part new (here at) (here after) there
         (reads.goes.leads there.front there.painted);
     lawful = reads.goes.lawful;
     frame = reads.frame;
@@ -333,7 +333,7 @@ module _ (old part new : KeptPart) (ctx : Context) (ticks : ℕ) (now : Context)
       → is_short (line_here ctx.held.settings ctx.held.reference start) ≡ short
   ends_so short word reads ends start is =
       let there = so_far.part start is in
-      ends_behind ctx.held.settings ctx.held.reference part new (here at) (here after) there
+      ends_following ctx.held.settings ctx.held.reference part new (here at) (here after) there
       (ends (read_on ctx.held.settings ctx.held.reference (part_at part there.front (here at))).turn
       (reads.goes.leads there.front there.painted))
 
@@ -425,7 +425,7 @@ module _ (settings : DecodeSettings) (reference : Row) (part : KeptPart) (at : I
   word_fails error reads start is =
       let ends : EndsLine (misses_end error) (read_on settings reference (part_at part is.front rest)).turn
       = rw (at.run, reads) (Line.broken is.front error, refl, refl) in
-      ends_behind settings reference part part rest rest is ends
+      ends_following settings reference part part rest rest is ends
 
   module _ (n : ℕ) (after : Bits) (reads : read_code (codes_of part.color) rest ≡ Ok (n, after)) where
     -- a make-up word
@@ -434,10 +434,10 @@ module _ (settings : DecodeSettings) (reference : Row) (part : KeptPart) (at : I
         ≡ Turn.next (part_at (record part { total = part.total + n }) front after)
     makeup_adds front long fits = rw at.run (grind (arith, common_steps, fits_32))
 
-    pub part_behind_makeup : 64 ≤ n → part.total + n ≤ 4294967295 → (start : Bits) → IsPartOf settings reference start part rest
+    pub part_after_makeup : 64 ≤ n → part.total + n ≤ 4294967295 → (start : Bits) → IsPartOf settings reference start part rest
         → IsPartOf settings reference start (record part { total = part.total + n }) after
-    part_behind_makeup long fits start is =
-        goes_on_behind settings reference part (record part { total = part.total + n }) rest after is
+    part_after_makeup long fits start is =
+        goes_on_after settings reference part (record part { total = part.total + n }) rest after is
         (is.front, is.painted, word_turns is.front n after reads ∙ makeup_adds is.front long fits)
 
     -- too many of them
@@ -447,7 +447,7 @@ module _ (settings : DecodeSettings) (reference : Row) (part : KeptPart) (at : I
         let ends : EndsLine false (read_on settings reference (part_at part is.front rest)).turn
         = subst (EndsLine false) (sym (word_turns is.front n after reads))
         (word_overflows settings reference is.front part.color after (run_of_part part) n over) in
-        ends_behind settings reference part part rest rest is ends
+        ends_following settings reference part part rest rest is ends
 
 -- ---- A run that a word ends
 
@@ -458,11 +458,11 @@ module _ (settings : DecodeSettings) (reference : Row) (part : KeptPart) (at : I
   next_run = record part { painted = part.painted + (part.total + n); color = opposite part.color; total = 0 }
 
   -- before it, with as many pixels
-  abbrev behind : ℕ → KeptPart
-  behind painted = record part { painted = painted; color = opposite part.color; in_run = false }
+  abbrev following : ℕ → KeptPart
+  following painted = record part { painted = painted; color = opposite part.color; in_run = false }
 
   run_leads : (front : Row) (painted : ℕ) → PaintsTo settings front part.color (part.total + n) painted
-      → LeadsToPart (behind painted) after (read_on settings reference (part_at part front rest)).turn
+      → LeadsToPart (following painted) after (read_on settings reference (part_at part front rest)).turn
   run_leads front painted paints =
       let leads = word_turns settings reference part at rest front n after reads
       ∙ run_turns settings reference front part.color after (run_of_part part) n paints.0 fits last paints.2 in (
@@ -481,7 +481,7 @@ module _ (settings : DecodeSettings) (reference : Row) (part : KeptPart) (at : I
 
   begins : (front : Row) → length front ≡ part.painted + (part.total + n) → part.painted + (part.total + n) < settings.columns
       → LeadsToPart next_run after
-      (read_on settings reference (part_at (behind (part.painted + (part.total + n))) front after)).turn
+      (read_on settings reference (part_at (following (part.painted + (part.total + n))) front after)).turn
   begins front is within = (
     front,
     is,
@@ -489,23 +489,23 @@ module _ (settings : DecodeSettings) (reference : Row) (part : KeptPart) (at : I
         (run_begins settings reference front (opposite part.color) after (omega (arith, is, within))),
   )
 
-  pub part_behind_run : part.painted + (part.total + n) < settings.columns → (start : Bits)
+  pub part_after_run : part.painted + (part.total + n) < settings.columns → (start : Bits)
       → IsPartOf settings reference start part rest → IsPartOf settings reference start next_run after
-  part_behind_run within start is =
+  part_after_run within start is =
       let painted : ℕ = part.painted + (part.total + n) in
       let paints = paints_all settings is.front part.color (part.total + n) part.painted is.painted (omega (arith, within))
       (omega (arith, within)) in
-      let there = goes_on_behind settings reference part (behind painted) rest after is (run_leads is.front painted paints) in
-      goes_on_behind settings reference (behind painted) next_run after after there (begins there.front there.painted within)
+      let there = goes_on_after settings reference part (following painted) rest after is (run_leads is.front painted paints) in
+      goes_on_after settings reference (following painted) next_run after after there (begins there.front there.painted within)
 
   -- a row that is full ends the line
-  full_behind : (start : Bits) (is : IsPartOf settings reference start part rest)
+  full_after : (start : Bits) (is : IsPartOf settings reference start part rest)
       → PaintsTo settings is.front part.color (part.total + n) settings.columns
       → is_short (line_here settings reference start) ≡ false
-  full_behind start is paints =
-      let full : KeptPart = behind settings.columns in
-      let there = goes_on_behind settings reference part full rest after is (run_leads is.front settings.columns paints) in
-      ends_behind settings reference full full after after there
+  full_after start is paints =
+      let full : KeptPart = following settings.columns in
+      let there = goes_on_after settings reference part full rest after is (run_leads is.front settings.columns paints) in
+      ends_following settings reference full full after after there
       (full_ends settings reference there.front (opposite part.color) after part.is_2d (omega (arith, there.painted)))
 
   -- so does one that has no room for the run
@@ -513,7 +513,7 @@ module _ (settings : DecodeSettings) (reference : Row) (part : KeptPart) (at : I
       → IsPartOf settings reference start part rest → is_short (line_here settings reference start) ≡ false
   run_ends_line within full start is = elim (cases_lt (settings.columns - part.painted) (part.total + n)) [
     | inl more ↦ by_rule settings.strict refl more
-    | inr fit ↦ full_behind start is
+    | inr fit ↦ full_after start is
         (subst (PaintsTo settings is.front part.color (part.total + n)) (omega (arith, full, fit, within))
         (paints_all settings is.front part.color (part.total + n) part.painted is.painted within fit))
   ]
@@ -521,14 +521,14 @@ module _ (settings : DecodeSettings) (reference : Row) (part : KeptPart) (at : I
       by_rule : (strict : Bool) → settings.strict ≡ strict → settings.columns - part.painted < part.total + n
           → is_short (line_here settings reference start) ≡ false
       by_rule false lenient more =
-          full_behind start is
+          full_after start is
           (paints_row settings is.front part.color (part.total + n) part.painted is.painted within more lenient)
       by_rule true strict more =
           let ends : EndsLine false (read_on settings reference (part_at part is.front rest)).turn
           = subst (EndsLine false) (sym (word_turns settings reference part at rest is.front n after reads))
           (run_ends settings reference is.front part.color after (run_of_part part) n fits last
           (unpainted settings is.front part.color (part.total + n) part.painted is.painted strict more)) in
-          ends_behind settings reference part part rest rest is ends
+          ends_following settings reference part part rest rest is ends
 
 -- ---- What a word of a run leaves
 
@@ -584,7 +584,7 @@ stops_in_run part ctx now before after short frame same onward lawful stays said
       );
     }
 
--- a run goes on behind its first word
+-- a run goes on after its first word
 pub passes_further : (result : Option Bool) (old mid new : KeptPart) (ctx there now : Context) (before at after : BitsAt)
     (color : Color) → before.place ≤ length before.bits → GoesInRun old mid ctx there before at color
     → PassesRun result mid new there now at after color → PassesRun result old new ctx now before after color

@@ -6,7 +6,7 @@ use Rattle.fax_feeds.proofs.Names.{subst, arith, append-nil, Bits, DecodeError, 
 use Rattle.std.proofs.lemmas.List.Elements.{Contains-append_left}
 use Rattle.fax_bits.specs.Repetition.{Turn}
 use Rattle.fax_bits.specs.Runs.{run_from}
-use Rattle.fax_reading.specs.Lines.{Pen, drawn, draw_run, go_on, turn_behind, unless_fault}
+use Rattle.fax_reading.specs.Lines.{Pen, drawn, draw_run, go_on, turn_following, unless_fault}
 use Rattle.fax_reading.specs.LinesGoOn.{LacksWord, LinePart, OpenRun, draw_step, line_after_turn}
 use Rattle.fax_reading.specs.LinesGoOn.{line_from_part, part_before}
 use Rattle.fax_reading.specs.Rows.{opposite, paint}
@@ -25,16 +25,16 @@ abbrev TurnHasBlack : Step → Type 0
 TurnHasBlack (Turn.next pen) = HasBlack pen.front
 TurnHasBlack (Turn.done line) = HasBlack (front_of line)
 
-then_black : (turn : Step) (behind : Pen → Step) → TurnHasBlack turn → ((pen : Pen) → HasBlack pen.front
-    → TurnHasBlack (behind pen)) → TurnHasBlack (turn_behind turn behind)
-then_black (Turn.next pen) behind black on = on pen black
-then_black (Turn.done line) behind black on = black
+then_black : (turn : Step) (after : Pen → Step) → TurnHasBlack turn → ((pen : Pen) → HasBlack pen.front
+    → TurnHasBlack (after pen)) → TurnHasBlack (turn_following turn after)
+then_black (Turn.next pen) after black on = on pen black
+then_black (Turn.done line) after black on = black
 
 module _ (strict : Bool) (columns : ℕ) where
   -- a run that is read and painted
   run_black : (pen : Pen) (result : Result (ℕ × Bits) DecodeError) → HasBlack pen.front
-      → TurnHasBlack (turn_behind (unless_fault pen.front result) (λ found.
-      turn_behind (unless_fault pen.front (paint strict columns pen.front pen.color found.0)) (λ row.
+      → TurnHasBlack (turn_following (unless_fault pen.front result) (λ found.
+      turn_following (unless_fault pen.front (paint strict columns pen.front pen.color found.0)) (λ row.
       Turn.next (record { front = row; color = opposite pen.color; rest = found.1 }))))
   run_black pen (Err fault) black = black
   run_black pen (Ok found) black = grind (arith, common_steps, paint_ok, black_stays)

@@ -26,18 +26,18 @@ pub record WasShort (known : ℕ) (feed : Feeding) : Type 0 where
 -- a damaged line was repaired, and no EOL ends before this offset (T.4, 4.1.2)
 pub record SeeksEol (known : ℕ) (feed : Feeding) : Type 0 where
   pub begun : feed.begun ≡ true
-  pub behind : is_at_line feed.rows.stand ≡ false
+  pub after : is_at_line feed.rows.stand ≡ false
   pub sought : feed.ctx.held.has_eols ≡ true
-  pub none : (more fill behind : Bits) → drop feed.place feed.kept ++ more ≡ fill ++ replicate 11 false ++ true ∷ behind
+  pub none : (more fill after : Bits) → drop feed.place feed.kept ++ more ≡ fill ++ replicate 11 false ++ true ∷ after
       → known ≤ offset feed + length fill + 12
 
 -- Where the lines that were short were known up to this offset: the next one begins no sooner.
-abbrev pub IsBehind : ℕ → Feeding → Type 0
-IsBehind known feed = ended feed.rows.stand ≡ None → feed.finished ≡ false → (known ≤ offset feed) ⊎ SeeksEol known feed
+abbrev pub IsAfter : ℕ → Feeding → Type 0
+IsAfter known feed = ended feed.rows.stand ≡ None → feed.finished ≡ false → (known ≤ offset feed) ⊎ SeeksEol known feed
 
 -- the same, unless the line here is one of them, of which a part is kept
 abbrev pub IsPassed : Option KeptPart → ℕ → Feeding → Type 0
-IsPassed None known feed = IsBehind known feed
+IsPassed None known feed = IsAfter known feed
 IsPassed (Some part) known feed = WasShort known feed
 
 -- the line here is the last that was tried
@@ -45,15 +45,15 @@ pub record WasTried (known : ℕ) (feed : Feeding) : Type 0 where
   pub tried : feed.tried_at ≡ offset feed
   pub short : WasShort known feed
 
--- the lines that were tried are behind, and the changes are left that the next one passes
+-- the lines that were tried are after, and the changes are left that the next one passes
 pub record IsUntried (known firsts most : ℕ) (feed : Feeding) : Type 0 where
-  pub behind : IsBehind known feed
+  pub after : IsAfter known feed
   pub left : ended feed.rows.stand ≡ None → feed.finished ≡ false → firsts + changes_of feed ≤ most
 
 -- The changes of the rows, less one for each row, are no more than the bits up to the next line.
 pub record RowsPaid (drawn : ℕ) (feed : Feeding) : Type 0 where
   pub most : drawn ≤ fed_bits feed
-  pub behind : IsBehind drawn feed
+  pub after : IsAfter drawn feed
 
 -- What so many calls counted for gaps: the bits of gaps, those before the first line twice, and twelve bits a call.
 pub record GapsPaid (calls gaps : ℕ) (feed : Feeding) : Type 0 where

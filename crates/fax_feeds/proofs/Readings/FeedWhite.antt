@@ -4,7 +4,7 @@ use Rattle.fax_feeds.proofs.Names.{◌≡◌, ◌∙◌, ◌+◌, ◌≤◌, ◌
 use Rattle.fax_feeds.proofs.Names.{arith, length, drop, false≢true, inl}
 use Rattle.fax_feeds.proofs.Names.{Bool, true, false, None, Ok, ℕ, Bits, BitsAt}
 use Rattle.fax_feeds.proofs.Names.{Context, Row, append_assoc}
-use Rattle.fax_feeds.proofs.Names.{bits_in, is_at_line, ended, BehindRow, IsStanding, ReadsNext}
+use Rattle.fax_feeds.proofs.Names.{bits_in, is_at_line, ended, AfterRow, IsStanding, ReadsNext}
 use Rattle.fax_feeds.proofs.Names.{seen, changes, pixels, length-append}
 use Rattle.fax_feeds.proofs.Names.{◌&&◌}
 use Rattle.fax_bits.proofs.BitReading.BitLists.{length-low_bits}
@@ -25,7 +25,7 @@ use Rattle.fax_rows.specs.declared.row_reader.RowState.{RowState}
 use Rattle.fax_lines.specs.declared.white_lines.WhiteLines.{WhiteLines}
 
 module _ {f : Inside} {before after : BitsAt} {rows : RowState} {ctx : Context} {place : ℕ} {lines : WhiteLines}
-    (by : IsReadBy f before) (there : place ≡ after.place) (behind : f.rows.stand ≡ BehindRow) (fresh : f.look ≡ nothing_seen)
+    (by : IsReadBy f before) (there : place ≡ after.place) (following : f.rows.stand ≡ AfterRow) (fresh : f.look ≡ nothing_seen)
     (follow : MayFollow f.ctx.held.settings f.ctx.held.has_eols f.ctx.held.reference lines)
     (takes : TakesWhite lines (f.dropped + f.place) f.rows rows f.ctx ctx before after) where
   abbrev kept_bits : Bits
@@ -74,7 +74,7 @@ module _ {f : Inside} {before after : BitsAt} {rows : RowState} {ctx : Context} 
       → PassesEol (drop f.place kept_bits) (f.dropped + f.place) to
   eol_there sought to far = record {
     fill = [];
-    behind = line_after ++ drop place kept_bits;
+    after = line_after ++ drop place kept_bits;
     place = kept_there ∙ ap (λ (b : Bits). b ++ drop place kept_bits) (line_of_word.2
         ∙ ap (λ (s : Bool). eol_before s ++ line_after) sought);
     passed = omega (arith, far);
@@ -134,9 +134,9 @@ module _ {f : Inside} {before after : BitsAt} {rows : RowState} {ctx : Context} 
           damage = None;
           cut = false;
           missed = None;
-          stand = BehindRow;
+          stand = AfterRow;
         }) x next_whole) (Ok true)) (sym takes.new_is)
-        (white_reads tried f.rows f.ctx at_whole white_stood behind lines follow takes.unmet next_whole whole_passes))
+        (white_reads tried f.rows f.ctx at_whole white_stood following lines follow takes.unmet next_whole whole_passes))
 
     white_fed : IsFeedOf whole (tried + 0) (feeding_of (past_line f ctx rows place))
     white_fed =
@@ -152,13 +152,13 @@ module _ {f : Inside} {before after : BitsAt} {rows : RowState} {ctx : Context} 
                 damage = None;
                 cut = false;
                 missed = None;
-                stand = BehindRow;
+                stand = AfterRow;
               }) x next_whole) (sym takes.new_is)
-              (white_stands tried f.rows f.ctx at_whole white_stood behind lines follow takes.unmet next_whole whole_passes))));
+              (white_stands tried f.rows f.ctx at_whole white_stood following lines follow takes.unmet next_whole whole_passes))));
         }
 
     not_at_line : (begun : Bool) → (begun && is_at_line f.rows.stand) ≡ true → ⊥
-    not_at_line true e = false≢true (sym (ap is_at_line behind) ∙ e)
+    not_at_line true e = false≢true (sym (ap is_at_line following) ∙ e)
     not_at_line false e = false≢true e
 
     white_feeds : FeedsNext whole tried (feeding_of f) (feeding_of (past_line f ctx rows place)) (Ok Fed.Row)
@@ -199,7 +199,7 @@ module _ {f : Inside} {before after : BitsAt} {rows : RowState} {ctx : Context} 
   white_row = record {
     reads = λ whole tried unended feed. white_feeds feed;
     keeps = record { order = refl; finished = refl; kept = refl; dropped = refl; room = refl };
-    over = λ end e. let never = sym (ap ended behind) ∙ e in absurd cc;
+    over = λ end e. let never = sym (ap ended following) ∙ e in absurd cc;
     counts = grind (arith, common_steps, white_row_is, length-pixels);
   }
 

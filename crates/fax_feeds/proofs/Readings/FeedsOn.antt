@@ -3,7 +3,7 @@ use Rattle.fax_feeds.proofs.Names.{common_steps, ◌≡◌, ◌≢◌, ◌∙◌
 use Rattle.fax_feeds.proofs.Names.{None, Some, Option, refl, sym, ap, subst, arith, length, drop, cond, Bits, BitsAt, Held}
 use Rattle.fax_feeds.proofs.Names.{Context, DecodeError, White, redrawn, front_of, here, lines_of, ◌&&◌, IsStanding}
 use Rattle.fax_feeds.proofs.Names.{IsStandingAtLine, ReachesNextLine, ReadsNext, is_at_line, seen, line_here, DecodeSettings}
-use Rattle.fax_feeds.proofs.Names.{Stand, AtLine, BehindRow, AtEnd, AtFault, ended, is_some, ◌++◌}
+use Rattle.fax_feeds.proofs.Names.{Stand, AtLine, AfterRow, AtEnd, AtFault, ended, is_some, ◌++◌}
 use Rattle.fax_feeds.proofs.Names.{◌⊎◌, inl, inr, IfErr-weaker, RowsRead, false≢true, ◌<◌, List, zero, suc, ◌∷◌, append_assoc}
 use Rattle.fax_feeds.proofs.Names.{bits_in, length-append, length-drop}
 use Rattle.std.proofs.Math.Seq.{drop-append-add, drop-length, drop-nil}
@@ -134,7 +134,7 @@ module _ (old new : Feeding) (before after : BitsAt) (before_is : before ≡ rec
           let eol = on.past_eol unfinished no_line sought e in
           record {
             fill = eol.fill;
-            behind = eol.behind;
+            after = eol.after;
             place = ap here (sym before_is) ∙ eol.place;
             passed = omega (arith, eol.passed, keeps.dropped, ends, ap (λ (b : BitsAt). b.place) before_is);
           };
@@ -240,7 +240,7 @@ module _ (old new : Feeding) (before after : BitsAt) (before_is : before ≡ rec
       line_row e =
           let row = (tries.tried.read e [] no_more).row.taken in
           let here_is : here before ≡ drop old.place old.kept = ap here before_is in
-          let behind : here after ≡ drop new.place new.kept =
+          let following : here after ≡ drop new.place new.kept =
           ap (drop after.place) (tries.same_bits ∙ ap (λ (b : BitsAt). b.bits) before_is ∙ sym keeps.kept)
           ∙ ap (λ (n : ℕ). drop n new.kept) (sym ends) in
           let is : row_of_line mid.held.settings mid.held.has_eols (here before)
@@ -249,7 +249,7 @@ module _ (old new : Feeding) (before after : BitsAt) (before_is : before ≡ rec
           let yields = subst (λ (h : Held). row_of_line h.settings h.has_eols (drop old.place old.kept)
           (line_here h.settings h.reference (drop old.place old.kept)) ≡ Ok (new.ctx.held.reference, drop new.place new.kept))
           same (subst (λ (b : Bits). row_of_line mid.held.settings mid.held.has_eols (drop old.place old.kept)
-          (line_here mid.held.settings mid.held.reference (drop old.place old.kept)) ≡ Ok (new.ctx.held.reference, b)) behind
+          (line_here mid.held.settings mid.held.reference (drop old.place old.kept)) ≡ Ok (new.ctx.held.reference, b)) following
           (subst (λ (b : Bits). row_of_line mid.held.settings mid.held.has_eols b
           (line_here mid.held.settings mid.held.reference b) ≡ Ok (new.ctx.held.reference, here after)) here_is is)) in
           let wide = (at_line_stands old.rows.stand old.ctx.held.settings whole old.ctx.held at line (stood feed).0).wide in (
@@ -317,7 +317,7 @@ module _ (old new : Feeding) (before after : BitsAt) (before_is : before ≡ rec
       looked = same_look;
       done = λ e. none_new;
       tried = inl same_tried;
-      behind = tries.behind;
+      after = tries.after;
       within = grind (arith, common_steps);
       paid = omega (arith, none_paid new.part new.line_read none_new);
       row_is = λ whole tried e feed. line_row feed e;
@@ -398,11 +398,11 @@ at_front begun tried rows ctx at none stands = subst (λ (b : Bool). StandsIn b 
 -- ---- The steps of a call, one after the other
 
 -- where a gap leads to no line, no row is read
-pub none_behind : {old new : RowsRead} (answer : Result Bool DecodeError) → answer ≢ Ok true → ReachesNextLine old new answer
+pub none_after : {old new : RowsRead} (answer : Result Bool DecodeError) → answer ≢ Ok true → ReachesNextLine old new answer
     → ReadsNext old new answer
-none_behind (Ok true) other reached = absurd (other refl)
-none_behind (Ok false) other reached = grind (arith, common_steps)
-none_behind (Err error) other reached = grind (arith, common_steps)
+none_after (Ok true) other reached = absurd (other refl)
+none_after (Ok false) other reached = grind (arith, common_steps)
+none_after (Err error) other reached = grind (arith, common_steps)
 
 -- a line was reached, and the call went on from there
 pub feeds_on : {whole : Bits} {tried : ℕ} (more : ℕ) {old mid new : Feeding} {answer : Result Fed DecodeError}
@@ -476,7 +476,7 @@ feeds_on {whole} {tried} more {old} {mid} {new} {answer} looks unkept none begun
               let eol = reaches.past_eol unfinished was_begun no_line sought in
               record {
                 fill = eol.fill;
-                behind = eol.behind;
+                after = eol.after;
                 place = eol.place;
                 passed = omega (arith, eol.passed, row.onward);
               };
@@ -506,11 +506,11 @@ feeds_on {whole} {tried} more {old} {mid} {new} {answer} looks unkept none begun
         let eol = reaches.past_eol unfinished was_begun no_line sought in
         record {
           fill = eol.fill;
-          behind = eol.behind;
+          after = eol.after;
           place = eol.place;
           passed = omega (arith, eol.passed, next.goes_on.onward unended);
         };
-    behind = next.goes_on.behind;
+    after = next.goes_on.after;
     sought = λ e at. next.goes_on.sought e (and_from mid.begun (is_at_line mid.rows.stand) begun (reached.line refl))
         ∙ ap (λ (h : Held). h.has_eols) (reaches.at_line at).1;
     waits = λ e away.
@@ -529,10 +529,10 @@ feeds_on {whole} {tried} more {old} {mid} {new} {answer} looks unkept none begun
   };
 }
 
--- at a line, and behind a row, nothing has ended
+-- at a line, and after a row, nothing has ended
 pub at_line_unended : (stand : Stand) → is_at_line stand ≡ true → ended stand ≡ None
 at_line_unended AtLine is = refl
-at_line_unended BehindRow is = refl
+at_line_unended AfterRow is = refl
 at_line_unended AtEnd is = absurd (false≢true is)
 at_line_unended (AtFault error) is = absurd (false≢true is)
 
@@ -540,7 +540,7 @@ open_line : (begun : Bool) (stand : Stand) (ctx : Context) (next : Bits) → beg
     → is_short (line_here ctx.held.settings ctx.held.reference next) ≡ true → IsOpenAt begun stand ctx next
 open_line false stand ctx next begun line short = absurd (false≢true begun)
 open_line true AtLine ctx next begun line short = short
-open_line true BehindRow ctx next begun line short = absurd (false≢true line)
+open_line true AfterRow ctx next begun line short = absurd (false≢true line)
 open_line true AtEnd ctx next begun line short = absurd (false≢true line)
 open_line true (AtFault error) ctx next begun line short = absurd (false≢true line)
 
@@ -549,7 +549,7 @@ open_gap : (begun : Bool) (stand : Stand) (ctx : Context) (next : Bits) → begu
     → gap_is_settled ctx.held.settings ctx.held.taken ctx.held.has_eols next ≡ false → IsOpenAt begun stand ctx next
 open_gap false stand ctx next begun line unended gap = absurd (false≢true begun)
 open_gap true AtLine ctx next begun line unended gap = absurd (false≢true (sym line))
-open_gap true BehindRow ctx next begun line unended gap = gap
+open_gap true AfterRow ctx next begun line unended gap = gap
 open_gap true AtEnd ctx next begun line unended gap = absurd cc
 open_gap true (AtFault error) ctx next begun line unended gap = absurd cc
 
@@ -624,8 +624,8 @@ line_draws {whole} {tried} {old} {new} answer reads begun line feed e =
     before : length (drop old.place old.kept) ≡ length old.kept - old.place
     before = length-drop old.place old.kept
 
-    behind : length (drop new.place new.kept) ≡ length new.kept - new.place
-    behind = length-drop new.place new.kept
+    following : length (drop new.place new.kept) ≡ length new.kept - new.place
+    following = length-drop new.place new.kept
 
 line_goes_on : {whole : Bits} {tried : ℕ} {old new : Feeding} (answer : Result Bool DecodeError)
     → (reads : ReadsInFeed old new answer) → old.begun ≡ true → is_at_line old.rows.stand ≡ true → IsFeedOf whole tried old
@@ -641,7 +641,7 @@ line_goes_on {whole} {tried} {old} {new} answer reads begun line feed = record {
   row_is = λ e at. (reads.row_is whole tried (line_was_read answer e) feed).0;
   tried = λ left at. reads.tried;
   past_eol = λ unfinished was_begun no_line sought unended waits. absurd (false≢true (sym no_line ∙ line));
-  behind = λ e. ap is_at_line (reads.behind (line_was_read answer e));
+  after = λ e. ap is_at_line (reads.after (line_was_read answer e));
   sought = λ e at. (reads.row_is whole tried (line_was_read answer e) feed).2;
   waits = λ e away. absurd (false≢true (sym away ∙ still_at_line answer reads e));
   within = reads.within;
@@ -730,7 +730,7 @@ gap_end : {old new : RowsRead} (answer : Result (Option Bool) DecodeError) → a
     → fed_none answer ≡ Ok Fed.End → ReachesNextLine old new (came answer) → ReadsNext old new (Ok false)
 gap_end (Ok None) other e reached = absurd cc
 gap_end (Ok (Some true)) other e reached = absurd (other refl)
-gap_end (Ok (Some false)) other e reached = none_behind (Ok false) (λ is. cc) reached
+gap_end (Ok (Some false)) other e reached = none_after (Ok false) (λ is. cc) reached
 gap_end (Err error) other e reached = absurd cc
 
 -- the reading ends before a line
@@ -742,7 +742,7 @@ over_feeds : {whole : Bits} {tried : ℕ} {old new : Feeding} (answer : Result (
 over_feeds {whole} {tried} {old} {new} answer more waits line memory reached stands looks unkept goes_on = record {
   row = λ e. absurd (none_row answer e);
   end = λ e. gap_end answer line e reached;
-  fault = grind (arith, common_steps, none_behind);
+  fault = grind (arith, common_steps, none_after);
   none = λ left. grind (arith, common_steps);
   unsettled = λ e. grind (arith, common_steps);
   memory = λ e. grind (arith, common_steps);
@@ -804,7 +804,7 @@ pub first_line_is : (stand : Stand) {old new : RowsRead} → is_some (ended stan
     (line_first stand)
     → ReachesNextLine old new (Ok true)
 first_line_is AtLine is reached = reached
-first_line_is BehindRow is reached = reached
+first_line_is AfterRow is reached = reached
 first_line_is AtEnd is reached = absurd cc
 first_line_is (AtFault error) is reached = absurd cc
 
@@ -870,7 +870,7 @@ front_waits_feeds {whole} {tried} {old} {new} begins unbegun unkept none feed =
 first_line_ends : (stand : Stand) → is_some (ended stand) ≡ true → ((error : DecodeError) → ended stand ≢ Some (Err error))
     → line_first stand ≡ Ok false
 first_line_ends AtLine is unfailed = absurd cc
-first_line_ends BehindRow is unfailed = absurd cc
+first_line_ends AfterRow is unfailed = absurd cc
 first_line_ends AtEnd is unfailed = refl
 first_line_ends (AtFault error) is unfailed = absurd (unfailed error refl)
 

@@ -3,10 +3,10 @@ use Rattle.fax_feeds.proofs.Names.{common_steps}
 use Rattle.fax_feeds.proofs.Names.{◌≡◌, ◌≢◌, ◌∙◌, ◌+◌, ◌-◌, ◌*◌, ◌≤◌, ◌<◌, ◌++◌, ◌⊎◌, ◌&&◌, [], ℕ, Bool, true, false}
 use Rattle.fax_feeds.proofs.Names.{Result, Ok, Err, None, Some, Option, refl, sym, ap, subst, arith, length, drop}
 use Rattle.fax_feeds.proofs.Names.{inl, inr, cases_lt, false≢true, length-append, length-drop, append_assoc, append-nil}
-use Rattle.fax_feeds.proofs.Names.{Bits, Context, Held, DecodeError, DecodeSettings, Row, Stand, AtLine, BehindRow, AtEnd}
+use Rattle.fax_feeds.proofs.Names.{Bits, Context, Held, DecodeError, DecodeSettings, Row, Stand, AtLine, AfterRow, AtEnd}
 use Rattle.fax_feeds.proofs.Names.{AtFault}
 use Rattle.fax_feeds.proofs.Names.{changes, ended, is_at_line, line_here, row_of_line}
-use Rattle.fax_reading.specs.PlainReading.{behind_row}
+use Rattle.fax_reading.specs.PlainReading.{aligned_after_row}
 use Rattle.fax_reading.specs.Lines.{Line}
 use Rattle.fax_reading.specs.Continuations.{is_short}
 use Rattle.fax_feeds.specs.declared.line_parts.KeptPart.{KeptPart}
@@ -16,12 +16,12 @@ use Rattle.fax_feeds.specs.RowFeeds.{CallGoesOn, Feeding, FeedsNext, HasNone, Ho
 use Rattle.fax_feeds.specs.RowFeeds.{DrawsRow, StandsIn, TriesFirst}
 use Rattle.fax_feeds.specs.RowFeeds.{fed_bits, fed_over, most_for_line, paid_by, paid_for_line}
 use Rattle.fax_feeds.proofs.Names.{IfErr}
-use Rattle.fax_feeds.proofs.Readings.FeedAccount.{FeedIsPaid, FirstsPaid, GapsPaid, IsBehind, IsPassed, LinesPaid, RowsPaid}
+use Rattle.fax_feeds.proofs.Readings.FeedAccount.{FeedIsPaid, FirstsPaid, GapsPaid, IsAfter, IsPassed, LinesPaid, RowsPaid}
 use Rattle.fax_feeds.proofs.Readings.FeedAccount.{SeeksEol, WasShort, WasTried, offset}
 use Rattle.fax_feeds.specs.FeedsPaid.{FeedsArePaid, IsHistory, changes_of, cost_of_failure}
 use Rattle.fax_feeds.proofs.Readings.FeedsOn.{none_paid}
 use Rattle.fax_feeds.proofs.Readings.OpenBits.{open_before_eol, open_bits_of_line}
-use Rattle.fax_reading.proofs.Work.TurnsPaid.{behind_shorter, broken_row}
+use Rattle.fax_reading.proofs.Work.TurnsPaid.{after_shorter, broken_row}
 use Rattle.fax_reading.proofs.Work.ChangesStored.{changes_white}
 use Rattle.fax_rows.proofs.Work.CallsPaid.{within_most}
 use Rattle.fax_feeds.proofs.Names.{EncodingMode, Group4, Group3_1D, Group3_2D, most_counted}
@@ -47,18 +47,18 @@ short_row settings has_eols reference seen more rest row short is =
         → row_of_line settings has_eols (seen ++ more) line ≡ Ok (row, rest)
         → (length rest ≤ length more) ⊎ ((has_eols ≡ true) × (rest ≡ seen ++ more))
     by_line (Line.broken front fault) e given = inr (broken_row settings has_eols (seen ++ more) rest front row fault given)
-    by_line (Line.whole whole behind) e given =
-        let same : behind_row settings has_eols behind ≡ rest = ap rest_of given in
+    by_line (Line.whole whole after) e given =
+        let same : aligned_after_row settings has_eols after ≡ rest = ap rest_of given in
         inl (omega (
           arith,
           ap length same,
-          behind_shorter settings has_eols behind,
-          open_bits_of_line settings reference whole seen more behind short e,
+          after_shorter settings has_eols after,
+          open_bits_of_line settings reference whole seen more after short e,
         ))
 
 -- ---- By the part that is kept
 
-passed_none : (part : Option KeptPart) (known : ℕ) (feed : Feeding) → part ≡ None → IsBehind known feed
+passed_none : (part : Option KeptPart) (known : ℕ) (feed : Feeding) → part ≡ None → IsAfter known feed
     → IsPassed part known feed
 passed_none None at feed e known = known
 passed_none (Some part) at feed e known = absurd cc
@@ -69,7 +69,7 @@ kept_passed None at feed e known = absurd (e refl)
 kept_passed (Some part) at feed e known = known
 
 was_passed : (part : Option KeptPart) (known : ℕ) (feed : Feeding) → part ≡ None → IsPassed part known feed
-    → IsBehind known feed
+    → IsAfter known feed
 was_passed None at feed e known = known
 was_passed (Some part) at feed e known = absurd cc
 
@@ -99,12 +99,12 @@ module _ {next : Bits} {old new : Feeding} (holds : HoldsMore next old new) wher
     known_is = omega (arith, was.known_is, holds.place);
   }
 
-  behind_more : (known : ℕ) → IsBehind known old → IsBehind known new
-  behind_more known was = grind (arith, common_steps, append_assoc, drop_is)
+  after_more : (known : ℕ) → IsAfter known old → IsAfter known new
+  after_more known was = grind (arith, common_steps, append_assoc, drop_is)
 
   passed_more : (known : ℕ) (part : Option KeptPart) → IsPassed part known old → IsPassed part known new
   passed_more known (Some part) was = short_more known was
-  passed_more known None was = behind_more known was
+  passed_more known None was = after_more known was
 
   same_paid : paid_for_line new ≡ paid_for_line old
   same_paid = ap (λ (p : Option KeptPart). paid_by p new.line_read) holds.part ∙ ap (paid_by old.part) holds.line_read
@@ -126,7 +126,7 @@ module _ {next : Bits} {old new : Feeding} (holds : HoldsMore next old new) wher
         short = short_more paid.known was.short;
       })
       | inr untried ↦ inr (record {
-        behind = behind_more paid.known untried.behind;
+        after = after_more paid.known untried.after;
         left = λ unended unfinished. omega (
           arith,
           untried.left (sym (ap (λ (r : RowState). ended r.stand) holds.reading.1) ∙ unended)
@@ -147,7 +147,7 @@ module _ {next : Bits} {old new : Feeding} (holds : HoldsMore next old new) wher
         firsts = paid.firsts;
         drawn = paid.drawn;
         sum = paid.sum;
-        rows_paid = grind (arith, common_steps, behind_more);
+        rows_paid = grind (arith, common_steps, after_more);
         firsts_paid = firsts_more paid.firsts_paid;
         gaps_paid = record {
           first = gaps.first;
@@ -215,7 +215,7 @@ finished_paid {calls} {lost} {tried} {old} {new} is paid =
         here = elim firsts.here [
           | inl was ↦ inl (record { tried = was.tried; short = finished_short firsts.known old was.short })
           | inr untried ↦ inr (record {
-            behind = λ unended unfinished. absurd (false≢true (sym unfinished));
+            after = λ unended unfinished. absurd (false≢true (sym unfinished));
             left = λ unended unfinished. absurd (false≢true (sym unfinished));
           })
         ];
@@ -240,13 +240,13 @@ begun_paid whole feed is unbegun unlooked unkept =
       firsts = 0;
       drawn = 0;
       sum = omega arith;
-      rows_paid = record { most = omega arith; behind = λ unended unfinished. inl (omega arith) };
+      rows_paid = record { most = omega arith; after = λ unended unfinished. inl (omega arith) };
       firsts_paid = record {
         known = 0;
         known_most = omega arith;
         most = omega arith;
         here = inr (record {
-          behind = λ unended unfinished. inl (omega arith);
+          after = λ unended unfinished. inl (omega arith);
           left = λ unended unfinished. omega (arith, white);
         });
       };
@@ -274,7 +274,7 @@ pub open_at_line : (begun : Bool) (stand : Stand) (ctx : Context) (next : Bits) 
     → IsOpenAt begun stand ctx next → is_short (line_here ctx.held.settings ctx.held.reference next) ≡ true
 open_at_line false stand ctx next begun line known = absurd (false≢true begun)
 open_at_line true AtLine ctx next begun line known = known
-open_at_line true BehindRow ctx next begun line known = absurd (false≢true line)
+open_at_line true AfterRow ctx next begun line known = absurd (false≢true line)
 open_at_line true AtEnd ctx next begun line known = absurd (false≢true line)
 open_at_line true (AtFault error) ctx next begun line known = absurd (false≢true line)
 
@@ -329,16 +329,16 @@ module _ {whole : Bits} {calls lost tried : ℕ} {old new : Feeding} {answer : R
 
   -- ---- Where the next line begins
 
-  line_passed : (known : ℕ) → IsBehind known old → ended new.rows.stand ≡ None → old.finished ≡ false
+  line_passed : (known : ℕ) → IsAfter known old → ended new.rows.stand ≡ None → old.finished ≡ false
       → (answer ≡ Ok Fed.NeedsMore → is_at_line new.rows.stand ≡ true) → known ≤ offset new
   line_passed known was still unfinished waits =
       elim (was unended unfinished) [
         | inl le ↦ omega (arith, le, goes.onward still)
         | inr seeks ↦
-            let eol = goes.past_eol unfinished seeks.begun seeks.behind seeks.sought still waits in
+            let eol = goes.past_eol unfinished seeks.begun seeks.after seeks.sought still waits in
             omega (
               arith,
-              seeks.none [] eol.fill eol.behind (append-nil (drop old.place old.kept) ∙ eol.place),
+              seeks.none [] eol.fill eol.after (append-nil (drop old.place old.kept) ∙ eol.place),
               eol.passed,
             )
       ]
@@ -347,14 +347,14 @@ module _ {whole : Bits} {calls lost tried : ℕ} {old new : Feeding} {answer : R
   new_begun begun = true_from_ne_false new.begun (λ e. false≢true (sym (goes.unbegun e).0 ∙ begun))
 
   -- the changes of a row that is read begin no sooner than those before it end
-  start_passed : (known : ℕ) → IsBehind known old → old.finished ≡ false → (row : DrawsRow old new) → known ≤ row.start
+  start_passed : (known : ℕ) → IsAfter known old → old.finished ≡ false → (row : DrawsRow old new) → known ≤ row.start
   start_passed known was unfinished row = elim (was unended unfinished) [
     | inl le ↦ omega (arith, le, row.onward)
     | inr seeks ↦
-        let eol = row.past_eol unfinished seeks.begun seeks.behind seeks.sought in
+        let eol = row.past_eol unfinished seeks.begun seeks.after seeks.sought in
         omega (
           arith,
-          seeks.none [] eol.fill eol.behind (append-nil (drop old.place old.kept) ∙ eol.place),
+          seeks.none [] eol.fill eol.after (append-nil (drop old.place old.kept) ∙ eol.place),
           eol.passed,
         )
   ]
@@ -363,13 +363,13 @@ module _ {whole : Bits} {calls lost tried : ℕ} {old new : Feeding} {answer : R
   same_bits place = ap (λ (n : ℕ). drop n new.kept) place ∙ ap (drop old.place) keeps.kept
 
   -- the gap waits for more data
-  gap_waits_on : (known : ℕ) → IsBehind known old → answer ≡ Ok Fed.NeedsMore → is_at_line new.rows.stand ≡ false
+  gap_waits_on : (known : ℕ) → IsAfter known old → answer ≡ Ok Fed.NeedsMore → is_at_line new.rows.stand ≡ false
       → ended new.rows.stand ≡ None → old.finished ≡ false → (known ≤ offset new) ⊎ SeeksEol known new
   gap_waits_on known was e away still unfinished = grind (arith, common_steps, new_begun)
 
-  -- where lines that were short are behind, no row is read and the reading hasn't ended
-  stays_behind : (known : ℕ) → IsBehind known old → HasNone answer → IsBehind known new
-  stays_behind known was left still unfinished = by_line (is_at_line new.rows.stand) refl answer refl
+  -- where lines that were short are after, no row is read and the reading hasn't ended
+  stays_after : (known : ℕ) → IsAfter known old → HasNone answer → IsAfter known new
+  stays_after known was left still unfinished = by_line (is_at_line new.rows.stand) refl answer refl
     where
       by_line : (b : Bool) → is_at_line new.rows.stand ≡ b → (a : Result Fed DecodeError) → answer ≡ a
           → (known ≤ offset new) ⊎ SeeksEol known new
@@ -386,8 +386,8 @@ module _ {whole : Bits} {calls lost tried : ℕ} {old new : Feeding} {answer : R
     stays_at_line = and_from old.begun (is_at_line old.rows.stand) short.begun short.at_line
 
     -- its row is read
-    behind_line : answer ≡ Ok Fed.Row → ended new.rows.stand ≡ None → (known ≤ offset new) ⊎ SeeksEol known new
-    behind_line e still =
+    following_line : answer ≡ Ok Fed.Row → ended new.rows.stand ≡ None → (known ≤ offset new) ⊎ SeeksEol known new
+    following_line e still =
         let row = subst (λ (b : Bits). row_of_line old.ctx.held.settings old.ctx.held.has_eols b
         (line_here old.ctx.held.settings old.ctx.held.reference b)
         ≡ Ok (new.ctx.held.reference, drop new.place new.kept)) short.are (goes.row_is e stays_at_line) in
@@ -396,13 +396,13 @@ module _ {whole : Bits} {calls lost tried : ℕ} {old new : Feeding} {answer : R
           | inl le ↦ grind (arith, common_steps, length-append, here_within, length-drop, goes, same_fed)
           | inr repaired ↦ inr (record {
             begun = new_begun short.begun;
-            behind = goes.behind e;
+            after = goes.after e;
             sought = goes.sought e stays_at_line ∙ repaired.0;
-            none = λ more fill behind is. omega (
+            none = λ more fill after is. omega (
               arith,
               short.known_is,
               goes.onward still,
-              open_before_eol old.ctx.held.settings old.ctx.held.reference short.seen (short.more ++ more) fill behind
+              open_before_eol old.ctx.held.settings old.ctx.held.reference short.seen (short.more ++ more) fill after
                   short.short (sym (append_assoc short.seen short.more more)
                   ∙ ap (λ (b : Bits). b ++ more) (sym repaired.1) ∙ is),
             );
@@ -413,7 +413,7 @@ module _ {whole : Bits} {calls lost tried : ℕ} {old new : Feeding} {answer : R
     stays_short : HasNone answer → WasShort known new
     stays_short left = grind (arith, common_steps, goes, left, stays_at_line, new_begun, same_bits)
 
-  -- behind the row of a line of which a part was kept
+  -- after the row of a line of which a part was kept
   module _ (some : old.part ≢ None) where
     was : WasShort lines.known old
     was = was_short old.part lines.known old some lines.passed
@@ -446,18 +446,18 @@ module _ {whole : Bits} {calls lost tried : ℕ} {old new : Feeding} {answer : R
         },
       )
       by_bool false unfinished =
-          let passed = start_passed paid.drawn paid.rows_paid.behind unfinished row in (
+          let passed = start_passed paid.drawn paid.rows_paid.after unfinished row in (
             (paid.drawn + changes_of new) - 1,
             record {
               paid = record {
                 most = omega (arith, passed, row.most);
-                behind = λ still going. elim row.drawn [
+                after = λ still going. elim row.drawn [
                   | inl le ↦ inl (omega (arith, passed, le))
                   | inr repaired ↦ inr (record {
                     begun = row_begun e;
-                    behind = goes.behind e;
+                    after = goes.after e;
                     sought = repaired.0;
-                    none = λ more fill behind is. omega (arith, passed, repaired.1 more fill behind is);
+                    none = λ more fill after is. omega (arith, passed, repaired.1 more fill after is);
                   })
                 ];
               };
@@ -467,8 +467,8 @@ module _ {whole : Bits} {calls lost tried : ℕ} {old new : Feeding} {answer : R
           )
 
   -- no row is read
-  none_added : IsBehind paid.drawn new → RowsPaid paid.drawn new
-  none_added behind = record { most = omega (arith, paid.rows_paid.most, same_fed); behind = behind }
+  none_added : IsAfter paid.drawn new → RowsPaid paid.drawn new
+  none_added after = record { most = omega (arith, paid.rows_paid.most, same_fed); after = after }
 
   -- ---- Lines
 
@@ -479,8 +479,8 @@ module _ {whole : Bits} {calls lost tried : ℕ} {old new : Feeding} {answer : R
   LinesNow drawn count = LinesPaid (calls + 1) lost drawn count new
 
   -- the lines that were short, where no part of one was kept
-  lines_behind : old.part ≡ None → IsBehind lines.known old
-  lines_behind none = was_passed old.part lines.known old none lines.passed
+  lines_after : old.part ≡ None → IsAfter lines.known old
+  lines_after none = was_passed old.part lines.known old none lines.passed
 
   row_not_left : answer ≡ Ok Fed.Row → HasNone answer → ⊥
   row_not_left e left = let never : Fed.Row ≡ Fed.NeedsMore = subst HasNone e left in cc
@@ -493,8 +493,8 @@ module _ {whole : Bits} {calls lost tried : ℕ} {old new : Feeding} {answer : R
       → count ≤ 6 * known + 2 * read + 2 * drawn + 8 * (calls + 1) + lost_now
       → (ended new.rows.stand ≡ None → new.finished ≡ false
       → count + 2 * changes_of new ≤ 6 * known + 2 * read + 2 * drawn + 8 * (calls + 1) + lost_now)
-      → IsBehind known new → LinesPaid (calls + 1) lost_now drawn count new
-  unkept_lines known read gone known_most read_most most left behind = record {
+      → IsAfter known new → LinesPaid (calls + 1) lost_now drawn count new
+  unkept_lines known read gone known_most read_most most left after = record {
     known = known;
     read = read;
     seen = 0;
@@ -507,7 +507,7 @@ module _ {whole : Bits} {calls lost tried : ℕ} {old new : Feeding} {answer : R
     most = omega (arith, most);
     next = λ none. left;
     here = λ some. absurd (some gone);
-    passed = passed_none new.part known new gone behind;
+    passed = passed_none new.part known new gone after;
   }
 
   -- a row is read
@@ -519,13 +519,13 @@ module _ {whole : Bits} {calls lost tried : ℕ} {old new : Feeding} {answer : R
         unkept_lines lines.known lines.read (row_unkept e) lines.known_most lines.read_most
         (omega (arith, lines.most, at_once, unpaid, adds.no_fewer))
         (λ still unfinished. omega (arith, lines.most, at_once, unpaid, adds.adds unfinished))
-        (λ still unfinished. inl (line_passed lines.known (lines_behind none) still (still_unfinished unfinished)
+        (λ still unfinished. inl (line_passed lines.known (lines_after none) still (still_unfinished unfinished)
         (λ needs. let never = sym e ∙ needs in absurd cc)))
     | inr some ↦
         let read = read_here some (omega (arith, next.line_work.read (row_not_left e))) in
         unkept_lines lines.known (fed_bits old) (row_unkept e) lines.known_most (omega arith)
         (omega (arith, read, adds.no_fewer)) (λ still unfinished. omega (arith, read, adds.adds unfinished))
-        (λ still unfinished. behind_line (was some) e still)
+        (λ still unfinished. following_line (was some) e still)
   ]
 
   -- the reading ends
@@ -577,7 +577,7 @@ module _ {whole : Bits} {calls lost tried : ℕ} {old new : Feeding} {answer : R
         unkept_lines lines.known lines.read still lines.known_most lines.read_most
         (omega (arith, lines.most, none_paid old.part old.line_read none))
         (λ open_end unfinished. omega (arith, lines.next none unended (still_unfinished unfinished), same_changes_there))
-        (stays_behind lines.known (lines_behind none) left)
+        (stays_after lines.known (lines_after none) left)
 
     -- a part of the line is kept
     kept_lines : new.part ≢ None → counted + changes_of new
@@ -602,7 +602,7 @@ module _ {whole : Bits} {calls lost tried : ℕ} {old new : Feeding} {answer : R
     begins_lines : old.part ≡ None → new.part ≢ None → LinesNow paid.drawn counted
     begins_lines none some =
         let unfinished = still_unfinished (next.unsettled e).0 in
-        let known = line_passed lines.known (lines_behind none) (next.none left).unended unfinished
+        let known = line_passed lines.known (lines_after none) (next.none left).unended unfinished
         (λ needs. kept_at_line some) in
         kept_lines some (omega (
           arith,
@@ -642,9 +642,9 @@ module _ {whole : Bits} {calls lost tried : ℕ} {old new : Feeding} {answer : R
     known_most = omega (arith, firsts.known_most, same_fed);
     most = omega (arith, firsts.most, adds.no_fewer);
     here = inr (record {
-      behind = λ still unfinished. elim firsts.here [
-        | inl was ↦ behind_line was.short e still
-        | inr untried ↦ inl (line_passed firsts.known untried.behind still (still_unfinished unfinished)
+      after = λ still unfinished. elim firsts.here [
+        | inl was ↦ following_line was.short e still
+        | inr untried ↦ inl (line_passed firsts.known untried.after still (still_unfinished unfinished)
             (λ needs. let never = sym e ∙ needs in absurd cc))
       ];
       left = λ still unfinished. omega (arith, firsts.most, adds.adds unfinished);
@@ -664,7 +664,7 @@ module _ {whole : Bits} {calls lost tried : ℕ} {old new : Feeding} {answer : R
     here = elim firsts.here [
       | inl was ↦ inl (record { tried = tried_there was; short = stays_short was.short left })
       | inr untried ↦ inr (record {
-        behind = stays_behind firsts.known untried.behind left;
+        after = stays_after firsts.known untried.after left;
         left = λ still unfinished. omega (
           arith,
           untried.left unended (still_unfinished unfinished),
@@ -686,7 +686,7 @@ module _ {whole : Bits} {calls lost tried : ℕ} {old new : Feeding} {answer : R
         absurd (first.untried (omega (arith, was.tried, stays, keeps.dropped)))
     | inr untried ↦
         let unfinished = still_unfinished (next.unsettled e).0 in
-        let known = line_passed firsts.known untried.behind (next.none (left e)).unended unfinished
+        let known = line_passed firsts.known untried.after (next.none (left e)).unended unfinished
         (λ needs. first.at_line) in
         record {
           known = offset new + length (bits_here e);
@@ -737,7 +737,7 @@ module _ {whole : Bits} {calls lost tried : ℕ} {old new : Feeding} {answer : R
 
   -- no row is read, and the reading goes on
   left_rows : HasNone answer → RowsPaid paid.drawn new
-  left_rows left = none_added (stays_behind paid.drawn paid.rows_paid.behind left)
+  left_rows left = none_added (stays_after paid.drawn paid.rows_paid.after left)
 
   -- more data is needed
   needs_paid : answer ≡ Ok Fed.NeedsMore → FeedIsPaid (calls + 1) lost (tried + next.extra) new

@@ -50,14 +50,14 @@ next_later {whole} {tried} {old} {next} more read answer some paid settled n =
     let work = n.line_work in
     let on = n.goes_on in
     let before = fed_over whole old in
-    let behind = fed_over whole next in
+    let after = fed_over whole next in
     let ticks = old.ctx.ticks + more in
     record {
-      row = λ e. later_next before behind ticks (Ok true) (omega arith) (n.row e);
-      end = λ e. later_next before behind ticks (Ok false) (omega arith) (n.end e);
-      fault = IfErr-weaker answer _ _ (λ e reads other. later_next before behind ticks (Err e) (omega arith) (reads other))
+      row = λ e. later_next before after ticks (Ok true) (omega arith) (n.row e);
+      end = λ e. later_next before after ticks (Ok false) (omega arith) (n.end e);
+      fault = IfErr-weaker answer _ _ (λ e reads other. later_next before after ticks (Err e) (omega arith) (reads other))
           n.fault;
-      none = λ none. stays_there before behind ticks (omega arith) (n.none none);
+      none = λ none. stays_there before after ticks (omega arith) (n.none none);
       unsettled = n.unsettled;
       memory = n.memory;
       paints = n.paints;
@@ -93,7 +93,7 @@ next_later {whole} {tried} {old} {next} more read answer some paid settled n =
         stays = on.stays;
         row_is = on.row_is;
         past_eol = on.past_eol;
-        behind = on.behind;
+        after = on.after;
         tried = on.tried;
         sought = on.sought;
         waits = on.waits;
@@ -121,7 +121,7 @@ module _ {old mid : Feeding} (begun : old.begun ≡ true) (line : is_at_line old
     };
   }
 
-  -- or the next row is read behind that
+  -- or the next row is read after that
   module _ (stays : StaysShort old mid false) (some : old.part ≢ None) {next : Feeding} {answer : Result Fed DecodeError}
       (row : FeedsRow mid next answer) where
     abbrev more : ℕ
@@ -147,8 +147,8 @@ module _ {old mid : Feeding} (begun : old.begun ≡ true) (line : is_at_line old
     later_row : FeedsRow (later old more mid.line_read) next answer
     later_row = subst (λ (f : Feeding). FeedsRow f next answer) mid_is row
 
-    pub row_behind_line : FeedsRow old next answer
-    row_behind_line = record {
+    pub row_after_line : FeedsRow old next answer
+    row_after_line = record {
       reads = λ whole tried unended feed.
           let fed : IsFeedOf whole (tried + more) (later old more mid.line_read) =
           subst (IsFeedOf whole (tried + more)) mid_is (scanned_fed stays.scans begun feed) in

@@ -5,21 +5,21 @@ use Rattle.fax_feeds.proofs.Names.{leb}
 use Rattle.fax_feeds.proofs.Names.{Option, None, Some, Result, Ok, Err, refl, sym, ap, arith, length, and_parts, false≢true}
 use Rattle.fax_feeds.proofs.Names.{ne_eqb, eols_here}
 use Rattle.fax_feeds.proofs.Names.{Bits, DecodeSettings, EncodingMode, Group4, Group3_1D, Group3_2D}
-use Rattle.fax_feeds.proofs.Names.{after_eol, next_eol, at_end, eols_by, limit_met, Gap, gap_behind_row, InvalidCode}
+use Rattle.fax_feeds.proofs.Names.{after_eol, next_eol, at_end, eols_by, limit_met, Gap, gap_after_row, InvalidCode}
 use Rattle.fax_feeds.proofs.Names.{DecodeError, OnErr, gap_said}
 use Rattle.fax_bits.specs.EndOfLine.{eols, eols_with_tags, one_more, past_tag}
 use Rattle.fax_feeds.specs.FeedsKeepLittle.{left_by}
 use Rattle.fax_reading.specs.GapsContinued.{holds_one, eols_are_settled, next_eols_are_settled, gap_is_settled}
-use Rattle.fax_feeds.specs.GapsSeen.{bits_needed, is_settled, one_eol_more, rules_behind_row, stage_after}
-use Rattle.fax_reading.specs.PlainReading.{behind_eols, from_next_eol, missing_eol, misses_eol}
+use Rattle.fax_feeds.specs.GapsSeen.{bits_needed, is_settled, one_eol_more, rules_after_row, stage_after}
+use Rattle.fax_reading.specs.PlainReading.{after_eols, from_next_eol, missing_eol, misses_eol}
 use Rattle.fax_feeds.specs.declared.gap_look.GapRules.{GapRules}
 use Rattle.fax_feeds.specs.declared.gap_look.GapStage.{GapStage}
-use Rattle.fax_feeds.specs.declared.gap_look.GapStage.TheVariants.{Start, Damage, BehindEol, BehindTag, Settled}
+use Rattle.fax_feeds.specs.declared.gap_look.GapStage.TheVariants.{Start, Damage, AfterEol, AfterTag, Settled}
 use Rattle.fax_bits.proofs.BitReading.ConsecutiveEols.{all_eols-some, all_tagged, all_tagged-some, after_eol_shorter, count_same}
 use Rattle.fax_bits.proofs.BitReading.ConsecutiveEols.{counts_tagged, eols-none, eols-some, eols_with_tags-none}
 use Rattle.fax_bits.proofs.BitReading.ConsecutiveEols.{eols_with_tags-some, last_tag_shorter, next_eol_found, past_tag_shorter}
-use Rattle.fax_reading.proofs.GapsContinued.ContinuedEols.{behind_first_tag, behind_one, last_tag_tested}
-use Rattle.fax_feeds.proofs.Readings.GapsSeen.{behind_more, behind_one_shorter, eol_counts}
+use Rattle.fax_reading.proofs.GapsContinued.ContinuedEols.{after_first_tag, following_one, last_tag_tested}
+use Rattle.fax_feeds.proofs.Readings.GapsSeen.{after_more, after_one_shorter, eol_counts}
 use Rattle.fax_feeds.proofs.Readings.GapsSeen.{none_here, none_past, none_settled, one_here, one_is_left}
 use Rattle.fax_feeds.proofs.Readings.GapsSeen.{rules_of, some_past, stage_after_eol}
 use Rattle.fax_reading.proofs.Work.EolsPassed.{eols_here_shorter}
@@ -62,32 +62,32 @@ few_needed rules stage seen (false ∷ here) is settles e one =
     omega (arith, zero_more_needed rules stage seen here is, few_needed rules stage (suc seen) here is settles e one)
 few_needed rules stage seen (true ∷ here) is settles e one = grind (arith, common_steps, one_more_needed, none_needed)
 
-tag_few : (rules : GapRules) (n : ℕ) → leb 11 n ≡ false → stage_after rules BehindTag n ≡ Settled
+tag_few : (rules : GapRules) (n : ℕ) → leb 11 n ≡ false → stage_after rules AfterTag n ≡ Settled
 tag_few rules n few = ap (λ (b : Bool). cond b (one_eol_more rules.ends_at_two) Settled) few
 
 start_few : (rules : GapRules) → rules.seeks ≡ false → (n : ℕ) → leb 11 n ≡ false → stage_after rules Start n ≡ Settled
 start_few rules unsought n few = grind (arith, common_steps)
 
--- ---- Behind an EOL
+-- ---- After an EOL
 
 -- once a zero came, no tag can
 zero_needs : (rules : GapRules) (seen : ℕ) (here : Bits)
-    → bits_needed rules BehindEol (suc seen) here ≡ bits_needed rules BehindTag (suc seen) here
+    → bits_needed rules AfterEol (suc seen) here ≡ bits_needed rules AfterTag (suc seen) here
 zero_needs rules seen [] = refl
 zero_needs rules seen (false ∷ here) = ap suc (zero_needs rules (suc seen) here)
 zero_needs rules seen (true ∷ here) = grind (arith, common_steps, ne_eqb)
 
 -- without tags none can
 no_tag_needs : (rules : GapRules) (here : Bits) → rules.has_tags ≡ false
-    → bits_needed rules BehindEol 0 here ≡ bits_needed rules BehindTag 0 here
+    → bits_needed rules AfterEol 0 here ≡ bits_needed rules AfterTag 0 here
 no_tag_needs rules [] none = refl
 no_tag_needs rules (false ∷ here) none = ap suc (zero_needs rules 0 here)
 no_tag_needs rules (true ∷ here) none = grind (arith, common_steps)
 
 -- with tags a one is a tag
 tag_needs : (rules : GapRules) (here : Bits) → rules.has_tags ≡ true
-    → bits_needed rules BehindEol 0 here + length (behind_one here)
-    ≡ length here + bits_needed rules BehindTag 0 (behind_one here)
+    → bits_needed rules AfterEol 0 here + length (following_one here)
+    ≡ length here + bits_needed rules AfterTag 0 (following_one here)
 tag_needs rules [] tags = refl
 tag_needs rules (false ∷ here) tags = omega (arith, zero_needs rules 0 here)
 tag_needs rules (true ∷ here) tags = grind (arith, common_steps)
@@ -98,15 +98,15 @@ one_more_leaves (count, rest) = refl
 -- EOLs without tags
 plain_near : (rules : GapRules) → rules.has_tags ≡ false → rules.ends_at_two ≡ false → (most : ℕ) (here : Bits)
     → length here ≤ most → holds_one (eols most here).1 ≡ true
-    → bits_needed rules BehindTag 0 here + length (eols most here).1 ≤ length here + 11
+    → bits_needed rules AfterTag 0 here + length (eols most here).1 ≤ length here + 11
 plain_near rules none on zero [] few one = absurd cc
 plain_near rules none on zero (bit ∷ here) few one = absurd (omega (arith, few))
 plain_near rules none on (suc most) here few one =
     by_after_eol (λ rest. plain_near rules none on most rest) (after_eol 0 here) refl
   where
     by_after_eol : ((rest : Bits) → length rest ≤ most → holds_one (eols most rest).1 ≡ true
-        → bits_needed rules BehindTag 0 rest + length (eols most rest).1 ≤ length rest + 11) → (o : Option Bits)
-        → after_eol 0 here ≡ o → bits_needed rules BehindTag 0 here + length (eols (suc most) here).1 ≤ length here + 11
+        → bits_needed rules AfterTag 0 rest + length (eols most rest).1 ≤ length rest + 11) → (o : Option Bits)
+        → after_eol 0 here ≡ o → bits_needed rules AfterTag 0 here + length (eols (suc most) here).1 ≤ length here + 11
     by_after_eol next None e = grind (arith, common_steps, eols-none, few_needed, tag_few)
     by_after_eol next (Some rest) e =
         let left : (eols (suc most) here).1 ≡ (eols most rest).1 =
@@ -114,7 +114,7 @@ plain_near rules none on (suc most) here few one =
         omega (
           arith,
           ap length left,
-          eol_needed rules BehindTag 0 here rest refl e,
+          eol_needed rules AfterTag 0 here rest refl e,
           ap (λ (b : Bool). bits_needed rules (one_eol_more b) 0 rest) on,
           no_tag_needs rules rest none,
           next rest (omega (arith, few, after_eol_shorter 0 here rest e)) (sym (ap holds_one left) ∙ one),
@@ -122,48 +122,48 @@ plain_near rules none on (suc most) here few one =
 
 -- EOLs with tags
 tagged_near : (rules : GapRules) → rules.has_tags ≡ true → rules.ends_at_two ≡ false → (most : ℕ) (here : Bits)
-    → length here ≤ most → holds_one (behind_one (eols_with_tags most (past_tag here)).1) ≡ true
-    → bits_needed rules BehindTag 0 (behind_one here) + length (behind_one (eols_with_tags most (past_tag here)).1)
-    ≤ length (behind_one here) + 11
+    → length here ≤ most → holds_one (following_one (eols_with_tags most (past_tag here)).1) ≡ true
+    → bits_needed rules AfterTag 0 (following_one here) + length (following_one (eols_with_tags most (past_tag here)).1)
+    ≤ length (following_one here) + 11
 tagged_near rules tags on zero [] few one = absurd cc
 tagged_near rules tags on zero (bit ∷ here) few one = absurd (omega (arith, few))
 tagged_near rules tags on (suc most) here few one =
-    by_after_eol (λ rest. tagged_near rules tags on most rest) (after_eol 0 (behind_one here)) refl
+    by_after_eol (λ rest. tagged_near rules tags on most rest) (after_eol 0 (following_one here)) refl
   where
     by_after_eol : ((rest : Bits) → length rest ≤ most
-        → holds_one (behind_one (eols_with_tags most (past_tag rest)).1) ≡ true
-        → bits_needed rules BehindTag 0 (behind_one rest) + length (behind_one (eols_with_tags most (past_tag rest)).1)
-        ≤ length (behind_one rest) + 11) → (o : Option Bits) → after_eol 0 (behind_one here) ≡ o
-        → bits_needed rules BehindTag 0 (behind_one here)
-        + length (behind_one (eols_with_tags (suc most) (past_tag here)).1) ≤ length (behind_one here) + 11
+        → holds_one (following_one (eols_with_tags most (past_tag rest)).1) ≡ true
+        → bits_needed rules AfterTag 0 (following_one rest) + length (following_one (eols_with_tags most (past_tag rest)).1)
+        ≤ length (following_one rest) + 11) → (o : Option Bits) → after_eol 0 (following_one here) ≡ o
+        → bits_needed rules AfterTag 0 (following_one here)
+        + length (following_one (eols_with_tags (suc most) (past_tag here)).1) ≤ length (following_one here) + 11
     by_after_eol next None e = grind (arith, common_steps, none_past, eols_with_tags-none, few_needed, tag_few)
     by_after_eol next (Some rest) e =
         let past : after_eol 0 (past_tag here) ≡ Some rest = ap (after_eol 0) (some_past here rest e) ∙ e in
-        let left : behind_one (eols_with_tags (suc most) (past_tag here)).1
-        ≡ behind_one (eols_with_tags most (past_tag rest)).1 =
-        ap (λ (found : ℕ × Bits). behind_one found.1) (eols_with_tags-some most (past_tag here) rest past)
-        ∙ ap behind_one (one_more_leaves (eols_with_tags most (past_tag rest))) in
+        let left : following_one (eols_with_tags (suc most) (past_tag here)).1
+        ≡ following_one (eols_with_tags most (past_tag rest)).1 =
+        ap (λ (found : ℕ × Bits). following_one found.1) (eols_with_tags-some most (past_tag here) rest past)
+        ∙ ap following_one (one_more_leaves (eols_with_tags most (past_tag rest))) in
         omega (
           arith,
           ap length left,
-          eol_needed rules BehindTag 0 (behind_one here) rest refl e,
+          eol_needed rules AfterTag 0 (following_one here) rest refl e,
           ap (λ (b : Bool). bits_needed rules (one_eol_more b) 0 rest) on,
           tag_needs rules rest tags,
-          next rest (omega (arith, few, after_eol_shorter 0 (behind_one here) rest e, behind_one_shorter here))
+          next rest (omega (arith, few, after_eol_shorter 0 (following_one here) rest e, after_one_shorter here))
               (sym (ap holds_one left) ∙ one),
         )
 
-behind_one_most : (here : Bits) → length here ≤ length (behind_one here) + 1
-behind_one_most [] = omega arith
-behind_one_most (false ∷ here) = omega arith
-behind_one_most (true ∷ here) = omega arith
+after_one_most : (here : Bits) → length here ≤ length (following_one here) + 1
+after_one_most [] = omega arith
+after_one_most (false ∷ here) = omega arith
+after_one_most (true ∷ here) = omega arith
 
 -- ---- The EOLs here
 
--- behind an EOL no more than twelve bits beyond the EOLs here are needed
+-- after an EOL no more than twelve bits beyond the EOLs here are needed
 eols_near : (encoding : EncodingMode) (block seeks : Bool) (here rest : Bits) → after_eol 0 here ≡ Some rest
     → eols_are_settled encoding block (eols_by encoding block here) ≡ true
-    → bits_needed (rules_of encoding block seeks) BehindEol 0 rest + length (eols_by encoding block here).1 ≤ length rest + 12
+    → bits_needed (rules_of encoding block seeks) AfterEol 0 rest + length (eols_by encoding block here).1 ≤ length rest + 12
 eols_near Group3_1D block seeks here rest e settled =
     grind (arith, common_steps, all_eols-some, one_more_leaves, no_tag_needs, plain_near)
 eols_near Group3_2D block seeks here rest e settled =
@@ -171,9 +171,9 @@ eols_near Group3_2D block seeks here rest e settled =
     let enough : all_tagged (past_tag rest) ≡ eols_with_tags (length rest) (past_tag rest) =
     count_same counts_tagged (length (past_tag rest)) (length rest) (past_tag rest) (omega arith)
     (omega (arith, past_tag_shorter rest)) in
-    let left : behind_first_tag (all_tagged here) ≡ behind_one (eols_with_tags (length rest) (past_tag rest)).1 =
-    ap behind_first_tag (all_tagged-some here rest e) ∙ behind_more (all_tagged (past_tag rest))
-    ∙ ap (λ (found : ℕ × Bits). behind_one found.1) enough in
+    let left : after_first_tag (all_tagged here) ≡ following_one (eols_with_tags (length rest) (past_tag rest)).1 =
+    ap after_first_tag (all_tagged-some here rest e) ∙ after_more (all_tagged (past_tag rest))
+    ∙ ap (λ (found : ℕ × Bits). following_one found.1) enough in
     let found : (all_tagged here).1 ≡ (eols_with_tags (length rest) (past_tag rest)).1 =
     ap (λ (found : ℕ × Bits). found.1) (all_tagged-some here rest e) ∙ one_more_leaves (all_tagged (past_tag rest))
     ∙ ap (λ (found : ℕ × Bits). found.1) enough in
@@ -181,7 +181,7 @@ eols_near Group3_2D block seeks here rest e settled =
       arith,
       last_tag_shorter (all_tagged here),
       ap length found,
-      behind_one_most (eols_with_tags (length rest) (past_tag rest)).1,
+      after_one_most (eols_with_tags (length rest) (past_tag rest)).1,
       tag_needs rules rest refl,
       tagged_near rules refl refl (length rest) rest (omega arith)
           (sym (ap holds_one (last_tag_tested (all_tagged here) ∙ left)) ∙ settled),
@@ -194,7 +194,7 @@ eols_near Group4 true seeks here rest e settled =
 -- ---- The next EOL
 
 damage_needs : (rules : GapRules) (seen : ℕ) (here rest : Bits) → past seen here ≡ Some rest
-    → bits_needed rules Damage seen here + length rest ≡ length here + bits_needed rules BehindEol 0 rest
+    → bits_needed rules Damage seen here + length rest ≡ length here + bits_needed rules AfterEol 0 rest
 damage_needs rules seen [] rest e = absurd cc
 damage_needs rules seen (false ∷ here) rest e = omega (arith, damage_needs rules (suc seen) here rest e)
 damage_needs rules seen (true ∷ here) rest e = grind (arith, common_steps, damage_needs rules 0 here rest)
@@ -209,7 +209,7 @@ start_needs rules seen (true ∷ here) sought e = grind (arith, common_steps)
 -- ---- The gap
 
 pub left_by_eols : (settings : DecodeSettings) (taken : ℕ) (has_eols : Bool) (here : Bits) (found : ℕ × Bits)
-    → left_by here (behind_eols settings taken has_eols found) ≡ found.1
+    → left_by here (after_eols settings taken has_eols found) ≡ found.1
 left_by_eols settings taken has_eols here (count, rest) = grind (arith, common_steps)
 
 last_of : (a b c : Bool) → (a || b || c) ≡ true → a ≡ false → b ≡ false → c ≡ true
@@ -219,10 +219,10 @@ last_of false false c e first second = e
 
 module _ (settings : DecodeSettings) (taken : ℕ) (has_eols : Bool) (here : Bits) where
   abbrev rules_here : GapRules
-  rules_here = rules_behind_row settings taken has_eols
+  rules_here = rules_after_row settings taken has_eols
 
   abbrev gap_here : Gap
-  gap_here = gap_behind_row settings taken has_eols here
+  gap_here = gap_after_row settings taken has_eols here
 
   -- no bits are added
   left_shorter : length (left_by here gap_here) ≤ length here
@@ -238,7 +238,7 @@ module _ (settings : DecodeSettings) (taken : ℕ) (has_eols : Bool) (here : Bit
       by_strict false = by_next (next_eol here) refl
 
       by_missed : (missed : Bool) → length (left_by here (cond missed (missing_eol settings taken here)
-          (behind_eols settings taken has_eols (eols_here settings here)))) ≤ length here
+          (after_eols settings taken has_eols (eols_here settings here)))) ≤ length here
       by_missed true = by_strict settings.strict
       by_missed false = grind (arith, common_steps, left_by_eols, eols_here_shorter)
 
@@ -297,7 +297,7 @@ module _ (settings : DecodeSettings) (taken : ℕ) (has_eols : Bool) (here : Bit
 
           left : left_by here gap_here ≡ left_by here (from_next_eol settings taken here (next_eol here))
           left = ap (λ (missed : Bool). left_by here (cond missed (missing_eol settings taken here)
-              (behind_eols settings taken has_eols (eols_here settings here)))) missed
+              (after_eols settings taken has_eols (eols_here settings here)))) missed
               ∙ ap (λ (strict : Bool). left_by here (cond strict (Gap.over (Err InvalidCode))
               (from_next_eol settings taken here (next_eol here)))) lenient
 
@@ -330,14 +330,14 @@ module _ (settings : DecodeSettings) (taken : ℕ) (has_eols : Bool) (here : Bit
 -- so it is with a gap that was passed
 pub passed_near : (settings : DecodeSettings) (taken : ℕ) (has_eols : Bool) (start rest : Bits)
     → gap_is_settled settings taken has_eols start ≡ true → (over : Result Bool DecodeError) (still : Bool)
-    → gap_behind_row settings taken has_eols start ≡ gap_said over still rest → OnErr over (rest ≡ start)
-    → bits_needed (rules_behind_row settings taken has_eols) Start 0 start + length rest ≤ length start + 12
+    → gap_after_row settings taken has_eols start ≡ gap_said over still rest → OnErr over (rest ≡ start)
+    → bits_needed (rules_after_row settings taken has_eols) Start 0 start + length rest ≤ length start + 12
 passed_near settings taken has_eols start rest settled over still said put_back = grind (arith, common_steps, gap_near)
 
 -- no bits are added
 pub passed_shorter : (settings : DecodeSettings) (taken : ℕ) (has_eols : Bool) (start rest : Bits)
     (over : Result Bool DecodeError) (still : Bool)
-    → gap_behind_row settings taken has_eols start ≡ gap_said over still rest → OnErr over (rest ≡ start)
+    → gap_after_row settings taken has_eols start ≡ gap_said over still rest → OnErr over (rest ≡ start)
     → length rest ≤ length start
 passed_shorter settings taken has_eols start rest (Ok true) still said back = omega (
   arith,
@@ -351,14 +351,14 @@ passed_shorter settings taken has_eols start rest (Ok false) still said back = o
 )
 passed_shorter settings taken has_eols start rest (Err e) still said back = omega (arith, ap length back)
 
--- whether EOLs are sought at a line behind some
-flag_behind : (settings : DecodeSettings) (taken : ℕ) (has_eols still : Bool) (found : ℕ × Bits) (rest : Bits)
-    → behind_eols settings taken has_eols found ≡ Gap.line_at still rest → still ≡ has_eols
-flag_behind settings taken has_eols still (count, here) rest = grind (arith, common_steps)
+-- whether EOLs are sought at a line after some
+flag_after : (settings : DecodeSettings) (taken : ℕ) (has_eols still : Bool) (found : ℕ × Bits) (rest : Bits)
+    → after_eols settings taken has_eols found ≡ Gap.line_at still rest → still ≡ has_eols
+flag_after settings taken has_eols still (count, here) rest = grind (arith, common_steps)
 
 -- Where EOLs are sought, they are after a gap that is settled.
 pub settled_sought : (settings : DecodeSettings) (taken : ℕ) (here rest : Bits) (still : Bool)
-    → gap_is_settled settings taken true here ≡ true → gap_behind_row settings taken true here ≡ Gap.line_at still rest
+    → gap_is_settled settings taken true here ≡ true → gap_after_row settings taken true here ≡ Gap.line_at still rest
     → still ≡ true
 settled_sought settings taken here rest still settled = by_missed (misses_eol settings taken true here) (tested settled)
   where
@@ -368,7 +368,7 @@ settled_sought settings taken here rest still settled = by_missed (misses_eol se
 
     by_next : (o : Option Bits) → next_eols_are_settled settings o ≡ true
         → from_next_eol settings taken here o ≡ Gap.line_at still rest → still ≡ true
-    by_next (Some found) is e = flag_behind settings taken true still (eols_here settings found) rest e
+    by_next (Some found) is e = flag_after settings taken true still (eols_here settings found) rest e
     by_next None is e = absurd (false≢true is)
 
     by_strict : (strict : Bool) → (strict || next_eols_are_settled settings (next_eol here)) ≡ true
@@ -379,7 +379,7 @@ settled_sought settings taken here rest still settled = by_missed (misses_eol se
 
     by_missed : (missed : Bool) → (not missed || settings.strict
         || next_eols_are_settled settings (next_eol here)) ≡ true
-        → cond missed (missing_eol settings taken here) (behind_eols settings taken true (eols_here settings here))
+        → cond missed (missing_eol settings taken here) (after_eols settings taken true (eols_here settings here))
         ≡ Gap.line_at still rest → still ≡ true
     by_missed true is e = by_strict settings.strict is e
-    by_missed false is e = flag_behind settings taken true still (eols_here settings here) rest e
+    by_missed false is e = flag_after settings taken true still (eols_here settings here) rest e

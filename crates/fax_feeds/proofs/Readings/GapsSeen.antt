@@ -5,46 +5,46 @@ use Rattle.fax_feeds.proofs.Names.{length-append, append-nil, append_assoc, drop
 use Rattle.fax_feeds.proofs.Names.{Group4, Group3_1D, Group3_2D, DecodeSettings, after_eol, all_eols, next_eol, at_end, eols_by}
 use Rattle.fax_feeds.proofs.Names.{limit_met}
 use Rattle.fax_bits.specs.EndOfLine.{eols, eols_with_tags, one_more, past_tag}
-use Rattle.fax_reading.specs.GapsContinued.{behind_line_tag, holds_one, eols_are_settled, next_eols_are_settled, gap_is_settled}
+use Rattle.fax_reading.specs.GapsContinued.{after_line_tag, holds_one, eols_are_settled, next_eols_are_settled, gap_is_settled}
 use Rattle.fax_reading.specs.GapsContinued.{first_gap_is_settled}
 use Rattle.fax_feeds.specs.GapsSeen.{IsSeen, LooksTo, bits_needed, ends_at_two, first_rules, has_tags, is_settled, nothing_seen}
-use Rattle.fax_feeds.specs.GapsSeen.{one_eol_more, rules_behind_row, stage_after, stage_behind, zeros_behind}
+use Rattle.fax_feeds.specs.GapsSeen.{one_eol_more, rules_after_row, stage_after, stage_following, zeros_after}
 use Rattle.fax_feeds.specs.declared.gap_look.GapLook.{GapLook}
 use Rattle.fax_feeds.specs.declared.gap_look.GapRules.{GapRules}
 use Rattle.fax_feeds.specs.declared.gap_look.GapStage.{GapStage}
-use Rattle.fax_feeds.specs.declared.gap_look.GapStage.TheVariants.{Start, Damage, BehindEol, BehindTag, Settled}
+use Rattle.fax_feeds.specs.declared.gap_look.GapStage.TheVariants.{Start, Damage, AfterEol, AfterTag, Settled}
 use Rattle.fax_bits.proofs.BitReading.ConsecutiveEols.{all_eols-none, all_eols-some, all_tagged, all_tagged-none, all_tagged-some}
 use Rattle.fax_bits.proofs.BitReading.ConsecutiveEols.{after_eol_shorter, count_same, counts_tagged, eols-none, eols-some}
 use Rattle.fax_bits.proofs.BitReading.ConsecutiveEols.{last_tag_count, eols_with_tags-none, eols_with_tags-some}
 use Rattle.fax_bits.proofs.BitReading.ConsecutiveEols.{next_eol_found, past_tag_shorter}
-use Rattle.fax_reading.proofs.GapsContinued.ContinuedEols.{behind_first_tag, behind_one, last_tag_tested}
+use Rattle.fax_reading.proofs.GapsContinued.ContinuedEols.{after_first_tag, following_one, last_tag_tested}
 use Rattle.fax_reading.proofs.DamagedLines.PastEol.{past, past_is, then_after}
 
 -- ---- Bits that follow each other
 
-pub stage_behind-append : (rules : GapRules) (stage : GapStage) (seen : ℕ) (first next : Bits)
-    → stage_behind rules stage seen (first ++ next)
-    ≡ stage_behind rules (stage_behind rules stage seen first) (zeros_behind seen first) next
-stage_behind-append rules stage seen [] next = refl
-stage_behind-append rules stage seen (false ∷ first) next = stage_behind-append rules stage (suc seen) first next
-stage_behind-append rules stage seen (true ∷ first) next =
-    stage_behind-append rules (stage_after rules stage seen) 0 first next
+pub stage_following-append : (rules : GapRules) (stage : GapStage) (seen : ℕ) (first next : Bits)
+    → stage_following rules stage seen (first ++ next)
+    ≡ stage_following rules (stage_following rules stage seen first) (zeros_after seen first) next
+stage_following-append rules stage seen [] next = refl
+stage_following-append rules stage seen (false ∷ first) next = stage_following-append rules stage (suc seen) first next
+stage_following-append rules stage seen (true ∷ first) next =
+    stage_following-append rules (stage_after rules stage seen) 0 first next
 
-pub zeros_behind-append : (seen : ℕ) (first next : Bits)
-    → zeros_behind seen (first ++ next) ≡ zeros_behind (zeros_behind seen first) next
-zeros_behind-append seen [] next = refl
-zeros_behind-append seen (false ∷ first) next = zeros_behind-append (suc seen) first next
-zeros_behind-append seen (true ∷ first) next = zeros_behind-append 0 first next
+pub zeros_after-append : (seen : ℕ) (first next : Bits)
+    → zeros_after seen (first ++ next) ≡ zeros_after (zeros_after seen first) next
+zeros_after-append seen [] next = refl
+zeros_after-append seen (false ∷ first) next = zeros_after-append (suc seen) first next
+zeros_after-append seen (true ∷ first) next = zeros_after-append 0 first next
 
 -- there are no more zeros than bits
-pub few_zeros : (seen : ℕ) (bits : Bits) → zeros_behind seen bits ≤ seen + length bits
+pub few_zeros : (seen : ℕ) (bits : Bits) → zeros_after seen bits ≤ seen + length bits
 few_zeros seen [] = omega arith
 few_zeros seen (false ∷ bits) = omega (arith, few_zeros (suc seen) bits)
 few_zeros seen (true ∷ bits) = omega (arith, few_zeros 0 bits)
 
 -- ---- A gap that was settled stays settled
 
-pub settled_stays : (rules : GapRules) (seen : ℕ) (here : Bits) → is_settled (stage_behind rules Settled seen here) ≡ true
+pub settled_stays : (rules : GapRules) (seen : ℕ) (here : Bits) → is_settled (stage_following rules Settled seen here) ≡ true
 settled_stays rules seen [] = refl
 settled_stays rules seen (false ∷ here) = settled_stays rules (suc seen) here
 settled_stays rules seen (true ∷ here) = settled_stays rules 0 here
@@ -53,140 +53,140 @@ settled_stays rules seen (true ∷ here) = settled_stays rules 0 here
 
 -- zeros alone change nothing
 zeros_stay : (rules : GapRules) (stage : GapStage) (seen : ℕ) (here : Bits) → holds_one here ≡ false
-    → stage_behind rules stage seen here ≡ stage
+    → stage_following rules stage seen here ≡ stage
 zeros_stay rules stage seen [] none = refl
 zeros_stay rules stage seen (false ∷ here) none = zeros_stay rules stage (suc seen) here none
 zeros_stay rules stage seen (true ∷ here) none = absurd cc
 
 -- after an EOL
 abbrev pub stage_after_eol : GapRules → GapStage → GapStage
-stage_after_eol rules Start = BehindEol
-stage_after_eol rules Damage = BehindEol
-stage_after_eol rules BehindEol = one_eol_more rules.ends_at_two
-stage_after_eol rules BehindTag = one_eol_more rules.ends_at_two
+stage_after_eol rules Start = AfterEol
+stage_after_eol rules Damage = AfterEol
+stage_after_eol rules AfterEol = one_eol_more rules.ends_at_two
+stage_after_eol rules AfterTag = one_eol_more rules.ends_at_two
 stage_after_eol rules Settled = Settled
 
 pub eol_counts : (rules : GapRules) (stage : GapStage) (seen : ℕ) → leb 11 seen ≡ true
     → stage_after rules stage seen ≡ stage_after_eol rules stage
 eol_counts rules Start seen many = rw many refl
 eol_counts rules Damage seen many = rw many refl
-eol_counts rules BehindEol seen many = rw many refl
-eol_counts rules BehindTag seen many = rw many refl
+eol_counts rules AfterEol seen many = rw many refl
+eol_counts rules AfterTag seen many = rw many refl
 eol_counts rules Settled seen many = refl
 
 eol_seen : (rules : GapRules) (stage : GapStage) (seen : ℕ) (here rest : Bits) → after_eol seen here ≡ Some rest
-    → stage_behind rules stage seen here ≡ stage_behind rules (stage_after_eol rules stage) 0 rest
+    → stage_following rules stage seen here ≡ stage_following rules (stage_after_eol rules stage) 0 rest
 eol_seen rules stage seen [] rest e = absurd cc
 eol_seen rules stage seen (false ∷ here) rest e = eol_seen rules stage (suc seen) here rest e
 eol_seen rules stage seen (true ∷ here) rest e = grind (arith, common_steps, eol_counts)
 
--- a one that no EOL is before settles what is behind a tag
+-- a one that no EOL is before settles what is after a tag
 tag_settles : (rules : GapRules) (seen : ℕ) (here : Bits) → after_eol seen here ≡ None
-    → is_settled (stage_behind rules BehindTag seen here) ≡ holds_one here
+    → is_settled (stage_following rules AfterTag seen here) ≡ holds_one here
 tag_settles rules seen [] e = refl
 tag_settles rules seen (false ∷ here) e = tag_settles rules (suc seen) here e
 tag_settles rules seen (true ∷ here) e = grind (arith, common_steps, settled_stays)
 
 -- and what is at the start, where no EOL is sought
 start_settles : (rules : GapRules) (seen : ℕ) (here : Bits) → rules.seeks ≡ false → after_eol seen here ≡ None
-    → is_settled (stage_behind rules Start seen here) ≡ holds_one here
+    → is_settled (stage_following rules Start seen here) ≡ holds_one here
 start_settles rules seen [] unsought e = refl
 start_settles rules seen (false ∷ here) unsought e = start_settles rules (suc seen) here unsought e
 start_settles rules seen (true ∷ here) unsought e = grind (arith, common_steps, settled_stays)
 
 -- where one is sought, the start is as damage
 start_seeks : (rules : GapRules) (seen : ℕ) (here : Bits) → rules.seeks ≡ true → after_eol seen here ≡ None
-    → is_settled (stage_behind rules Start seen here) ≡ is_settled (stage_behind rules Damage seen here)
+    → is_settled (stage_following rules Start seen here) ≡ is_settled (stage_following rules Damage seen here)
 start_seeks rules seen [] sought e = refl
 start_seeks rules seen (false ∷ here) sought e = start_seeks rules (suc seen) here sought e
 start_seeks rules seen (true ∷ here) sought e = grind (arith, common_steps)
 
--- ---- Behind an EOL
+-- ---- After an EOL
 
 -- once a zero came, no tag can
 zero_no_tag : (rules : GapRules) (seen : ℕ) (here : Bits)
-    → is_settled (stage_behind rules BehindEol (suc seen) here) ≡ is_settled (stage_behind rules BehindTag (suc seen) here)
+    → is_settled (stage_following rules AfterEol (suc seen) here) ≡ is_settled (stage_following rules AfterTag (suc seen) here)
 zero_no_tag rules seen [] = refl
 zero_no_tag rules seen (false ∷ here) = zero_no_tag rules (suc seen) here
 zero_no_tag rules seen (true ∷ here) = grind (arith, common_steps, ne_eqb)
 
 -- without tags none can
 no_tag : (rules : GapRules) (here : Bits) → rules.has_tags ≡ false
-    → is_settled (stage_behind rules BehindEol 0 here) ≡ is_settled (stage_behind rules BehindTag 0 here)
+    → is_settled (stage_following rules AfterEol 0 here) ≡ is_settled (stage_following rules AfterTag 0 here)
 no_tag rules [] none = refl
 no_tag rules (false ∷ here) none = zero_no_tag rules 0 here
-no_tag rules (true ∷ here) none = ap (λ (b : Bool). is_settled (stage_behind rules (cond b BehindTag Settled) 0 here)) none
+no_tag rules (true ∷ here) none = ap (λ (b : Bool). is_settled (stage_following rules (cond b AfterTag Settled) 0 here)) none
 
 -- with tags a one is a tag
 one_tag : (rules : GapRules) (here : Bits) → rules.has_tags ≡ true
-    → is_settled (stage_behind rules BehindEol 0 here) ≡ is_settled (stage_behind rules BehindTag 0 (behind_one here))
+    → is_settled (stage_following rules AfterEol 0 here) ≡ is_settled (stage_following rules AfterTag 0 (following_one here))
 one_tag rules [] tags = refl
 one_tag rules (false ∷ here) tags = zero_no_tag rules 0 here
-one_tag rules (true ∷ here) tags = ap (λ (b : Bool). is_settled (stage_behind rules (cond b BehindTag Settled) 0 here)) tags
+one_tag rules (true ∷ here) tags = ap (λ (b : Bool). is_settled (stage_following rules (cond b AfterTag Settled) 0 here)) tags
 
--- one EOL more makes no difference to the bits behind
+-- one EOL more makes no difference to the bits after
 left_by_more : (found : ℕ × Bits) → holds_one (one_more found).1 ≡ holds_one found.1
 left_by_more (count, rest) = refl
 
-left_by_more_tags : (found : ℕ × Bits) → holds_one (behind_one (one_more found).1) ≡ holds_one (behind_one found.1)
+left_by_more_tags : (found : ℕ × Bits) → holds_one (following_one (one_more found).1) ≡ holds_one (following_one found.1)
 left_by_more_tags (count, rest) = refl
 
 -- EOLs without tags
 plain_eols : (rules : GapRules) → rules.has_tags ≡ false → rules.ends_at_two ≡ false → (most : ℕ) (here : Bits)
-    → length here ≤ most → is_settled (stage_behind rules BehindTag 0 here) ≡ holds_one (eols most here).1
+    → length here ≤ most → is_settled (stage_following rules AfterTag 0 here) ≡ holds_one (eols most here).1
 plain_eols rules none on zero [] few = refl
 plain_eols rules none on zero (bit ∷ here) few = absurd (omega (arith, few))
 plain_eols rules none on (suc most) here few = by_after_eol (λ rest. plain_eols rules none on most rest) (after_eol 0 here) refl
   where
     by_after_eol : ((rest : Bits) → length rest ≤ most
-        → is_settled (stage_behind rules BehindTag 0 rest) ≡ holds_one (eols most rest).1) → (o : Option Bits)
-        → after_eol 0 here ≡ o → is_settled (stage_behind rules BehindTag 0 here) ≡ holds_one (eols (suc most) here).1
+        → is_settled (stage_following rules AfterTag 0 rest) ≡ holds_one (eols most rest).1) → (o : Option Bits)
+        → after_eol 0 here ≡ o → is_settled (stage_following rules AfterTag 0 here) ≡ holds_one (eols (suc most) here).1
     by_after_eol next None e = grind (arith, common_steps, tag_settles, eols-none)
     by_after_eol next (Some rest) e =
-        ap is_settled (eol_seen rules BehindTag 0 here rest e)
-        ∙ ap (λ (b : Bool). is_settled (stage_behind rules (one_eol_more b) 0 rest)) on
+        ap is_settled (eol_seen rules AfterTag 0 here rest e)
+        ∙ ap (λ (b : Bool). is_settled (stage_following rules (one_eol_more b) 0 rest)) on
         ∙ no_tag rules rest none ∙ next rest (omega (arith, few, after_eol_shorter 0 here rest e))
         ∙ sym (ap (λ (found : ℕ × Bits). holds_one found.1) (eols-some most here rest e) ∙ left_by_more (eols most rest))
 
--- where no EOL is behind the tag, none is before it
-pub none_past : (here : Bits) → after_eol 0 (behind_one here) ≡ None
-    → (after_eol 0 (past_tag here) ≡ None) × (behind_one (past_tag here) ≡ behind_one here)
+-- where no EOL is after the tag, none is before it
+pub none_past : (here : Bits) → after_eol 0 (following_one here) ≡ None
+    → (after_eol 0 (past_tag here) ≡ None) × (following_one (past_tag here) ≡ following_one here)
 none_past [] e = (refl, refl)
 none_past (false ∷ here) e = (e, refl)
 none_past (true ∷ here) e = rw (e, past_tag) (refl, refl)
 
-pub some_past : (here rest : Bits) → after_eol 0 (behind_one here) ≡ Some rest → past_tag here ≡ behind_one here
+pub some_past : (here rest : Bits) → after_eol 0 (following_one here) ≡ Some rest → past_tag here ≡ following_one here
 some_past [] rest e = refl
 some_past (false ∷ here) rest e = refl
 some_past (true ∷ here) rest e = rw (e, past_tag) refl
 
-pub behind_one_shorter : (here : Bits) → length (behind_one here) ≤ length here
-behind_one_shorter [] = omega arith
-behind_one_shorter (false ∷ here) = omega arith
-behind_one_shorter (true ∷ here) = omega arith
+pub after_one_shorter : (here : Bits) → length (following_one here) ≤ length here
+after_one_shorter [] = omega arith
+after_one_shorter (false ∷ here) = omega arith
+after_one_shorter (true ∷ here) = omega arith
 
 -- EOLs with tags
 eols_and_tags : (rules : GapRules) → rules.has_tags ≡ true → rules.ends_at_two ≡ false → (most : ℕ) (here : Bits)
     → length here ≤ most
-    → is_settled (stage_behind rules BehindTag 0 (behind_one here))
-    ≡ holds_one (behind_one (eols_with_tags most (past_tag here)).1)
+    → is_settled (stage_following rules AfterTag 0 (following_one here))
+    ≡ holds_one (following_one (eols_with_tags most (past_tag here)).1)
 eols_and_tags rules tags on zero [] few = refl
 eols_and_tags rules tags on zero (bit ∷ here) few = absurd (omega (arith, few))
 eols_and_tags rules tags on (suc most) here few =
-    by_after_eol (λ rest. eols_and_tags rules tags on most rest) (after_eol 0 (behind_one here)) refl
+    by_after_eol (λ rest. eols_and_tags rules tags on most rest) (after_eol 0 (following_one here)) refl
   where
-    by_after_eol : ((rest : Bits) → length rest ≤ most → is_settled (stage_behind rules BehindTag 0 (behind_one rest))
-        ≡ holds_one (behind_one (eols_with_tags most (past_tag rest)).1)) → (o : Option Bits)
-        → after_eol 0 (behind_one here) ≡ o → is_settled (stage_behind rules BehindTag 0 (behind_one here))
-        ≡ holds_one (behind_one (eols_with_tags (suc most) (past_tag here)).1)
+    by_after_eol : ((rest : Bits) → length rest ≤ most → is_settled (stage_following rules AfterTag 0 (following_one rest))
+        ≡ holds_one (following_one (eols_with_tags most (past_tag rest)).1)) → (o : Option Bits)
+        → after_eol 0 (following_one here) ≡ o → is_settled (stage_following rules AfterTag 0 (following_one here))
+        ≡ holds_one (following_one (eols_with_tags (suc most) (past_tag here)).1)
     by_after_eol next None e = grind (arith, common_steps, none_past, tag_settles, eols_with_tags-none)
     by_after_eol next (Some rest) e =
         let past : after_eol 0 (past_tag here) ≡ Some rest = ap (after_eol 0) (some_past here rest e) ∙ e in
-        ap is_settled (eol_seen rules BehindTag 0 (behind_one here) rest e)
-        ∙ ap (λ (b : Bool). is_settled (stage_behind rules (one_eol_more b) 0 rest)) on
+        ap is_settled (eol_seen rules AfterTag 0 (following_one here) rest e)
+        ∙ ap (λ (b : Bool). is_settled (stage_following rules (one_eol_more b) 0 rest)) on
         ∙ one_tag rules rest tags
-        ∙ next rest (omega (arith, few, after_eol_shorter 0 (behind_one here) rest e, behind_one_shorter here))
-        ∙ sym (ap (λ (found : ℕ × Bits). holds_one (behind_one found.1)) (eols_with_tags-some most (past_tag here) rest past)
+        ∙ next rest (omega (arith, few, after_eol_shorter 0 (following_one here) rest e, after_one_shorter here))
+        ∙ sym (ap (λ (found : ℕ × Bits). holds_one (following_one found.1)) (eols_with_tags-some most (past_tag here) rest past)
         ∙ left_by_more_tags (eols_with_tags most (past_tag rest)))
 
 -- ---- The EOLs here
@@ -196,9 +196,9 @@ abbrev pub rules_of : EncodingMode → Bool → Bool → GapRules
 rules_of encoding end_of_block seeks =
     record { has_tags = has_tags encoding; ends_at_two = ends_at_two encoding end_of_block; seeks = seeks }
 
--- the bits behind the tag after one EOL or more
-pub behind_more : (found : ℕ × Bits) → behind_first_tag (one_more found) ≡ behind_one found.1
-behind_more (count, rest) = refl
+-- the bits after the tag after one EOL or more
+pub after_more : (found : ℕ × Bits) → after_first_tag (one_more found) ≡ following_one found.1
+after_more (count, rest) = refl
 
 -- two EOLs are EOFB (T.6, 2.4.1.1)
 module _ (seeks : Bool) (here rest : Bits) (e : after_eol 0 here ≡ Some rest) where
@@ -209,20 +209,20 @@ module _ (seeks : Bool) (here rest : Bits) (e : after_eol 0 here ≡ Some rest) 
       → eols_are_settled Group4 true (eols 2 here) ≡ eols_are_settled Group4 true (one_more found)
   counted found is = ap (eols_are_settled Group4 true) (eols-some 1 here rest e ∙ ap one_more is)
 
-  eofb_seen : is_settled (stage_behind two BehindEol 0 rest) ≡ eols_are_settled Group4 true (eols 2 here)
+  eofb_seen : is_settled (stage_following two AfterEol 0 rest) ≡ eols_are_settled Group4 true (eols 2 here)
   eofb_seen = by_after_eol (after_eol 0 rest) refl
     where
       by_after_eol : (o : Option Bits) → after_eol 0 rest ≡ o
-          → is_settled (stage_behind two BehindEol 0 rest) ≡ eols_are_settled Group4 true (eols 2 here)
+          → is_settled (stage_following two AfterEol 0 rest) ≡ eols_are_settled Group4 true (eols 2 here)
       by_after_eol None none =
           no_tag two rest refl ∙ tag_settles two 0 rest none ∙ sym (counted (0, rest) (eols-none 1 rest none))
       by_after_eol (Some last) some =
-          no_tag two rest refl ∙ ap is_settled (eol_seen two BehindTag 0 rest last some) ∙ settled_stays two 0 last
+          no_tag two rest refl ∙ ap is_settled (eol_seen two AfterTag 0 rest last some) ∙ settled_stays two 0 last
           ∙ sym (counted (1, last) (eols-some 0 rest last some))
 
--- behind an EOL it is settled exactly if the EOLs here are
+-- after an EOL it is settled exactly if the EOLs here are
 eols_seen : (encoding : EncodingMode) (block seeks : Bool) (here rest : Bits) → after_eol 0 here ≡ Some rest
-    → is_settled (stage_behind (rules_of encoding block seeks) BehindEol 0 rest)
+    → is_settled (stage_following (rules_of encoding block seeks) AfterEol 0 rest)
     ≡ eols_are_settled encoding block (eols_by encoding block here)
 eols_seen Group3_1D block seeks here rest e =
     let rules = rules_of Group3_1D block seeks in
@@ -235,9 +235,9 @@ eols_seen Group3_2D block seeks here rest e =
     (omega (arith, past_tag_shorter rest)) in
     one_tag rules rest refl ∙ eols_and_tags rules refl refl (length rest) rest (omega arith)
     ∙ sym (ap holds_one (last_tag_tested (all_tagged here))
-    ∙ ap (λ (found : ℕ × Bits). holds_one (behind_first_tag found)) (all_tagged-some here rest e)
-    ∙ ap holds_one (behind_more (all_tagged (past_tag rest)))
-    ∙ ap (λ (found : ℕ × Bits). holds_one (behind_one found.1)) enough)
+    ∙ ap (λ (found : ℕ × Bits). holds_one (after_first_tag found)) (all_tagged-some here rest e)
+    ∙ ap holds_one (after_more (all_tagged (past_tag rest)))
+    ∙ ap (λ (found : ℕ × Bits). holds_one (following_one found.1)) enough)
 eols_seen Group4 false seeks here rest e =
     let rules = rules_of Group4 false seeks in
     no_tag rules rest refl ∙ plain_eols rules refl refl (length rest) rest (omega arith)
@@ -246,31 +246,31 @@ eols_seen Group4 true seeks here rest e = eofb_seen seeks here rest e
 
 -- ---- The next EOL
 
-abbrev settled_behind : GapRules → Option Bits → Bool
-settled_behind rules None = false
-settled_behind rules (Some rest) = is_settled (stage_behind rules BehindEol 0 rest)
+abbrev settled_after : GapRules → Option Bits → Bool
+settled_after rules None = false
+settled_after rules (Some rest) = is_settled (stage_following rules AfterEol 0 rest)
 
 damage_seen : (rules : GapRules) (seen : ℕ) (here : Bits)
-    → is_settled (stage_behind rules Damage seen here) ≡ settled_behind rules (past seen here)
+    → is_settled (stage_following rules Damage seen here) ≡ settled_after rules (past seen here)
 damage_seen rules seen [] = refl
 damage_seen rules seen (false ∷ here) = damage_seen rules (suc seen) here
 damage_seen rules seen (true ∷ here) = grind (arith, common_steps, damage_seen rules 0 here)
 
--- behind damage it is settled exactly if there is a next EOL, and the EOLs there are
+-- after damage it is settled exactly if there is a next EOL, and the EOLs there are
 next_seen : (settings : DecodeSettings) (seeks : Bool) (here : Bits)
-    → is_settled (stage_behind (rules_of settings.encoding settings.end_of_block seeks) Damage 0 here)
+    → is_settled (stage_following (rules_of settings.encoding settings.end_of_block seeks) Damage 0 here)
     ≡ next_eols_are_settled settings (next_eol here)
 next_seen settings seeks here =
     let rules = rules_of settings.encoding settings.end_of_block seeks in
-    damage_seen rules 0 here ∙ ap (settled_behind rules) (past_is here) ∙ by_next (next_eol here) refl
+    damage_seen rules 0 here ∙ ap (settled_after rules) (past_is here) ∙ by_next (next_eol here) refl
   where
     by_next : (o : Option Bits) → next_eol here ≡ o
-        → settled_behind (rules_of settings.encoding settings.end_of_block seeks) (then_after o)
+        → settled_after (rules_of settings.encoding settings.end_of_block seeks) (then_after o)
         ≡ next_eols_are_settled settings o
     by_next None e = refl
     by_next (Some found) e =
         let there = (next_eol_found here found e).1 in
-        ap (settled_behind (rules_of settings.encoding settings.end_of_block seeks)) there.1
+        ap (settled_after (rules_of settings.encoding settings.end_of_block seeks)) there.1
         ∙ eols_seen settings.encoding settings.end_of_block seeks found there.0 there.1
 
 -- ---- The gap
@@ -320,7 +320,7 @@ module _ (settings : DecodeSettings) (taken : ℕ) (has_eols : Bool) (here : Bit
   block = settings.end_of_block
 
   abbrev rules : GapRules
-  rules = rules_behind_row settings taken has_eols
+  rules = rules_after_row settings taken has_eols
 
   abbrev missing : Bool → Bool → Bool
   missing none ended = none && has_eols && not (limit_met settings taken) && not ended
@@ -335,7 +335,7 @@ module _ (settings : DecodeSettings) (taken : ℕ) (has_eols : Bool) (here : Bit
   some_tested false = refl
 
   by_flags : (has limited strict : Bool) → after_eol 0 here ≡ None → holds_one here ≡ true
-      → is_settled (stage_behind (rules_of encoding block (has && not limited && not strict)) Start 0 here)
+      → is_settled (stage_following (rules_of encoding block (has && not limited && not strict)) Start 0 here)
       ≡ (not (has && not limited && true) || strict || next_eols_are_settled settings (next_eol here))
   by_flags true false false e one = start_seeks (rules_of encoding block true) 0 here refl e ∙ next_seen settings true here
   by_flags true false true e one = start_settles (rules_of encoding block false) 0 here refl e ∙ one
@@ -347,12 +347,12 @@ module _ (settings : DecodeSettings) (taken : ℕ) (has_eols : Bool) (here : Bit
   none_tested e = grind (arith, common_steps, none_here, none_settled)
 
   by_one : (b : Bool) → holds_one here ≡ b → after_eol 0 here ≡ None
-      → is_settled (stage_behind rules Start 0 here) ≡ tested b true (at_end here)
+      → is_settled (stage_following rules Start 0 here) ≡ tested b true (at_end here)
   by_one true one e = grind (arith, common_steps, by_flags, one_is_left)
   by_one false none e = ap is_settled (zeros_stay rules Start 0 here none)
 
   by_after_eol : (o : Option Bits) → after_eol 0 here ≡ o
-      → is_settled (stage_behind rules Start 0 here) ≡ gap_is_settled settings taken has_eols here
+      → is_settled (stage_following rules Start 0 here) ≡ gap_is_settled settings taken has_eols here
   by_after_eol None e = grind (arith, common_steps, by_one, none_tested)
   by_after_eol (Some rest) e =
       ap is_settled (eol_seen rules Start 0 here rest e)
@@ -362,16 +362,16 @@ module _ (settings : DecodeSettings) (taken : ℕ) (has_eols : Bool) (here : Bit
       (sym (one_here encoding block here rest e))
 
   -- A gap that was looked at is settled exactly if it is the same whatever bits follow (T.4, 4.1.2 and 4.1.4; T.6, 2.4.1.1).
-  pub gap_seen : is_settled (stage_behind rules Start 0 here) ≡ gap_is_settled settings taken has_eols here
+  pub gap_seen : is_settled (stage_following rules Start 0 here) ≡ gap_is_settled settings taken has_eols here
   gap_seen = by_after_eol (after_eol 0 here) refl
 
 -- EOLs without tags, and the next isn't sought
 plain_seen : (here : Bits)
-    → is_settled (stage_behind (rules_of Group3_1D false false) Start 0 here) ≡ holds_one (all_eols here).1
+    → is_settled (stage_following (rules_of Group3_1D false false) Start 0 here) ≡ holds_one (all_eols here).1
 plain_seen here = by_eol (after_eol 0 here) refl
   where
     by_eol : (o : Option Bits) → after_eol 0 here ≡ o
-        → is_settled (stage_behind (rules_of Group3_1D false false) Start 0 here) ≡ holds_one (all_eols here).1
+        → is_settled (stage_following (rules_of Group3_1D false false) Start 0 here) ≡ holds_one (all_eols here).1
     by_eol None e = grind (arith, common_steps, start_settles, all_eols-none)
     by_eol (Some rest) e =
         ap is_settled (eol_seen (rules_of Group3_1D false false) Start 0 here rest e)
@@ -379,10 +379,10 @@ plain_seen here = by_eol (after_eol 0 here) refl
 
 -- so it is with the first gap of the data (T.4, 4.1.2; T.6, 2.4.1.1)
 pub first_gap_seen : (encoding : EncodingMode) (settings : DecodeSettings) (here : Bits) → settings.encoding ≡ encoding
-    → is_settled (stage_behind (first_rules encoding settings.end_of_block) Start 0 here)
+    → is_settled (stage_following (first_rules encoding settings.end_of_block) Start 0 here)
     ≡ first_gap_is_settled encoding settings here
 first_gap_seen Group4 settings here is =
-    ap (λ (e : EncodingMode). is_settled (stage_behind (rules_of e settings.end_of_block false) Start 0 here)) (sym is)
+    ap (λ (e : EncodingMode). is_settled (stage_following (rules_of e settings.end_of_block false) Start 0 here)) (sym is)
     ∙ gap_seen settings 0 false here
 first_gap_seen Group3_1D settings here is = plain_seen here
 first_gap_seen Group3_2D settings here is = plain_seen here
@@ -396,7 +396,7 @@ nothing_looked rules look here = grind (arith, common_steps)
 -- all of some bits are needed
 abbrev AllNeeded : GapRules → GapStage → ℕ → Bits → Type 0
 AllNeeded rules stage seen next = (others : Bits) → bits_needed rules stage seen (next ++ others)
-    ≡ length next + bits_needed rules (stage_behind rules stage seen next) (zeros_behind seen next) others
+    ≡ length next + bits_needed rules (stage_following rules stage seen next) (zeros_after seen next) others
 
 zeros_needed : (rules : GapRules) (stage : GapStage) (seen n : ℕ) → is_settled stage ≡ false
     → AllNeeded rules stage seen (replicate n false)
@@ -412,34 +412,34 @@ one_needed rules stage seen unsettled others = grind (arith, common_steps)
 pub looks_more : (next : Bits) {rules : GapRules} {old mid : GapLook} {here from rest : Bits}
     → AllNeeded rules mid.stage mid.zeros next → LooksTo rules old mid here from → from ≡ next ++ rest
     → LooksTo rules old (record {
-      stage = stage_behind rules mid.stage mid.zeros next;
-      zeros = zeros_behind mid.zeros next;
+      stage = stage_following rules mid.stage mid.zeros next;
+      zeros = zeros_after mid.zeros next;
       bits = mid.bits + length next;
     }) here rest
 looks_more next {rules} {old} {mid} {here} {from} {rest} all looks is = record {
   looked = looks.looked ++ next;
   are = looks.are ∙ ap (λ (b : Bits). looks.looked ++ b) is ∙ sym (append_assoc looks.looked next rest);
-  stage = grind (arith, common_steps, rules, stage_behind-append);
-  zeros = ap (λ (n : ℕ). zeros_behind n next) looks.zeros ∙ sym (zeros_behind-append old.zeros looks.looked next);
+  stage = grind (arith, common_steps, rules, stage_following-append);
+  zeros = ap (λ (n : ℕ). zeros_after n next) looks.zeros ∙ sym (zeros_after-append old.zeros looks.looked next);
   bits = omega (arith, looks.bits, length-append looks.looked next);
   needed = λ others. ap (bits_needed rules old.stage old.zeros) (append_assoc looks.looked next others)
       ∙ omega (arith, looks.needed (next ++ others), all others, length-append looks.looked next);
 }
 
 -- zeros alone
-zeros_behind-zeros : (seen n : ℕ) → zeros_behind seen (replicate n false) ≡ seen + n
-zeros_behind-zeros seen zero = omega arith
-zeros_behind-zeros seen (suc n) = omega (arith, zeros_behind-zeros (suc seen) n)
+zeros_after-zeros : (seen n : ℕ) → zeros_after seen (replicate n false) ≡ seen + n
+zeros_after-zeros seen zero = omega arith
+zeros_after-zeros seen (suc n) = omega (arith, zeros_after-zeros (suc seen) n)
 
-stage_behind-zeros : (by : GapRules) (stage : GapStage) (seen n : ℕ) → stage_behind by stage seen (replicate n false) ≡ stage
-stage_behind-zeros by stage seen zero = refl
-stage_behind-zeros by stage seen (suc n) = stage_behind-zeros by stage (suc seen) n
+stage_following-zeros : (by : GapRules) (stage : GapStage) (seen n : ℕ) → stage_following by stage seen (replicate n false) ≡ stage
+stage_following-zeros by stage seen zero = refl
+stage_following-zeros by stage seen (suc n) = stage_following-zeros by stage (suc seen) n
 
 by_zeros_looked : (n : ℕ) {rules : GapRules} {old mid : GapLook} {here from rest : Bits} → is_settled mid.stage ≡ false
     → LooksTo rules old mid here from → from ≡ replicate n false ++ rest
     → LooksTo rules old (record { stage = mid.stage; zeros = mid.zeros + n; bits = mid.bits + n }) here rest
 by_zeros_looked n {rules} {old} {mid} unsettled looks is =
-    grind (arith, common_steps, looks_more, zeros_needed, stage_behind-zeros, zeros_behind-zeros, length-replicate)
+    grind (arith, common_steps, looks_more, zeros_needed, stage_following-zeros, zeros_after-zeros, length-replicate)
 
 pub looks_at_zeros : (n : ℕ) {rules : GapRules} {old mid : GapLook} {here from : Bits} → is_settled mid.stage ≡ false
     → LooksTo rules old mid here from → from ≡ replicate n false
@@ -462,7 +462,7 @@ pub looks_at_run : (n : ℕ) {rules : GapRules} {old mid : GapLook} {here from r
     }) here rest
 looks_at_run n unsettled looks is = looks_at_one unsettled (by_zeros_looked n unsettled looks is)
 
--- the bits looked at later are those behind
+-- the bits looked at later are those after
 pub looks_then : {rules : GapRules} {old mid new : GapLook} {here from rest : Bits} → LooksTo rules old mid here from
     → LooksTo rules mid new from rest → LooksTo rules old new here rest
 looks_then {rules} {old} {mid} {new} {here} {from} {rest} first next =
@@ -505,18 +505,18 @@ none_seen rules here = (here, nothing_looked rules nothing_seen here)
 pub only_settled : (stage : GapStage) → is_settled stage ≡ true → stage ≡ Settled
 only_settled Start is = absurd cc
 only_settled Damage is = absurd cc
-only_settled BehindEol is = absurd cc
-only_settled BehindTag is = absurd cc
+only_settled AfterEol is = absurd cc
+only_settled AfterTag is = absurd cc
 only_settled Settled is = refl
 
 -- what a look found is so of all bits, if it found a settled gap or all bits were looked at
 pub found_settled : {rules : GapRules} {look : GapLook} {here rest : Bits} → LooksTo rules nothing_seen look here rest
     → (settled : Bool) → settled ≡ is_settled look.stage → (settled ≡ false → rest ≡ [])
-    → is_settled (stage_behind rules Start 0 here) ≡ settled
+    → is_settled (stage_following rules Start 0 here) ≡ settled
 found_settled {rules} {look} {here} {rest} looks settled is all =
-    grind (arith, common_steps, stage_behind-append, only_settled, settled_stays)
+    grind (arith, common_steps, stage_following-append, only_settled, settled_stays)
 
--- the rest is behind the bits looked at
+-- the rest is after the bits looked at
 pub rest_is : {rules : GapRules} {look : GapLook} {here rest : Bits} → LooksTo rules nothing_seen look here rest
     → drop look.bits here ≡ rest
 rest_is {rules} {look} {here} {rest} looks = grind (arith, common_steps)
@@ -535,31 +535,31 @@ looked_needed {rules} {look} {here} {rest} looks = grind (arith, common_steps)
 
 -- no EOL is here, nor is one sought
 pub settled_at_one : (rules : GapRules) (here : Bits) → rules.seeks ≡ false → after_eol 0 here ≡ None → holds_one here ≡ true
-    → is_settled (stage_behind rules Start 0 here) ≡ true
+    → is_settled (stage_following rules Start 0 here) ≡ true
 settled_at_one rules here unsought none one = start_settles rules 0 here unsought none ∙ one
 
--- where one is behind an EOL and its tag, no EOL is
-settled_behind_tag : (rules : GapRules) (here : Bits) → after_eol 0 here ≡ None → holds_one here ≡ true
-    → is_settled (stage_behind rules BehindTag 0 here) ≡ true
-settled_behind_tag rules here none one = tag_settles rules 0 here none ∙ one
+-- where one is after an EOL and its tag, no EOL is
+settled_after_tag : (rules : GapRules) (here : Bits) → after_eol 0 here ≡ None → holds_one here ≡ true
+    → is_settled (stage_following rules AfterTag 0 here) ≡ true
+settled_after_tag rules here none one = tag_settles rules 0 here none ∙ one
 
--- the bits behind an EOL are those behind the tag of one of its line
-tag_of_one : (here : Bits) → behind_line_tag (1, here) ≡ behind_one here
+-- the bits after an EOL are those after the tag of one of its line
+tag_of_one : (here : Bits) → after_line_tag (1, here) ≡ following_one here
 tag_of_one [] = refl
 tag_of_one (false ∷ here) = refl
 tag_of_one (true ∷ here) = refl
 
--- an EOL is here without a tag, and none behind it
-pub settled_behind_eol : (rules : GapRules) (here rest : Bits) → after_eol 0 here ≡ Some rest → rules.has_tags ≡ false
-    → after_eol 0 rest ≡ None → holds_one rest ≡ true → is_settled (stage_behind rules Start 0 here) ≡ true
-settled_behind_eol rules here rest eol tags none one =
-    ap is_settled (eol_seen rules Start 0 here rest eol) ∙ no_tag rules rest tags ∙ settled_behind_tag rules rest none one
+-- an EOL is here without a tag, and none after it
+pub settled_after_eol : (rules : GapRules) (here rest : Bits) → after_eol 0 here ≡ Some rest → rules.has_tags ≡ false
+    → after_eol 0 rest ≡ None → holds_one rest ≡ true → is_settled (stage_following rules Start 0 here) ≡ true
+settled_after_eol rules here rest eol tags none one =
+    ap is_settled (eol_seen rules Start 0 here rest eol) ∙ no_tag rules rest tags ∙ settled_after_tag rules rest none one
 
 -- or with one
-pub settled_behind_tagged : (rules : GapRules) (here rest behind : Bits) → after_eol 0 here ≡ Some rest → rules.has_tags ≡ true
-    → behind ≡ behind_line_tag (1, rest) → after_eol 0 behind ≡ None → holds_one behind ≡ true
-    → is_settled (stage_behind rules Start 0 here) ≡ true
-settled_behind_tagged rules here rest behind eol tags is none one =
-    let tag : behind ≡ behind_one rest = is ∙ tag_of_one rest in
+pub settled_after_tagged : (rules : GapRules) (here rest after : Bits) → after_eol 0 here ≡ Some rest → rules.has_tags ≡ true
+    → after ≡ after_line_tag (1, rest) → after_eol 0 after ≡ None → holds_one after ≡ true
+    → is_settled (stage_following rules Start 0 here) ≡ true
+settled_after_tagged rules here rest after eol tags is none one =
+    let tag : after ≡ following_one rest = is ∙ tag_of_one rest in
     ap is_settled (eol_seen rules Start 0 here rest eol) ∙ one_tag rules rest tags
-    ∙ ap (λ (b : Bits). is_settled (stage_behind rules BehindTag 0 b)) (sym tag) ∙ settled_behind_tag rules behind none one
+    ∙ ap (λ (b : Bits). is_settled (stage_following rules AfterTag 0 b)) (sym tag) ∙ settled_after_tag rules after none one

@@ -11,7 +11,7 @@ use Rattle.fax_feeds.specs.declared.gap_look.GapRules.{GapRules}
 use Rattle.fax_rows.specs.declared.row_reader.RowState.{RowState}
 use Rattle.fax_feeds.proofs.Readings.GapsSeen.{none_seen, seen_longer}
 
--- once something has begun, the rules are those behind a row
+-- once something has begun, the rules are those after a row
 pub seen_begun : {begun now : Bool} (held : Held) {look : GapLook} {gap : Bits} → begun ≡ now
     → IsSeen (rules_for begun held) look gap → IsSeen (rules_for now held) look gap
 seen_begun held {look = look} {gap = gap} is seen = subst (λ (b : Bool). IsSeen (rules_for b held) look gap) is seen
@@ -43,7 +43,7 @@ module _ {is_last : Bool} {gap_start : ℕ} {rows kept : RowState} {look kept_lo
   kept_line (Ok (Some at)) comes line = comes.none_looked (λ e. cc)
   kept_line (Err error) comes line = comes.none_looked (λ e. cc)
 
--- the bits behind the place, once more are kept
+-- the bits after the place, once more are kept
 pub seen_more : {rules : GapRules} {look : GapLook} (place : ℕ) (kept next : Bits) → place ≤ length kept
     → IsSeen rules look (drop place kept) → IsSeen rules look (drop place (kept ++ next))
 seen_more place kept next within seen = seen_there (sym (drop-append-le place kept next within)) (seen_longer next seen)

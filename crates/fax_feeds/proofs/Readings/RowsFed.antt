@@ -4,7 +4,7 @@ use Rattle.fax_feeds.proofs.Names.{◌≡◌, ◌≢◌, ◌∙◌, ◌+◌, ◌
 use Rattle.fax_feeds.proofs.Names.{refl, sym, ap}
 use Rattle.fax_feeds.proofs.Names.{subst, arith, length, drop, length-drop, length-append, drop-drop, inl, inr, Bits, BitsAt}
 use Rattle.fax_feeds.proofs.Names.{Held, Context, DecodeError}
-use Rattle.fax_feeds.proofs.Names.{IsStanding, ReachesNextLine, IsPaid, PaidAtLine, Stand, AtLine, BehindRow}
+use Rattle.fax_feeds.proofs.Names.{IsStanding, ReachesNextLine, IsPaid, PaidAtLine, Stand, AtLine, AfterRow}
 use Rattle.fax_feeds.proofs.Names.{AtEnd, AtFault}
 use Rattle.fax_feeds.proofs.Names.{DecodeSettings, is_at_line, ended, seen, here}
 use Rattle.fax_feeds.proofs.Names.{line_after, false≢true}
@@ -15,7 +15,7 @@ use Rattle.fax_rows.proofs.Readings.GapsPassed.{gap_stays, gap_reaches}
 use Rattle.fax_rows.proofs.Readings.RowByRow.{told_at_line}
 use Rattle.fax_rows.specs.declared.row_reader.RowState.{RowState}
 use Rattle.fax_reading.specs.GapsContinued.{gap_is_settled}
-use Rattle.fax_rows.specs.RowsTried.{CanCome, IsLeft, PassesGap, PassesGapHere, ReadsRow, TriesRow, rows_behind_line}
+use Rattle.fax_rows.specs.RowsTried.{CanCome, IsLeft, PassesGap, PassesGapHere, ReadsRow, TriesRow, rows_after_line}
 use Rattle.fax_feeds.specs.RowFeeds.{LieIn, came, is_left, line_answer, some_line}
 use Rattle.fax_rows.proofs.Readings.LinesRead.{line_stays, line_is_next}
 use Rattle.fax_bits.specs.declared.error.DecodeError.TheVariants.{InvalidCode}
@@ -51,7 +51,7 @@ later_at_line from more settings bits held rest ticks paid = record {
 later_paid : (from more : ℕ) (stand : Stand) (settings : DecodeSettings) (bits : Bits) (held : Held) (place ticks : ℕ)
     → IsPaid from stand settings bits held place ticks → IsPaid (from + more) stand settings bits held place (ticks + more)
 later_paid from more AtLine settings bits held place ticks paid = grind (arith, common_steps, later_at_line)
-later_paid from more BehindRow settings bits held place ticks paid = record {
+later_paid from more AfterRow settings bits held place ticks paid = record {
   before = paid.before;
   start = paid.start;
   ticks_before = paid.ticks_before + more;
@@ -99,12 +99,12 @@ module _ (is_last : Bool) (gap_start : ℕ) (rows kept : RowState) (old mid new 
   there : drop gap_start whole ≡ here before ++ lie.more
   there = ap (λ (n : ℕ). drop n whole) starts ∙ from_place lie before.place gap.begun
 
-  behind : drop (dropped + after.place) whole ≡ here after ++ lie.more
-  behind = from_place lie after.place place_after ∙ ap (λ (b : Bits). drop after.place b ++ lie.more) (sym gap.same_bits)
+  following : drop (dropped + after.place) whole ≡ here after ++ lie.more
+  following = from_place lie after.place place_after ∙ ap (λ (b : Bits). drop after.place b ++ lie.more) (sym gap.same_bits)
 
   passes : PassesGap mid new gap.over (drop gap_start whole) (drop (dropped + after.place) whole)
   passes = subst (λ (b : Bits). PassesGap mid new gap.over b (drop (dropped + after.place) whole)) (sym there)
-      (subst (PassesGap mid new gap.over (here before ++ lie.more)) (sym behind) (gap.passes lie.more
+      (subst (PassesGap mid new gap.over (here before ++ lie.more)) (sym following) (gap.passes lie.more
       (changes_nothing settled)))
 
   begun : gap_start ≤ length whole
@@ -195,7 +195,7 @@ came_of (Err error) e = refl
 module _ (is_last : Bool) (line_start : ℕ) (rows kept : RowState) (old new : Context) (before after : BitsAt)
     (answer : Result Bool DecodeError) (tries : TriesRow is_last old new answer before after) (other : is_left answer ≡ false)
     (same_bits : after.bits ≡ before.bits) (begun : before.place ≤ length before.bits) (ends : after.place ≤ length after.bits)
-    (kept_is : kept ≡ rows_behind_line rows (line_answer answer) line_start old.held.repairs.rows old.held.repairs.cut
+    (kept_is : kept ≡ rows_after_line rows (line_answer answer) line_start old.held.repairs.rows old.held.repairs.cut
     new.held.repairs)
     (from : ℕ) (whole : Bits) (dropped : ℕ) (lie : LieIn whole dropped is_last before.bits)
     (starts : line_start ≡ dropped + before.place)
@@ -206,8 +206,8 @@ module _ (is_last : Bool) (line_start : ℕ) (rows kept : RowState) (old new : C
   line_there : drop line_start whole ≡ here before ++ lie.more
   line_there = ap (λ (n : ℕ). drop n whole) starts ∙ from_place lie before.place begun
 
-  line_behind : drop (dropped + after.place) whole ≡ here after ++ lie.more
-  line_behind = from_place lie after.place line_ends ∙ ap (λ (b : Bits). drop after.place b ++ lie.more) (sym same_bits)
+  line_following : drop (dropped + after.place) whole ≡ here after ++ lie.more
+  line_following = from_place lie after.place line_ends ∙ ap (λ (b : Bits). drop after.place b ++ lie.more) (sym same_bits)
 
   fails : (e : DecodeError) → answer ≡ Err e → IsFault e
       → ReadsRow old new (Err e) (here before ++ lie.more) (here after ++ lie.more)
@@ -223,7 +223,7 @@ module _ (is_last : Bool) (line_start : ℕ) (rows kept : RowState) (old new : C
       (λ x fault is e. fails x is fault) (λ is e. absurd cc) (λ is e. absurd (tries.not_refused is)) error is e
 
   line_reads : ReadsRow old new (line_answer answer) (drop line_start whole) (drop (dropped + after.place) whole)
-  line_reads = grind (arith, common_steps, line_there, line_behind, reads_here)
+  line_reads = grind (arith, common_steps, line_there, line_following, reads_here)
 
   line_begins : line_start ≤ length whole
   line_begins = omega (arith, starts, place_within lie before.place begun)

@@ -14,7 +14,7 @@ line_was_read (Ok true) e = refl
 line_was_read (Ok false) e = absurd cc
 line_was_read (Err error) e = absurd cc
 
--- a row is counted whose line is read behind a gap
+-- a row is counted whose line is read after a gap
 pub counts_row : {old mid new : Feeding} (answer : Result Bool DecodeError)
     → mid.ctx.held.settings ≡ old.ctx.held.settings → mid.ctx.held.taken ≡ old.ctx.held.taken
     → mid.ctx.held.taken + 1 < 2 ^ 64 → ReadsInFeed mid new answer → CountsRow old new (fed_row answer)

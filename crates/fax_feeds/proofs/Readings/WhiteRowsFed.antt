@@ -1,6 +1,6 @@
 -- White rows that are read one after another from data that comes in pieces are rows whatever data follows.
 use Rattle.fax_feeds.proofs.Names.{◌≡◌, ◌∙◌, ℕ, zero, suc, List, [], Ok, ap, refl, subst, sym}
-use Rattle.fax_feeds.proofs.Names.{BehindRow, Context, changes}
+use Rattle.fax_feeds.proofs.Names.{AfterRow, Context, changes}
 use Rattle.fax_feeds.proofs.Readings.FeedTurns.{IsReadBy, past_line}
 use Rattle.fax_feeds.proofs.Readings.FeedWhite.{white_read_by, white_row}
 use Rattle.fax_rows.proofs.Readings.RowsAgain.{white_unchanging}
@@ -13,14 +13,14 @@ use Rattle.fax_feeds.specs.declared.row_feed.RowFeed.TheInside.{Inside}
 use Rattle.fax_rows.specs.declared.row_reader.RowState.{RowState}
 use Rattle.fax_lines.specs.declared.white_lines.WhiteLines.{WhiteLines}
 
--- the feed behind these rows
+-- the feed after these rows
 abbrev pub fed_to : {M : Type 0} → Inside → Pushed M → Inside
 fed_to f now = past_line f now.ctx now.rows now.at.place
 
--- a feed is behind rows that the sink means
+-- a feed is after rows that the sink means
 pub record IsFedTo {M : Type 0} (step : M → List ℕ → M) (first : Feeding) (start : M) (f : Inside) (now : Pushed M) : Type 0 where
   pub read_by : IsReadBy (fed_to f now) now.at
-  pub behind : now.rows.stand ≡ BehindRow
+  pub after : now.rows.stand ≡ AfterRow
   pub passes : PassesRows step start now.meaning first (feeding_of (fed_to f now))
   pub keeps : KeepsBits first (feeding_of (fed_to f now))
   pub settings : now.ctx.held.settings ≡ first.ctx.held.settings
@@ -30,10 +30,10 @@ module _ {M : Type 0} {step : M → List ℕ → M} {first : Feeding} {start : M
   -- a white line is the next row
   module _ {mid new : Pushed M} (fed : IsFedTo step first start f mid) (reads : ReadsWhite lines f.dropped mid new) where
     pub white_fed_row : FeedsRow (feeding_of (fed_to f mid)) (feeding_of (fed_to f new)) (Ok Fed.Row)
-    white_fed_row = white_row fed.read_by refl fed.behind fresh reads.follow reads.takes
+    white_fed_row = white_row fed.read_by refl fed.after fresh reads.follow reads.takes
 
     pub white_fed_by : IsReadBy (fed_to f new) new.at
-    white_fed_by = white_read_by fed.read_by refl fed.behind fresh reads.follow reads.takes
+    white_fed_by = white_read_by fed.read_by refl fed.after fresh reads.follow reads.takes
 
     pub white_fed_empty : [] ≡ changes new.ctx.held.reference
     white_fed_empty = white_unchanging reads.follow ∙ ap (λ (x : Context). changes x.held.reference) (sym reads.takes.new_is)
@@ -45,7 +45,7 @@ module _ {M : Type 0} {step : M → List ℕ → M} {first : Feeding} {start : M
       let row = white_fed_row fed reads in
       record {
         read_by = white_fed_by fed reads;
-        behind = ap (λ (r : RowState). r.stand) reads.takes.kept_is;
+        after = ap (λ (r : RowState). r.stand) reads.takes.kept_is;
         passes = passes_more fed.passes row (passes.meaning ∙ ap (step mid.meaning) (white_fed_empty fed reads));
         keeps = keeps_on fed.keeps row.keeps;
         settings = row.counts.settings ∙ fed.settings;

@@ -46,10 +46,10 @@ words_of_entry color seen entry e other = by_first (word_at (codes_of color) see
 -- two words here, one after the other
 pub record AreBothHere (color : Color) (at : BitsAt) (run run2 width : ℕ) : Type 0 where
   pub between : ℕ
-  pub behind : ℕ
+  pub after : ℕ
   pub first : IsWordHere color at run between
-  pub second : IsWordHere (opposite color) (moved between at) run2 behind
-  pub bits : width ≡ between + behind
+  pub second : IsWordHere (opposite color) (moved between at) run2 after
+  pub bits : width ≡ between + after
   pub short : IsShort run
   pub short2 : IsShort run2
   pub few : width ≤ 12
@@ -78,7 +78,7 @@ words_there color at entry words enough =
     sym (drop-drop (length w2) (at.place + length w) at.bits) ∙ ap (drop (length w2)) on ∙ drop-append_seam w2 tail in
     rw (low, high) (record {
       between = length w;
-      behind = length w2;
+      after = length w2;
       first = grind (arith, common_steps, read_code_again, codes_free);
       second = grind (arith, common_steps, read_code_again, codes_free);
       bits = width;

@@ -45,7 +45,7 @@ pub first_before_count : (mask used count : ℕ) → mask < 16 → used < 256 �
     → (bit_and (15 - mask) used ≡ 0 → ⊥) → trailing_ones w64 mask < count
 first_before_count mask used count few fits le is some = elim (cases_lt (trailing_ones w64 mask) count) [
   | inl before ↦ before
-  | inr behind ↦
+  | inr after ↦
       absurd (some (lowest_only mask used few fits ∙ ap (bit_and (15 - mask)) is
-      ∙ eqb-true _ 0 (none_clear mask count few le ∙ le-leb count _ behind)))
+      ∙ eqb-true _ 0 (none_clear mask count few le ∙ le-leb count _ after)))
 ]

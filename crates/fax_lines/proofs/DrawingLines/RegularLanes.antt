@@ -261,7 +261,7 @@ module _ (painted index : ℕ) (places offsets : List ℕ) where
             right = right.0;
             left = above_small reached _ right.1 (omega (arith, below (index + k + 1), fit.1))
                 (sym (ap₂ less (signed_at k) (next_at columns k lt)) ∙ holds.1);
-            behind = λ some. below_small reached _ right.1 (omega (arith, below (index + k - 1), fit.1))
+            after = λ some. below_small reached _ right.1 (omega (arith, below (index + k - 1), fit.1))
                 (sym (ap₂ less (signed_at k) (before_at columns k lt)) ∙ holds.2);
           }
 

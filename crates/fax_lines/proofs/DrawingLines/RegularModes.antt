@@ -179,7 +179,7 @@ bits_at_least [] (suc n) at next few = absurd (omega (arith, few))
 bits_at_least (word ∷ words) (suc n) at next few =
     omega (arith, next.0.some, bits_at_least words n (moved word.width at) next.1 (omega (arith, few)))
 
--- a place that is stored behind a row
+-- a place that is stored after a row
 pub stored_at : (row places : List ℕ) (i k d : ℕ) → k < length places → i ≡ length row + k → get_or (row ++ places) i d ≡
     get_or places k 0
 stored_at row places i k d few e =

@@ -13,7 +13,7 @@ use Rattle.std.specs.Prelude.{◌^◌}
 use Rattle.std.proofs.lemmas.Nat.{shl_whole}
 use Rattle.fax_bits.proofs.BitReading.WordRanges.{ones_below}
 
--- the change behind those before it
+-- the change after those before it
 at_seam : (row rest : List ℕ) (end : ℕ) → get_or (row ++ rest) (length row) end ≡ get_or rest 0 end
 at_seam [] rest end = refl
 at_seam (p ∷ row) rest end = at_seam row rest end
@@ -23,20 +23,20 @@ seam_inside : (from columns : ℕ) (row : List ℕ) (p : ℕ) (rest : List ℕ) 
 seam_inside from columns [] p rest ascend = ascend.1
 seam_inside from columns (q ∷ row) p rest ascend = seam_inside (suc q) columns row p rest ascend.2
 
--- V0 is next, and the bits behind it
+-- V0 is next, and the bits after it
 module _ (at : BitsAt) (bits : Bits) (is : here at ≡ true ∷ bits) where
-  behind_one : here (moved 1 at) ≡ bits
-  behind_one = sym (drop-drop 1 at.place at.bits) ∙ ap (drop 1) is
+  following_one : here (moved 1 at) ≡ bits
+  following_one = sym (drop-drop 1 at.place at.bits) ∙ ap (drop 1) is
 
   v0_here : read_code mode_codes (here at) ≡ Ok (Vertical (pos 0), here (moved 1 at))
-  v0_here = ap (read_code mode_codes) is ∙ ap (λ (b : Bits). Ok (Vertical (pos 0), b)) (sym behind_one)
+  v0_here = ap (read_code mode_codes) is ∙ ap (λ (b : Bits). Ok (Vertical (pos 0), b)) (sym following_one)
 
 module _ {strict : Bool} {columns : ℕ} (places : List ℕ) (last : Color) (ascend : AreChanges columns places)
-    (fits : columns ≤ 4294967295) (turns : TurnsFrom (length places) last) (behind : Bits) where
+    (fits : columns ≤ 4294967295) (turns : TurnsFrom (length places) last) (after : Bits) where
   -- from the changes of some of them on
   same_from : (rest row : List ℕ) (painted : ℕ) (color : Color) (at : BitsAt) (ticks : ℕ) → row ++ rest ≡ places
       → painted < columns → IsStroke columns places painted (length row) color row
-      → here at ≡ replicate (suc (length rest)) true ++ behind
+      → here at ≡ replicate (suc (length rest)) true ++ after
       → GoesOn2d strict columns (pixels columns places) (pen_at painted row color at)
       (pen_at columns places (opposite last) (moved (length rest + 1) at)) ticks (ticks + 2 * (length rest + 1)) (length row - 1)
       (length places - 1) × IsStroke columns places columns (length places) (opposite last) places
@@ -48,7 +48,7 @@ module _ {strict : Bool} {columns : ℕ} (places : List ℕ) (last : Color) (asc
       let color_is : color ≡ last = one_color (length places) color last
       (subst (λ (n : ℕ). TurnsFrom n color) count (stroke.colored inside)) turns in
       let goes = vertical_on ascend inside stroke {strict = strict} at (length places) 1 {ticks = ticks} {now = ticks + 2} fits
-      (v0_here at behind is) (named_right (get_or places (length row) columns) columns 0 (omega (arith, end)))
+      (v0_here at after is) (named_right (get_or places (length row) columns) columns 0 (omega (arith, end)))
       (omega (arith, inside)) (omega arith) (omega arith) (omega (arith, count)) in
       let full = full_stroke ascend inside stroke {new_color = opposite last} in (
         subst (λ (l : List ℕ). GoesOn2d strict columns (pixels columns places) (pen_at painted row color at)
@@ -63,8 +63,8 @@ module _ {strict : Bool} {columns : ℕ} (places : List ℕ) (last : Color) (asc
       let below : p < columns = seam_inside 0 columns row p rest (subst (AreChanges columns) (sym all) ascend) in
       let next : List ℕ = row ++ p ∷ [] in
       let long : length next ≡ length row + 1 = length-append row (p ∷ []) in
-      let bits : Bits = replicate (suc (length rest)) true ++ behind in
-      let here_next : here (moved 1 at) ≡ bits = behind_one at bits is in
+      let bits : Bits = replicate (suc (length rest)) true ++ after in
+      let here_next : here (moved 1 at) ≡ bits = following_one at bits is in
       let first = vertical_on ascend inside stroke {strict = strict} at (length row + 1) 1 {ticks = ticks} {now = ticks + 2}
       (omega (arith, below, fits)) (v0_here at bits is)
       (named_right (get_or places (length row) columns) p 0 (omega (arith, place_is)))
@@ -93,11 +93,11 @@ pub same_line : (strict : Bool) (columns : ℕ) (places : List ℕ) (last : Colo
 same_line strict columns places last at count ones ticks ascend fits is some few turns number there =
     let whole : ones ≡ 2 ^ (count + 1) - 1 =
     number ∙ ap (λ (n : ℕ). n - 1) (shl_whole 1 1 (count + 1) 64 (omega arith) (omega (arith, few)) ∙ omega arith) in
-    let behind : Bits = here (moved (count + 1) at) in
+    let after : Bits = here (moved (count + 1) at) in
     let long : count + 1 ≡ suc (length places) = omega (arith, is) in
-    let spelled : here at ≡ replicate (suc (length places)) true ++ behind =
+    let spelled : here at ≡ replicate (suc (length places)) true ++ after =
     grind (arith, common_steps, ones_below) in
     let open_row : 0 < columns = some_columns columns places ascend (omega (arith, is, some)) in
-    let all = same_from {strict = strict} places last ascend fits (rw is at turns) behind places [] 0 White at
+    let all = same_from {strict = strict} places last ascend fits (rw is at turns) after places [] 0 White at
     ticks refl open_row (start_stroke columns places ascend) spelled in
     rw is all

@@ -26,7 +26,7 @@ vr_here at (suc (suc (suc zero))) width some few is =
     subst (ReadsRight at 3) (sym (is.three refl)) (λ there. ap (read_code mode_codes) there)
 vr_here at (suc (suc (suc (suc n)))) width some few is = absurd (omega (arith, few))
 
--- a vertical mode and V0 behind it are read where their bits are
+-- a vertical mode and V0 after it are read where their bits are
 abbrev ReadsTwo : BitsAt → ℕ → ℤ → ℕ → Type 0
 ReadsTwo at code k width =
     here at ≡ low_bits (width + 1) code ++ here (moved (width + 1) at)
@@ -37,8 +37,8 @@ module _ (at : BitsAt) (rest : Bits) where
   two_by : (width : ℕ) (k : ℤ) (word : Bits) → here at ≡ word ++ true ∷ rest → drop width (word ++ true ∷ rest) ≡ true ∷ rest
       → read_code mode_codes (word ++ true ∷ rest) ≡ Ok (Vertical k, true ∷ rest)
       → (read_code mode_codes (here at) ≡ Ok (Vertical k, here (moved width at))) × (here (moved width at) ≡ true ∷ rest)
-  two_by width k word there behind reads =
-      let one : here (moved width at) ≡ true ∷ rest = sym (drop-drop width at.place at.bits) ∙ ap (drop width) there ∙ behind in
+  two_by width k word there after reads =
+      let one : here (moved width at) ≡ true ∷ rest = sym (drop-drop width at.place at.bits) ∙ ap (drop width) there ∙ after in
       (ap (read_code mode_codes) there ∙ reads ∙ ap (λ (b : Bits). Ok (Vertical k, b)) (sym one), one)
 
 vl_here : (at : BitsAt) (less width : ℕ) → less < 3 → IsWidth (suc less) width → ReadsTwo at 5 (negsuc less) width
@@ -170,9 +170,9 @@ pass_and_v0 : (at : BitsAt) → here at ≡ low_bits 5 3 ++ here (moved 5 at)
 pass_and_v0 at there =
     let rest : Bits = here (moved 5 at) in
     let one : here (moved 4 at) ≡ true ∷ rest = sym (drop-drop 4 at.place at.bits) ∙ ap (drop 4) there in
-    let behind : here (moved 1 (moved 4 at)) ≡ rest = ap (λ (n : ℕ). here (record at { place = n })) (omega arith) in (
+    let after : here (moved 1 (moved 4 at)) ≡ rest = ap (λ (n : ℕ). here (record at { place = n })) (omega arith) in (
       ap (read_code mode_codes) there ∙ ap (λ (b : Bits). Ok (Pass, b)) (sym one),
-      ap (read_code mode_codes) one ∙ ap (λ (b : Bits). Ok (Vertical (pos 0), b)) (sym behind),
+      ap (read_code mode_codes) one ∙ ap (λ (b : Bits). Ok (Vertical (pos 0), b)) (sym after),
     )
 
 -- pass mode and V0, below a row of two changes

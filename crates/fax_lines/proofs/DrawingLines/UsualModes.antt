@@ -6,7 +6,7 @@ use Rattle.fax_lines.proofs.Names.{◌∷◌}
 use Rattle.fax_lines.proofs.Names.{◌++◌, length, replicate, get_or, Ok, refl, sym, ap, subst, ◌∙◌, arith, ℤ, pos, negsuc, ◌+ℤ◌}
 use Rattle.fax_lines.proofs.Names.{ints, cases_lt, length-append, get_or_default_zero, Color, White, Black, Mode, Pass}
 use Rattle.fax_lines.proofs.Names.{Horizontal, Vertical, Step, pen_of, words_from_2d, Bits, BitsAt, here, mode_codes, read_code}
-use Rattle.fax_lines.proofs.Names.{Context, ArePassed, redrawn, Pen, start, draw_run, draw_mode, turn_behind, words_behind}
+use Rattle.fax_lines.proofs.Names.{Context, ArePassed, redrawn, Pen, start, draw_run, draw_mode, turn_following, words_after}
 use Rattle.fax_lines.proofs.Names.{Turn, Row, AreChanges, pixels, is_black, opposite, paint, right_of, b1, b2, changes}
 use Rattle.fax_lines.proofs.Names.{TurnsFrom, IsNear, IsB1, GoesOn2d, IsStroke, TwoRuns, AreTwoRunsHere, IsRunHere, pen_at}
 use Rattle.fax_lines.proofs.Names.{moved, row_in, changes_in, AtHand, CanDraw, CodingLine, Stroke, Draws}
@@ -320,7 +320,7 @@ module _ {columns : ℕ} {places : List ℕ} {painted index : ℕ} {color : Colo
       let between : ℕ = painted + run in
       let place : ℕ = painted + run + run2 in
       let one : List ℕ = row ++ between ∷ [] in
-      let behind : Bool → Pen → Step = λ s pen. (draw_run s columns pen).turn in
+      let after : Bool → Pen → Step = λ s pen. (draw_run s columns pen).turn in
       let colored : TurnsFrom (length row) color = stroke.colored open_row in
       let last : Pen = pen_at place one color (moved width2 (moved width (moved 3 at))) in
       let middle : Pen = pen_at between row (opposite color) (moved width (moved 3 at)) in
@@ -329,18 +329,18 @@ module _ {columns : ℕ} {places : List ℕ} {painted index : ℕ} {color : Colo
       (between + 1) (suc between) one (omega arith) (AreChanges-push between 1 row (omega arith) (first_lawful run some)) in
       let second = λ (s : Bool). run_draws s columns between one lawful_one
       (one_turn row between color colored) refl within two_here in
-      let turn2 : (s : Bool) → behind s middle ≡ Turn.next last = λ s. subst (λ (front : Row).
-      behind s (record { front = front; color = opposite color; rest = here (moved width (moved 3 at)) }) ≡ Turn.next last)
-      (pixels-pending between row) (subst (λ (c : Color). behind s (pen_at between one (opposite color) (moved width
+      let turn2 : (s : Bool) → after s middle ≡ Turn.next last = λ s. subst (λ (front : Row).
+      after s (record { front = front; color = opposite color; rest = here (moved width (moved 3 at)) }) ≡ Turn.next last)
+      (pixels-pending between row) (subst (λ (c : Color). after s (pen_at between one (opposite color) (moved width
       (moved 3 at)))
       ≡ Turn.next (pen_at place one c (moved width2 (moved width (moved 3 at))))) (opposite_twice color) (second s).0) in
       let words_second : length (draw_run strict columns middle).words ≡ words2 = grind (arith, common_steps, pixels-pending) in
       let pen : Pen = pen_at painted row color (moved 3 at) in
       let first_words : List Bits = (draw_run strict columns pen).words in
       let turns : (s : Bool) → (draw_mode s columns reference pen Horizontal).turn ≡ Turn.next last =
-      λ s. ap (λ (t : Step). turn_behind t (behind s)) (first s).0 ∙ turn2 s in
+      λ s. ap (λ (t : Step). turn_following t (after s)) (first s).0 ∙ turn2 s in
       let counted : length (draw_mode strict columns reference pen Horizontal).words ≡ words + words2 =
-      ap (λ (s : Step). length (first_words ++ words_behind s (λ p. (draw_run strict columns p).words))) (first strict).0
+      ap (λ (s : Step). length (first_words ++ words_after s (λ p. (draw_run strict columns p).words))) (first strict).0
       ∙ omega (arith, length-append first_words (draw_run strict columns middle).words, (first strict).1, words_second) in
       mode_on (pen_at painted row color at) last (words + words2) open_front reads turns counted least most
 

@@ -39,15 +39,15 @@ run_on strict columns pen run words rest front ticks open_row reads found paints
     let line : (s : Bool) → drawn_by (step_1d s columns) pen ≡ drawn_by (step_1d s columns) next
     = λ s. run_open s columns pen open_row ∙ ap (after_turn (drawn_by (step_1d s columns))) (steps s) in
     let words_on = found_1d_on strict columns pen open_row in
-    let behind : List Bits = found_after (found_1d_from strict columns) (draw_run strict columns pen).turn in
-    let on : length behind ≡ length (found_1d_from strict columns next) =
+    let after : List Bits = found_after (found_1d_from strict columns) (draw_run strict columns pen).turn in
+    let on : length after ≡ length (found_1d_from strict columns next) =
     ap (λ (s : Step). length (found_after (found_1d_from strict columns) s)) step in
     let first : length (draw_run strict columns pen).words ≡ words = ap length (words_run strict columns pen) ∙ found in
     record {
       line = sym (line strict);
       strictly = sym (line true);
       counts = omega arith;
-      counted = omega (arith, ap length words_on, length-append (draw_run strict columns pen).words behind, on, first);
+      counted = omega (arith, ap length words_on, length-append (draw_run strict columns pen).words after, on, first);
     }
 
 -- ---- Rows of changes whose last one may equal the row's end.

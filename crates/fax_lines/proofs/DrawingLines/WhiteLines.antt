@@ -3,7 +3,7 @@ use Rattle.fax_lines.proofs.Names.{common_steps, ◌≡◌, ℕ, ◌+◌, ◌-�
 use Rattle.fax_lines.proofs.Names.{true, false, cond, leb, List, length, drop, None, Ok, pos, refl, sym, ap, subst, ◌∙◌, arith}
 use Rattle.fax_lines.proofs.Names.{le-leb, false≢true, append_assoc, drop-drop, Bits, BitsAt, here, moved, Color, White, Black}
 use Rattle.fax_lines.proofs.Names.{codes_of, Has, read_code, mode_codes, Vertical, IsWordHere, IsRunHere, GoesOn, GoesOn2d}
-use Rattle.fax_lines.proofs.Names.{pen_at, Line, Pen, Row, Turn, Step, drawn, draw_2d, words_drawn, turn_behind, words_behind}
+use Rattle.fax_lines.proofs.Names.{pen_at, Line, Pen, Row, Turn, Step, drawn, draw_2d, words_drawn, turn_following, words_after}
 use Rattle.fax_lines.proofs.Names.{line_1d, line_2d, found_1d, pixels, Spells, after_eol, Group3_1D, Group3_2D, Group4}
 use Rattle.fax_reading.specs.Lines.{draw_1d, found_2d}
 use Rattle.fax_lines.specs.WhiteLines.{AreWhiteLine, IsWhiteRun, FitsIn, bits_of_word}
@@ -58,17 +58,17 @@ module _ (first second : CodeWord) (bits : ℕ) (a : FitsIn first 12) (b : FitsI
 word_there : (color : Color) (at : BitsAt) (run width : ℕ) (word rest : Bits) → Has (codes_of color) run word
     → here at ≡ word ++ rest → length word ≡ width → width ≤ 13 → IsWordHere color at run width
 word_there color at run width word rest has is long few =
-    let behind : here (moved width at) ≡ rest = sym (drop-drop width at.place at.bits) ∙ ap (drop width) is
+    let after : here (moved width at) ≡ rest = sym (drop-drop width at.place at.bits) ∙ ap (drop width) is
     ∙ ap (λ (n : ℕ). drop n (word ++ rest)) (sym long) ∙ drop-append_seam word rest in
     record {
       read = ap (read_code (codes_of color)) is ∙ read_code_again (codes_of color) run word rest (codes_free color) has
-          ∙ ap (λ (b : Bits). Ok (run, b)) (sym behind);
+          ∙ ap (λ (b : Bits). Ok (run, b)) (sym after);
       few = few;
     }
 
-behind_word : (at : BitsAt) (width : ℕ) (word rest : Bits) → here at ≡ word ++ rest → length word ≡ width
+after_word : (at : BitsAt) (width : ℕ) (word rest : Bits) → here at ≡ word ++ rest → length word ≡ width
     → here (moved width at) ≡ rest
-behind_word at width word rest is long =
+after_word at width word rest is long =
     sym (drop-drop width at.place at.bits) ∙ ap (drop width) is
     ∙ ap (λ (n : ℕ). drop n (word ++ rest)) (sym long) ∙ drop-append_seam word rest
 
@@ -121,7 +121,7 @@ module _ (columns : ℕ) (first second word : CodeWord) (some : 64 ≤ columns) 
 
   second_there : (rest : Bits) → IsWordHere White (moved first.count (at rest)) (columns % 64) second.count
   second_there rest = word_there White (moved first.count (at rest)) (columns % 64) second.count (bits_of_word second) rest
-      last.listed (behind_word (at rest) first.count (bits_of_word first) (bits_of_word second ++ rest) (starts_with rest)
+      last.listed (after_word (at rest) first.count (bits_of_word first) (bits_of_word second ++ rest) (starts_with rest)
       (length-low_bits first.count first.bits)) (length-low_bits second.count second.bits) (omega (arith, last.few))
 
   runs : (rest : Bits) → IsRunHere White (at rest) columns word.count 2
@@ -138,12 +138,12 @@ module _ (columns : ℕ) (first second word : CodeWord) (some : 64 ≤ columns) 
 
 -- a row that is full is drawn, and finds no word more
 pub full_words : (full : Bool) (line : Line) (pen : Pen) (words : Pen → List Bits) → full ≡ true
-    → ◌≡◌ {A = List Bits} ([] ++ words_behind (cond full (Turn.done line) (Turn.next pen)) words) []
+    → ◌≡◌ {A = List Bits} ([] ++ words_after (cond full (Turn.done line) (Turn.next pen)) words) []
 full_words true _ pen words is = refl
 full_words false _ pen words is = absurd (false≢true is)
 
 pub full_step : (full : Bool) (line : Line) (pen : Pen) (step : Pen → Step) → full ≡ true
-    → turn_behind (cond full (Turn.done line) (Turn.next pen)) step ≡ Turn.done line
+    → turn_following (cond full (Turn.done line) (Turn.next pen)) step ≡ Turn.done line
 full_step true _ pen step is = refl
 full_step false _ pen step is = absurd (false≢true is)
 
@@ -180,8 +180,8 @@ module _ (columns : ℕ) (word : CodeWord) (wide : 0 < columns) (run : IsWhiteRu
   abbrev end_run : Pen
   end_run = pen_at columns [] Black (moved word.count at_run)
 
-  behind_run : here (moved word.count at_run) ≡ rest
-  behind_run = behind_word at_run word.count (bits_of_word word) rest refl (length-low_bits word.count word.bits)
+  after_run : here (moved word.count at_run) ≡ rest
+  after_run = after_word at_run word.count (bits_of_word word) rest refl (length-low_bits word.count word.bits)
 
   goes_run : (strict : Bool) → GoesOn strict columns (pen_at 0 [] White at_run) end_run 0 (run.run rest).0
   goes_run strict =
@@ -198,7 +198,7 @@ module _ (columns : ℕ) (word : CodeWord) (wide : 0 < columns) (run : IsWhiteRu
 
   pub run_is_row : (strict : Bool) → line_1d strict columns (bits_of_word word ++ rest) ≡ Line.whole (pixels columns []) rest
   run_is_row strict = sym (goes_run strict).line ∙ full_line1 strict columns end_run width_run
-      ∙ ap (Line.whole (pixels columns [])) behind_run
+      ∙ ap (Line.whole (pixels columns [])) after_run
 
   pub run_words : (strict : Bool) → length (found_1d strict columns (bits_of_word word ++ rest)) ≤ 2
   run_words strict =

@@ -120,10 +120,10 @@ turn_after here middle rest_of a b (Turn.next x) p q = stands_append here middle
 turn_after here middle rest_of a b (Turn.done line) p q = (q.0, stands_append here middle q.0 a b p q.1, q.2)
 
 -- drawing, and what is drawn after it
-pub behind_stands : {A B : Type 0} (here : Bits) (rest_of : A → Bits) (last_of : B → Bits) (drawing : Drawing A)
-    (behind : A → Drawing B) → DrawingStands here rest_of drawing → ((x : A) → DrawingStands (rest_of x) last_of (behind x))
-    → DrawingStands here last_of (drawing >>= behind)
-behind_stands {A} {B} here rest_of last_of drawing behind stands each =
+pub after_stands : {A B : Type 0} (here : Bits) (rest_of : A → Bits) (last_of : B → Bits) (drawing : Drawing A)
+    (after : A → Drawing B) → DrawingStands here rest_of drawing → ((x : A) → DrawingStands (rest_of x) last_of (after x))
+    → DrawingStands here last_of (drawing >>= after)
+after_stands {A} {B} here rest_of last_of drawing after stands each =
     grind (arith, common_steps, stands_append, stands_none, turn_after)
 
 -- what finds no words
@@ -157,9 +157,9 @@ mode_read_stands pen = by_read_code (read_code mode_codes pen.rest) refl
 
 -- a run that is drawn
 pub draw_run_stands : (strict : Bool) (columns : ℕ) (pen : Pen) → DrawingStands pen.rest rest_of_pen (draw_run strict columns pen)
-draw_run_stands strict columns pen = behind_stands pen.rest (λ (run : ℕ × Bits). run.1) rest_of_pen (run_here pen) (λ run.
+draw_run_stands strict columns pen = after_stands pen.rest (λ (run : ℕ × Bits). run.1) rest_of_pen (run_here pen) (λ run.
     painted strict columns pen run.0 >>= (λ front. go_on (record { front = front; color = opposite pen.color; rest = run.1 })))
-    (run_read_stands pen) (λ run. behind_stands run.1 (λ (front : Row). run.1) rest_of_pen
+    (run_read_stands pen) (λ run. after_stands run.1 (λ (front : Row). run.1) rest_of_pen
     (painted strict columns pen run.0) (λ front. go_on (record { front = front; color = opposite pen.color; rest = run.1 }))
     (wordless_stands run.1 pen _) (λ front. stands_none run.1))
 
@@ -170,20 +170,20 @@ unless_full_stands columns pen = grind (arith, common_steps)
 -- what a mode draws
 mode_word_stands : (strict : Bool) (columns : ℕ) (reference : Row) (pen : Pen) (mode : Mode)
     → DrawingStands pen.rest rest_of_pen (draw_mode strict columns reference pen mode)
-mode_word_stands strict columns reference pen Pass = behind_stands pen.rest
+mode_word_stands strict columns reference pen Pass = after_stands pen.rest
     (λ (front : Row). pen.rest) rest_of_pen (painted_to strict columns pen (b2 reference (right_of pen.front) pen.color))
     (λ front. go_on (record pen { front = front })) (wordless_stands pen.rest pen _) (λ front. stands_none pen.rest)
-mode_word_stands strict columns reference pen Horizontal = behind_stands pen.rest rest_of_pen rest_of_pen
+mode_word_stands strict columns reference pen Horizontal = after_stands pen.rest rest_of_pen rest_of_pen
     (draw_run strict columns pen) (draw_run strict columns) (draw_run_stands strict columns pen) (draw_run_stands strict columns)
 mode_word_stands strict columns reference pen (Vertical k) = let paints : ℕ → Drawing Row = painted_to strict columns pen in
     let turns : Row → Drawing Pen = λ front. go_on (record { front = front; color = opposite pen.color; rest = pen.rest }) in
-    behind_stands pen.rest (λ (place : ℕ). pen.rest) rest_of_pen (place_by reference pen k) (λ place. paints place >>= turns)
-    (wordless_stands pen.rest pen _) (λ place. behind_stands pen.rest (λ (front : Row). pen.rest) rest_of_pen (paints place) turns
+    after_stands pen.rest (λ (place : ℕ). pen.rest) rest_of_pen (place_by reference pen k) (λ place. paints place >>= turns)
+    (wordless_stands pen.rest pen _) (λ place. after_stands pen.rest (λ (front : Row). pen.rest) rest_of_pen (paints place) turns
     (wordless_stands pen.rest pen _) (λ front. stands_none pen.rest))
 
 -- a step of a one-dimensional line
 pub draw_1d_stands : (strict : Bool) (columns : ℕ) (pen : Pen) → DrawingStands pen.rest rest_of_pen (draw_1d strict columns pen)
-draw_1d_stands strict columns pen = behind_stands pen.rest rest_of_pen rest_of_pen
+draw_1d_stands strict columns pen = after_stands pen.rest rest_of_pen rest_of_pen
     (unless_full columns pen) (draw_run strict columns) (unless_full_stands columns pen) (draw_run_stands strict columns)
 
 -- a step of a two-dimensional line
@@ -191,8 +191,8 @@ pub draw_2d_stands : (strict : Bool) (columns : ℕ) (reference : Row) (pen : Pe
     → DrawingStands pen.rest rest_of_pen (draw_2d strict columns reference pen)
 draw_2d_stands strict columns reference pen = let draws : Pen → Mode × Bits
     → Drawing Pen = λ p mode. draw_mode strict columns reference (record p { rest = mode.1 }) mode.0 in
-    behind_stands pen.rest rest_of_pen rest_of_pen (unless_full columns pen) (λ p. mode_here p >>= draws p)
-    (unless_full_stands columns pen) (λ p. behind_stands p.rest (λ (mode : Mode × Bits). mode.1) rest_of_pen (mode_here p)
+    after_stands pen.rest rest_of_pen rest_of_pen (unless_full columns pen) (λ p. mode_here p >>= draws p)
+    (unless_full_stands columns pen) (λ p. after_stands p.rest (λ (mode : Mode × Bits). mode.1) rest_of_pen (mode_here p)
     (draws p) (mode_read_stands p) (λ mode. mode_word_stands strict columns reference (record p { rest = mode.1 }) mode.0))
 
 -- what a repeated step finds

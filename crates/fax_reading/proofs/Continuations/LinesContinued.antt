@@ -125,11 +125,11 @@ abbrev pub Continues : {A : Type 0} → Bits → (A → A) → Drawing A → Dra
 Continues more on drawing other = AreContinued more on drawing.turn other.turn drawing.words other.words
 
 module _ (more : Bits) where
-  module _ {A B : Type 0} (on : A → A) (further : B → B) (behind other_behind : A → Drawing B)
-      (second : (x : A) → Continues more further (behind x) (other_behind (on x))) where
+  module _ {A B : Type 0} (on : A → A) (further : B → B) (after other_after : A → Drawing B)
+      (second : (x : A) → Continues more further (after x) (other_after (on x))) where
     -- one step after another
     pub then_continues : (drawing other : Drawing A) → Continues more on drawing other
-        → Continues more further (drawing >>= behind) (other >>= other_behind)
+        → Continues more further (drawing >>= after) (other >>= other_after)
     then_continues drawing other first = λ known. grind arith
 
   -- what is read or painted
@@ -155,18 +155,18 @@ module _ (more : Bits) where
   draw_run_on : (strict : Bool) (columns : ℕ) (pen : Pen)
       → Continues more pen_on (draw_run strict columns pen) (draw_run strict columns (pen_on pen))
   draw_run_on strict columns pen = then_continues (rest_on more) pen_on
-      (behind pen) (behind (pen_on pen)) (λ run. second run) (run_here pen) (run_here (pen_on pen))
+      (after pen) (after (pen_on pen)) (λ run. second run) (run_here pen) (run_here (pen_on pen))
       (finds_continue (rest_on more) pen.front (run_from pen.color (0, pen.rest)) (run_from pen.color (0, pen.rest ++ more))
       (run_found pen.color (0, pen.rest)) (run_found pen.color (0, pen.rest ++ more)) (λ known. repeated_on (run_turn pen.color)
       (run_gives pen.color) (Err UnexpectedEof) size (run_shrinks pen.color) (rest_on more) (result_on (rest_on more))
       result_waits (run_turn_on pen.color more) (suc (length pen.rest)) (suc (length (pen.rest ++ more))) (0, pen.rest)
       (omega arith) (omega arith) known))
     where
-      behind : Pen → ℕ × Bits → Drawing Pen
-      behind p run = painted strict columns p run.0
+      after : Pen → ℕ × Bits → Drawing Pen
+      after p run = painted strict columns p run.0
           >>= (λ front. go_on (record { front = front; color = opposite p.color; rest = run.1 }))
 
-      second : (run : ℕ × Bits) → Continues more pen_on (behind pen run) (behind (pen_on pen) (rest_on more run))
+      second : (run : ℕ × Bits) → Continues more pen_on (after pen run) (after (pen_on pen) (rest_on more run))
       second run = grind (arith, common_steps, then_continues, same_continues)
 
   draw_mode_on : (strict : Bool) (columns : ℕ) (reference : Row) (pen : Pen) (mode : Mode)
@@ -182,16 +182,16 @@ module _ (more : Bits) where
 
   draw_2d_on : (strict : Bool) (columns : ℕ) (reference : Row) (pen : Pen)
       → Continues more pen_on (draw_2d strict columns reference pen) (draw_2d strict columns reference (pen_on pen))
-  draw_2d_on strict columns reference pen = then_continues pen_on pen_on behind behind second
+  draw_2d_on strict columns reference pen = then_continues pen_on pen_on after after second
       (unless_full columns pen) (unless_full columns (pen_on pen)) (full_on columns pen)
     where
       drew : Pen → Mode × Bits → Drawing Pen
       drew p mode = draw_mode strict columns reference (record p { rest = mode.1 }) mode.0
 
-      behind : Pen → Drawing Pen
-      behind p = mode_here p >>= drew p
+      after : Pen → Drawing Pen
+      after p = mode_here p >>= drew p
 
-      second : (p : Pen) → Continues more pen_on (behind p) (behind (pen_on p))
+      second : (p : Pen) → Continues more pen_on (after p) (after (pen_on p))
       second p = then_continues (rest_on more) pen_on (drew p) (drew (pen_on p)) (λ mode. draw_mode_on strict columns reference
           (record p { rest = mode.1 }) mode.0) (mode_here p) (mode_here (pen_on p)) (mode_goes_on p)
 

@@ -4,10 +4,10 @@ use Rattle.fax_reading.proofs.Names.{ℕ, suc, ◌+◌, ◌*◌, ◌<◌, ◌≤
 use Rattle.fax_reading.proofs.Names.{zero, Bool, true, cond, List, ◌++◌, refl, Mode, Pass, Bits, Code, Turn, Line, go_on, ◌>>=◌}
 use Rattle.fax_reading.proofs.Names.{false, leb-true, read_code, mode_here, line_here, draw_step, word_here, LacksWord, LinesGoOn}
 use Rattle.fax_reading.proofs.Names.{[], Vertical, Overflow, codes_of, run_turn, run_from, opposite, draw_run, is_short, LinePart}
-use Rattle.fax_reading.proofs.Names.{length, false≢true, append-nil, Horizontal, mode_codes, word_found, turn_behind, part_before}
+use Rattle.fax_reading.proofs.Names.{length, false≢true, append-nil, Horizontal, mode_codes, word_found, turn_following, part_before}
 use Rattle.fax_reading.proofs.Names.{length-append, append_assoc, DecodeSettings, is_prefix_free, line_after_turn, line_from_part}
 use Rattle.fax_reading.proofs.Names.{and_parts, DecodeError, EncodingMode, UnexpectedEof, run_of_word, unless_fault, common_steps}
-use Rattle.fax_reading.proofs.Names.{Group3_1D, Group3_2D, behind_run, word_added, mode_added, begin_step, begin_line, GoesOnFrom}
+use Rattle.fax_reading.proofs.Names.{Group3_1D, Group3_2D, after_run, word_added, mode_added, begin_step, begin_line, GoesOnFrom}
 use Rattle.std.specs.List.{list_all}
 use Rattle.fax_bits.specs.CodeReading.{NoneStands}
 use Rattle.fax_bits.proofs.BitReading.ZerosInWords.{codes_free, modes_free}
@@ -25,10 +25,10 @@ use Rattle.fax_bits.proofs.{CodeWords.CodeReadings.reads_codes, CodeWords.ReadCo
 
 -- what comes of a value that is read or painted, or the line that its fault ends
 abbrev if_read : {A B : Type 0} → Row → Result A DecodeError → (A → Turn B Line) → Turn B Line
-if_read front result behind = turn_behind (unless_fault front result) behind
+if_read front result after = turn_following (unless_fault front result) after
 
 -- a turn that goes on with its state is that turn
-same_turn : (f : Pen → Line) (turn : Step) → after_turn f turn ≡ after_turn f (turn_behind turn Turn.next)
+same_turn : (f : Pen → Line) (turn : Step) → after_turn f turn ≡ after_turn f (turn_following turn Turn.next)
 same_turn f turn = grind arith
 
 module _ (settings : DecodeSettings) (reference : Row) where
@@ -36,15 +36,15 @@ module _ (settings : DecodeSettings) (reference : Row) where
   abbrev steps_from : Bool → Pen → Line
   steps_from is_2d = drawn (draw_step is_2d settings.strict settings.columns reference)
 
-  -- the line behind one word more
+  -- the line after one word more
   abbrev line_then : Turn LinePart Line → Line
   line_then = after_turn (line_from_part settings reference)
 
   -- a run that is painted, and what follows it
   painted_run_is : (run : OpenRun) (front : Row) (result : Result Row DecodeError) (pen_with : Row → Pen)
-      → line_after_turn (steps_from run.is_2d) (turn_behind (if_read front result (λ row. Turn.next (pen_with row)))
+      → line_after_turn (steps_from run.is_2d) (turn_following (if_read front result (λ row. Turn.next (pen_with row)))
       (λ p. (cond run.another (draw_run settings.strict settings.columns p) (go_on p)).turn))
-      ≡ line_then (if_read front result (λ row. Turn.next (behind_run run (pen_with row))))
+      ≡ line_then (if_read front result (λ row. Turn.next (after_run run (pen_with row))))
   painted_run_is run front (Err fault) pen_with = refl
   painted_run_is run front (Ok row) pen_with = either_way run.another
     where
@@ -58,15 +58,15 @@ module _ (settings : DecodeSettings) (reference : Row) where
   -- a line within a run
   in_run_is : (run : OpenRun) (pen : Pen) → line_from_part settings reference (LinePart.in_run run pen)
       ≡ line_then (read_on settings reference (LinePart.in_run run pen)).turn
-  in_run_is run pen = ap behind (repeated_turn (run_turn pen.color) (Err UnexpectedEof) size (run_shrinks pen.color)
+  in_run_is run pen = ap after (repeated_turn (run_turn pen.color) (Err UnexpectedEof) size (run_shrinks pen.color)
       (run.total, pen.rest)) ∙ by_read_code (read_code (codes_of pen.color) pen.rest)
     where
       with_run : ℕ × Bits → Step
       with_run found = if_read pen.front (paint settings.strict settings.columns pen.front pen.color found.0)
           (λ row. Turn.next (record { front = row; color = opposite pen.color; rest = found.1 }))
 
-      behind : Result (ℕ × Bits) DecodeError → Line
-      behind result = line_after_turn (steps_from run.is_2d) (turn_behind (if_read pen.front result with_run)
+      after : Result (ℕ × Bits) DecodeError → Line
+      after result = line_after_turn (steps_from run.is_2d) (turn_following (if_read pen.front result with_run)
           (λ p. (cond run.another (draw_run settings.strict settings.columns p) (go_on p)).turn))
 
       turn_of : Result (ℕ × Bits) DecodeError → Turn (ℕ × Bits) (Result (ℕ × Bits) DecodeError)
@@ -76,11 +76,11 @@ module _ (settings : DecodeSettings) (reference : Row) where
       added : ℕ × Bits → Turn LinePart Line
       added found = (word_added settings.strict settings.columns run (record pen { rest = found.1 }) found.0).turn
 
-      either_way : (n : ℕ) (rest : Bits) (b c : Bool) → behind (after_turn (run_from pen.color)
+      either_way : (n : ℕ) (rest : Bits) (b c : Bool) → after (after_turn (run_from pen.color)
           (cond b (Turn.done (Err Overflow)) (cond c (Turn.done (Ok (run.total + n, rest))) (Turn.next (run.total + n, rest)))))
           ≡ line_then (if_read pen.front (cond b (Err Overflow) (Ok (run.total + n)))
           (λ total. (cond c (painted settings.strict settings.columns (record pen { rest = rest }) total >>=
-          (λ row. go_on (behind_run run (record { front = row; color = opposite pen.color; rest = rest }))))
+          (λ row. go_on (after_run run (record { front = row; color = opposite pen.color; rest = rest }))))
           (go_on (LinePart.in_run (record run { total = total }) (record pen { rest = rest })))).turn))
       either_way n rest true c = refl
       either_way n rest false true = painted_run_is run pen.front (paint settings.strict settings.columns pen.front pen.color
@@ -88,7 +88,7 @@ module _ (settings : DecodeSettings) (reference : Row) where
       either_way n rest false false = refl
 
       by_read_code : (r : Result (ℕ × Bits) DecodeError)
-          → behind (after_turn (run_from pen.color) (turn_of r)) ≡ line_then (if_read pen.front r added)
+          → after (after_turn (run_from pen.color) (turn_of r)) ≡ line_then (if_read pen.front r added)
       by_read_code r = grind (arith, either_way)
 
   -- a line before a mode
@@ -107,7 +107,7 @@ module _ (settings : DecodeSettings) (reference : Row) where
     where
       either_way : (full : Bool) → after_turn (steps_from false)
           (cond full (Turn.done (Line.whole pen.front pen.rest)) (run_then settings.strict settings.columns pen Turn.next))
-          ≡ line_then (turn_behind (cond full (Turn.done (Line.whole pen.front pen.rest)) (Turn.next pen))
+          ≡ line_then (turn_following (cond full (Turn.done (Line.whole pen.front pen.rest)) (Turn.next pen))
           (λ p. Turn.next (LinePart.in_run (record { is_2d = false; another = false; total = 0 }) p)))
       either_way true = refl
       either_way false = same_turn (steps_from false) (run_then settings.strict settings.columns pen Turn.next)
@@ -127,7 +127,7 @@ module _ (settings : DecodeSettings) (reference : Row) where
 
       either_way : (full : Bool) → after_turn (steps_from true)
           (cond full (Turn.done (Line.whole pen.front pen.rest)) (if_read pen.front (read_code mode_codes pen.rest) drew))
-          ≡ line_then (turn_behind (cond full (Turn.done (Line.whole pen.front pen.rest)) (Turn.next pen))
+          ≡ line_then (turn_following (cond full (Turn.done (Line.whole pen.front pen.rest)) (Turn.next pen))
           (λ p. if_read p.front (read_code mode_codes p.rest) (added p)))
       either_way full = grind (arith, by_read_code)
   line_from_is (LinePart.in_run run pen) = in_run_is run pen
@@ -197,9 +197,9 @@ abbrev GoesOrLacks : {A : Type 0} → LinePart → (A → Type 0) → Turn A Lin
 GoesOrLacks part P (Turn.next x) = P x
 GoesOrLacks part P (Turn.done line) = is_short line ≡ true → LacksWord part
 
-behind_leads : {A : Type 0} (part : LinePart) (P : A → Type 0) (turn : Turn A Line) (behind : A → Turn LinePart Line)
-    → GoesOrLacks part P turn → ((x : A) → P x → LeadsOn part (behind x)) → LeadsOn part (turn_behind turn behind)
-behind_leads part P turn behind first second = grind arith
+after_leads : {A : Type 0} (part : LinePart) (P : A → Type 0) (turn : Turn A Line) (after : A → Turn LinePart Line)
+    → GoesOrLacks part P turn → ((x : A) → P x → LeadsOn part (after x)) → LeadsOn part (turn_following turn after)
+after_leads part P turn after first second = grind arith
 
 -- what is painted needs no bits
 paint_leads : {A : Type 0} (part : LinePart) (turn : Turn A Line) → GoesOrEnds Anything turn → GoesOrLacks part Anything turn
@@ -220,20 +220,20 @@ word_leads_on {V} part list here front full lacks = by_read_code (read_code list
     by_read_code (Err fault) e = λ short. lacks (grind (arith, common_steps, missing_end))
 
 module _ (settings : DecodeSettings) (reference : Row) (part : LinePart) (pen : Pen) (is : left_of part ≡ pen.rest) where
-  -- a pen behind a word
-  behind_word_leads : (next : LinePart) (taken : Bits) → pen.rest ≡ taken ++ left_of next → part_size next < part_size part
+  -- a pen after a word
+  after_word_leads : (next : LinePart) (taken : Bits) → pen.rest ≡ taken ++ left_of next → part_size next < part_size part
       → LeadsOn part (Turn.next next)
-  behind_word_leads next taken e small = ((taken, is ∙ e), small)
+  after_word_leads next taken e small = ((taken, is ∙ e), small)
 
   mode_leads_on : (rest : Bits) (mode : Mode) → WordIsRead {V = Mode} pen.rest (mode, rest) → 2 * length pen.rest ≤ part_size part
       → LeadsOn part (mode_added settings.strict settings.columns reference (record pen { rest = rest }) mode).turn
   mode_leads_on rest mode word size_is = grind
-      (arith, common_steps, behind_leads, paint_leads, behind_word_leads, place_known)
+      (arith, common_steps, after_leads, paint_leads, after_word_leads, place_known)
 
   run_leads_on : (run : OpenRun) (rest : Bits) (n : ℕ) → WordIsRead {V = ℕ} pen.rest (n, rest) → 2 * length pen.rest
       ≤ part_size part → LeadsOn part (word_added settings.strict settings.columns run (record pen { rest = rest }) n).turn
   run_leads_on run rest n word size_is =
-      grind (arith, common_steps, behind_leads, false≢true, behind_word_leads, paint_leads)
+      grind (arith, common_steps, after_leads, false≢true, after_word_leads, paint_leads)
 
 module _ (settings : DecodeSettings) (reference : Row) where
   -- One word more leads to a part with fewer bits left, or ends the line; which is short only if that word isn't whole.
@@ -252,14 +252,14 @@ module _ (settings : DecodeSettings) (reference : Row) where
       added : Pen → Mode × Bits → Turn LinePart Line
       added p mode = (mode_added settings.strict settings.columns reference (record p { rest = mode.1 }) mode.0).turn
 
-      either_way : (full : Bool) → LeadsOn (LinePart.at_step true pen) (turn_behind (cond full (Turn.done
+      either_way : (full : Bool) → LeadsOn (LinePart.at_step true pen) (turn_following (cond full (Turn.done
           (Line.whole pen.front pen.rest)) (Turn.next pen)) (λ p. if_read p.front (read_code mode_codes p.rest) (added p)))
       either_way true = λ short. absurd (false≢true short)
       either_way false =
-          behind_leads (LinePart.at_step true pen) (WordIsRead pen.rest) (unless_fault pen.front (read_code mode_codes pen.rest))
+          after_leads (LinePart.at_step true pen) (WordIsRead pen.rest) (unless_fault pen.front (read_code mode_codes pen.rest))
           (added pen) (word_leads_on (LinePart.at_step true pen) mode_codes pen.rest pen.front modes_not_empty (λ e. e))
           (λ mode word. mode_leads_on settings reference (LinePart.at_step true pen) pen refl mode.1 mode.0 word (omega arith))
-  part_leads_on (LinePart.in_run run pen) = behind_leads (LinePart.in_run run pen) (WordIsRead pen.rest)
+  part_leads_on (LinePart.in_run run pen) = after_leads (LinePart.in_run run pen) (WordIsRead pen.rest)
       (unless_fault pen.front (read_code (codes_of pen.color) pen.rest))
       (λ found. (word_added settings.strict settings.columns run (record pen { rest = found.1 }) found.0).turn)
       (word_leads_on (LinePart.in_run run pen) (codes_of pen.color) pen.rest pen.front (words_not_empty pen.color) (λ e. e))

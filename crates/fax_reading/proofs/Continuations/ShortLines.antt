@@ -38,8 +38,8 @@ IsKnown P (Err fault) = misses_end fault ≡ false
 
 -- ---- Words and runs
 
-zeros_behind : (here word rest : Bits) → IsWord word → HasZeros here → here ≡ word ++ rest → HasZeros rest
-zeros_behind here word rest is_word zeros is = let q = quiet_is (scan 3 word) (word_quiet word is_word) in
+zeros_after : (here word rest : Bits) → IsWord word → HasZeros here → here ≡ word ++ rest → HasZeros rest
+zeros_after here word rest is_word zeros is = let q = quiet_is (scan 3 word) (word_quiet word is_word) in
     scan_above q.0 3 rest q.2 (sym (scan-append 3 q.0 word rest q.1) ∙ ap (scan 3) (sym is) ∙ zeros)
 
 module _ {V : Type 0} (list : List (Code V)) (free : is_prefix_free list ≡ true)
@@ -52,7 +52,7 @@ module _ {V : Type 0} (list : List (Code V)) (free : is_prefix_free list ≡ tru
   code_known here zeros = by_read_code (read_code list here) refl
     where
       by_read_code : (r : Result (V × Bits) DecodeError) → read_code list here ≡ r → IsKnown (λ found. HasZeros found.1) r
-      by_read_code (Ok (v, rest)) e = grind (arith, common_steps, read_code_found, zeros_behind)
+      by_read_code (Ok (v, rest)) e = grind (arith, common_steps, read_code_found, zeros_after)
       by_read_code (Err fault) e = not_missing_end fault
           (λ is. uncut_zeros here zeros (((reads_codes list free).cut here).0 (e ∙ ap Err is)).1)
 
@@ -114,17 +114,17 @@ line_2d_known : (strict : Bool) (columns : ℕ) (reference : Row) (here : Bits) 
 line_2d_known strict columns reference here zeros = line_2d_keeps (before_zeros strict columns) reference (start here) zeros
 
 -- No line is short with eleven zeros among its bits.
-pub zeros_end_line : (settings : DecodeSettings) (reference : Row) (fill behind : Bits)
-    → is_short (line_here settings reference (fill ++ (replicate 11 false ++ behind))) ≡ false
-zeros_end_line settings reference fill behind = by_encoding settings.encoding fill
+pub zeros_end_line : (settings : DecodeSettings) (reference : Row) (fill after : Bits)
+    → is_short (line_here settings reference (fill ++ (replicate 11 false ++ after))) ≡ false
+zeros_end_line settings reference fill after = by_encoding settings.encoding fill
   where
-    zeros : (fill : Bits) → HasZeros (fill ++ (replicate 11 false ++ behind))
-    zeros fill = scan_holds 3 fill behind (omega arith)
+    zeros : (fill : Bits) → HasZeros (fill ++ (replicate 11 false ++ after))
+    zeros fill = scan_holds 3 fill after (omega arith)
 
     by_encoding : (encoding : EncodingMode) (fill : Bits) → is_short
-        (line_by encoding settings.strict settings.columns reference (fill ++ (replicate 11 false ++ behind))) ≡ false
+        (line_by encoding settings.strict settings.columns reference (fill ++ (replicate 11 false ++ after))) ≡ false
     by_encoding Group3_1D fill = line_1d_known settings.strict settings.columns _ (zeros fill)
-    by_encoding Group3_2D [] = line_2d_known settings.strict settings.columns reference (replicate 10 false ++ behind) refl
+    by_encoding Group3_2D [] = line_2d_known settings.strict settings.columns reference (replicate 10 false ++ after) refl
     by_encoding Group3_2D (true ∷ fill) = line_1d_known settings.strict settings.columns _ (zeros fill)
     by_encoding Group3_2D (false ∷ fill) = line_2d_known settings.strict settings.columns reference _ (zeros fill)
     by_encoding Group4 fill = line_2d_known settings.strict settings.columns reference _ (zeros fill)

@@ -1,10 +1,10 @@
--- A two-dimensional line, read against any reference row: it ends behind one of its modes or is broken, so that the next
--- EOL is the one behind it.
+-- A two-dimensional line, read against any reference row: it ends after one of its modes or is broken, so that the next
+-- EOL is the one after it.
 use Rattle.fax_reading.proofs.Names.{Group3_2D, Overflow, opposite, codes_of, run_from, read_run, cases_lt, line_2d, line_by, ◌≡◌}
 use Rattle.fax_reading.proofs.Names.{UnexpectedEof, append_assoc, EncodingMode, common_steps, DecodeError, InvalidCode, read_code}
-use Rattle.fax_reading.proofs.Names.{behind_mode, behind_read, Horizontal, mode_codes, ReadsModes, after_eol, line_here, Vertical}
+use Rattle.fax_reading.proofs.Names.{after_mode, after_read, Horizontal, mode_codes, ReadsModes, after_eol, line_here, Vertical}
 use Rattle.fax_reading.proofs.Names.{length, Option, lt-ltb, le-ltb, lt-leb, Spells, false, subst, arith, Color, White, paint, []}
-use Rattle.fax_reading.proofs.Names.{replicate-append-replicate, behind_first_run, DecodeSettings, EncodesLine2D, length-append}
+use Rattle.fax_reading.proofs.Names.{replicate-append-replicate, after_first_run, DecodeSettings, EncodesLine2D, length-append}
 use Rattle.fax_reading.proofs.Names.{start, Bool, true, ◌++◌, Some, None, refl, Mode, Pass, Bits, Turn, Line, Step, suc, ◌+◌, ◌-◌}
 use Rattle.fax_reading.proofs.Names.{◌≤◌, ◌∷◌, Err, sym, ◌∙◌, ◌⊎◌, inl, inr, Has, Row, Pen, Ok, ap, ℕ}
 use Rattle.fax_bits.proofs.BitReading.ZerosInWords.{is_quiet}
@@ -72,20 +72,20 @@ spelled_is_read color n bits total more (Spells.makeup m word {n = k} {bits = ne
 
 -- ---- Modes that are read
 
--- what is left after modes that are read, if this stands behind the first
-abbrev pub LeftBehind : Bits → Bits → Option (Color × Bits) → Type 0
-LeftBehind here last (Some (next, rest)) = (last ≡ here) ⊎ ReadsModes next rest last
-LeftBehind here last None = last ≡ here
+-- what is left after modes that are read, if this stands after the first
+abbrev pub LeftAfter : Bits → Bits → Option (Color × Bits) → Type 0
+LeftAfter here last (Some (next, rest)) = (last ≡ here) ⊎ ReadsModes next rest last
+LeftAfter here last None = last ≡ here
 
 -- none is read, or the one that is here
-pub left_behind : (color : Color) (here last : Bits) → ReadsModes color here last → LeftBehind here last (behind_mode color here)
-left_behind color here last ReadsModes.over = by_found (behind_mode color here)
+pub left_following : (color : Color) (here last : Bits) → ReadsModes color here last → LeftAfter here last (after_mode color here)
+left_following color here last ReadsModes.over = by_found (after_mode color here)
   where
-    by_found : (found : Option (Color × Bits)) → LeftBehind here here found
+    by_found : (found : Option (Color × Bits)) → LeftAfter here here found
     by_found found = grind arith
-left_behind color here last (ReadsModes.mode next rest found more) = grind (arith, common_steps)
+left_following color here last (ReadsModes.mode next rest found more) = grind (arith, common_steps)
 
--- ---- A whole line ends behind modes that are read
+-- ---- A whole line ends after modes that are read
 abbrev pen_with : Row → Color → Bits → Pen
 pen_with front color rest = record { front = front; color = color; rest = rest }
 
@@ -109,12 +109,12 @@ module _ (strict : Bool) (columns : ℕ) (other : Row) where
       (pen_with front color rest) mode ≡ Turn.next t → reads_at t last → ReadsModes color here last
   mode_on front color here last Pass rest t read e reads =
       let a = try_next front _ (λ more. Turn.next (pen_with more color rest)) t e in
-      ReadsModes.mode color rest (ap (behind_read color) read)
+      ReadsModes.mode color rest (ap (after_read color) read)
       (subst (λ (p : Pen). reads_at p last) {y = pen_with a.0 color rest} (sym (next_is _ t a.2)) reads)
   mode_on front color here last (Vertical k) rest t read e reads = let a = try_next front _ (λ place. try front
       (paint strict columns front color (place - length front)) (λ more. Turn.next (pen_with more (opposite color) rest))) t e in
       let b = try_next front _ (λ more. Turn.next (pen_with more (opposite color) rest)) t a.2 in
-      ReadsModes.mode (opposite color) rest (ap (behind_read color) read)
+      ReadsModes.mode (opposite color) rest (ap (after_read color) read)
       (subst (λ (p : Pen). reads_at p last) {y = pen_with b.0 (opposite color) rest} (sym (next_is _ t b.2)) reads)
   mode_on front color here last Horizontal rest t read e reads = let one = run_was_read strict columns (pen_with front color rest)
       (λ p. run_then strict columns p Turn.next) t (horizontal_is strict columns other (pen_with front color rest) ∙ e) in
@@ -125,9 +125,9 @@ module _ (strict : Bool) (columns : ℕ) (other : Row) where
   abbrev Keeps : Bits → Pen → Type 0
   Keeps here pen = (last : Bits) → reads_at pen last → ReadsModes White here last
 
-  abbrev EndsBehind : Bits → Line → Type 0
-  EndsBehind here (Line.whole row rest) = ReadsModes White here rest
-  EndsBehind here (Line.broken front fault) = Unit {0}
+  abbrev EndsFollowing : Bits → Line → Type 0
+  EndsFollowing here (Line.whole row rest) = ReadsModes White here rest
+  EndsFollowing here (Line.broken front fault) = Unit {0}
 
   abbrev mode_here : Pen → Step
   mode_here pen = try pen.front (read_code mode_codes pen.rest)
@@ -140,7 +140,7 @@ module _ (strict : Bool) (columns : ℕ) (other : Row) where
       kept last (mode_on s.front s.color s.rest last a.0.0 a.0.1 t a.1 a.2 reads)
 
   ends : (here : Bits) (s : Pen) (line : Line) → Keeps here s → step_2d strict columns other s ≡ Turn.done line
-      → EndsBehind here line
+      → EndsFollowing here line
   ends here s (Line.broken front fault) kept e = tt
   ends here s (Line.whole row rest) kept e = let f = full_by columns s (mode_here s) row rest
       (grind (arith, common_steps, try_goes_on, draw_mode_goes_on)) (sym (step_2d_is strict columns other s) ∙ e) in
@@ -151,8 +151,8 @@ module _ (strict : Bool) (columns : ℕ) (other : Row) where
   pub modes_read : (here : Bits) (row : Row) (rest : Bits) → line_2d strict columns other here ≡ Line.whole row rest
       → ReadsModes White here rest
   modes_read here row rest e =
-      subst (EndsBehind here) e (repeated_keeps (step_2d strict columns other) (Line.broken [] UnexpectedEof) (Keeps here)
-      (EndsBehind here) tt (keeps here) (ends here) (suc (length here)) (start here) (λ last reads. reads))
+      subst (EndsFollowing here) e (repeated_keeps (step_2d strict columns other) (Line.broken [] UnexpectedEof) (Keeps here)
+      (EndsFollowing here) tt (keeps here) (ends here) (suc (length here)) (start here) (λ last reads. reads))
 
 -- ---- A line of an encoding
 
@@ -166,24 +166,24 @@ long bits tail rest e = omega (arith, ap length e, length-append bits tail)
 
 -- the two runs of a horizontal one, unless they sum to too much
 runs_are : (color : Color) (n m : ℕ) (run1 run2 more : Bits) → Spells color n run1 → Spells (opposite color) m run2
-    → (behind_first_run color (read_run color (run1 ++ (run2 ++ more))) ≡ Some (color, more))
-    ⊎ (behind_first_run color (read_run color (run1 ++ (run2 ++ more))) ≡ None)
+    → (after_first_run color (read_run color (run1 ++ (run2 ++ more))) ≡ Some (color, more))
+    ⊎ (after_first_run color (read_run color (run1 ++ (run2 ++ more))) ≡ None)
 runs_are color n m run1 run2 more spells1 spells2 = grind (arith, common_steps, spelled_is_read)
 
 -- what its words leave, from the zeros of an EOL on, is left by the modes that are read
 encoded_from : (reference row : Row) (from : ℕ) (color : Color) (bits tail rest : Bits) → EncodesLine2D reference row from color
     bits → read_code mode_codes tail ≡ Err InvalidCode → ReadsModes color (bits ++ tail) rest → length tail ≤ length rest
-encoded_from reference row from color bits tail rest EncodesLine2D.over none reads = grind (arith, common_steps, left_behind)
+encoded_from reference row from color bits tail rest EncodesLine2D.over none reads = grind (arith, common_steps, left_following)
 encoded_from reference row from color bits tail rest (EncodesLine2D.pass from2 word {bits = next} inside has left_of steps) none
-    reads = grind (arith, encoded_from reference row _ color next tail rest steps none, mode_is, left_behind, long)
+    reads = grind (arith, encoded_from reference row _ color next tail rest steps none, mode_is, left_following, long)
 encoded_from reference row from color bits tail rest (EncodesLine2D.vertical from2 word k {bits = next} inside has exact steps)
     none reads = grind
-    (arith, common_steps, mode_is, left_behind, long, encoded_from reference row _ (opposite color) next tail rest steps)
+    (arith, common_steps, mode_is, left_following, long, encoded_from reference row _ (opposite color) next tail rest steps)
 encoded_from reference row from color bits tail rest (EncodesLine2D.horizontal from2 word {first = run1} {second = run2}
     {bits = next} inside has spells1 spells2 steps) none reads = grind
-    (arith, encoded_from reference row _ color next tail rest steps none, append_assoc, mode_is, left_behind, runs_are, long)
+    (arith, encoded_from reference row _ color next tail rest steps none, append_assoc, mode_is, left_following, runs_are, long)
 
--- its modes end before the EOL behind it
+-- its modes end before the EOL after it
 pub encoded_ends : (reference row : Row) (line next after rest : Bits) → EncodesLine2D reference row 0 White line
     → after_eol 0 next ≡ Some after → ReadsModes White (line ++ next) rest → length next ≤ length rest
 encoded_ends reference row line next after rest encodes eol reads = encoded_from reference row 0 White line next rest encodes

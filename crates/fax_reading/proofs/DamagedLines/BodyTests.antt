@@ -150,10 +150,10 @@ local_by_tests settings bits from to = (to_tests settings bits from to, from_tes
 
 -- ---- An EOL before a position.
 -- the EOL of the twelve bits before a position ends there
-pub behind_eol : (bits : Bits) (place end : ℕ) → 12 ≤ place → place ≤ length bits → end ≤ length bits
+pub following_eol : (bits : Bits) (place end : ℕ) → 12 ≤ place → place ≤ length bits → end ≤ length bits
     → after_eol 0 (drop (place - 12) bits) ≡ Some (drop end bits)
     → IsTrue (eqb end place) ↔ ((place ≡ 0) ⊎ ((12 ≤ place) × (after_eol 0 (drop (place - 12) bits) ≡ Some (drop place bits))))
-behind_eol bits place end far within there eol =
+following_eol bits place end far within there eol =
     grind (arith, common_steps, eqb-true, eq-eqb, length-drop end bits, length-drop place bits)
 
 -- ---- A one in a body.

@@ -34,8 +34,8 @@ module _ (bits after : Bits) (from to : ℕ) (order : from ≤ to) (within : to 
   ahead = grind (arith, common_steps, drop-drop (to - from) from bits, eol_ahead (to - from) (drop from bits) after)
 
   -- one is found
-  pub eol_behind_body : next_eol (drop from bits) ≡ None → ⊥
-  eol_behind_body none = none-some ahead.0 (sym none ∙ ahead.1)
+  pub eol_after_body : next_eol (drop from bits) ≡ None → ⊥
+  eol_after_body none = none-some ahead.0 (sym none ∙ ahead.1)
 
   -- what is counted until it is found, and again while it is read
   pub sought_work : (place before sought read : ℕ) → place ≤ length bits → next_eol (drop from bits) ≡ Some (drop place bits)

@@ -26,14 +26,14 @@ module _ (settings : DecodeSettings) (encoding : settings.encoding ≡ Group3_2D
   pub unreferred : (here : Bits) → ComesBefore1D settings here → Unreferred settings (eols_here settings here)
   unreferred here (eol, ends) = grind (arith, common_steps, eols_end)
 
-  -- the next EOL is the one behind it, whatever it is read against
-  next_behind : (other : Row) (line next : Bits) (is : IsLine2D line next)
+  -- the next EOL is the one after it, whatever it is read against
+  next_after : (other : Row) (line next : Bits) (is : IsLine2D line next)
       → past 0 (rest_of (line_here settings other (false ∷ line)) (false ∷ line)) ≡ Some is.ends.0
-  next_behind other line next is = line_past_by settings other (false ∷ line) is.ends.0 (past_is (false ∷ line) ∙ ap then_after
+  next_after other line next is = line_past_by settings other (false ∷ line) is.ends.0 (past_is (false ∷ line) ∙ ap then_after
       is.next_is ∙ is.ends.1) (λ row rest e. is.ends.2 rest (modes_read settings.strict settings.columns other line row rest
       (sym (ap (λ (e : EncodingMode). line_by e settings.strict settings.columns other (false ∷ line)) encoding) ∙ e)))
 
-  -- the lines that follow are read with the same EOLs behind them, whatever they are read against
+  -- the lines that follow are read with the same EOLs after them, whatever they are read against
   settles : (lines : ℕ) (here after : Bits) → ComeBefore1D settings lines here → after_eol 0 here ≡ Some after
       → Settles settings lines after
   settles zero here after comes e = λ found f. rw (eols_here_same settings found here after f e) (unreferred here comes)
@@ -43,7 +43,7 @@ module _ (settings : DecodeSettings) (encoding : settings.encoding ≡ Group3_2D
         omega (arith, after_eol_shorter 0 next is.ends.0 is.ends.1, (next_eol_found (false ∷ line) next is.next_is).0),
         λ found g. (ap (λ (g : EncodingMode). eols_by g settings.end_of_block found) encoding ∙ ap pass_last_tag (all_tagged-some
             found (false ∷ line) g ∙ ap one_more (all_tagged-none (false ∷ line) is.no_eol))),
-        λ other. next_behind other line next is,
+        λ other. next_after other line next is,
         settles lines next is.ends.0 more is.ends.1,
       )
 

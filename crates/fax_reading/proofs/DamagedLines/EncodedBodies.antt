@@ -75,40 +75,40 @@ abbrev pub HoldsOne : Bits → Type 0
 HoldsOne bits = (before after : Bits) × (bits ≡ before ++ true ∷ after)
 
 module _ (front words next : Bits) (tag : Bool) (fill : ℕ) (quiet : Quiet words) (one : HoldsOne words) where
-  -- the bits behind the tag of the line before
-  abbrev behind : Bits
-  behind = words ++ (eol fill ++ next)
+  -- the bits after the tag of the line before
+  abbrev after : Bits
+  after = words ++ (eol fill ++ next)
 
-  next_is : past 0 (tag ∷ behind) ≡ Some next
+  next_is : past 0 (tag ∷ after) ≡ Some next
   next_is = grind (arith, common_steps, past_before, eol_stands, scan_past)
 
   -- two consecutive EOLs don't end there
-  not_two : (found rest : Bits) → LeavesBits (front ++ true ∷ (tag ∷ behind)) found → after_eol 0 found ≡ Some rest
+  not_two : (found rest : Bits) → LeavesBits (front ++ true ∷ (tag ∷ after)) found → after_eol 0 found ≡ Some rest
       → after_eol 0 (past_tag rest) ≡ Some next → ⊥
-  not_two found rest leaves e f = in_each_case (suffix_of front (true ∷ (tag ∷ behind)) found leaves)
+  not_two found rest leaves e f = in_each_case (suffix_of front (true ∷ (tag ∷ after)) found leaves)
     where
       longer : length next < length rest
       longer = omega (arith, after_eol_shorter 0 (past_tag rest) next f, past_tag_shorter rest)
 
-      in_each_case : LeavesBits (true ∷ (tag ∷ behind)) found ⊎ ((more : Bits) × (found ≡ more ++ true ∷ (tag ∷ behind))) → ⊥
+      in_each_case : LeavesBits (true ∷ (tag ∷ after)) found ⊎ ((more : Bits) × (found ≡ more ++ true ∷ (tag ∷ after))) → ⊥
       in_each_case (inl (before, split)) =
           omega (arith, longer, past_first 0 before found rest next e (ap (past 0) (sym split) ∙ next_is))
       in_each_case (inr (more, split)) = let zeros = after_eol_is 0 found rest e in
-          let first = first_one zeros.0 rest more (tag ∷ behind) (sym zeros.1 ∙ split) in
-          let sizes : zeros.0 + suc (length rest) ≡ length more + suc (length (tag ∷ behind)) = omega (
+          let first = first_one zeros.0 rest more (tag ∷ after) (sym zeros.1 ∙ split) in
+          let sizes : zeros.0 + suc (length rest) ≡ length more + suc (length (tag ∷ after)) = omega (
             arith,
             ap length zeros.1,
             ap length split,
             length-append (replicate zeros.0 false) (true ∷ rest),
             length-replicate zeros.0 false,
-            length-append more (true ∷ (tag ∷ behind)),
+            length-append more (true ∷ (tag ∷ after)),
           ) in
           let after_found : LeavesBits found rest =
           (replicate zeros.0 false ++ true ∷ [], zeros.1 ∙ sym (append_assoc (replicate zeros.0 false) (true ∷ []) rest)) in
-          let in_both : LeavesBits ((more ++ true ∷ tag ∷ []) ++ behind) rest = grind (arith, common_steps, append_assoc) in
-          let tagged : LeavesBits ((more ++ true ∷ tag ∷ []) ++ behind)
+          let in_both : LeavesBits ((more ++ true ∷ tag ∷ []) ++ after) rest = grind (arith, common_steps, append_assoc) in
+          let tagged : LeavesBits ((more ++ true ∷ tag ∷ []) ++ after)
           (past_tag rest) = leaves_trans _ rest (past_tag rest) in_both (past_tag_leaves rest) in
-          let covered = suffix_ends_with (more ++ true ∷ tag ∷ []) behind (past_tag rest) tagged
+          let covered = suffix_ends_with (more ++ true ∷ tag ∷ []) after (past_tag rest) tagged
           (grind (arith, common_steps, sizes, first)) in
           let others = after_eol_is 0 (past_tag rest) next f in
           grind (
@@ -126,7 +126,7 @@ module _ (front words next : Bits) (tag : Bool) (fill : ℕ) (quiet : Quiet word
           )
 
   -- so the tag there isn't that of RTC
-  pub few_before : (here : Bits) (count : ℕ) → LeavesBits (front ++ true ∷ (tag ∷ behind)) here → all_tagged here ≡ (count, next)
+  pub few_before : (here : Bits) (count : ℕ) → LeavesBits (front ++ true ∷ (tag ∷ after)) here → all_tagged here ≡ (count, next)
       → count < 6
   few_before here zero leaves e = omega arith
   few_before here (suc zero) leaves e = omega arith
@@ -227,7 +227,7 @@ module _ (settings : DecodeSettings) (encoding : settings.encoding ≡ Group3_2D
   line_on : drop from whole ≡ line ++ next
   line_on = drop-append_seam (front ++ eol fill) (line ++ next)
 
-  -- the next EOL behind its start
+  -- the next EOL after its start
   next_from : past 0 (line ++ next) ≡ Some after
   next_from = grind (arith, common_steps, past_before, scan_past)
 
@@ -293,7 +293,7 @@ module _ (settings : DecodeSettings) (encoding : settings.encoding ≡ Group3_2D
       one_there = sym (drop-drop (1 + length is.one.0) from whole) ∙ ap (drop (1 + length is.one.0)) line_on
           ∙ drop_at (line ++ next) (is.tag ∷ is.one.0) (true ∷ (is.one.1 ++ next)) (1 + length is.one.0) line_is (omega arith)
 
--- the tag behind lines of an encoding is a line's
+-- the tag after lines of an encoding is a line's
 few_tags : (front line : Bits) (fill : ℕ) → (front ≡ []) ⊎ LastLine front → (here : Bits) (count : ℕ)
     → LeavesBits ((front ++ eol fill) ++ line) here → all_tagged here ≡ (count, line) → count < 6
 few_tags front line fill (inl none) here count leaves e = by_count count e

@@ -17,7 +17,7 @@ use Rattle.fax_reading.proofs.{KeptRows.TurnsLeave.eols_leave_bits, Names.inl, N
 use Rattle.fax_reading.proofs.{Readings.RowsAndGaps.unless_over, Readings.RowsAndGaps.after_row, DamagedLines.PastEol.sought}
 use Rattle.fax_reading.specs.GapsContinued.{holds_one}
 
--- bits before a line: none, or they end with a one behind at least so many zeros
+-- bits before a line: none, or they end with a one after at least so many zeros
 abbrev pub EndsByOne : ℕ → Bits → Type 0
 EndsByOne n bits = (bits ≡ []) ⊎ ((first : Bits) × (bits ≡ first ++ (replicate n false ++ true ∷ [])))
 
@@ -37,7 +37,7 @@ ends_after n [] before after e = inl (last_one n before after e)
 ends_after n (b ∷ first) [] after e = inr (first, cc)
 ends_after n (b ∷ first) (c ∷ before) after e = grind (arith, ends_after n first before after)
 
--- behind a one they end so too
+-- after a one they end so too
 pub still_ends : (n : ℕ) (bits before after : Bits) → EndsByOne n bits → bits ≡ before ++ true ∷ after → EndsByOne n after
 still_ends n bits before after (inl none) e =
     absurd (omega (arith, ap length (sym none ∙ e), length-append before (true ∷ after)))
@@ -79,7 +79,7 @@ module _ (n : ℕ) (z : Bits) (none : after_eol 0 z ≡ None) where
   eol_kept here (inr (first, is)) = after_eol-more z 0 here
       (ap holds_one (is ∙ sym (append_assoc first (replicate n false) (true ∷ []))) ∙ one_among (first ++ replicate n false) [])
 
-  -- what is counted is counted among the bits before it, and they end so behind that
+  -- what is counted is counted among the bits before it, and they end so after that
   abbrev Kept : ℕ × Bits → ℕ × Bits → Type 0
   Kept found whole = (whole ≡ count_then_more z found) × EndsByOne n found.1
 
@@ -90,18 +90,18 @@ module _ (n : ℕ) (z : Bits) (none : after_eol 0 z ≡ None) where
       (passes : (here : Bits) → EndsByOne n here → (pass (here ++ z) ≡ pass here ++ z) × EndsByOne n (pass here)) where
     count_kept : (most : ℕ) (here : Bits) → EndsByOne n here → Kept (count most here) (count most (here ++ z))
     count_kept zero here ends = rw (counts.start here, counts.start (here ++ z)) (refl, ends)
-    count_kept (suc most) here ends = by_after_eol (λ rest behind. count_kept most rest behind) (after_eol 0 here) refl
+    count_kept (suc most) here ends = by_after_eol (λ rest after. count_kept most rest after) (after_eol 0 here) refl
       where
         by_after_eol : ((rest : Bits) → EndsByOne n rest → Kept (count most rest) (count most (rest ++ z))) → (o : Option Bits)
             → after_eol 0 here ≡ o → Kept (count (suc most) here) (count (suc most) (here ++ z))
         by_after_eol on None e = grind (arith, common_steps, eol_kept, then_more)
         by_after_eol on (Some rest) e = let is = after_eol_is 0 here rest e in
-            let behind = passes rest (still_ends n here (replicate is.0 false) rest ends is.1) in
-            let more = on (pass rest) behind.1 in
+            let after = passes rest (still_ends n here (replicate is.0 false) rest ends is.1) in
+            let more = on (pass rest) after.1 in
             rw (
               counts.some most here rest e,
               counts.some most (here ++ z) (rest ++ z) (eol_kept here ends ∙ ap (then_more z) e),
-              behind.0,
+              after.0,
               more.0,
             ) (one_more_kept (count most (pass rest)) more.1)
 
@@ -119,12 +119,12 @@ module _ (n : ℕ) (z : Bits) (none : after_eol 0 z ≡ None) where
   past_tag_kept tag (false ∷ here) ends = (refl, ends)
   past_tag_kept tag (true ∷ here) ends = by_after_eol (after_eol 0 here) refl
     where
-      behind : EndsByOne n here
-      behind = still_ends n (true ∷ here) [] here ends refl
+      after : EndsByOne n here
+      after = still_ends n (true ∷ here) [] here ends refl
 
       by_after_eol : (o : Option Bits) → after_eol 0 here ≡ o
           → (past_tag (true ∷ here ++ z) ≡ past_tag (true ∷ here) ++ z) × EndsByOne n (past_tag (true ∷ here))
-      by_after_eol v0 e = grind (arith, common_steps, eol_kept, then_more, behind)
+      by_after_eol v0 e = grind (arith, common_steps, eol_kept, then_more, after)
 
   last_tag_kept : (found : ℕ × Bits) → EndsByOne n found.1 → (found.1 ≡ [] → found.0 < 6)
       → Kept (pass_last_tag found) (pass_last_tag (count_then_more z found))
@@ -142,7 +142,7 @@ module _ (n : ℕ) (z : Bits) (none : after_eol 0 z ≡ None) where
 abbrev pub IsGroup3 : EncodingMode → Type 0
 IsGroup3 encoding = (encoding ≡ Group3_1D) ⊎ (encoding ≡ Group3_2D)
 
--- Here a line begins in lenient data of Group 3: there is no EOL there, also after a tag if it has one; behind the next EOL are
+-- Here a line begins in lenient data of Group 3: there is no EOL there, also after a tag if it has one; after the next EOL are
 -- some bits; and the tag there isn't that of RTC.
 pub record IsLineIn (settings : DecodeSettings) (whole z after : Bits) : Type 0 where
   pub group3 : IsGroup3 settings.encoding
@@ -186,11 +186,11 @@ module _ {pass : Bits → Bits} {count : ℕ → Bits → ℕ × Bits} (counts :
           (one_is_none line (count (length (pass rest)) (pass rest)) (sym (count_all-some counts here rest f) ∙ e)) in
           (rest, f, left.0, subst (λ (b : Bits). after_eol 0 b ≡ None) left.0 left.1)
 
--- where no EOL is behind a tag there was no tag
+-- where no EOL is after a tag there was no tag
 no_tag : (rest line : Bits) → past_tag rest ≡ line → after_eol 0 line ≡ None → rest ≡ line
 no_tag rest line is none = grind (arith, common_steps)
 
--- it is here, and behind it none is
+-- it is here, and after it none is
 abbrev pub IsAlone : Bits → Bits → Type 0
 IsAlone here line = (after_eol 0 here ≡ Some line) × (after_eol 0 line ≡ None)
 
@@ -208,7 +208,7 @@ one_alone settings here line (inr two) e =
     let raw : all_tagged here ≡ (1, line) = grind (arith, common_steps, eols_here_two, last_tag_count, last_tag_few) in
     let both = one_tagged here line raw in (both.0, λ same. both.1)
 
--- the EOLs of some bits behind an EOL
+-- the EOLs of some bits after an EOL
 abbrev pub counted : DecodeSettings → Bits → ℕ × Bits
 counted settings more = eols_here settings (replicate 11 false ++ true ∷ more)
 
@@ -308,7 +308,7 @@ turn_closed settings lenient rows bits (first, is) = by_line (line_here settings
     by_line (Line.whole row rest) leaves turn = (row, rest, leaves, turn)
     by_line (Line.broken front fault) leaves turn = (repaired settings.columns front, bits, ([], refl), turn)
 
--- where such a line ends: with a one, and with an EOL behind one
+-- where such a line ends: with a one, and with an EOL after one
 pub left_ends : (bits left : Bits) → Closes bits → LeavesBits bits left → EndsByOne 0 left
 left_ends bits left (first, is) (before, e) =
     ends_last before left (first ++ replicate 11 false) (sym e ∙ is ∙ sym (append_assoc first (replicate 11 false) (true ∷ [])))

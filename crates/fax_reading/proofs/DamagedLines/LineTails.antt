@@ -16,7 +16,7 @@ use Rattle.fax_reading.proofs.DrawingLines.LinesLeaveBits.{line_by_leaves, LineL
 pub drop_at : {A : Type 0} (whole front rest : List A) (n : ℕ) → whole ≡ front ++ rest → length front ≡ n → drop n whole ≡ rest
 drop_at whole front rest n e f = ap (drop n) e ∙ ap (λ (k : ℕ). drop k (front ++ rest)) (sym f) ∙ drop-append_seam front rest
 
--- they are eleven zeros behind more
+-- they are eleven zeros after more
 pub zeros_of_eol : (here rest : Bits) → after_eol 0 here ≡ Some rest
     → (more : ℕ) × (here ≡ (replicate more false ++ replicate 11 false) ++ true ∷ rest)
 zeros_of_eol here rest e = let is = after_eol_is 0 here rest e in
@@ -59,7 +59,7 @@ past_before seen [] z after none e = past-eol seen z after (after_eol_more 0 see
 past_before seen (false ∷ bits) z after none e = past_before (suc seen) bits z after none e
 past_before seen (true ∷ bits) z after none e = grind (arith, common_steps, cases_lt, le-leb, lt-leb, past_before 0 bits z after)
 
--- a body between two positions, and what follows the EOL behind it
+-- a body between two positions, and what follows the EOL after it
 pub record IsBody (bits : Bits) (from to : ℕ) (after : Bits) : Type 0 where
   pub order : from ≤ to
   pub within : to ≤ length bits
@@ -141,7 +141,7 @@ module _ (bits : Bits) (from to : ℕ) (after : Bits) (local : IsBody bits from 
   pub next_line_is : past 0 line_on ≡ Some after
   next_line_is = ap (past 0) cut ∙ past_before 0 body eol_on after none_in_body local.eol
 
--- the next EOL is the same behind a line that is broken or ends before its last twelve bits
+-- the next EOL is the same after a line that is broken or ends before its last twelve bits
 pub line_past_of : (line : Line) (here after : Bits) → LineLeaves here line → past 0 here ≡ Some after
     → ((row : Row) (rest : Bits) → line ≡ Line.whole row rest → length after + 12 ≤ length rest)
     → past 0 (rest_of line here) ≡ Some after
@@ -173,7 +173,7 @@ line_in_1d settings bits from to local = let body = body_1d settings bits from t
   few = λ e. absurd (let f = local.encoding in cc);
 }
 
--- the next EOL behind its line is the one behind it
+-- the next EOL after its line is the one after it
 pub stays_1d : (settings : DecodeSettings) (bits : Bits) (from to : ℕ) (local : IsLocal settings bits from to) (reference : Row)
     → past 0 (rest_of (line_here settings reference (drop from bits)) (drop from bits)) ≡ Some local.closes.0
 stays_1d settings bits from to local reference = line_past_by settings reference (drop from bits) local.closes.0
@@ -208,7 +208,7 @@ line_in_2d settings bits from to encoding lenient local = let body = body_2d set
     by_drop (false ∷ here) e = refl
     by_drop (true ∷ here) e = grind (arith, common_steps, drop-drop 1 from bits, none)
 
--- the next EOL behind its line, as it is read, is the one behind it
+-- the next EOL after its line, as it is read, is the one after it
 pub stays_2d : (settings : DecodeSettings) (bits : Bits) (from to : ℕ) (local : IsTaggedBody settings bits from to)
     (rows : List Row) → Reaches (move_on settings) (first_line settings bits) (sought rows (drop from bits))
     → past 0 (rest_of (line_of_turn settings (sought rows (drop from bits))) (drop from bits)) ≡ Some local.closes.0

@@ -3,11 +3,11 @@ use Rattle.fax_reading.proofs.Names.{common_steps, ◌≡◌, ℕ, zero, suc, �
 use Rattle.fax_reading.proofs.Names.{length, drop, Option, Some, None, Result, Ok, Err, refl, ap, subst, ◌∙◌, arith, ◌↔◌}
 use Rattle.fax_reading.proofs.Names.{Color, White, Mode, Pass, Horizontal, Vertical, DecodeError, DecodeSettings, Group3_2D, Bits}
 use Rattle.fax_reading.proofs.Names.{mode_codes, read_code, after_eol, next_eol, one_more, pass_last_tag, tagged_eols, ReadsModes}
-use Rattle.fax_reading.proofs.Names.{IsLine2D, ComesBefore1D, ComeBefore1D, IsFollowedBy, behind_mode, behind_read, behind_word}
-use Rattle.fax_reading.proofs.Names.{behind_first_run, behind_second_run, opposite, read_run}
+use Rattle.fax_reading.proofs.Names.{IsLine2D, ComesBefore1D, ComeBefore1D, IsFollowedBy, after_mode, after_read, after_word}
+use Rattle.fax_reading.proofs.Names.{after_first_run, after_second_run, opposite, read_run}
 use Rattle.fax_bits.proofs.CodeWords.ReadRuns.{read_code_shorter, run_shorter}
 use Rattle.fax_bits.proofs.BitReading.ConsecutiveEols.{all_tagged-some, all_tagged-none}
-use Rattle.fax_reading.proofs.{DamagedLines.AnyReference.left_behind, DrawingLines.ReadLines.modes_not_empty}
+use Rattle.fax_reading.proofs.{DamagedLines.AnyReference.left_following, DrawingLines.ReadLines.modes_not_empty}
 
 -- ---- A mode that is read takes bits
 some_rest : (a b : Color × Bits) → ◌≡◌ {A = Option (Color × Bits)} (Some a) (Some b) → a.1 ≡ b.1
@@ -17,28 +17,28 @@ none_is_not_some : (a : Color × Bits) → ◌≡◌ {A = Option (Color × Bits)
 none_is_not_some a e = cc
 
 second_shorter : (color : Color) (here : Bits) (r : Result (ℕ × Bits) DecodeError) → read_run (opposite color) here ≡ r
-    → (found : Color × Bits) → behind_second_run color r ≡ Some found → length found.1 ≤ length here
+    → (found : Color × Bits) → after_second_run color r ≡ Some found → length found.1 ≤ length here
 second_shorter color here (Ok (n, rest)) e found f =
     omega (arith, run_shorter (opposite color) 0 here n rest e, ap length (some_rest (color, rest) found f))
 second_shorter color here (Err fault) e found f = absurd (none_is_not_some found f)
 
 first_shorter : (color : Color) (here : Bits) (r : Result (ℕ × Bits) DecodeError) → read_run color here ≡ r
-    → (found : Color × Bits) → behind_first_run color r ≡ Some found → length found.1 ≤ length here
+    → (found : Color × Bits) → after_first_run color r ≡ Some found → length found.1 ≤ length here
 first_shorter color here (Ok (n, rest)) e found f =
     omega (arith, run_shorter color 0 here n rest e, second_shorter color rest (read_run (opposite color) rest) refl found f)
 first_shorter color here (Err fault) e found f = absurd (none_is_not_some found f)
 
-word_shorter : (color : Color) (mode : Mode) (here : Bits) (found : Color × Bits) → behind_word color mode here ≡ Some found
+word_shorter : (color : Color) (mode : Mode) (here : Bits) (found : Color × Bits) → after_word color mode here ≡ Some found
     → length found.1 ≤ length here
 word_shorter color Pass here found e = omega (arith, ap length (some_rest (color, here) found e))
 word_shorter color (Vertical k) here found e = omega (arith, ap length (some_rest (opposite color, here) found e))
 word_shorter color Horizontal here found e = first_shorter color here (read_run color here) refl found e
 
-pub behind_mode_shorter : (color : Color) (here : Bits) (found : Color × Bits) → behind_mode color here ≡ Some found
+pub after_mode_shorter : (color : Color) (here : Bits) (found : Color × Bits) → after_mode color here ≡ Some found
     → length found.1 < length here
-behind_mode_shorter color here found e = by_read_code (read_code mode_codes here) refl e
+after_mode_shorter color here found e = by_read_code (read_code mode_codes here) refl e
   where
-    by_read_code : (r : Result (Mode × Bits) DecodeError) → read_code mode_codes here ≡ r → behind_read color r ≡ Some found
+    by_read_code : (r : Result (Mode × Bits) DecodeError) → read_code mode_codes here ≡ r → after_read color r ≡ Some found
         → length found.1 < length here
     by_read_code v0 f g = grind (arith, common_steps, read_code_shorter, modes_not_empty, word_shorter, none_is_not_some)
 
@@ -50,21 +50,21 @@ ReadFurther start color here = ((last : Bits) → ReadsModes color here last →
     × ((last : Bits) → ReadsModes White start last → ReadsModes color here last ⊎ (length here ≤ length last))
 
 pub further : (start : Bits) (color : Color) (here : Bits) (next : Color) (rest : Bits) → ReadFurther start color here
-    → behind_mode color here ≡ Some (next, rest) → ReadFurther start next rest
+    → after_mode color here ≡ Some (next, rest) → ReadFurther start next rest
 further start color here next rest so_far found =
     (λ last reads. so_far.0 last (ReadsModes.mode next rest found reads), λ last reads. by_last last (so_far.1 last reads))
   where
     less : length rest < length here
-    less = behind_mode_shorter color here (next, rest) found
+    less = after_mode_shorter color here (next, rest) found
 
     by_last : (last : Bits) → ReadsModes color here last ⊎ (length here ≤ length last)
         → ReadsModes next rest last ⊎ (length rest ≤ length last)
-    by_last last e2 = grind (arith, left_behind, less)
+    by_last last e2 = grind (arith, left_following, less)
 
 -- where no more is read all were
-pub all_read : (start : Bits) (color : Color) (here : Bits) → ReadFurther start color here → behind_mode color here ≡ None
+pub all_read : (start : Bits) (color : Color) (here : Bits) → ReadFurther start color here → after_mode color here ≡ None
     → (last : Bits) → ReadsModes White start last → length here ≤ length last
-all_read start color here so_far none last reads = grind (arith, common_steps, left_behind)
+all_read start color here so_far none last reads = grind (arith, common_steps, left_following)
 
 -- ---- A line that is passed
 pub line_passed : (here line found after rest : Bits) → here ≡ false ∷ line → after_eol 0 here ≡ None → next_eol here ≡ Some found

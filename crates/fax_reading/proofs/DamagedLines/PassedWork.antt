@@ -1,8 +1,8 @@
 -- What passing lines counts.
 use Rattle.fax_reading.proofs.Names.{Horizontal, mode_codes, mode_found, runs_found, word_found, none-some, read_code, after_eol}
-use Rattle.fax_reading.proofs.Names.{behind_second_run, runs_found_behind, behind_first_run, second_run_found, most_for_lines, []}
+use Rattle.fax_reading.proofs.Names.{after_second_run, runs_found_after, after_first_run, second_run_found, most_for_lines, []}
 use Rattle.fax_reading.proofs.Names.{false, subst, arith, Color, true, List, ◌++◌, drop, Some, None, refl, Mode, Pass, Bits, ◌≡◌}
-use Rattle.fax_reading.proofs.Names.{length-append, common_steps, DecodeError, tagged_eols, behind_mode, behind_read, behind_word}
+use Rattle.fax_reading.proofs.Names.{length-append, common_steps, DecodeError, tagged_eols, after_mode, after_read, after_word}
 use Rattle.fax_reading.proofs.Names.{run_found, Vertical, opposite, read_run, next_eol, IsLine2D, length, Option, Result, looked}
 use Rattle.fax_reading.proofs.Names.{suc, ◌+◌, ◌*◌, ◌<◌, ◌≤◌, ◌∷◌, Err, inr, Ok, ℕ}
 use Rattle.fax_bits.proofs.BitReading.{ConsecutiveEols.all_tagged-some, ConsecutiveEols.next_eol_found, ZeroRuns.looked_eol}
@@ -18,16 +18,16 @@ ModeEnds (Some found) rest = found.1 ≡ rest
 ModeEnds None rest = Unit {0}
 
 second_ends : (color : Color) (r : Result (ℕ × Bits) DecodeError) (rest : Bits) → RunEnds r rest
-    → ModeEnds (behind_second_run color r) rest
+    → ModeEnds (after_second_run color r) rest
 second_ends color r rest ends = grind arith
 
 second_stands : (color : Color) (r : Result (ℕ × Bits) DecodeError) (middle : Bits) → RunEnds r middle
-    → (rest : Bits) × WordsStand middle (second_run_found color r) rest × ModeEnds (behind_first_run color r) rest
+    → (rest : Bits) × WordsStand middle (second_run_found color r) rest × ModeEnds (after_first_run color r) rest
 second_stands color (Ok (n, left)) middle ends = grind (arith, common_steps, run_stands (opposite color) 0 left, second_ends)
 second_stands color (Err fault) middle ends = (middle, stands_none middle, tt)
 
 runs_stand : (color : Color) (mode : Mode) (here : Bits) → (rest : Bits) × WordsStand here (runs_found color mode here) rest
-    × ModeEnds (behind_word color mode here) rest
+    × ModeEnds (after_word color mode here) rest
 runs_stand color Pass here = (here, stands_none here, refl)
 runs_stand color (Vertical k) here = (here, stands_none here, refl)
 runs_stand color Horizontal here =
@@ -40,11 +40,11 @@ runs_stand color Horizontal here =
     )
 
 mode_words_stand : (color : Color) (here : Bits) → (rest : Bits) × WordsStand here (mode_found color here) rest
-    × ModeEnds (behind_mode color here) rest
+    × ModeEnds (after_mode color here) rest
 mode_words_stand color here = by_read_code (read_code mode_codes here) refl
   where
     by_read_code : (r : Result (Mode × Bits) DecodeError) → read_code mode_codes here ≡ r → (rest : Bits)
-        × WordsStand here (word_found mode_codes here ++ runs_found_behind color r) rest × ModeEnds (behind_read color r) rest
+        × WordsStand here (word_found mode_codes here ++ runs_found_after color r) rest × ModeEnds (after_read color r) rest
     by_read_code (Ok (mode, left)) e = let runs = runs_stand color mode left in (
       runs.0,
       stands_append here left runs.0 (word_found mode_codes here) (runs_found color mode left)
@@ -65,7 +65,7 @@ WordsPassed start here begun now = (found : List Bits) × WordsStand start found
 
 -- a mode more
 pub passed_mode : (start : Bits) (color : Color) (here : Bits) (next : Color) (rest : Bits) (begun before now : ℕ)
-    → WordsPassed start here begun before → behind_mode color here ≡ Some (next, rest)
+    → WordsPassed start here begun before → after_mode color here ≡ Some (next, rest)
     → now ≤ before + length (mode_found color here) → WordsPassed start rest begun now
 passed_mode start color here next rest begun before now (found, stands, most) e work =
     let mode = mode_words_stand color here in
@@ -104,10 +104,10 @@ looked_before_eol seen (true ∷ here) next none sought = omega (arith, (next_eo
 looked_before_eol seen (false ∷ here) next none sought =
     grind (arith, common_steps, none-some, after_eol_more, looked_before_eol (suc seen) here next none)
 
--- behind the tag the next EOL is the same
-pub next_behind_tag : (line next : Bits) → after_eol 0 (false ∷ line) ≡ None → next_eol (false ∷ line) ≡ Some next
+-- after the tag the next EOL is the same
+pub next_after_tag : (line next : Bits) → after_eol 0 (false ∷ line) ≡ None → next_eol (false ∷ line) ≡ Some next
     → next_eol line ≡ Some next
-next_behind_tag line next none sought = rw (none, next_eol) at sought
+next_after_tag line next none sought = rw (none, next_eol) at sought
 
 -- what is counted at the tag, up to the next EOL, in that EOL, and while the modes are passed
 pub line_work : (old line next after : Bits) (start at_tag sought read now : ℕ) → old ≡ false ∷ line → after_eol 0 old ≡ None
@@ -137,9 +137,9 @@ pub lines_end : (start here : Bits) (begun before now : ℕ) → LinesPaid start
     → now ≤ begun + most_for_lines (length start)
 lines_end start here begun before now paid read = omega (arith, paid, read, looked_most here)
 
--- an EOL, and no line behind it
-pub lines_end_behind : (start here behind rest : Bits) (begun before eol tags now : ℕ) → LinesPaid start here begun before
-    → after_eol 0 here ≡ Some behind → eol ≡ before + looked here → tags + 2 * length rest ≤ eol + 2 * length here + 3 + looked
-    (drop 1 rest) → now ≤ tags + 3 * length behind → now ≤ begun + most_for_lines (length start)
-lines_end_behind start here behind rest begun before eol tags now paid e read ahead passed =
-    grind (arith, common_steps, paid, read, ahead, passed, looked_eol 0 here behind e, looked_most)
+-- an EOL, and no line after it
+pub lines_end_after : (start here after rest : Bits) (begun before eol tags now : ℕ) → LinesPaid start here begun before
+    → after_eol 0 here ≡ Some after → eol ≡ before + looked here → tags + 2 * length rest ≤ eol + 2 * length here + 3 + looked
+    (drop 1 rest) → now ≤ tags + 3 * length after → now ≤ begun + most_for_lines (length start)
+lines_end_after start here after rest begun before eol tags now paid e read ahead passed =
+    grind (arith, common_steps, paid, read, ahead, passed, looked_eol 0 here after e, looked_most)

@@ -129,7 +129,7 @@ abbrev pub Unreferred : DecodeSettings → ℕ × Bits → Type 0
 Unreferred settings (count, rest) = (is_end_of_block settings count ≡ true)
     ⊎ ((reference other : Row) → line_here settings reference rest ≡ line_here settings other rest)
 
--- What follows an EOL: as many lines, each with the same next EOL behind it whatever its reference row is, and then such
+-- What follows an EOL: as many lines, each with the same next EOL after it whatever its reference row is, and then such
 -- EOLs.
 abbrev pub Settles : DecodeSettings → ℕ → Bits → Type 0
 Settles settings zero after = (found : Bits) → after_eol 0 found ≡ Some after → Unreferred settings (eols_here settings found)
@@ -230,9 +230,9 @@ module _ (settings : DecodeSettings) (one two : Bits) (from : ℕ) (after : Bits
 
       by_past : limit_met settings (length rows) ≡ false → (o : Option Bits) → past 0 left ≡ o
           → Both (after_row settings (sought rows (left ++ x))) (after_row settings (sought rows (left ++ y)))
-      by_past open_limit (Some more) e = let behind = left_closes bits left more closes within e in
-          let these = row_counted settings one x after given.line_one rows left more open_limit leaves e behind in
-          let those = row_counted settings two y after given.line_two rows left more open_limit leaves2 e behind in
+      by_past open_limit (Some more) e = let following = left_closes bits left more closes within e in
+          let these = row_counted settings one x after given.line_one rows left more open_limit leaves e following in
+          let those = row_counted settings two y after given.line_two rows left more open_limit leaves2 e following in
           rw (these.6, those.6) (unless_ahead rows (left ++ x) (left ++ y) (counted settings more).1 (counted settings more).0
           these.4 these.5 those.5)
       by_past open_limit None e = let these = row_past settings given.line_one.lenient rows (left ++ x) after open_limit
@@ -284,12 +284,12 @@ module _ (settings : DecodeSettings) (one two : Bits) (from : ℕ) (after : Bits
       settle zero most unreferred found g = unless_on (before ++ these)
           (before ++ those) true u v (eols_here settings found) alike (omega (arith, eols_past settings found z g, short))
           (elim (unreferred found g) [ inl ends ↦ inl ends | inr line ↦ inr (line _ _) ])
-      settle (suc n) most (next, shorter, one, behind, further) found g = rw (one found g) grind (arith, as_many, on)
+      settle (suc n) most (next, shorter, one, following, further) found g = rw (one found g) grind (arith, as_many, on)
         where
           on : (t : Bool) → Both (cond t (ends_with (sought (before ++ these) u) (Ok z)) (Turn.next (sought (before ++ these) z)))
               (cond t (ends_with (sought (before ++ those) v) (Ok z)) (Turn.next (sought (before ++ those) z)))
           on true = EndsAlike.later z short refl refl alike
-          on false = RunsAlike.among before these those z n begins same most (next, shorter, one, behind, further) short refl refl
+          on false = RunsAlike.among before these those z n begins same most (next, shorter, one, following, further) short refl refl
 
       in_each_case : (limit_met settings (length (before ++ these)) ≡ true) ⊎ (limit_met settings (length (before ++ these))
           ≡ false) → Both (after_row settings (sought (before ++ these) u)) (after_row settings (sought (before ++ those) v))

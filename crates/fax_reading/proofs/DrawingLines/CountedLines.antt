@@ -1,9 +1,9 @@
 -- The words that a line finds, step by step.
-use Rattle.fax_reading.proofs.Names.{DecodeSettings, length-append, words_of_mode, common_steps, words_behind, unless_fault, Bool}
+use Rattle.fax_reading.proofs.Names.{DecodeSettings, length-append, words_of_mode, common_steps, words_after, unless_fault, Bool}
 use Rattle.fax_reading.proofs.Names.{mode_codes, word_found, false≢true, draw_mode, DrawsStep, read_code, run_found, OnAnswer, []}
 use Rattle.fax_reading.proofs.Names.{pen_of, false, subst, arith, cond, List, ◌++◌, Mode, Bits, Line, Step, Held, Turn, ◌+◌, ◌*◌}
 use Rattle.fax_reading.proofs.Names.{run_from, draw_run, painted, draw_1d, draw_2d, IsFault, redrawn, length, Result, lt-leb, ◌≡◌}
-use Rattle.fax_reading.proofs.Names.{step_of_mode, words_of_run, DecodeError, turn_behind, words_drawn, step_of_run, append-nil}
+use Rattle.fax_reading.proofs.Names.{step_of_mode, words_of_run, DecodeError, turn_following, words_drawn, step_of_run, append-nil}
 use Rattle.fax_reading.proofs.Names.{◌<◌, ◌≤◌, Err, ◌∙◌, Pen, Row, Ok, ap, ℕ}
 use Rattle.fax_bits.proofs.{Repetition.Gathered.gathered_turn, CodeWords.RunWords.one_word}
 use Rattle.fax_reading.proofs.DrawingLines.Drawings.{step_1d, step_2d}
@@ -11,7 +11,7 @@ use Rattle.fax_reading.proofs.DrawingLines.ReadLines.{step_1d_shrinks, step_2d_s
 
 -- painting finds no word, nor does what follows it
 none_painted : {A : Type 0} (front : Row) (result : Result A DecodeError)
-    → ◌≡◌ {A = List Bits} ([] ++ words_behind (unless_fault front result) (λ x. [])) []
+    → ◌≡◌ {A = List Bits} ([] ++ words_after (unless_fault front result) (λ x. [])) []
 none_painted front result = grind arith
 
 -- the words of a run that is drawn are those that the run finds
@@ -20,8 +20,8 @@ pub words_run : (strict : Bool) (columns : ℕ) (pen : Pen)
 words_run strict columns pen = by_result (run_from pen.color (0, pen.rest))
   where
     by_result : (result : Result (ℕ × Bits) DecodeError)
-        → run_found pen.color (0, pen.rest) ++ words_behind (unless_fault pen.front result)
-        (λ run. [] ++ words_behind (painted strict columns pen run.0).turn (λ front. [])) ≡ run_found pen.color (0, pen.rest)
+        → run_found pen.color (0, pen.rest) ++ words_after (unless_fault pen.front result)
+        (λ run. [] ++ words_after (painted strict columns pen run.0).turn (λ front. [])) ≡ run_found pen.color (0, pen.rest)
     by_result result = grind (arith, none_painted, append-nil)
 
 -- ---- The words that are found from a pen on.
@@ -40,12 +40,12 @@ found_2d_from strict columns reference pen = words_drawn (draw_2d strict columns
 
 -- and it is that drawing
 unless_full_step : (full : Bool) (line : Line) (pen : Pen) (step : Pen → Step) → full ≡ false
-    → turn_behind (cond full (Turn.done line) (Turn.next pen)) step ≡ step pen
+    → turn_following (cond full (Turn.done line) (Turn.next pen)) step ≡ step pen
 unless_full_step full line pen step open_row = grind (arith, false≢true)
 
 -- what a step of a two-dimensional line finds and yields, if its row isn't full
 abbrev mode_words : Bool → ℕ → Row → Pen → List Bits
-mode_words strict columns reference pen = word_found mode_codes pen.rest ++ words_behind (unless_fault pen.front
+mode_words strict columns reference pen = word_found mode_codes pen.rest ++ words_after (unless_fault pen.front
     (read_code mode_codes pen.rest)) (λ mode. (draw_mode strict columns reference (record pen { rest = mode.1 }) mode.0).words)
 
 -- a one-dimensional line whose row isn't full finds the words of its next run, and then those after it

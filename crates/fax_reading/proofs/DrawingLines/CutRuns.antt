@@ -3,7 +3,7 @@ use Rattle.fax_reading.proofs.Names.{arith, Bool, true, false, ◌||◌, subst, 
 use Rattle.fax_reading.proofs.Names.{common_steps, DecodeError, is_broken, painted_front, strict_step_of_run, strict_step_of_mode}
 use Rattle.fax_reading.proofs.Names.{◌≡◌, length, Result, BitsAt, Context, redrawn, exceeds, line_1d, line_2d, right_of, GoesOn2d}
 use Rattle.fax_reading.proofs.Names.{◌<◌, ◌≤◌, ◌-◌, ℕ, ltb, Ok, Err, sym, ap, here, Held, Mode, Pass, Row, Line, Pen, Turn, b2}
-use Rattle.fax_reading.proofs.Names.{[], false≢true, Horizontal, turn_behind, TellsCut, read_code, mode_codes, run_from, opposite}
+use Rattle.fax_reading.proofs.Names.{[], false≢true, Horizontal, turn_following, TellsCut, read_code, mode_codes, run_from, opposite}
 use Rattle.fax_bits.proofs.Repetition.Repeated.{after_turn}
 use Rattle.fax_reading.proofs.DrawingLines.Drawings.{try, drawn_by, step_1d, step_2d}
 use Rattle.fax_reading.proofs.DrawingLines.DrawnLines.{run_open, line_mode}
@@ -18,9 +18,9 @@ pub paint_cuts : (strict : Bool) (columns : ℕ) (front : Row) (color : Color) (
 paint_cuts strict columns front color n row go_on pen before now paints told on = grind (arith, common_steps, false≢true, or-true)
 
 -- two steps, one after the other
-pub two_cut : (first : Step) (middle : Pen) (behind : Pen → Step) (last : Pen) (a b c : Bool) → TellsCut first middle a b
-    → TellsCut (behind middle) last b c → TellsCut (turn_behind first behind) last a c
-two_cut first middle behind last a b c tells second = grind (arith, false≢true)
+pub two_cut : (first : Step) (middle : Pen) (after : Pen → Step) (last : Pen) (a b c : Bool) → TellsCut first middle a b
+    → TellsCut (after middle) last b c → TellsCut (turn_following first after) last a c
+two_cut first middle after last a b c tells second = grind (arith, false≢true)
 
 -- ---- A line
 

@@ -1,16 +1,16 @@
 -- The turns of drawing, one after another.
 use Rattle.fax_reading.proofs.Names.{arith, common_steps, ◌≡◌, ℕ, suc, Bool, cond, leb, [], length, Result, Mode, Horizontal}
 use Rattle.fax_reading.proofs.Names.{DecodeError, UnexpectedEof, Step, Bits, mode_codes, read_code, Turn, repeated, Row, opposite}
-use Rattle.fax_reading.proofs.Names.{paint, run_from, Line, Pen, turn_behind, unless_fault, draw_run, draw_mode, draw_1d, draw_2d}
+use Rattle.fax_reading.proofs.Names.{paint, run_from, Line, Pen, turn_following, unless_fault, draw_run, draw_mode, draw_1d, draw_2d}
 
 -- what comes of a value, or the line that a fault ends
 abbrev pub try : {A : Type 0} → Row → Result A DecodeError → (A → Step) → Step
-try front result behind = turn_behind (unless_fault front result) behind
+try front result after = turn_following (unless_fault front result) after
 
 -- a run that is read and painted, and a step after it
 abbrev pub run_then : Bool → ℕ → Pen → (Pen → Step) → Step
-run_then strict columns pen behind = try pen.front (run_from pen.color (0, pen.rest)) (λ run. try pen.front (paint strict columns
-    pen.front pen.color run.0) (λ front. behind (record { front = front; color = opposite pen.color; rest = run.1 })))
+run_then strict columns pen after = try pen.front (run_from pen.color (0, pen.rest)) (λ run. try pen.front (paint strict columns
+    pen.front pen.color run.0) (λ front. after (record { front = front; color = opposite pen.color; rest = run.1 })))
 
 -- the step of a mode
 abbrev pub mode_step : Bool → ℕ → Row → Pen → Mode → Step
@@ -44,14 +44,14 @@ pub step_2d_is : (strict : Bool) (columns : ℕ) (reference : Row) (pen : Pen)
 step_2d_is strict columns reference pen = grind (arith, common_steps)
 
 -- a step after a run is the run, and then that step
-pub run_then_is : (strict : Bool) (columns : ℕ) (pen : Pen) (behind : Pen → Step)
-    → run_then strict columns pen behind ≡ turn_behind (draw_run strict columns pen).turn behind
-run_then_is strict columns pen behind = by_result (run_from pen.color (0, pen.rest))
+pub run_then_is : (strict : Bool) (columns : ℕ) (pen : Pen) (after : Pen → Step)
+    → run_then strict columns pen after ≡ turn_following (draw_run strict columns pen).turn after
+run_then_is strict columns pen after = by_result (run_from pen.color (0, pen.rest))
   where
     by_result : (r : Result (ℕ × Bits) DecodeError) → try pen.front r (λ run. try pen.front (paint strict
-        columns pen.front pen.color run.0) (λ front. behind (record { front = front; color = opposite pen.color; rest = run.1 })))
-        ≡ turn_behind (try pen.front r (λ run. try pen.front (paint strict columns pen.front pen.color run.0)
-        (λ front. Turn.next (record { front = front; color = opposite pen.color; rest = run.1 })))) behind
+        columns pen.front pen.color run.0) (λ front. after (record { front = front; color = opposite pen.color; rest = run.1 })))
+        ≡ turn_following (try pen.front r (λ run. try pen.front (paint strict columns pen.front pen.color run.0)
+        (λ front. Turn.next (record { front = front; color = opposite pen.color; rest = run.1 })))) after
     by_result r = grind (arith)
 
 -- the two runs of a horizontal mode

@@ -2,7 +2,7 @@
 use Rattle.fax_reading.proofs.Names.{Contains-append_right, Contains-append_left, RepairStoresChange, too_many_pixels, Horizontal}
 use Rattle.fax_reading.proofs.Names.{DecodeSettings, StopsAtChange, length-append, not_from_true, FitsUnsigned, IsRepairable, Err}
 use Rattle.fax_reading.proofs.Names.{StoresChange, append_assoc, common_steps, step_of_mode, DecodeError, OutOfMemory, false≢true}
-use Rattle.fax_reading.proofs.Names.{TakesOneRow, front_after, row_of_line, step_of_run, turn_behind, last_pixel, mode_codes, Pen}
+use Rattle.fax_reading.proofs.Names.{TakesOneRow, front_after, row_of_line, step_of_run, turn_following, last_pixel, mode_codes, Pen}
 use Rattle.fax_reading.proofs.Names.{place_from, DrawsLine, DrawsStep, cond-true, not-false, read_code, replicate, HasBlack, Bits}
 use Rattle.fax_reading.proofs.Names.{Vertical, cases_lt, front_of, is_black, opposite, or_parts, right_of, run_from, Context, Row}
 use Rattle.fax_reading.proofs.Names.{IsFault, SomeIff, kind_of, nat_abs, or_from, redrawn, BitsAt, IsTrue, Option, Result, le-leb}
@@ -236,21 +236,21 @@ mode_shorter strict columns reference pen t at mode reads draws = omega (
 -- ---- Two runs.
 
 -- an error of the first step is that of both, if what follows keeps what is painted
-pub behind_fails : (behind : Pen → Step) (step : Step) (e : DecodeError) (pen : Pen) → KeepsFront (stopping_at pen.front) behind
-    → DrawsStep step (Err e) pen → DrawsStep (turn_behind step behind) (Err e) pen
-behind_fails behind step e pen keeps = kind_weaker (kind_of e) (step ≡ Turn.done (Line.broken pen.front e))
-    (StopsAtChange (front_after step) pen.front) ⊥ (turn_behind step behind ≡ Turn.done (Line.broken pen.front e))
-    (StopsAtChange (front_after (turn_behind step behind)) pen.front) ⊥ (λ draws. rw draws refl) (stops step) (λ draws. draws)
+pub after_fails : (after : Pen → Step) (step : Step) (e : DecodeError) (pen : Pen) → KeepsFront (stopping_at pen.front) after
+    → DrawsStep step (Err e) pen → DrawsStep (turn_following step after) (Err e) pen
+after_fails after step e pen keeps = kind_weaker (kind_of e) (step ≡ Turn.done (Line.broken pen.front e))
+    (StopsAtChange (front_after step) pen.front) ⊥ (turn_following step after ≡ Turn.done (Line.broken pen.front e))
+    (StopsAtChange (front_after (turn_following step after)) pen.front) ⊥ (λ draws. rw draws refl) (stops step) (λ draws. draws)
   where
     stops : (step : Step) → StopsAtChange (front_after step) pen.front
-        → StopsAtChange (front_after (turn_behind step behind)) pen.front
+        → StopsAtChange (front_after (turn_following step after)) pen.front
     stops (Turn.next p) draws = keeps p draws
     stops (Turn.done line) draws = draws
 
 -- two runs, if the first is refused
 pub first_run_fails : (held : Held) (rest : Bits) (left : Pen) (e : DecodeError) → DrawsStep (step_of_run held rest) (Err e) left
     → DrawsStep (step_of_mode held rest Horizontal) (Err e) left
-first_run_fails held rest left e draws = behind_fails (λ pen. run_then held.settings.strict held.settings.columns pen Turn.next)
+first_run_fails held rest left e draws = after_fails (λ pen. run_then held.settings.strict held.settings.columns pen Turn.next)
     (step_of_run held rest) e left (λ p stops. after_kept (stopping_at left.front) _ (run_keeps (stays_kept
     (stopping_at left.front) (later_change left.front) held.settings.strict held.settings.columns) p stops)) draws
 

@@ -1,6 +1,6 @@
 -- What reading and painting keep, of a front and of the bits that are left, steps and lines keep.
 use Rattle.fax_reading.proofs.Names.{Err, ◌≡◌, suc, [], Ok, ℕ, ℤ}
-use Rattle.fax_reading.proofs.Names.{UnexpectedEof, unless_fault, turn_behind, unless_full, DecodeError, Horizontal, painted_to}
+use Rattle.fax_reading.proofs.Names.{UnexpectedEof, unless_fault, turn_following, unless_full, DecodeError, Horizontal, painted_to}
 use Rattle.fax_reading.proofs.Names.{drawn, go_on, ◌>>=◌, paint, subst, arith, Bool, Mode, Pass, Bits, Turn, Line, refl, Row, Pen}
 use Rattle.fax_reading.proofs.Names.{place_from, mode_codes, mode_here, draw_mode, read_code, draw_run, opposite, Color}
 use Rattle.fax_reading.proofs.Names.{run_from, Vertical, Overflow, run_here, Drawing, painted, draw_1d, draw_2d, length, Result}
@@ -12,9 +12,9 @@ abbrev pub Yields : {A : Type 0} → (A → Type 0) → (Line → Type 0) → Tu
 Yields P Q (Turn.next x) = P x
 Yields P Q (Turn.done line) = Q line
 
-behind_yields : {A B : Type 0} (P : A → Type 0) (R : B → Type 0) (Q : Line → Type 0) (turn : Turn A Line)
-    (behind : A → Turn B Line) → Yields P Q turn → ((x : A) → P x → Yields R Q (behind x)) → Yields R Q (turn_behind turn behind)
-behind_yields P R Q turn behind first second = grind arith
+after_yields : {A B : Type 0} (P : A → Type 0) (R : B → Type 0) (Q : Line → Type 0) (turn : Turn A Line)
+    (after : A → Turn B Line) → Yields P Q turn → ((x : A) → P x → Yields R Q (after x)) → Yields R Q (turn_following turn after)
+after_yields P R Q turn after first second = grind arith
 
 -- What is true of a front and of the bits that are left stays true with more that is read or painted, and says this of the line.
 pub record AreKept (strict : Bool) (columns : ℕ) (P : Row → Bits → Type 0) (Q : Line → Type 0) : Type 0 where
@@ -55,8 +55,8 @@ module _ {strict : Bool} {columns : ℕ} {P : Row → Bits → Type 0} {Q : Line
   OfPen pen = P pen.front pen.rest
 
   pub run_keeps : (pen : Pen) → OfPen pen → Yields OfPen Q (draw_run strict columns pen).turn
-  run_keeps pen p = behind_yields (λ (found : ℕ × Bits). P pen.front found.1) OfPen Q (run_here pen).turn (λ run. (drew run).turn)
-      (kept.run pen.front pen.rest pen.color p) (λ run q. behind_yields (λ (row : Row). P row run.1) OfPen Q
+  run_keeps pen p = after_yields (λ (found : ℕ × Bits). P pen.front found.1) OfPen Q (run_here pen).turn (λ run. (drew run).turn)
+      (kept.run pen.front pen.rest pen.color p) (λ run q. after_yields (λ (row : Row). P row run.1) OfPen Q
       (painted strict columns pen run.0).turn (λ front. Turn.next
       (record { front = front; color = opposite pen.color; rest = run.1 }))
       (kept.paints pen.front run.1 pen.color run.0 q) (λ front r. r))
@@ -71,30 +71,30 @@ module _ {strict : Bool} {columns : ℕ} {P : Row → Bits → Type 0} {Q : Line
 
   to_place_keeps : (pen : Pen) (place : ℕ) (color : Color) → OfPen pen → Yields OfPen Q (painted_to strict columns pen place
       >>= (λ front. go_on (record { front = front; color = color; rest = pen.rest }))).turn
-  to_place_keeps pen place color p = grind (arith, behind_yields)
+  to_place_keeps pen place color p = grind (arith, after_yields)
 
   mode_keeps : (reference : Row) (pen : Pen) (mode : Mode) → OfPen pen
       → Yields OfPen Q (draw_mode strict columns reference pen mode).turn
   mode_keeps reference pen Pass p = to_place_keeps pen _ pen.color p
-  mode_keeps reference pen Horizontal p = behind_yields OfPen OfPen Q (draw_run strict columns pen).turn
+  mode_keeps reference pen Horizontal p = after_yields OfPen OfPen Q (draw_run strict columns pen).turn
       (λ p. (draw_run strict columns p).turn) (run_keeps pen p) run_keeps
-  mode_keeps reference pen (Vertical k) p = grind (arith, behind_yields, place_keeps, to_place_keeps)
+  mode_keeps reference pen (Vertical k) p = grind (arith, after_yields, place_keeps, to_place_keeps)
 
   full_keeps : (pen : Pen) → OfPen pen → Yields OfPen Q (unless_full columns pen).turn
   full_keeps pen p = let whole = kept.whole pen.front pen.rest p in grind arith
 
   -- and one of a two-dimensional line
   pub step_2d_keeps : (reference : Row) (pen : Pen) → OfPen pen → Yields OfPen Q (draw_2d strict columns reference pen).turn
-  step_2d_keeps reference pen p = behind_yields OfPen OfPen Q (unless_full columns pen).turn (λ p. (behind p).turn)
-      (full_keeps pen p) (λ p q. behind_yields (λ (found : Mode × Bits). P p.front found.1) OfPen Q (mode_here p).turn
+  step_2d_keeps reference pen p = after_yields OfPen OfPen Q (unless_full columns pen).turn (λ p. (after p).turn)
+      (full_keeps pen p) (λ p q. after_yields (λ (found : Mode × Bits). P p.front found.1) OfPen Q (mode_here p).turn
       (λ mode. (drew p mode).turn) (kept.mode p.front p.rest q)
       (λ mode r. mode_keeps reference (record p { rest = mode.1 }) mode.0 r))
     where
       drew : Pen → Mode × Bits → Drawing Pen
       drew p mode = draw_mode strict columns reference (record p { rest = mode.1 }) mode.0
 
-      behind : Pen → Drawing Pen
-      behind p = mode_here p >>= drew p
+      after : Pen → Drawing Pen
+      after p = mode_here p >>= drew p
 
   steps_keep : (draw : Pen → Drawing Pen) → Shrinks (λ pen. (draw pen).turn) pen_left
       → ((pen : Pen) → OfPen pen → Yields OfPen Q (draw pen).turn) → (pen : Pen) → OfPen pen → Q (drawn draw pen)
@@ -105,7 +105,7 @@ module _ {strict : Bool} {columns : ℕ} {P : Row → Bits → Type 0} {Q : Line
   -- the line from a pen on
   pub line_1d_keeps : (pen : Pen) → OfPen pen → Q (drawn (draw_1d strict columns) pen)
   line_1d_keeps = steps_keep (draw_1d strict columns) (step_1d_shrinks strict columns) (λ pen p. grind
-      (arith, behind_yields, full_keeps, run_keeps))
+      (arith, after_yields, full_keeps, run_keeps))
 
   pub line_2d_keeps : (reference : Row) (pen : Pen) → OfPen pen → Q (drawn (draw_2d strict columns reference) pen)
   line_2d_keeps reference =

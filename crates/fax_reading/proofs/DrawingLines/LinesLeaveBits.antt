@@ -33,11 +33,11 @@ line_2d_leaves : (strict : Bool) (columns : ℕ) (reference : Row) (here : Bits)
 line_2d_leaves strict columns reference here = found_leaves (step_2d strict columns reference) here
     (line_2d strict columns reference here) (line_2d_found strict columns reference here)
 
-behind_tag : (tag : Bool) (here : Bits) (line : Line) → LineLeaves here line → LineLeaves (tag ∷ here) line
-behind_tag tag here (Line.whole row rest) leaves = (tag ∷ leaves.0, ap (λ (b : Bits). tag ∷ b) leaves.1)
-behind_tag tag here (Line.broken front fault) leaves = tt
+after_tag : (tag : Bool) (here : Bits) (line : Line) → LineLeaves here line → LineLeaves (tag ∷ here) line
+after_tag tag here (Line.whole row rest) leaves = (tag ∷ leaves.0, ap (λ (b : Bits). tag ∷ b) leaves.1)
+after_tag tag here (Line.broken front fault) leaves = tt
 
 -- so does a line of any kind
 pub line_by_leaves : (encoding : EncodingMode) (strict : Bool) (columns : ℕ) (reference : Row) (here : Bits)
     → LineLeaves here (line_by encoding strict columns reference here)
-line_by_leaves encoding strict columns reference here = grind (arith, line_1d_leaves, behind_tag, line_2d_leaves)
+line_by_leaves encoding strict columns reference here = grind (arith, line_1d_leaves, after_tag, line_2d_leaves)

@@ -10,8 +10,8 @@ pub closed_pictures : ReadsClosedPictures
 closed_pictures settings rows count stream are whole (IsClosedPicture.by_eofb bits begins counted) =
     let e = closed_picture_t6 settings rows bits stream are whole begins in
     (ap (λ (a : Reading). a.rows) e, ap (λ (a : Reading). a.outcome) e ∙ ap (λ (n : ℕ). Ok n) (sym counted))
-closed_pictures settings rows count stream are whole (IsClosedPicture.by_rtc bits behind begins counted) =
-    let e = closed_picture_t4 settings rows bits behind stream are begins in
+closed_pictures settings rows count stream are whole (IsClosedPicture.by_rtc bits after begins counted) =
+    let e = closed_picture_t4 settings rows bits after stream are begins in
     (ap (λ (a : Reading). a.rows) e, ap (λ (a : Reading). a.outcome) e ∙ ap (λ (n : ℕ). Ok n) (sym counted))
 
 -- the law

@@ -1,7 +1,7 @@
 -- A T.4 picture is read again; lines without EOLs are, in every encoding.
 use Rattle.fax_reading.proofs.Names.{ReadsLimitedPictureT4, EncodesRowsWithEols, ReadsLimitedRowsT4, length-replicate, after_line}
 use Rattle.fax_reading.proofs.Names.{ClosesWithEols, DecodeSettings, ReadsPictureT4, eols_with_tags, EncodesLine1D, EncodesLine2D}
-use Rattle.fax_reading.proofs.Names.{UnexpectedEof, ending_behind, length-append, EncodingMode, OnePictureT4, append_assoc, Color}
+use Rattle.fax_reading.proofs.Names.{UnexpectedEof, ending_after, length-append, EncodingMode, OnePictureT4, append_assoc, Color}
 use Rattle.fax_reading.proofs.Names.{common_steps, EncodesLine, EncodesRows, gap_and_row, tagged_eols, append-nil, cond-false, Ok}
 use Rattle.fax_reading.proofs.Names.{row_before, Group3_1D, Group3_2D, IsPicture, PictureT4, after_eol, and_right, cond-true, All}
 use Rattle.fax_reading.proofs.Names.{each_word, ends_with, eols_here, limit_met, line_here, replicate, All-head, All-tail, Allows}
@@ -90,16 +90,16 @@ length-closing encoding (suc n) closing more (fill, next, then, is) =
     grind (arith, common_steps, append_assoc, common_steps, length-append, length-eol, length-closing encoding n next more)
 
 -- a tag before EOLs is consumed
-tagged_eols_behind : (n most : ℕ) (closing more : Bits) → ClosesWithEols Group3_2D n closing
+tagged_eols_after : (n most : ℕ) (closing more : Bits) → ClosesWithEols Group3_2D n closing
     → n ≤ (eols_with_tags most (closing ++ more)).0 → n ≤ (eols_with_tags most (past_tag (true ∷ (closing ++ more)))).0
-tagged_eols_behind n most closing more is le = grind (arith, common_steps)
+tagged_eols_after n most closing more is le = grind (arith, common_steps)
 
 tagged_eols_closing : (n most : ℕ) (closing more : Bits) → ClosesWithEols Group3_2D n closing → n ≤ most
     → n ≤ (eols_with_tags most (closing ++ more)).0
 tagged_eols_closing zero most closing more is le = omega arith
 tagged_eols_closing (suc n) zero closing more is le = absurd (omega arith)
 tagged_eols_closing (suc n) (suc most) closing more (fill, next, then, is) le = let step = tagged_eols_closing n most next more in
-    grind (arith, common_steps, one_more-count, tagged_eols_behind, tagged_eols_more, step)
+    grind (arith, common_steps, one_more-count, tagged_eols_after, tagged_eols_more, step)
 
 -- the six EOLs of RTC are counted
 pub six_tagged : (closing more : Bits) → ClosesWithEols Group3_2D 6 closing → 6 ≤ (tagged_eols (closing ++ more)).0
@@ -258,7 +258,7 @@ module _ (settings : DecodeSettings) (wide : 0 < settings.columns) (small : sett
 
 -- ---- Over whole data.
 pub closed_picture_t4 : ReadsPictureT4
-closed_picture_t4 settings rows bits behind stream are begins =
+closed_picture_t4 settings rows bits after stream are begins =
     grind (arith, common_steps, closed_t4_end settings, matches_itself settings begins.encoding, plain_ends settings stream)
 
 -- the law
@@ -368,7 +368,7 @@ module _ (settings : DecodeSettings) (wide : 0 < settings.columns) (small : sett
       allows = inr (omega arith)
 
       -- a limit of as many rows ends the lines
-      pub body_end : ending_behind settings (pass_gap settings (between [] (body ++ more)))
+      pub body_end : ending_after settings (pass_gap settings (between [] (body ++ more)))
           ≡ ended_with rows (eols_here settings more).1
       body_end = reaches_end settings wide (between [] (body ++ more)) (between rows more)
           (ended_with rows (eols_here settings more).1) (body_again [] rows body more (allows_sum settings (length rows) allows)

@@ -2,7 +2,7 @@
 use Rattle.fax_reading.proofs.Names.{PicturesComeToEofb, ReadsLimitedRowsT6, length-replicate, take-append-drop, DecodeSettings}
 use Rattle.fax_reading.proofs.Names.{ReadsPictureT6, length-take-le, AreWholeBytes, add_row_alone, length-append, EncodingMode, ℕ}
 use Rattle.fax_reading.proofs.Names.{OnePictureT6, append_assoc, common_steps, line_of_turn, nothing_read, DecodeError, AfterEofb}
-use Rattle.fax_reading.proofs.Names.{gap_and_row, row_of_line, append-nil, cond-false, mode_codes, row_before, row_behind, Allows}
+use Rattle.fax_reading.proofs.Names.{gap_and_row, row_of_line, append-nil, cond-false, mode_codes, row_before, row_after, Allows}
 use Rattle.fax_reading.proofs.Names.{PictureT6, after_eol, ends_with, eols_here, read_code, replicate, Progress, at_front, Ending}
 use Rattle.fax_reading.proofs.Names.{cases_lt, or_parts, pass_gap, Reaches, Reading, aligned, drop_at, is_over, line_2d, or_from}
 use Rattle.fax_reading.proofs.Names.{Group4, Result, end_of, for_t6, length, arith, false, plain, start, subst, Bits, Bool, Line}
@@ -108,11 +108,11 @@ module _ (settings : DecodeSettings) (four : settings.encoding ≡ Group4) (bloc
       } in subst (MoveFound settings run) (next_is then after e) moved
 
   by_eols : (run after : Progress) (found : ℕ × Bits) → run.has_eols ≡ false → eols 2 run.rest ≡ found
-      → row_behind settings (unless_over settings run found) ≡ Turn.next after → MoveFound settings run after
+      → row_after settings (unless_over settings run found) ≡ Turn.next after → MoveFound settings run after
   by_eols run after (count, t) unsought counted e = by_over (is_over settings (length run.rows) (count, t)) refl e
     where
       by_over : (over : Bool) → is_over settings (length run.rows) (count, t) ≡ over
-          → row_behind settings (cond over (ends_with run (Ok t)) (Turn.next (record run { rest = t }))) ≡ Turn.next after
+          → row_after settings (cond over (ends_with run (Ok t)) (Turn.next (record run { rest = t }))) ≡ Turn.next after
           → MoveFound settings run after
       by_over true is e = absurd (not_next _ after e)
       by_over false is e = grind (arith, by_line, line_is) steps 200000

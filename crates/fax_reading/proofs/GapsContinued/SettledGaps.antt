@@ -1,12 +1,12 @@
--- Gaps with more bits behind.
+-- Gaps with more bits after.
 use Rattle.fax_reading.proofs.Names.{common_steps, ◌≡◌, ◌≢◌, ℕ, suc, Bool, true, false, not, ◌&&◌, ◌||◌, cond, leb, [], ◌++◌}
 use Rattle.fax_reading.proofs.Names.{length, Option, Some, None, Ok, Err, refl, sym, ap, ◌∙◌, inl, inr, arith, length-append}
 use Rattle.fax_reading.proofs.Names.{and_parts, or_parts, cases_Bool, not-false, leb-true, ne_eqb, AreWholeBytes, Bits, after_eol}
 use Rattle.fax_reading.proofs.Names.{eols, all_eols, tagged_eols, next_eol, DecodeSettings, InvalidCode, EncodingMode, Group4}
-use Rattle.fax_reading.proofs.Names.{Group3_1D, Group3_2D, Gap, Held, eols_by, eols_here, behind_eols, from_next_eol, misses_eol}
-use Rattle.fax_reading.proofs.Names.{gap_behind_row, at_gap, at_front, first_gap, repairs_behind}
+use Rattle.fax_reading.proofs.Names.{Group3_1D, Group3_2D, Gap, Held, eols_by, eols_here, after_eols, from_next_eol, misses_eol}
+use Rattle.fax_reading.proofs.Names.{gap_after_row, at_gap, at_front, first_gap, repairs_after}
 use Rattle.std.proofs.lemmas.Bool.{or_cases, leb-false}
-use Rattle.fax_reading.specs.GapsContinued.{holds_one, behind_line_tag, eols_are_settled, eols_here_are_settled}
+use Rattle.fax_reading.specs.GapsContinued.{holds_one, after_line_tag, eols_are_settled, eols_here_are_settled}
 use Rattle.fax_reading.specs.GapsContinued.{next_eols_are_settled, gap_is_settled, first_gap_is_settled, gap_before, move_before}
 use Rattle.fax_reading.specs.GapsContinued.{GapIsSettled, FirstGapIsSettled, GapsSettle}
 use Rattle.fax_bits.proofs.BitReading.ConsecutiveEols.{all_eols-some, all_tagged-some, eols-some}
@@ -18,7 +18,7 @@ use Rattle.fax_reading.proofs.GapsContinued.ContinuedEols.{tagged_eols-more, tag
 settled_1d : (block : Bool) (found : ℕ × Bits) → eols_are_settled Group3_1D block found ≡ holds_one found.1
 settled_1d block (count, rest) = refl
 
-settled_2d : (block : Bool) (found : ℕ × Bits) → eols_are_settled Group3_2D block found ≡ holds_one (behind_line_tag found)
+settled_2d : (block : Bool) (found : ℕ × Bits) → eols_are_settled Group3_2D block found ≡ holds_one (after_line_tag found)
 settled_2d block (count, rest) = refl
 
 settled_t6 : (block : Bool) (found : ℕ × Bits)
@@ -26,7 +26,7 @@ settled_t6 : (block : Bool) (found : ℕ × Bits)
 settled_t6 block (count, rest) = refl
 
 -- ---- The EOLs here
--- settled EOLs are the same with more bits behind
+-- settled EOLs are the same with more bits after
 pub eols_here-more : (more : Bits) (settings : DecodeSettings) (here : Bits) → eols_here_are_settled settings here ≡ true
     → eols_here settings (here ++ more) ≡ count_then_more more (eols_here settings here)
 eols_here-more more settings here settled = by_encoding settings.encoding settings.end_of_block settled
@@ -59,16 +59,16 @@ last_eol_counted settings here e = grind (arith, common_steps, all_eols-some her
 
 -- ---- What follows them
 
--- what follows settled EOLs is the same with more bits behind
-behind_eols-more : (more : Bits) (settings : DecodeSettings) (taken : ℕ) (has_eols : Bool) (found : ℕ × Bits)
-    → eols_are_settled settings.encoding settings.end_of_block found ≡ true → behind_eols settings taken has_eols
-    (count_then_more more found) ≡ gap_before more (behind_eols settings taken has_eols found)
-behind_eols-more more settings taken has_eols found settled = grind (arith)
+-- what follows settled EOLs is the same with more bits after
+after_eols-more : (more : Bits) (settings : DecodeSettings) (taken : ℕ) (has_eols : Bool) (found : ℕ × Bits)
+    → eols_are_settled settings.encoding settings.end_of_block found ≡ true → after_eols settings taken has_eols
+    (count_then_more more found) ≡ gap_before more (after_eols settings taken has_eols found)
+after_eols-more more settings taken has_eols found settled = grind (arith)
 
 -- where no bit is left the reading ends
-behind_eols-end : (settings : DecodeSettings) (taken : ℕ) (has_eols : Bool) (count : ℕ)
-    → behind_eols settings taken has_eols (count, []) ≡ Gap.over (Ok [])
-behind_eols-end settings taken has_eols count = grind (arith, common_steps)
+after_eols-end : (settings : DecodeSettings) (taken : ℕ) (has_eols : Bool) (count : ℕ)
+    → after_eols settings taken has_eols (count, []) ≡ Gap.over (Ok [])
+after_eols-end settings taken has_eols count = grind (arith, common_steps)
 
 -- ---- The gap
 -- whether an EOL is missed
@@ -76,7 +76,7 @@ misses_eol-more : (more : Bits) (settings : DecodeSettings) (taken : ℕ) (has_e
     settings here ≡ true → misses_eol settings taken has_eols (here ++ more) ≡ misses_eol settings taken has_eols here
 misses_eol-more more settings taken has_eols here settled = grind (arith, eols_here-more)
 
--- a gap that passes the test is the same with more bits behind
+-- a gap that passes the test is the same with more bits after
 pub gap_settled : (settings : DecodeSettings) (taken : ℕ) (has_eols : Bool) (here : Bits)
     → gap_is_settled settings taken has_eols here ≡ true → GapIsSettled settings taken has_eols here
 gap_settled settings taken has_eols here passes more = by_missed (misses_eol settings taken has_eols here) refl parts.1
@@ -89,8 +89,8 @@ gap_settled settings taken has_eols here passes more = by_missed (misses_eol set
         (here ++ more) (next_eol (here ++ more)) ≡ gap_before more (from_next_eol settings taken here o)
     by_next None e is = absurd cc
     by_next (Some found) e is =
-        ap (from_next_eol settings taken (here ++ more)) (next_eol-more more here found e) ∙ ap (behind_eols settings taken true)
-        (eols_here-more more settings found is) ∙ behind_eols-more more settings taken true (eols_here settings found) is
+        ap (from_next_eol settings taken (here ++ more)) (next_eol-more more here found e) ∙ ap (after_eols settings taken true)
+        (eols_here-more more settings found is) ∙ after_eols-more more settings taken true (eols_here settings found) is
 
     by_strict : (b : Bool) → (b || next_eols_are_settled settings (next_eol here)) ≡ true
         → cond b (Gap.over (Err InvalidCode)) (from_next_eol settings taken (here ++ more) (next_eol (here ++ more)))
@@ -99,30 +99,30 @@ gap_settled settings taken has_eols here passes more = by_missed (misses_eol set
 
     by_missed : (b : Bool) → misses_eol settings taken has_eols here ≡ b → (not (misses_eol settings taken has_eols here)
         || settings.strict || next_eols_are_settled settings (next_eol here)) ≡ true
-        → gap_behind_row settings taken has_eols (here ++ more) ≡ gap_before more (gap_behind_row settings taken has_eols here)
+        → gap_after_row settings taken has_eols (here ++ more) ≡ gap_before more (gap_after_row settings taken has_eols here)
     by_missed true e is = grind (arith, common_steps, misses_eol-more, parts, by_strict)
-    by_missed false e is = grind (arith, common_steps, misses_eol-more, parts, eols_here-more, behind_eols-more)
+    by_missed false e is = grind (arith, common_steps, misses_eol-more, parts, eols_here-more, after_eols-more)
 
--- behind one that doesn't, an EOL may come with which the data ends
+-- after one that doesn't, an EOL may come with which the data ends
 pub gap_may_end : (settings : DecodeSettings) (taken : ℕ) (has_eols : Bool) (here : Bits) → gap_is_settled settings taken has_eols
-    here ≡ false → gap_behind_row settings taken has_eols (here ++ bytes_of_eol) ≡ Gap.over (Ok [])
+    here ≡ false → gap_after_row settings taken has_eols (here ++ bytes_of_eol) ≡ Gap.over (Ok [])
 gap_may_end settings taken has_eols here fails = by_eols (eols_here_are_settled settings here) refl fails
   where
     by_next : (o : Option Bits) → next_eol here ≡ o → next_eols_are_settled settings o ≡ false
         → from_next_eol settings taken (here ++ bytes_of_eol) (next_eol (here ++ bytes_of_eol)) ≡ Gap.over (Ok [])
-    by_next None e is = grind (arith, common_steps, next_eol_may_come, last_eol_counted, behind_eols-end)
+    by_next None e is = grind (arith, common_steps, next_eol_may_come, last_eol_counted, after_eols-end)
     by_next (Some found) e is = ap (from_next_eol settings taken (here ++ bytes_of_eol))
-        (next_eol-more bytes_of_eol here found e) ∙ ap (behind_eols settings taken true)
-        (eols_here_may_come settings found is) ∙ behind_eols-end settings taken true (suc (eols_here settings found).0)
+        (next_eol-more bytes_of_eol here found e) ∙ ap (after_eols settings taken true)
+        (eols_here_may_come settings found is) ∙ after_eols-end settings taken true (suc (eols_here settings found).0)
 
     by_eols : (b : Bool) → eols_here_are_settled settings here ≡ b → (b && (not (misses_eol settings taken has_eols here)
         || settings.strict || next_eols_are_settled settings (next_eol here))) ≡ false
-        → gap_behind_row settings taken has_eols (here ++ bytes_of_eol) ≡ Gap.over (Ok [])
-    by_eols false e is = grind (arith, common_steps, eols_here_may_come, ne_eqb, behind_eols-end)
+        → gap_after_row settings taken has_eols (here ++ bytes_of_eol) ≡ Gap.over (Ok [])
+    by_eols false e is = grind (arith, common_steps, eols_here_may_come, ne_eqb, after_eols-end)
     by_eols true e is = grind (arith, common_steps, or_parts, misses_eol-more, not-false, by_next)
 
 -- ---- The law
--- bits that are left with more behind them aren't the end of the data
+-- bits that are left with more after them aren't the end of the data
 over_differs : (gap : Gap) → Gap.over (Ok []) ≢ gap_before bytes_of_eol gap
 over_differs (Gap.line_at has_eols rest) e = absurd cc
 over_differs (Gap.over (Err fault)) e = absurd cc
@@ -131,7 +131,7 @@ over_differs (Gap.over (Ok rest)) e = grind (arith, common_steps, length-append 
 -- whole bytes change a gap that doesn't pass the test
 gap_unsettled : (settings : DecodeSettings) (taken : ℕ)
     (has_eols : Bool) (here : Bits) → gap_is_settled settings taken has_eols here ≡ false → (more : Bits) × AreWholeBytes more
-    × (gap_behind_row settings taken has_eols (here ++ more) ≢ gap_before more (gap_behind_row settings taken has_eols here))
+    × (gap_after_row settings taken has_eols (here ++ more) ≢ gap_before more (gap_after_row settings taken has_eols here))
 gap_unsettled settings taken has_eols here fails =
     grind (arith, common_steps, over_differs, gap_may_end settings taken has_eols here fails)
 
@@ -146,12 +146,12 @@ missed_settled : (settings : DecodeSettings) (taken : ℕ) (has_eols : Bool) (he
 missed_settled settings taken has_eols here more passes = grind (arith, common_steps, misses_eol-more, and_parts)
 
 -- so what is counted is the same
-pub repairs_behind-more : (held : Held) (here more : Bits) → gap_is_settled held.settings held.taken held.has_eols here ≡ true
-    → repairs_behind held (here ++ more) ≡ repairs_behind held here
-repairs_behind-more held here more passes = grind (arith, common_steps, missed_settled)
+pub repairs_after-more : (held : Held) (here more : Bits) → gap_is_settled held.settings held.taken held.has_eols here ≡ true
+    → repairs_after held (here ++ more) ≡ repairs_after held here
+repairs_after-more held here more passes = grind (arith, common_steps, missed_settled)
 
 -- ---- The first gap
--- a gap after no row, with more bits behind
+-- a gap after no row, with more bits after
 at_gap-more : (more bits : Bits) (gap : Gap)
     → at_gap (at_front (bits ++ more)) (gap_before more gap) ≡ move_before more (at_gap (at_front bits) gap)
 at_gap-more more bits gap = grind arith
@@ -160,7 +160,7 @@ first_settled : (settings : DecodeSettings) (bits : Bits) → first_gap_is_settl
     → FirstGapIsSettled settings bits
 first_settled settings bits passes more = grind (arith, common_steps, gap_settled, at_gap-more, all_eols-more)
 
--- a first gap with more bits behind it isn't the end of the data
+-- a first gap with more bits after it isn't the end of the data
 done_differs : (bits more : Bits) (gap : Gap)
     → at_gap (at_front more) (Gap.over (Ok [])) ≢ move_before bytes_of_eol (at_gap (at_front bits) gap)
 done_differs bits more (Gap.line_at has_eols rest) e = grind (arith, common_steps)
@@ -177,7 +177,7 @@ first_unsettled settings bits fails = (bytes_of_eol, refl, by_encoding settings.
 
     by_encoding : (encoding : EncodingMode) → first_gap_is_settled encoding settings bits ≡ false
         → first_gap encoding settings (bits ++ bytes_of_eol) ≢ move_before bytes_of_eol (first_gap encoding settings bits)
-    by_encoding Group4 is same = done_differs bits (bits ++ bytes_of_eol) (gap_behind_row settings 0 false bits)
+    by_encoding Group4 is same = done_differs bits (bits ++ bytes_of_eol) (gap_after_row settings 0 false bits)
         (sym (ap (at_gap (at_front (bits ++ bytes_of_eol))) (gap_may_end settings 0 false bits is)) ∙ same)
     by_encoding Group3_1D is same = grind (arith, common_steps, left_over, all_eols_may_come)
     by_encoding Group3_2D is same = grind (arith, common_steps, left_over, all_eols_may_come)
@@ -191,7 +191,7 @@ pub gaps_settle : GapsSettle
 gaps_settle = record {
   gaps = grind (arith, gap_settled, gap_passes);
   missed = missed_settled;
-  counted = repairs_behind-more;
+  counted = repairs_after-more;
   bytes = gap_unsettled;
   first = λ settings bits. (first_settled settings bits, first_passes settings bits);
   first_bytes = first_unsettled;

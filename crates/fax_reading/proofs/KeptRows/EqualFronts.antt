@@ -17,15 +17,15 @@ use Rattle.fax_reading.proofs.{GapsContinued.SettledGaps.eols_here-more, CodeWor
 
 -- ---- The bits of a line contain a one
 
--- behind the tag of a line a one follows
-abbrev pub one_behind_tag : Bits → Bool
-one_behind_tag [] = false
-one_behind_tag (tag ∷ bits) = holds_one bits
+-- after the tag of a line a one follows
+abbrev pub one_after_tag : Bits → Bool
+one_after_tag [] = false
+one_after_tag (tag ∷ bits) = holds_one bits
 
--- a one follows among the bits of a line, behind its tag if it has one
+-- a one follows among the bits of a line, after its tag if it has one
 abbrev pub one_in_line : EncodingMode → Bits → Bool
 one_in_line Group3_1D bits = holds_one bits
-one_in_line Group3_2D bits = one_behind_tag bits
+one_in_line Group3_2D bits = one_after_tag bits
 one_in_line Group4 bits = holds_one bits
 
 -- a one follows here
@@ -109,7 +109,7 @@ module _ (x : Bits) where
   all_first bits more n e = sym (eols_enough (length (bits ++ x)) bits (omega (arith, length-append bits x)))
       ∙ eols_first (length (bits ++ x)) bits more n e
 
-  -- a tag before an EOL, where the EOLs behind it end among them
+  -- a tag before an EOL, where the EOLs after it end among them
   tag_first : (most n : ℕ) (left more : Bits) → length left + length x ≤ most → 0 < length more
       → eols_with_tags most (past_tag (left ++ x)) ≡ (n, more ++ x) → past_tag (left ++ x) ≡ past_tag left ++ x
   tag_first most n [] more fits some e = absurd (omega (
@@ -140,7 +140,7 @@ module _ (x : Bits) where
 
   -- what is before the tag of RTC, or of a line
   last_tag_first : (found : ℕ × Bits) (more : Bits) (n : ℕ) → IsPair (pass_last_tag found) n (more ++ x)
-      → one_behind_tag more ≡ true
+      → one_after_tag more ≡ true
       → (raw : Bits) × (0 < length raw) × IsPair found n (raw ++ x) × IsPair (pass_last_tag (n, raw)) n more
   last_tag_first found [] n e one = absurd (false≢true one)
   last_tag_first (m, []) (b ∷ more) n e one = grind (arith, common_steps)
@@ -152,7 +152,7 @@ module _ (x : Bits) where
       either_way true six f = (true ∷ b ∷ more, omega arith, grind (arith, common_steps), grind (arith, common_steps))
       either_way false few f = (b ∷ more, omega arith, f, grind (arith, common_steps))
 
-  tagged_first : (bits more : Bits) (n : ℕ) → tagged_eols (bits ++ x) ≡ (n, more ++ x) → one_behind_tag more ≡ true
+  tagged_first : (bits more : Bits) (n : ℕ) → tagged_eols (bits ++ x) ≡ (n, more ++ x) → one_after_tag more ≡ true
       → tagged_eols bits ≡ (n, more)
   tagged_first bits more n e one = let (raw, some, is, last) = last_tag_first (all_tagged (bits ++ x)) more n e one in
       ap pass_last_tag (count_same counts_tagged (length bits) (length (bits ++ x)) bits (omega arith)
@@ -206,7 +206,7 @@ line_again Group3_2D strict columns reference (false ∷ here) row rest e =
 line_again Group4 strict columns reference here row rest e =
     let again = line_2d_found strict columns reference here row rest e in (again.bits, again.is, again.again)
 
--- ---- Its bits contain a one, behind its tag
+-- ---- Its bits contain a one, after its tag
 
 same_ones : (bits : Bits) → holds_a_one bits ≡ holds_one bits
 same_ones [] = refl

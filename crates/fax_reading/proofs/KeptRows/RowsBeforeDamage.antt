@@ -1,7 +1,7 @@
 -- Data that begin with the same bits have the same rows before the first line that may differ.
 use Rattle.fax_reading.proofs.Names.{append_cancel_right, append_cancel_left, take-append-drop, DecodeSettings, UnexpectedEof, []}
-use Rattle.fax_reading.proofs.Names.{cases_Bool, cond-false, false≢true, misses_eol, row_before, behind_row, after_line, all_eols}
-use Rattle.fax_reading.proofs.Names.{ending_behind, length-append, append_assoc, EncodingMode, common_steps, DecodeError, move_on}
+use Rattle.fax_reading.proofs.Names.{cases_Bool, cond-false, false≢true, misses_eol, row_before, aligned_after_row, after_line, all_eols}
+use Rattle.fax_reading.proofs.Names.{ending_after, length-append, append_assoc, EncodingMode, common_steps, DecodeError, move_on}
 use Rattle.fax_reading.proofs.Names.{first_line, RowsBefore, eols_here, limit_met, line_here, first_gap, replicate, ap}
 use Rattle.fax_reading.proofs.Names.{not-false, Group3_1D, Group3_2D, at_front, Progress, or_parts, IsPrefix, repeated}
 use Rattle.fax_reading.proofs.Names.{repaired, Reaches, length, Option, Group4, end_of, Ending, false, subst, arith, plain, true}
@@ -135,15 +135,15 @@ module _ (settings : DecodeSettings) (x y : Bits) where
   -- what follows a row is as much in both, where the data are whole bytes
   module _ (bytes : length x % 8 ≡ length y % 8) (wide : 0 < settings.columns) where
     -- the bits after a row, aligned or not
-    behind_front : (has_eols : Bool) (bits : Bits) → length x ≤ length (behind_row settings has_eols (bits ++ x)) → (left : Bits)
-        × (behind_row settings has_eols (bits ++ x) ≡ left ++ x) × (behind_row settings has_eols (bits ++ y) ≡ left ++ y)
-    behind_front has_eols bits le = let al : Bool = settings.rows_are_byte_aligned && not has_eols in
-        let behind : Bits = behind_row settings has_eols (bits ++ x) in
+    after_front : (has_eols : Bool) (bits : Bits) → length x ≤ length (aligned_after_row settings has_eols (bits ++ x)) → (left : Bits)
+        × (aligned_after_row settings has_eols (bits ++ x) ≡ left ++ x) × (aligned_after_row settings has_eols (bits ++ y) ≡ left ++ y)
+    after_front has_eols bits le = let al : Bool = settings.rows_are_byte_aligned && not has_eols in
+        let after : Bits = aligned_after_row settings has_eols (bits ++ x) in
         let split = aligned_split al (bits ++ x) in
         let long : length split.0 ≤ length bits = omega
-        (arith, le, ap length split.1, length-append split.0 behind, length-append bits x) in
-        let left = prefix_of_prefix split.0 behind bits x split.1 long in
-        let is : behind ≡ left.0 ++ x = grind (arith, append_cancel_left, append_assoc) in
+        (arith, le, ap length split.1, length-append split.0 after, length-append bits x) in
+        let left = prefix_of_prefix split.0 after bits x split.1 long in
+        let is : after ≡ left.0 ++ x = grind (arith, append_cancel_left, append_assoc) in
         let other : bits ++ y ≡ split.0 ++ (left.0 ++ y) = ap (λ (b : Bits). b ++ y) left.1 ∙ append_assoc split.0 left.0 y in
         grind (arith, length-append)
 
@@ -160,7 +160,7 @@ module _ (settings : DecodeSettings) (x y : Bits) where
     -- a turn over a whole line
     whole_turn : (rows : List Row) (has_eols : Bool) (here rest : Bits)
         (row : Row) → line_here settings (row_before settings.columns rows) here ≡ Line.whole row rest → move_on settings
-        (run_at rows has_eols here) ≡ after_row settings (run_at (rows ++ row ∷ []) has_eols (behind_row settings has_eols rest))
+        (run_at rows has_eols here) ≡ after_row settings (run_at (rows ++ row ∷ []) has_eols (aligned_after_row settings has_eols rest))
     whole_turn rows has_eols here rest row is =
         ap (after_line settings (run_at rows has_eols here)) is ∙ after_whole-is settings (run_at rows has_eols here) row rest
 
@@ -174,14 +174,14 @@ module _ (settings : DecodeSettings) (x y : Bits) where
         → one_in_line encoding (front ++ rest) ≡ true
     more_in_line encoding front rest one = grind (arith, one_stays, false≢true)
 
-    -- bits that end with an EOL have a one, behind their tag too
-    one_behind : (encoding : EncodingMode) (bits more : Bits) → Closes bits → one_in_line encoding (bits ++ more) ≡ true
-    one_behind Group3_1D bits more closes = one_closes bits more closes
-    one_behind Group4 bits more closes = one_closes bits more closes
-    one_behind Group3_2D [] more (first, is) =
+    -- bits that end with an EOL have a one, after their tag too
+    one_after : (encoding : EncodingMode) (bits more : Bits) → Closes bits → one_in_line encoding (bits ++ more) ≡ true
+    one_after Group3_1D bits more closes = one_closes bits more closes
+    one_after Group4 bits more closes = one_closes bits more closes
+    one_after Group3_2D [] more (first, is) =
         absurd (omega (arith, ap length is, length-append first (replicate 11 false ++ true ∷ [])))
-    one_behind Group3_2D (tag ∷ bits) more ([], is) = let same : bits ≡ replicate 10 false ++ true ∷ [] = cc in rw same refl
-    one_behind Group3_2D (tag ∷ bits) more (b ∷ first, is) = one_closes bits more (first, cc)
+    one_after Group3_2D (tag ∷ bits) more ([], is) = let same : bits ≡ replicate 10 false ++ true ∷ [] = cc in rw same refl
+    one_after Group3_2D (tag ∷ bits) more (b ∷ first, is) = one_closes bits more (first, cc)
 
     -- the next EOL is among the equal bits
     closes_front : (bits left : Bits) → past 0 (bits ++ x) ≡ Some (left ++ x) → (front : Bits) × Closes front
@@ -207,7 +207,7 @@ module _ (settings : DecodeSettings) (x y : Bits) where
         record {
           row = row;
           left = left ++ after.0;
-          one = ap (one_in_line settings.encoding) closes.2 ∙ one_behind settings.encoding closes.0 after.0 closes.1;
+          one = ap (one_in_line settings.encoding) closes.2 ∙ one_after settings.encoding closes.0 after.0 closes.1;
           here = shape x;
           there = shape y;
         }
@@ -223,18 +223,18 @@ module _ (settings : DecodeSettings) (x y : Bits) where
         by_line : (line : Line) → line_here settings above (bits ++ x) ≡ line → TurnFound rows has_eols bits
         by_line (Line.whole row rest) is = let moved = whole_turn rows has_eols (bits ++ x) rest row is in
             let again = line_again settings.encoding settings.strict settings.columns above (bits ++ x) row rest is in
-            let behind : Bits = behind_row settings has_eols rest in
-            let more = after_row_leaves settings (run_at (rows ++ row ∷ []) has_eols behind) (followed t x) (sym moved ∙ e) in
-            let shorter : length behind ≤ length rest = grind (arith, common_steps, aligned_split, length-append) in
-            let long : length x ≤ length behind = omega
+            let after : Bits = aligned_after_row settings has_eols rest in
+            let more = after_row_leaves settings (run_at (rows ++ row ∷ []) has_eols after) (followed t x) (sym moved ∙ e) in
+            let shorter : length after ≤ length rest = grind (arith, common_steps, aligned_split, length-append) in
+            let long : length x ≤ length after = omega
             (arith, ap length more.0.1, length-append more.0.0 (t.rest ++ x), length-append t.rest x) in
             let read : length again.0 ≤ length bits = omega
             (arith, long, shorter, ap length again.1, length-append again.0 rest, length-append bits x) in
             let kept = prefix_of_prefix again.0 rest bits x again.1 read in
             let rest_is : rest ≡ kept.0 ++ x = grind (arith, append_cancel_left, append_assoc) in
-            let long_so : length x ≤ length (behind_row settings has_eols (kept.0 ++ x)) = subst
-            (λ (b : Bits). length x ≤ length (behind_row settings has_eols b)) rest_is long in
-            let left = behind_front has_eols kept.0 long_so in
+            let long_so : length x ≤ length (aligned_after_row settings has_eols (kept.0 ++ x)) = subst
+            (λ (b : Bits). length x ≤ length (aligned_after_row settings has_eols b)) rest_is long in
+            let left = after_front has_eols kept.0 long_so in
             let other : line_here settings above (bits ++ y) ≡ Line.whole row (kept.0 ++ y) = grind (arith, append_assoc) in
             record {
               row = row;
@@ -384,7 +384,7 @@ rows_before settings one whole_one two place index whole_two same reads =
           | inl none ↦ let empty : last.rows ≡ [] = grind (arith, first_gap_keeps) in
               ((end_of settings bits).rows, ap (λ (r : List Row). r ++ (end_of settings bits).rows) (sym empty))
           | inr one ↦ let ends : end_of settings bits ≡ rest_end settings x z as_many reads.wide late s = ap (end_of settings)
-              is ∙ ap (ending_behind settings) (first_front settings x z front (record first { rest = leaves.0.0 }) one begins)
+              is ∙ ap (ending_after settings) (first_front settings x z front (record first { rest = leaves.0.0 }) one begins)
               ∙ repeated_same (move_on settings) late left_to_read (move_shrinks settings reads.wide) (suc (suc (length s.rest)))
               (suc (left_to_read s)) s (left_below s) (omega arith) in
               subst (λ (e : Ending). IsPrefix last.rows e.rows) (sym ends) on.1

@@ -1,4 +1,4 @@
--- An EOL and the line behind it, as they are tested.
+-- An EOL and the line after it, as they are tested.
 use Rattle.fax_reading.proofs.Names.{ComesBefore1D, AreWholeBytes, common_steps, EncodingMode, IsInStepFrom, looked_ahead, looked}
 use Rattle.fax_reading.proofs.Names.{EndsByWords, length-drop, EndsBefore, RowsFollow, after_eol, eols_here, run_found}
 use Rattle.fax_reading.proofs.Names.{TellsStep, tag_tests, cond-true, Group3_1D, Group3_2D, leb-true, next_eol, read_run, line_1d}
@@ -12,7 +12,7 @@ use Rattle.fax_reading.proofs.DamagedLines.{EolsAlike.one_alone, EolsAlike.IsGro
 use Rattle.fax_reading.proofs.DrawingLines.Drawings.{step_1d_is, drawn_by, step_1d}
 use Rattle.fax_reading.proofs.Work.WordsPay.{stands_count}
 use Rattle.fax_reading.proofs.{DamagedLines.DamageByK.unreferred, CodeWords.WordsFound.run_stands, DrawingLines.ReadLines.drawn1}
-use Rattle.fax_reading.proofs.{KeptRows.RowsBehindDamage.rows_behind, DamagedLines.RunsAlike.Unreferred}
+use Rattle.fax_reading.proofs.{KeptRows.RowsAfterDamage.rows_after, DamagedLines.RunsAlike.Unreferred}
 use Rattle.fax_reading.proofs.{Work.EolsPassed.looked_ahead_most, Work.EolsPassed.few_tag_tests, DrawingLines.DrawnLines.run_open}
 
 -- ---- Runs that are passed
@@ -98,42 +98,42 @@ words_end Group3_2D columns after (false ∷ line) is ends modes = modes refl li
 words_end Group4 columns after line (inl is) ends modes = absurd cc
 words_end Group4 columns after line (inr is) ends modes = absurd cc
 
--- ---- The line behind the second EOL
+-- ---- The line after the second EOL
 
-unreferred_by : (settings : DecodeSettings) (next behind : Bits) (count : ℕ) → IsGroup3 settings.encoding
-    → eols_here settings next ≡ (count, behind) → (settings.encoding ≡ Group3_2D → ComesBefore1D settings next)
-    → Unreferred settings (count, behind)
-unreferred_by settings next behind count given counted tag = grind (arith, common_steps, counted, unreferred)
+unreferred_by : (settings : DecodeSettings) (next following : Bits) (count : ℕ) → IsGroup3 settings.encoding
+    → eols_here settings next ≡ (count, following) → (settings.encoding ≡ Group3_2D → ComesBefore1D settings next)
+    → Unreferred settings (count, following)
+unreferred_by settings next following count given counted tag = grind (arith, common_steps, counted, unreferred)
 
 -- ---- The tests together
 
-pub told_by : (settings : DecodeSettings) (here line next after behind : Bits) (count : ℕ) → IsGroup3 settings.encoding
+pub told_by : (settings : DecodeSettings) (here line next after following : Bits) (count : ℕ) → IsGroup3 settings.encoding
     → settings.strict ≡ false → eols_here settings here ≡ (1, line) → next_eol line ≡ Some next → after_eol 0 next ≡ Some after
-    → EndsByWords settings.encoding settings.columns after line → eols_here settings next ≡ (count, behind)
-    → (settings.encoding ≡ Group3_2D → ComesBefore1D settings next) → TellsStep settings here line behind
-told_by settings here line next after behind count group3 lenient alone next_is after_is ends counted tag = record {
+    → EndsByWords settings.encoding settings.columns after line → eols_here settings next ≡ (count, following)
+    → (settings.encoding ≡ Group3_2D → ComesBefore1D settings next) → TellsStep settings here line following
+told_by settings here line next after following count group3 lenient alone next_is after_is ends counted tag = record {
   step = grind (
     arith,
     common_steps,
     one_alone settings here line group3 alone,
     ends_any settings.encoding settings.columns after line ends,
-    unreferred_by settings next behind count group3 counted tag,
+    unreferred_by settings next following count group3 counted tag,
   );
   modes = (λ two modes tag. grind (arith, common_steps));
   tag = tag;
 }
 
--- the EOL behind the line is the next one
-pub step_next : (settings : DecodeSettings) (here line next other behind : Bits) → eols_here settings here ≡ (1, line)
-    → next_eol line ≡ Some next → (told : TellsStep settings here other behind) → told.step.next ≡ next
-step_next settings here line next other behind alone next_is told = grind (arith, common_steps)
+-- the EOL after the line is the next one
+pub step_next : (settings : DecodeSettings) (here line next other following : Bits) → eols_here settings here ≡ (1, line)
+    → next_eol line ≡ Some next → (told : TellsStep settings here other following) → told.step.next ≡ next
+step_next settings here line next other following alone next_is told = grind (arith, common_steps)
 
 -- a line that doesn't end by its words tells no step
 pub no_step_beyond : (settings : DecodeSettings) (here line next after : Bits) → IsGroup3 settings.encoding
     → settings.strict ≡ false → eols_here settings here ≡ (1, line) → next_eol line ≡ Some next → after_eol 0 next ≡ Some after
-    → (EndsByWords settings.encoding settings.columns after line → ⊥) → (other behind : Bits)
-    → TellsStep settings here other behind → ⊥
-no_step_beyond settings here line next after group3 lenient alone next_is after_is beyond other behind told =
+    → (EndsByWords settings.encoding settings.columns after line → ⊥) → (other following : Bits)
+    → TellsStep settings here other following → ⊥
+no_step_beyond settings here line next after group3 lenient alone next_is after_is beyond other following told =
     grind (arith, common_steps, words_end)
 
 -- ---- What the tests count
@@ -143,7 +143,7 @@ pub eols_work : (encoding : EncodingMode) (here rest : Bits) (before now : ℕ) 
     + tag_tests encoding + looked_ahead encoding rest → now + length rest ≤ before + 2 * length here + 3
 eols_work encoding here rest before now work = omega (arith, work, few_tag_tests encoding, looked_ahead_most encoding rest)
 
--- an EOL, the line behind it, and the next EOL
+-- an EOL, the line after it, and the next EOL
 pub line_test_work : (settings : DecodeSettings) (here line next after : Bits) (begun at_line sought read now : ℕ)
     → IsGroup3 settings.encoding → eols_here settings here ≡ (1, line) → next_eol line ≡ Some next → after_eol 0 next ≡ Some after
     → at_line + length line ≤ begun + 2 * length here + 3 → sought + length next ≡ at_line + length line + looked next → read
@@ -174,8 +174,8 @@ pub no_step_found : (settings : DecodeSettings) (bits : Bits) (to : ℕ) → ((p
     → (place : ℕ) → (None ≡ Some place) ↔ IsInStepFrom settings bits to place
 no_step_found settings bits to none place = (λ e. absurd cc, λ given. absurd (none place given))
 
--- the rows behind it
+-- the rows after it
 pub rows_follow : (settings : DecodeSettings) (bits : Bits) (to place : ℕ) → AreWholeBytes bits
     → IsInStepFrom settings bits to place → RowsFollow settings bits to place
 rows_follow settings bits to place whole given two line to2 whole_two same eol sought sought_too no_rtc no_rtc_too =
-    rows_behind settings bits whole two given.line (drop place bits) to to2 whole_two (grind (arith, common_steps))
+    rows_after settings bits whole two given.line (drop place bits) to to2 whole_two (grind (arith, common_steps))

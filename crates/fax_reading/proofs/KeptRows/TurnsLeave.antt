@@ -1,6 +1,6 @@
 -- A turn leaves a suffix of the bits that it begins with, and seeks EOLs as before or has given them up.
 use Rattle.fax_reading.proofs.Names.{Reaches, eols_by, aligned, move_on, length, Option, Group4, arith, false, subst, zero, Bool}
-use Rattle.fax_reading.proofs.Names.{common_steps, row_before, behind_row, misses_eol, after_line, Group3_2D, after_eol, next_eol}
+use Rattle.fax_reading.proofs.Names.{common_steps, row_before, aligned_after_row, misses_eol, after_line, Group3_2D, after_eol, next_eol}
 use Rattle.fax_reading.proofs.Names.{eols_here, line_here, replicate, Group3_1D, past_tag, one_more, Progress, with_row, repaired}
 use Rattle.fax_reading.proofs.Names.{take-append-drop, DecodeSettings, eols_with_tags, pass_last_tag, append_assoc, EncodingMode}
 use Rattle.fax_reading.proofs.Names.{true, cond, ◌&&◌, ◌||◌, ◌++◌, take, Some, None, refl, Bits, Turn, Line, leb, ◌∷◌, sym, ◌∙◌}
@@ -86,17 +86,17 @@ after_row_leaves settings run t e = elim (chosen (misses_eol settings (length ru
   | inr counted ↦ counted_leaves settings run t run.rest ([], refl) counted.1
 ]
 
-behind_leaves : (b : Bool) (rest : Bits) → LeavesBits rest (cond b (aligned rest) rest)
-behind_leaves true rest = (take (length rest % 8) rest, sym (take-append-drop (length rest % 8) rest))
-behind_leaves false rest = ([], refl)
+after_leaves : (b : Bool) (rest : Bits) → LeavesBits rest (cond b (aligned rest) rest)
+after_leaves true rest = (take (length rest % 8) rest, sym (take-append-drop (length rest % 8) rest))
+after_leaves false rest = ([], refl)
 
 added_leaves : (settings : DecodeSettings) (s t : Progress) (row : Row) (rest : Bits) → LeavesBits s.rest rest
     → row_added settings s row rest ≡ Turn.next t → TurnLeavesBits s.has_eols s.rest t
 added_leaves settings s t row rest leaves e =
-    let behind : Bits = behind_row settings s.has_eols rest in
-    let more = after_row_leaves settings (with_row s row behind) t e in (
-      leaves_trans s.rest behind t.rest
-          (leaves_trans s.rest rest behind leaves (behind_leaves (settings.rows_are_byte_aligned && not s.has_eols) rest)) more.0,
+    let after : Bits = aligned_after_row settings s.has_eols rest in
+    let more = after_row_leaves settings (with_row s row after) t e in (
+      leaves_trans s.rest after t.rest
+          (leaves_trans s.rest rest after leaves (after_leaves (settings.rows_are_byte_aligned && not s.has_eols) rest)) more.0,
       more.1,
     )
 

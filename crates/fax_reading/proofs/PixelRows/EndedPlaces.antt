@@ -1,4 +1,4 @@
--- The changes of a row with its end six times behind them.
+-- The changes of a row with its end six times after them.
 use Rattle.fax_reading.proofs.Names.{common_steps, ◌≡◌, ℕ, zero, suc, ◌<◌, ◌++◌, List, [], ◌∷◌, length, replicate, get_or, refl}
 use Rattle.fax_reading.proofs.Names.{ap, ◌∙◌, arith, AreChanges, AreEnded, changes_in, cases_lt, get_or_past, length-append}
 use Rattle.std.proofs.lemmas.List.{take_at}
@@ -23,7 +23,7 @@ pub with_ends : (columns : ℕ) (xs : List ℕ) → AreChanges columns xs → Ar
 with_ends columns xs lawful = grind (arith, common_steps, without_ends)
 
 module _ (columns : ℕ) (places : List ℕ) (ended : AreEnded columns places) where
-  -- behind the changes each place is the row's end
+  -- after the changes each place is the row's end
   pub ended_at : (k : ℕ) → get_or places k columns ≡ get_or (changes_in places) k columns
   ended_at k = ap (λ xs. get_or xs k columns) ended.ended ∙ ends_at (changes_in places) columns k
 

@@ -2,8 +2,8 @@
 use Rattle.fax_reading.proofs.Names.{common_steps, ◌≡◌, ◌+◌, ◌-◌, ◌≤◌, ℕ, Bool, false, cond, List, [], ◌∷◌}
 use Rattle.fax_reading.proofs.Names.{length, Ok, Err, arith, cond-true, cond-false, eq-eqb, ne_eqb, le-leb, Bits}
 use Rattle.fax_reading.proofs.Names.{length-append, DecodeError, DecodeSettings, Held, Repairs, fresh, Damaged, Line}
-use Rattle.fax_reading.proofs.Names.{repaired_in, missed_behind, cuts_run, cut_in, cut_since, cuts_with, repairs_with, Progress}
-use Rattle.fax_reading.proofs.Names.{repairs_behind, row_of_line, with_row, context_at, Row, missed_since, start_in}
+use Rattle.fax_reading.proofs.Names.{repaired_in, missed_after, cuts_run, cut_in, cut_since, cuts_with, repairs_with, Progress}
+use Rattle.fax_reading.proofs.Names.{repairs_after, row_of_line, with_row, context_at, Row, missed_since, start_in}
 
 -- ---- Rows in which a run is cut
 
@@ -48,51 +48,51 @@ repaired_none settings has_eols index offset start line e is = grind (arith, con
 -- ---- EOLs that are missed
 
 -- the gap after a row repairs none, and cuts none
-pub repaired_behind : (held : Held) (here : Bits) → ((repairs_behind held here).rows ≡ held.repairs.rows)
-    × ((repairs_behind held here).last ≡ held.repairs.last) × ((repairs_behind held here).cut ≡ held.repairs.cut)
-repaired_behind held here = grind arith
+pub repaired_after : (held : Held) (here : Bits) → ((repairs_after held here).rows ≡ held.repairs.rows)
+    × ((repairs_after held here).last ≡ held.repairs.last) × ((repairs_after held here).cut ≡ held.repairs.cut)
+repaired_after held here = grind arith
 
 -- so the first gap of Group 4 changes nothing but whether EOLs are sought
 pub first_gap_left : (held last : Held) (here : Bits) → held ≡ fresh held.settings
-    → last ≡ record held { has_eols = last.has_eols; repairs = last.repairs } → last.repairs ≡ repairs_behind held here
+    → last ≡ record held { has_eols = last.has_eols; repairs = last.repairs } → last.repairs ≡ repairs_after held here
     → last ≡ record (fresh held.settings) { has_eols = last.has_eols }
 first_gap_left held last here begins frame missed = grind (arith, common_steps)
 
--- the EOL behind one more row is counted, if it was missed and the row wasn't repaired
+-- the EOL after one more row is counted, if it was missed and the row wasn't repaired
 pub missed_counts : (settings : DecodeSettings) (bits : Bits) (so_far : Progress) (line strict : Line) (row : Row) (rest : Bits)
     (before : Repairs) → row_of_line settings so_far.has_eols so_far.rest line ≡ Ok (row, rest) → before.last ≤ length so_far.rows
-    → before.missed ≤ length so_far.rows → (repairs_behind (context_at settings (with_row so_far row rest) (repairs_with line
-    strict (length so_far.rows) before)) rest).missed ≡ before.missed + length (missed_behind settings bits so_far line)
+    → before.missed ≤ length so_far.rows → (repairs_after (context_at settings (with_row so_far row rest) (repairs_with line
+    strict (length so_far.rows) before)) rest).missed ≡ before.missed + length (missed_after settings bits so_far line)
 missed_counts settings bits so_far line strict row rest before is last few = grind (arith, common_steps, cuts_keep, length-append)
 
 -- it is missed where its row ends
 pub missed_starts : (settings : DecodeSettings) (bits : Bits) (so_far : Progress) (line : Line) (row : Row) (rest : Bits)
     → row_of_line settings so_far.has_eols so_far.rest line ≡ Ok (row, rest) → (after : Repairs) (before : ℕ)
-    → after.missed ≡ before + length (missed_behind settings bits so_far line)
-    → missed_since after before (length bits - length rest) ≡ start_in (missed_behind settings bits so_far line)
+    → after.missed ≡ before + length (missed_after settings bits so_far line)
+    → missed_since after before (length bits - length rest) ≡ start_in (missed_after settings bits so_far line)
 missed_starts settings bits so_far line row rest is after before more = grind
     (arith, common_steps, cond-true, eq-eqb, cond-false, ne_eqb)
 
 -- where there is no row, no EOL is missed
 pub missed_none : (settings : DecodeSettings) (bits : Bits) (so_far : Progress) (line : Line) (e : DecodeError)
-    → row_of_line settings so_far.has_eols so_far.rest line ≡ Err e → missed_behind settings bits so_far line ≡ []
+    → row_of_line settings so_far.has_eols so_far.rest line ≡ Err e → missed_after settings bits so_far line ≡ []
 missed_none settings bits so_far line e is = grind arith
 
 module _ (settings : DecodeSettings) (bits : Bits) (so_far : Progress) (line strict : Line) (row : Row) (rest : Bits)
     (before : Repairs) (is : row_of_line settings so_far.has_eols so_far.rest line ≡ Ok (row, rest))
     (last : before.last ≤ length so_far.rows) (few : before.missed ≤ length so_far.rows) where
-  -- what is counted behind one more row
+  -- what is counted after one more row
   abbrev then : Repairs
-  then = repairs_behind (context_at settings (with_row so_far row rest) (repairs_with line strict
+  then = repairs_after (context_at settings (with_row so_far row rest) (repairs_with line strict
       (length so_far.rows) before)) rest
 
-  pub few_behind : then.missed ≤ length so_far.rows + 1
-  few_behind = grind (arith, common_steps, few, missed_counts settings bits so_far line strict row rest before is last few)
+  pub few_after : then.missed ≤ length so_far.rows + 1
+  few_after = grind (arith, common_steps, few, missed_counts settings bits so_far line strict row rest before is last few)
 
-  pub last_behind : then.last ≤ length so_far.rows + 1
-  last_behind = grind (
+  pub last_after : then.last ≤ length so_far.rows + 1
+  last_after = grind (
     arith,
     common_steps,
-    (repaired_behind (context_at settings (with_row so_far row rest) (repairs_with line strict (length so_far.rows) before))
+    (repaired_after (context_at settings (with_row so_far row rest) (repairs_with line strict (length so_far.rows) before))
         rest).1,
   )

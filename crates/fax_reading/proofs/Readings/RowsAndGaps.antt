@@ -2,7 +2,7 @@
 use Rattle.fax_reading.proofs.Names.{arith, common_steps, ◌≡◌, ℕ, Bool, true, false, cond, not, ◌||◌, length, Option, Some, None}
 use Rattle.fax_reading.proofs.Names.{Ok, Err, refl, and_parts, cases_Bool, false≢true, InvalidCode}
 use Rattle.fax_reading.proofs.Names.{DecodeSettings, DecodeError, Bits, Row, repaired, Line, next_eol, Turn, is_over, misses_eol}
-use Rattle.fax_reading.proofs.Names.{Progress, Gap, with_row, behind_row, add_row, after_line, Move, eols_here}
+use Rattle.fax_reading.proofs.Names.{Progress, Gap, with_row, aligned_after_row, add_row, after_line, Move, eols_here}
 use Rattle.fax_reading.proofs.Names.{from_next_eol, ends_with, at_gap, pass_gap}
 
 -- EOLs were counted after the rows so far
@@ -27,7 +27,7 @@ after_row settings so_far = cond (misses_eol settings (length so_far.rows) so_fa
 
 -- a row is added, before these bits
 abbrev pub row_added : DecodeSettings → Progress → Row → Bits → Move
-row_added settings so_far row rest = after_row settings (with_row so_far row (behind_row settings so_far.has_eols rest))
+row_added settings so_far row rest = after_row settings (with_row so_far row (aligned_after_row settings so_far.has_eols rest))
 
 -- ---- Each is what the definition says.
 
@@ -59,7 +59,7 @@ pass_gap-is settings so_far = grind (arith, common_steps, at_gap-cond, cond-same
 -- a whole line adds its row
 pub after_whole-is : (settings : DecodeSettings) (so_far : Progress) (row : Row) (rest : Bits)
     → after_line settings so_far (Line.whole row rest) ≡ row_added settings so_far row rest
-after_whole-is settings so_far row rest = pass_gap-is settings (with_row so_far row (behind_row settings so_far.has_eols rest))
+after_whole-is settings so_far row rest = pass_gap-is settings (with_row so_far row (aligned_after_row settings so_far.has_eols rest))
 
 -- a damaged line ends the reading, or adds its repaired row
 pub after_damage-is : (settings : DecodeSettings) (so_far : Progress) (front : Row) (fault : DecodeError)
@@ -71,7 +71,7 @@ after_damage-is settings so_far front fault = either_way (settings.strict || not
     row = repaired settings.columns front
 
     either_way : (b : Bool)
-        → add_row settings so_far (cond b (Err fault) (Ok (row, behind_row settings so_far.has_eols so_far.rest)))
+        → add_row settings so_far (cond b (Err fault) (Ok (row, aligned_after_row settings so_far.has_eols so_far.rest)))
         ≡ cond b (ends_with so_far (Err fault)) (row_added settings so_far row so_far.rest)
     either_way true = refl
-    either_way false = pass_gap-is settings (with_row so_far row (behind_row settings so_far.has_eols so_far.rest))
+    either_way false = pass_gap-is settings (with_row so_far row (aligned_after_row settings so_far.has_eols so_far.rest))

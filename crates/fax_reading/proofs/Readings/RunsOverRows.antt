@@ -1,5 +1,5 @@
 -- A run over the rows of the plain reading: what is known of a state that it reaches, and the turns from there on.
-use Rattle.fax_reading.proofs.Names.{get_or_from_slice_get, slice_get_within, sum_by-take-drop, DecodeSettings, gap_behind_row, ℕ}
+use Rattle.fax_reading.proofs.Names.{get_or_from_slice_get, slice_get_within, sum_by-take-drop, DecodeSettings, gap_after_row, ℕ}
 use Rattle.fax_reading.proofs.Names.{with_row_taken, UnexpectedEof, length-append, common_steps, line_of_turn, DecodeError, arith}
 use Rattle.fax_reading.proofs.Names.{ending_from, get_or-drop, row_of_line, sum_by_more, append-nil, cond-false, context_at, Bits}
 use Rattle.fax_reading.proofs.Names.{turns_from, first_gap, slice_get, IsPrefix, Progress, drop-map, gathered, pass_gap, repeated}
@@ -22,10 +22,10 @@ drop_begins (y ∷ xs) zero x more e = (cc, cc)
 drop_begins (y ∷ xs) (suc k) x more e = drop_begins xs k x more e
 
 -- the element after a list is the one of its length
-pub get_or-behind : {A : Type 0} (xs : List A) (x : A) (more : List A) (other : A)
+pub get_or-after : {A : Type 0} (xs : List A) (x : A) (more : List A) (other : A)
     → get_or ((xs ++ x ∷ []) ++ more) (length xs) other ≡ x
-get_or-behind [] x more other = refl
-get_or-behind (y ∷ xs) x more other = get_or-behind xs x more other
+get_or-after [] x more other = refl
+get_or-after (y ∷ xs) x more other = get_or-after xs x more other
 
 -- with one more row it holds what it then holds between two lines
 pub context_at-more : (settings : DecodeSettings) (so_far : Progress) (row : Row) (rest : Bits) (before now : Repairs)
@@ -41,17 +41,17 @@ module _ (settings : DecodeSettings) (so_far : Progress) where
   row_of_turn = row_of_line settings so_far.has_eols so_far.rest (line_of_turn settings so_far)
 
   -- what follows a row leaves the rows as they are
-  behind_adds : (taken : Row) (rest : Bits) → Adds (so_far.rows ++ taken ∷ []) (pass_gap settings (with_row so_far taken rest))
-  behind_adds taken rest = let next : Progress = with_row so_far taken rest in
+  after_adds : (taken : Row) (rest : Bits) → Adds (so_far.rows ++ taken ∷ []) (pass_gap settings (with_row so_far taken rest))
+  after_adds taken rest = let next : Progress = with_row so_far taken rest in
       subst (Adds next.rows) (sym (pass_gap-is settings next)) (keeps_adds next.rows [] (after_row settings next) (subst
       (λ (rows : List Row). Keeps rows (after_row settings next)) (sym (append-nil next.rows)) (after_row_keeps settings next)))
 
   pub row_adds : (taken : Row) (rest : Bits) → row_of_turn ≡ Ok (taken, rest)
       → Adds (so_far.rows ++ taken ∷ []) (move_on settings so_far)
-  row_adds taken rest is = grind (arith, common_steps, behind_adds)
+  row_adds taken rest is = grind (arith, common_steps, after_adds)
 
   -- the reading continues, or ends, as what follows its row says
-  pub turn_is : (taken : Row) (rest : Bits) (gap : Gap) → row_of_turn ≡ Ok (taken, rest) → gap_behind_row settings (length
+  pub turn_is : (taken : Row) (rest : Bits) (gap : Gap) → row_of_turn ≡ Ok (taken, rest) → gap_after_row settings (length
       (so_far.rows ++ taken ∷ [])) so_far.has_eols rest ≡ gap → move_on settings so_far ≡ at_gap (with_row so_far taken rest) gap
   turn_is taken rest gap is stands = ap (add_row settings so_far) is ∙ ap (at_gap (with_row so_far taken rest)) stands
 
@@ -62,7 +62,7 @@ module _ (settings : DecodeSettings) (so_far : Progress) where
       by_row : (row : Result (Row × Bits) DecodeError) → add_row settings so_far row ≡ Turn.next after
           → length after.rows ≡ suc (length so_far.rows)
       by_row (Err fault) e = absurd (not_next _ after e)
-      by_row (Ok (row, rest)) e = at (gap_behind_row settings (length (so_far.rows ++ row ∷ [])) so_far.has_eols rest) e
+      by_row (Ok (row, rest)) e = at (gap_after_row settings (length (so_far.rows ++ row ∷ [])) so_far.has_eols rest) e
         where
           at : (gap : Gap) → at_gap (with_row so_far row rest) gap ≡ Turn.next after
               → length after.rows ≡ suc (length so_far.rows)

@@ -1,6 +1,6 @@
 -- Each line of a run moves the offset on; a run only adds rows, and each row has the width of its columns.
-use Rattle.fax_reading.proofs.Names.{length-replicate, is_end_of_block, DecodeSettings, UnexpectedEof, ending_behind, length-drop}
-use Rattle.fax_reading.proofs.Names.{length-append, EncodingMode, append_assoc, common_steps, after_line, append-nil, behind_row}
+use Rattle.fax_reading.proofs.Names.{length-replicate, is_end_of_block, DecodeSettings, UnexpectedEof, ending_after, length-drop}
+use Rattle.fax_reading.proofs.Names.{length-append, EncodingMode, append_assoc, common_steps, after_line, append-nil, aligned_after_row}
 use Rattle.fax_reading.proofs.Names.{misses_eol, row_before, Group3_1D, Group3_2D, HaveWidth, after_eol, ends_with, eols_here, []}
 use Rattle.fax_reading.proofs.Names.{eqb-false, first_gap, limit_met, line_here, not-false, replicate, IsPrefix, Progress, Ending}
 use Rattle.fax_reading.proofs.Names.{front_of, next_eol, or_parts, repeated, with_row, All-nil, aligned, eols_by, Group4}
@@ -200,7 +200,7 @@ module _ (settings : DecodeSettings) where
   row_added_width : (so_far : Progress) (row : Row) (rest : Bits) → HaveWidth settings.columns so_far.rows
       → length row ≡ settings.columns → LeavesWidth settings.columns (row_added settings so_far row rest)
   row_added_width so_far row rest have width = keeps_width settings.columns (so_far.rows ++ row ∷ [])
-      _ (after_row_keeps settings (with_row so_far row (behind_row settings so_far.has_eols rest))) (grind (arith, common_steps))
+      _ (after_row_keeps settings (with_row so_far row (aligned_after_row settings so_far.has_eols rest))) (grind (arith, common_steps))
 
   after_line_width : (so_far : Progress) (line : Line) → HaveWidth settings.columns so_far.rows → length (front_of line)
       ≤ settings.columns → IsFull settings.columns line → LeavesWidth settings.columns (after_line settings so_far line)
@@ -214,14 +214,14 @@ module _ (settings : DecodeSettings) where
   none : HaveWidth settings.columns []
   none = All-nil (λ row. length row ≡ settings.columns)
 
-  behind_width : (gap : Move) → Keeps [] gap → HaveWidth settings.columns (ending_behind settings gap).rows
-  behind_width (Turn.next so_far) keeps = repeated_keeps (move_on settings)
+  after_width : (gap : Move) → Keeps [] gap → HaveWidth settings.columns (ending_after settings gap).rows
+  after_width (Turn.next so_far) keeps = repeated_keeps (move_on settings)
       (record { rows = so_far.rows; has_eols = so_far.has_eols; outcome = Err UnexpectedEof }) (λ s. HaveWidth settings.columns
       s.rows) (λ end. HaveWidth settings.columns end.rows) (subst (HaveWidth settings.columns) (sym keeps) none) (λ s t p e. subst
       (LeavesWidth settings.columns) e (move_width s p)) (λ s end p e. subst (LeavesWidth settings.columns) e (move_width s p))
       (suc (suc (length so_far.rest))) so_far (subst (HaveWidth settings.columns) (sym keeps) none)
-  behind_width (Turn.done end) keeps = subst (HaveWidth settings.columns) (sym keeps) none
+  after_width (Turn.done end) keeps = subst (HaveWidth settings.columns) (sym keeps) none
 
   -- each row has the width
   pub plain_width : (input : Bits) → HaveWidth settings.columns (plain settings input).rows
-  plain_width input = grind (arith, common_steps, behind_width, first_gap_keeps)
+  plain_width input = grind (arith, common_steps, after_width, first_gap_keeps)

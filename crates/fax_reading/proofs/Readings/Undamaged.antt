@@ -1,11 +1,11 @@
 -- A strict reading ends without a fault exactly if a lenient one does, and passes no damage.
-use Rattle.fax_reading.proofs.Names.{DecodeSettings, missed_by_turn, missed_behind, sum_by-append, ending_behind, length-append}
+use Rattle.fax_reading.proofs.Names.{DecodeSettings, missed_by_turn, missed_after, sum_by-append, ending_after, length-append}
 use Rattle.fax_reading.proofs.Names.{EncodingMode, cuts_by_line, DecodeError, InvalidCode, AreSettings, repaired_in, cut_by_turn}
 use Rattle.fax_reading.proofs.Names.{PicturesAreUndamaged, StrictIsUndamaged, repaired_by_turn, IsLimitedPicture, damaged_by_turn}
 use Rattle.fax_reading.proofs.Names.{Reading, move_on, Damaged, length, sum_by, Ending, arith, plain, false, zero, Bool}
 use Rattle.fax_reading.proofs.Names.{flat_map, cuts_run, Progress, turns_of, repeated, gathered, add_row, ◌≡◌}
-use Rattle.fax_reading.proofs.Names.{flat_map-cons, UnexpectedEof, AreWholeBytes, line_of_turn, turns_behind, common_steps, subst}
-use Rattle.fax_reading.proofs.Names.{repairs_by_line, IsClosedPicture, misses_by_line, gap_behind_row, sum_by-take-le, false≢true}
+use Rattle.fax_reading.proofs.Names.{flat_map-cons, UnexpectedEof, AreWholeBytes, line_of_turn, turns_after, common_steps, subst}
+use Rattle.fax_reading.proofs.Names.{repairs_by_line, IsClosedPicture, misses_by_line, gap_after_row, sum_by-take-le, false≢true}
 use Rattle.fax_reading.proofs.Names.{row_before, after_line, misses_eol, cond-false, cond-true, damage_of, first_gap}
 use Rattle.fax_reading.proofs.Names.{sym, not, ◌∙◌, Gap, map, Row, ◌-◌, ◌⊎◌, inl, [], ap, ℕ}
 use Rattle.fax_reading.proofs.Names.{true, cond, ◌&&◌, List, ◌++◌, take, refl, IsOk, Bits, Line, Move, Turn, inr, suc, ◌∷◌, Err}
@@ -73,9 +73,9 @@ module _ (settings : DecodeSettings) (bits : Bits) where
   -- ---- One turn
 
   -- a strict gap has a fault, or it is the lenient one, and misses no EOL
-  gap_sound : (taken : ℕ) (has_eols : Bool) (rest : Bits) → (gap_behind_row strictly taken has_eols rest
+  gap_sound : (taken : ℕ) (has_eols : Bool) (rest : Bits) → (gap_after_row strictly taken has_eols rest
       ≡ Gap.over (Err InvalidCode)) ⊎ ((misses_eol leniently taken has_eols rest ≡ false)
-      × (gap_behind_row strictly taken has_eols rest ≡ gap_behind_row leniently taken has_eols rest))
+      × (gap_after_row strictly taken has_eols rest ≡ gap_after_row leniently taken has_eols rest))
   gap_sound taken has_eols rest = grind (arith, cond-true, cond-false)
 
   -- a turn that ends with a fault
@@ -119,15 +119,15 @@ module _ (settings : DecodeSettings) (bits : Bits) where
           → AreEmpty (passed (s ∷ gathered_after (gathered (move_on leniently) (λ turn. turn ∷ []) m) turn))
       by_turn on turn ok none = grind arith
 
-  behind : (gap : Move) → IsOk (ending_behind strictly gap).outcome → AreEmpty (passed (turns_behind leniently gap))
-  behind (Turn.next s) ok = turns_sound (record { rows = s.rows; has_eols = s.has_eols; outcome = Err UnexpectedEof })
+  after : (gap : Move) → IsOk (ending_after strictly gap).outcome → AreEmpty (passed (turns_after leniently gap))
+  after (Turn.next s) ok = turns_sound (record { rows = s.rows; has_eols = s.has_eols; outcome = Err UnexpectedEof })
       (λ ok. false≢true ok) (suc (suc (length s.rest))) (suc (suc (length s.rest))) s ok
-  behind (Turn.done end) ok = tt
+  after (Turn.done end) ok = tt
 
   -- the first gap is the same, or has a fault
-  first : (encoding : EncodingMode) → IsOk (ending_behind strictly (first_gap encoding strictly bits)).outcome
-      → AreEmpty (passed (turns_behind leniently (first_gap encoding leniently bits)))
-  first encoding ok = grind (arith, behind, gap_sound, false≢true)
+  first : (encoding : EncodingMode) → IsOk (ending_after strictly (first_gap encoding strictly bits)).outcome
+      → AreEmpty (passed (turns_after leniently (first_gap encoding leniently bits)))
+  first encoding ok = grind (arith, after, gap_sound, false≢true)
 
   -- ---- A lenient reading that passes no damage
 
@@ -153,7 +153,7 @@ module _ (settings : DecodeSettings) (bits : Bits) where
               inl (fault, _, ap (after_line leniently s) e ∙ ap (add_row leniently s) (cond-true (not s.has_eols) _ _ one), refl)
       by_lines (Line.whole row rest) (Line.broken front fault) e f agrees repaired cut missed =
           grind (arith, common_steps, cond-true)
-      by_lines (Line.whole row rest) (Line.whole other behind) e f agrees repaired cut missed =
+      by_lines (Line.whole row rest) (Line.whole other after) e f agrees repaired cut missed =
           grind (arith, length-append, unmissed_by, cond-false)
         where
           unmissed_by : (b : Bool) (x : Damaged) → cond {A = List Damaged} (b && true) (x ∷ []) [] ≡ [] → b ≡ false
@@ -176,15 +176,15 @@ module _ (settings : DecodeSettings) (bits : Bits) where
           → IsOk (after_turn (repeated (move_on strictly) late n) turn).outcome
       by_turn on turn ok none = grind arith
 
-  same_behind : (gap : Move) → IsOk (ending_behind leniently gap).outcome → AreEmpty (passed (turns_behind leniently gap))
-      → IsOk (ending_behind strictly gap).outcome
-  same_behind (Turn.next s) ok none = turns_same (record { rows = s.rows; has_eols = s.has_eols; outcome = Err UnexpectedEof })
+  same_following : (gap : Move) → IsOk (ending_after leniently gap).outcome → AreEmpty (passed (turns_after leniently gap))
+      → IsOk (ending_after strictly gap).outcome
+  same_following (Turn.next s) ok none = turns_same (record { rows = s.rows; has_eols = s.has_eols; outcome = Err UnexpectedEof })
       (λ ok. false≢true ok) (suc (suc (length s.rest))) s ok none
-  same_behind (Turn.done end) ok none = ok
+  same_following (Turn.done end) ok none = ok
 
   strict_ok : IsOk (plain leniently bits).outcome → AreEmpty (passed (turns_of leniently bits))
       → IsOk (plain strictly bits).outcome
-  strict_ok = grind (arith, common_steps, ok_outcome, same_behind, cond-false, unmissed)
+  strict_ok = grind (arith, common_steps, ok_outcome, same_following, cond-false, unmissed)
 
   -- ---- Strict readings pass no damage
 
@@ -195,7 +195,7 @@ module _ (settings : DecodeSettings) (bits : Bits) where
       missed b x = grind arith
 
       by_line : (line : Line) → repaired_in strictly s.has_eols (length s.rows) (length bits - length s.rest) line
-          ++ (cut_of s (cuts_run line line) ++ missed_behind strictly bits s line) ≡ []
+          ++ (cut_of s (cuts_run line line) ++ missed_after strictly bits s line) ≡ []
       by_line v0 = grind (arith, common_steps)
 
 -- ---- The laws
@@ -265,8 +265,8 @@ closed_strictly : (settings : DecodeSettings) (rows : List Row) (count : ℕ) (b
     → IsClosedPicture settings rows count bits → IsClosedPicture (record settings { strict = true }) rows count bits
 closed_strictly settings rows count bits (IsClosedPicture.by_eofb stream p counted) =
     IsClosedPicture.by_eofb stream (assumption) counted
-closed_strictly settings rows count bits (IsClosedPicture.by_rtc stream behind p counted) =
-    IsClosedPicture.by_rtc stream behind (assumption) counted
+closed_strictly settings rows count bits (IsClosedPicture.by_rtc stream after p counted) =
+    IsClosedPicture.by_rtc stream after (assumption) counted
 
 limited_strictly : (settings : DecodeSettings) (rows : List Row) (bits : Bits) → IsLimitedPicture settings rows bits
     → IsLimitedPicture (record settings { strict = true }) rows bits

@@ -2,8 +2,8 @@
 use Rattle.fax_reading.proofs.Names.{common_steps, ◌≡◌, ℕ, zero, suc, ◌+◌, ◌<◌, ◌≤◌, Bool, false, cond, leb, List, []}
 use Rattle.fax_reading.proofs.Names.{◌++◌, length, replicate, Result, Ok, Err, refl, ap, ◌∙◌, arith, append-nil, Color}
 use Rattle.fax_reading.proofs.Names.{length-append, Mode, Pass, Horizontal, Vertical, DecodeError, UnexpectedEof, EncodingMode}
-use Rattle.fax_reading.proofs.Names.{Step, front_of, Bits, mode_codes, read_code, Line, Pen, Drawing, start, turn_behind, draw_1d}
-use Rattle.fax_reading.proofs.Names.{words_behind, unless_fault, mode_here, draw_run, draw_mode, draw_2d, line_1d}
+use Rattle.fax_reading.proofs.Names.{Step, front_of, Bits, mode_codes, read_code, Line, Pen, Drawing, start, turn_following, draw_1d}
+use Rattle.fax_reading.proofs.Names.{words_after, unless_fault, mode_here, draw_run, draw_mode, draw_2d, line_1d}
 use Rattle.fax_reading.proofs.Names.{line_2d, found_1d, found_2d, line_found, ◌>>=◌, line_by, Turn, repeated, gathered, Row}
 use Rattle.fax_reading.proofs.Names.{changes, opposite, paint, repaired, white_row, run_from, word_found, run_found}
 use Rattle.fax_reading.proofs.PixelRows.ChangesAndPixels.{changes-recursive}
@@ -62,25 +62,25 @@ run_count strict columns pen = step_more (count pen.front + length found)
     by_run_from (Err fault) e = omega arith
 
 -- what is tried adds at most what it yields
-try_count : {A : Type 0} (n : ℕ) (front : Row) (r : Result A DecodeError) (behind : A → Step) → count front ≤ n
-    → ((x : A) → r ≡ Ok x → StepCount n (behind x)) → StepCount n (try front r behind)
-try_count n front r behind le each = grind arith
+try_count : {A : Type 0} (n : ℕ) (front : Row) (r : Result A DecodeError) (after : A → Step) → count front ≤ n
+    → ((x : A) → r ≡ Ok x → StepCount n (after x)) → StepCount n (try front r after)
+try_count n front r after le each = grind arith
 
 -- two runs
-behind_run_count : (strict : Bool) (columns n : ℕ) (words : List Bits) (turn : Step) → StepCount (n + length words) turn
-    → StepCount (n + length (words ++ words_behind turn (λ pen. (draw_run strict columns pen).words)))
-    (turn_behind turn (λ pen. (draw_run strict columns pen).turn))
-behind_run_count strict columns n words (Turn.next pen) few =
+after_run_count : (strict : Bool) (columns n : ℕ) (words : List Bits) (turn : Step) → StepCount (n + length words) turn
+    → StepCount (n + length (words ++ words_after turn (λ pen. (draw_run strict columns pen).words)))
+    (turn_following turn (λ pen. (draw_run strict columns pen).turn))
+after_run_count strict columns n words (Turn.next pen) few =
     step_more (count pen.front + length (draw_run strict columns pen).words) _ (draw_run strict columns pen).turn
     (omega (arith, few, length-append words (draw_run strict columns pen).words)) (run_count strict columns pen)
-behind_run_count strict columns n words (Turn.done line) few = omega (arith, few, length-append words [])
+after_run_count strict columns n words (Turn.done line) few = omega (arith, few, length-append words [])
 
 -- a mode, after its word
 mode_count : (strict : Bool) (columns : ℕ) (reference : Row) (pen : Pen) (mode : Mode) → StepCount (count pen.front
     + suc (length (draw_mode strict columns reference pen mode).words)) (draw_mode strict columns reference pen mode).turn
 mode_count strict columns reference pen Pass = grind (arith, step_more, try_count, count_paint)
 mode_count strict columns reference pen Horizontal = step_more (count pen.front + length (draw_mode strict columns reference pen
-    Horizontal).words) _ (draw_mode strict columns reference pen Horizontal).turn (omega arith) (behind_run_count strict columns
+    Horizontal).words) _ (draw_mode strict columns reference pen Horizontal).turn (omega arith) (after_run_count strict columns
     (count pen.front) (draw_run strict columns pen).words (draw_run strict columns pen).turn (run_count strict columns pen))
 mode_count strict columns reference pen (Vertical k) = grind (arith, common_steps, try, step_more, try_count, count_paint)
 
@@ -94,15 +94,15 @@ read_mode_count strict columns reference pen = by_read_code (read_code mode_code
     on mode = draw_mode strict columns reference (record pen { rest = mode.1 }) mode.0
 
     by_read_code : (r : Result (Mode × Bits) DecodeError) → read_code mode_codes pen.rest ≡ r → StepCount (count pen.front
-        + length (word_found mode_codes pen.rest ++ words_behind (unless_fault pen.front r) (λ mode. (on mode).words)))
-        (turn_behind (unless_fault pen.front r) (λ mode. (on mode).turn))
+        + length (word_found mode_codes pen.rest ++ words_after (unless_fault pen.front r) (λ mode. (on mode).words)))
+        (turn_following (unless_fault pen.front r) (λ mode. (on mode).turn))
     by_read_code r e = grind (arith, step_more, one_word, length-append, mode_count)
 
 -- a step, unless the row is full
 unless_full_count : (full : Bool) (pen : Pen) (draw : Pen → Drawing Pen)
     → StepCount (count pen.front + length (draw pen).words) (draw pen).turn → StepCount (count pen.front
-    + length ([] ++ words_behind (cond full (Turn.done (Line.whole pen.front pen.rest)) (Turn.next pen)) (λ p. (draw p).words)))
-    (turn_behind (cond full (Turn.done (Line.whole pen.front pen.rest)) (Turn.next pen)) (λ p. (draw p).turn))
+    + length ([] ++ words_after (cond full (Turn.done (Line.whole pen.front pen.rest)) (Turn.next pen)) (λ p. (draw p).words)))
+    (turn_following (cond full (Turn.done (Line.whole pen.front pen.rest)) (Turn.next pen)) (λ p. (draw p).turn))
 unless_full_count full pen draw few = grind arith
 
 step_2d_count : (strict : Bool) (columns : ℕ) (reference : Row) (pen : Pen) → StepCount

@@ -1,6 +1,6 @@
 -- The EOLs that are consumed before a line, and the bits that are examined ahead of it.
-use Rattle.fax_reading.proofs.Names.{length-replicate, DecodeSettings, gap_behind_row, length-append, from_next_eol, EncodingMode}
-use Rattle.fax_reading.proofs.Names.{looked_ahead, common_steps, DecodeError, InvalidCode, behind_eols, false≢true, misses_eol, ℕ}
+use Rattle.fax_reading.proofs.Names.{length-replicate, DecodeSettings, gap_after_row, length-append, from_next_eol, EncodingMode}
+use Rattle.fax_reading.proofs.Names.{looked_ahead, common_steps, DecodeError, InvalidCode, after_eols, false≢true, misses_eol, ℕ}
 use Rattle.fax_reading.proofs.Names.{next_eol, length, Option, Result, Group4, at_end, looked, OnErr, false, Bool, true, or_parts}
 use Rattle.fax_reading.proofs.Names.{replicate, Group3_1D, Group3_2D, after_eol, limit_met, eols_here, tag_tests, gap_said, arith}
 use Rattle.fax_reading.proofs.Names.{◌++◌, drop, Some, None, refl, Bits, IfOk, ◌<◌, ◌≡◌, ◌+◌, ◌*◌, ◌≤◌, ◌∷◌, Err, sym, ◌⊎◌}
@@ -59,9 +59,9 @@ over_no_line : (outcome : Result Bits DecodeError) (h : Bool) (rest : Bits)
 over_no_line outcome h rest e = cc
 
 -- a line follows EOLs neither at the limit nor at the end
-behind_line : (settings : DecodeSettings) (taken : ℕ) (h k : Bool) (found : ℕ × Bits) (rest : Bits) → behind_eols settings taken h
+following_line : (settings : DecodeSettings) (taken : ℕ) (h k : Bool) (found : ℕ × Bits) (rest : Bits) → after_eols settings taken h
     found ≡ Gap.line_at k rest → (h ≡ k) × (found.1 ≡ rest) × (limit_met settings taken ≡ false) × (at_end found.1 ≡ false)
-behind_line settings taken h k (count, here) rest e = grind (arith, common_steps, chosen, over_no_line, lines_same, or_parts)
+following_line settings taken h k (count, here) rest e = grind (arith, common_steps, chosen, over_no_line, lines_same, or_parts)
 
 -- The line follows the EOLs here.
 record AfterEols (settings : DecodeSettings) (taken : ℕ) (h k : Bool) (here rest : Bits) : Type 0 where
@@ -86,25 +86,25 @@ record GivenUp (h k : Bool) (here rest : Bits) : Type 0 where
   place : here ≡ rest
 
 -- the ways in which a line follows a row
-line_behind : (settings : DecodeSettings) (taken : ℕ) (h k : Bool) (here rest : Bits) → gap_behind_row settings taken h here
+line_following : (settings : DecodeSettings) (taken : ℕ) (h k : Bool) (here rest : Bits) → gap_after_row settings taken h here
     ≡ Gap.line_at k rest → AfterEols settings taken h k here rest ⊎ (AfterNextEol settings h k here rest ⊎ GivenUp h k here rest)
-line_behind settings taken h k here rest e = elim (chosen (misses_eol settings taken h here) _ _ _ e) [
+line_following settings taken h k here rest e = elim (chosen (misses_eol settings taken h here) _ _ _ e) [
   | inl a ↦ let sought = missed_sought settings taken h here a.0 in
       elim (chosen settings.strict _ _ _ a.1)
       [ inl b ↦ absurd (over_no_line (Err InvalidCode) k rest b.1) | inr b ↦ inr (by_next_eol sought (next_eol here) refl b.1) ]
-  | inr a ↦ grind (arith, common_steps, behind_line settings taken h k (eols_here settings here) rest a.1)
+  | inr a ↦ grind (arith, common_steps, following_line settings taken h k (eols_here settings here) rest a.1)
 ]
   where
     by_next_eol : h ≡ true → (o : Option Bits) → next_eol here ≡ o → from_next_eol settings taken here o ≡ Gap.line_at k rest
         → AfterNextEol settings h k here rest ⊎ GivenUp h k here rest
     by_next_eol sought (Some found) next f =
-        grind (arith, common_steps, behind_line settings taken true k (eols_here settings found) rest f)
+        grind (arith, common_steps, following_line settings taken true k (eols_here settings found) rest f)
     by_next_eol sought None next f = grind (arith, common_steps, lines_same)
 
 -- if EOLs are still sought, one was here or further on, and the line begins after it
-pub line_past_eol : (settings : DecodeSettings) (taken : ℕ) (here rest : Bits) → gap_behind_row settings taken true here
+pub line_past_eol : (settings : DecodeSettings) (taken : ℕ) (here rest : Bits) → gap_after_row settings taken true here
     ≡ Gap.line_at true rest → (after : Bits) × EolWithin here after × (length rest ≤ length after)
-line_past_eol settings taken here rest e = elim (line_behind settings taken true true here rest e) [
+line_past_eol settings taken here rest e = elim (line_following settings taken true true here rest e) [
   | inl is ↦ by_after_eol is (after_eol 0 here) refl
   | inr (inl is) ↦ grind (arith, common_steps, next_eol_within here is.found is.next, eols_past settings is.found)
   | inr (inr is) ↦ absurd (false≢true (sym is.given_up))
@@ -117,14 +117,14 @@ line_past_eol settings taken here rest e = elim (line_behind settings taken true
 
 -- if EOLs are no longer sought, the line is here
 pub line_given_up : (settings : DecodeSettings) (taken : ℕ) (here rest : Bits)
-    → gap_behind_row settings taken true here ≡ Gap.line_at false rest → rest ≡ here
+    → gap_after_row settings taken true here ≡ Gap.line_at false rest → rest ≡ here
 line_given_up settings taken here rest e =
-    grind (arith, common_steps, line_behind settings taken true false here rest e, false≢true)
+    grind (arith, common_steps, line_following settings taken true false here rest e, false≢true)
 
 -- a line that follows a row begins there or further on
-pub line_behind_shorter : (settings : DecodeSettings) (taken : ℕ) (h k : Bool) (here rest : Bits)
-    → gap_behind_row settings taken h here ≡ Gap.line_at k rest → length rest ≤ length here
-line_behind_shorter settings taken h k here rest e = elim (line_behind settings taken h k here rest e) [
+pub line_after_shorter : (settings : DecodeSettings) (taken : ℕ) (h k : Bool) (here rest : Bits)
+    → gap_after_row settings taken h here ≡ Gap.line_at k rest → length rest ≤ length here
+line_after_shorter settings taken h k here rest e = elim (line_following settings taken h k here rest e) [
   | inl is ↦ omega (arith, ap length is.place, eols_here_shorter settings here)
   | inr (inl is) ↦
       omega (arith, ap length is.place, eols_here_shorter settings is.found, (next_eol_found here is.found is.next).0)
@@ -133,24 +133,24 @@ line_behind_shorter settings taken h k here rest e = elim (line_behind settings 
 
 -- without EOLs none are sought
 pub line_without_eols : (settings : DecodeSettings) (taken : ℕ) (k : Bool) (here rest : Bits)
-    → gap_behind_row settings taken false here ≡ Gap.line_at k rest → (k ≡ false) × (length rest ≤ length here)
+    → gap_after_row settings taken false here ≡ Gap.line_at k rest → (k ≡ false) × (length rest ≤ length here)
 line_without_eols settings taken k here rest e = (
-  grind (arith, common_steps, line_behind settings taken false k here rest e, false≢true),
-  line_behind_shorter settings taken false k here rest e,
+  grind (arith, common_steps, line_following settings taken false k here rest e, false≢true),
+  line_after_shorter settings taken false k here rest e,
 )
 
 -- so none are sought after a gap, whatever it says
 pub unsought_after : (settings : DecodeSettings) (taken : ℕ) (before has_eols : Bool) (here rest : Bits)
-    (answer : Result Bool DecodeError) → before ≡ false → gap_behind_row settings taken before here ≡ gap_said answer has_eols
+    (answer : Result Bool DecodeError) → before ≡ false → gap_after_row settings taken before here ≡ gap_said answer has_eols
     rest → IfOk answer (λ over. over ≡ true → has_eols ≡ before) → OnErr answer (has_eols ≡ before) → has_eols ≡ false
 unsought_after settings taken before has_eols here rest answer unsought said given_up same = grind
     (arith, common_steps, line_without_eols)
 
 -- if there is a line, bits are left
 pub line_has_bits : (settings : DecodeSettings) (taken : ℕ) (k : Bool) (here rest : Bits)
-    → gap_behind_row settings taken false here ≡ Gap.line_at k rest → 0 < length rest
+    → gap_after_row settings taken false here ≡ Gap.line_at k rest → 0 < length rest
 line_has_bits settings taken k here rest e =
-    grind (arith, common_steps, line_behind settings taken false k here rest e, false≢true)
+    grind (arith, common_steps, line_following settings taken false k here rest e, false≢true)
 
 -- ---- What is examined ahead
 

@@ -2,9 +2,9 @@
 use Rattle.fax_reading.proofs.Names.{length-drop}
 use Rattle.fax_reading.proofs.Names.{common_steps, ◌≡◌, ◌≢◌, ℕ, ◌+◌, ◌*◌, ◌<◌, ◌≤◌, Bool, true, false, cond, [], ◌∷◌}
 use Rattle.fax_reading.proofs.Names.{length, Result, Ok, Err, refl, ap, arith, false≢true, DecodeError, DecodeSettings}
-use Rattle.fax_reading.proofs.Names.{EncodingMode, Group4, Group3_1D, Group3_2D, Bits, Line, line_found, Gap, behind_row}
-use Rattle.fax_reading.proofs.Names.{gap_behind_row, line_by, line_here, row_of_line, Row, looked_ahead, IsPaidUpTo, found_here}
-use Rattle.fax_reading.proofs.Work.EolsPassed.{length-within, line_past_eol, line_given_up, line_behind_shorter}
+use Rattle.fax_reading.proofs.Names.{EncodingMode, Group4, Group3_1D, Group3_2D, Bits, Line, line_found, Gap, aligned_after_row}
+use Rattle.fax_reading.proofs.Names.{gap_after_row, line_by, line_here, row_of_line, Row, looked_ahead, IsPaidUpTo, found_here}
+use Rattle.fax_reading.proofs.Work.EolsPassed.{length-within, line_past_eol, line_given_up, line_after_shorter}
 use Rattle.fax_reading.proofs.Work.EolsPassed.{line_without_eols, looked_ahead_most, looked_ahead_to_eol}
 use Rattle.fax_reading.proofs.Work.WordsPay.{line_1d_paid, line_2d_paid, found_within, found_before_eol}
 
@@ -39,8 +39,8 @@ abbrev rest_of_row : Result (Row × Bits) DecodeError → Bits
 rest_of_row (Ok x) = x.1
 rest_of_row (Err fault) = []
 
-pub behind_shorter : (settings : DecodeSettings) (h : Bool) (rest : Bits) → length (behind_row settings h rest) ≤ length rest
-behind_shorter settings h rest = grind (arith, length-drop)
+pub after_shorter : (settings : DecodeSettings) (h : Bool) (rest : Bits) → length (aligned_after_row settings h rest) ≤ length rest
+after_shorter settings h rest = grind (arith, length-drop)
 
 -- a broken line is repaired only in lenient data with EOLs, and the reader is then at its start
 pub broken_row : (settings : DecodeSettings) (h : Bool) (here rest : Bits) (front row : Row) (fault : DecodeError)
@@ -54,14 +54,14 @@ row_shorter settings h reference here rest row wide is = by_line_here (line_here
   where
     by_line_here : (line : Line) → line_here settings reference here ≡ line → row_of_line settings h here line ≡ Ok (row, rest)
         → length rest ≤ length here
-    by_line_here (Line.whole whole behind) e given =
-        let pays = whole_pays settings.encoding settings.strict settings.columns reference here whole behind wide e in
-        grind (arith, behind_shorter)
+    by_line_here (Line.whole whole following) e given =
+        let pays = whole_pays settings.encoding settings.strict settings.columns reference here whole following wide e in
+        grind (arith, after_shorter)
     by_line_here (Line.broken front fault) e given = grind (arith, common_steps, broken_row)
 
 -- a row after which the reading continues, seeking EOLs as before, is paid by the bits up to there
 turn_pays : (settings : DecodeSettings) (h : Bool) (taken : ℕ) (reference : Row) (here rest next : Bits) (row : Row) → 0 <
-    settings.columns → row_of_line settings h here (line_here settings reference here) ≡ Ok (row, rest) → gap_behind_row settings
+    settings.columns → row_of_line settings h here (line_here settings reference here) ≡ Ok (row, rest) → gap_after_row settings
     taken h rest ≡ Gap.line_at h next → PaysLine settings.encoding here next (length (found_here settings reference here))
 turn_pays settings h taken reference here rest next row wide is gap = by_line_here (line_here settings reference here) refl is
   where
@@ -70,13 +70,13 @@ turn_pays settings h taken reference here rest next row wide is gap = by_line_he
 
     by_line_here : (line : Line) → line_here settings reference here ≡ line → row_of_line settings h here line ≡ Ok (row, rest)
         → PaysLine settings.encoding here next found
-    by_line_here (Line.whole whole behind) e given = let same : behind_row settings h behind ≡ rest = ap rest_of_row given in
-        further_pays settings.encoding here behind next found
-        (whole_pays settings.encoding settings.strict settings.columns reference here whole behind wide e)
-        (omega (arith, ap length same, behind_shorter settings h behind, line_behind_shorter settings taken h h rest next gap))
+    by_line_here (Line.whole whole following) e given = let same : aligned_after_row settings h following ≡ rest = ap rest_of_row given in
+        further_pays settings.encoding here following next found
+        (whole_pays settings.encoding settings.strict settings.columns reference here whole following wide e)
+        (omega (arith, ap length same, after_shorter settings h following, line_after_shorter settings taken h h rest next gap))
     by_line_here (Line.broken front fault) e given =
-        let stands : gap_behind_row settings taken true here ≡ Gap.line_at true next = grind arith in
-        let (after, eol, behind) = line_past_eol settings taken here next stands in
+        let stands : gap_after_row settings taken true here ≡ Gap.line_at true next = grind arith in
+        let (after, eol, following) = line_past_eol settings taken here next stands in
         grind (arith, common_steps, found_before_eol, length-within, looked_ahead_to_eol)
 
 -- ---- The account
@@ -112,7 +112,7 @@ module _ (settings : DecodeSettings) (wide : 0 < settings.columns) (begun bits g
 
     -- else the account continues
     pub turn_goes_on : (taken : ℕ) (k : Bool) (next : Bits) (last stored : ℕ)
-        → gap_behind_row settings taken h rest ≡ Gap.line_at k next → stored ≤ found + 1 → (k ≡ h → last + 4 * length next
+        → gap_after_row settings taken h rest ≡ Gap.line_at k next → stored ≤ found + 1 → (k ≡ h → last + 4 * length next
         ≤ now + 4 * length rest + 3 + looked_ahead settings.encoding next) → (k ≢ h → last ≤ now + 2 * length rest)
         → (h ≡ true → 8 * bits + 8 ≤ giving_up) → IsPaidUpTo begun bits giving_up settings.encoding k last stored next
     turn_goes_on taken k next last stored gap few kept given_up enough = by_k h k refl refl

@@ -4,7 +4,7 @@ use Rattle.fax_rows.proofs.Names.{◌≡◌, ◌≢◌, ◌∙◌, ◌<◌, ◌�
 use Rattle.fax_rows.proofs.Names.{ap, sym, subst, arith}
 use Rattle.fax_rows.proofs.Names.{length-drop, IfOk-weaker, on_err_weaker, on_ok_weaker, DecodeSettings, Result, DecodeError}
 use Rattle.fax_rows.proofs.Names.{append-nil}
-use Rattle.fax_rows.proofs.Names.{Group4, Bits, Held, Context, fresh, gap_said, all_eols, gap_behind_row, first_line}
+use Rattle.fax_rows.proofs.Names.{Group4, Bits, Held, Context, fresh, gap_said, all_eols, gap_after_row, first_line}
 use Rattle.fax_rows.proofs.Names.{refl, length-append}
 use Rattle.fax_rows.proofs.Names.{DamageIsCounted, Stand, IsPaid, ReaderStands, stand_after, AtLine, looked, EncodingMode}
 use Rattle.fax_rows.proofs.Names.{Group3_1D}
@@ -31,8 +31,8 @@ module _ (old new : Context) (bits : Bits) (next : ℕ) (over : Result Bool Deco
   abbrev last : Held
   last = new.held
 
-  said : gap_behind_row settings 0 false bits ≡ gap_said over last.has_eols (drop next bits)
-  said = ap (λ (h : Held). gap_behind_row settings h.taken h.has_eols bits) (sym begins) ∙ passes.gap
+  said : gap_after_row settings 0 false bits ≡ gap_said over last.has_eols (drop next bits)
+  said = ap (λ (h : Held). gap_after_row settings h.taken h.has_eols bits) (sym begins) ∙ passes.gap
 
   frame : last ≡ record (fresh settings) { has_eols = last.has_eols }
   frame = first_gap_left old.held last bits begins passes.held passes.missed
@@ -96,12 +96,12 @@ eols_go_on old new bits next within other wide begins frame rest work counts aft
     let settings = old.held.settings in
     let last = new.held in
     let place = ap (λ (a : BitsAt). a.place) at in
-    let behind = λ (more : Bits). drop-append-le next bits more within in
+    let following = λ (more : Bits). drop-append-le next bits more within in
     record {
       stands = λ more settled. subst (ReaderStands AtLine settings (bits ++ more) last) (sym place)
           (first_line_stands settings wide (bits ++ more) other last (drop next (bits ++ more))
           (frame ∙ ap (λ (b : Bool). record (fresh settings) { has_eols = b }) (sym (first_has more settled)))
-          (behind more ∙ ap (λ (b : Bits). b ++ more) rest ∙ sym (first_rest more settled))
+          (following more ∙ ap (λ (b : Bits). b ++ more) rest ∙ sym (first_rest more settled))
           (omega (arith, length-drop next (bits ++ more))));
       damage = λ more. none_damaged AtLine settings (bits ++ more) last (λ misses. misses) (ap (λ (h : Held). h.taken) frame)
           (ap (λ (h : Held). h.repairs) frame);

@@ -3,13 +3,13 @@ use Rattle.fax_rows.proofs.Names.{common_steps}
 use Rattle.fax_rows.proofs.Names.{◌≡◌, ◌-◌, ℕ, ◌≤◌, Result, Ok, Err, ap, length, drop}
 use Rattle.fax_rows.proofs.Names.{arith, length-drop, Bits, Held, DecodeError, Context, true}
 use Rattle.fax_rows.proofs.Names.{StandsAtLine, ReaderStands, IsStandingAtLine, IsStanding, ReadsNext, seen, row_came}
-use Rattle.fax_rows.proofs.Names.{WorkIsPaid, BehindRow, AtFault}
+use Rattle.fax_rows.proofs.Names.{WorkIsPaid, AfterRow, AtFault}
 use Rattle.fax_rows.proofs.Readings.RowByRow.{IsRead, at_line_stands, reader_fails_at_line, damage_stays, misses_at_line}
 use Rattle.fax_rows.proofs.Readings.RowByRow.{is_read, isnt_read, told_at_line}
 use Rattle.fax_rows.proofs.Work.CallsPaid.{at_line_paid, failed_most}
 use Rattle.fax_lines.proofs.Work.RoomTaken.{row_short}
 use Rattle.fax_rows.specs.declared.row_reader.RowState.{RowState}
-use Rattle.fax_rows.specs.RowsTried.{ReadsRow, rows_behind_line}
+use Rattle.fax_rows.specs.RowsTried.{ReadsRow, rows_after_line}
 
 -- the offset of the bits after a position
 line_start_of : (place : ℕ) (bits : Bits) → place ≤ length bits → place ≡ length bits - length (drop place bits)
@@ -31,15 +31,15 @@ module _ (from : ℕ) (rows : RowState) (old new : Context) (bits : Bits) (place
     read : IsRead held.settings bits held left (drop place bits) (drop next bits)
     read = is_read stands reads.row
 
-    row_is_paid : WorkIsPaid from BehindRow held.settings bits left next new.ticks
+    row_is_paid : WorkIsPaid from AfterRow held.settings bits left next new.ticks
     row_is_paid = grind (arith, common_steps, at_line_paid, row_short, length-drop, read, held, left)
 
-    row_stays : IsStanding from (rows_behind_line rows (Ok tt) place held.repairs.rows held.repairs.cut left.repairs) new
+    row_stays : IsStanding from (rows_after_line rows (Ok tt) place held.repairs.rows held.repairs.cut left.repairs) new
         (record { bits = bits; place = next })
     row_stays = grind (arith, common_steps, misses_at_line, damage_stays, read, held, left, row_is_paid)
 
     row_is_next : ReadsNext (seen rows old (record { bits = bits; place = place }))
-        (seen (rows_behind_line rows (Ok tt) place held.repairs.rows held.repairs.cut left.repairs) new
+        (seen (rows_after_line rows (Ok tt) place held.repairs.rows held.repairs.cut left.repairs) new
         (record { bits = bits; place = next })) (Ok true)
     row_is_next = grind (arith, common_steps, told_at_line, read, line_start_of, held)
 
@@ -66,7 +66,7 @@ module _ (from : ℕ) (rows : RowState) (old new : Context) (bits : Bits) (place
               (at_line_paid from rows.stand held.settings bits held place old.ticks at.0 work.paid) new.ticks reads.at_most;
         }
 
-    fault_stays : IsStanding from (rows_behind_line rows (Err e) place held.repairs.rows held.repairs.cut left.repairs) new
+    fault_stays : IsStanding from (rows_after_line rows (Err e) place held.repairs.rows held.repairs.cut left.repairs) new
         (record { bits = bits; place = next })
     fault_stays =
         grind (
@@ -85,7 +85,7 @@ module _ (from : ℕ) (rows : RowState) (old new : Context) (bits : Bits) (place
         )
 
     fault_is_next : ReadsNext (seen rows old (record { bits = bits; place = place }))
-        (seen (rows_behind_line rows (Err e) place held.repairs.rows held.repairs.cut left.repairs) new
+        (seen (rows_after_line rows (Err e) place held.repairs.rows held.repairs.cut left.repairs) new
         (record { bits = bits; place = next })) (Err e)
     fault_is_next =
         grind (
@@ -102,14 +102,14 @@ module _ (from : ℕ) (rows : RowState) (old new : Context) (bits : Bits) (place
         )
 
   pub line_stays : (answer : Result (Unit {0}) DecodeError) → ReadsRow old new answer (drop place bits) (drop next bits)
-      → IsStanding from (rows_behind_line rows answer place held.repairs.rows held.repairs.cut left.repairs) new
+      → IsStanding from (rows_after_line rows answer place held.repairs.rows held.repairs.cut left.repairs) new
       (record { bits = bits; place = next })
   line_stays (Ok x) reads = row_stays reads
   line_stays (Err e) reads = fault_stays e reads
 
   pub line_is_next : (answer : Result (Unit {0}) DecodeError) → ReadsRow old new answer (drop place bits) (drop next bits)
       → ReadsNext (seen rows old (record { bits = bits; place = place }))
-      (seen (rows_behind_line rows answer place held.repairs.rows held.repairs.cut left.repairs) new
+      (seen (rows_after_line rows answer place held.repairs.rows held.repairs.cut left.repairs) new
       (record { bits = bits; place = next })) (row_came answer)
   line_is_next (Ok x) reads = row_is_next reads
   line_is_next (Err e) reads = fault_is_next e reads

@@ -7,15 +7,15 @@ use Rattle.fax_rows.proofs.Names.{Option, OnErr, IfOk, sum_by, slice_get, IsOkUn
 use Rattle.fax_rows.proofs.Names.{DecodeSettings, Bits, BitsAt, IsPrefix, here, Held, Context}
 use Rattle.fax_rows.proofs.Names.{Repairs, fresh, no_repairs, Damaged, fault_in, repaired_in, repaired_by_turn}
 use Rattle.fax_rows.proofs.Names.{repairs_by_line, missed_by_turn, TakesOneRow, repairs_with}
-use Rattle.fax_rows.proofs.Names.{repairs_behind, gap_said, Line, Progress, Ending, Reading, row_before, with_row}
-use Rattle.fax_rows.proofs.Names.{at_gap, gap_behind_row, row_of_line, line_here, line_of_turn, move_on, first_gap, first_line}
-use Rattle.fax_rows.proofs.Names.{at_front, ending_from, ending_behind, turns_of, map}
+use Rattle.fax_rows.proofs.Names.{repairs_after, gap_said, Line, Progress, Ending, Reading, row_before, with_row}
+use Rattle.fax_rows.proofs.Names.{at_gap, gap_after_row, row_of_line, line_here, line_of_turn, move_on, first_gap, first_line}
+use Rattle.fax_rows.proofs.Names.{at_front, ending_from, ending_after, turns_of, map}
 use Rattle.fax_rows.proofs.Names.{whole_reading, plain, lines_of, line_starts, start_of_turn}
 use Rattle.fax_rows.proofs.Names.{row_ends, end_of_row, end_of_turn, failed_at, Turn}
-use Rattle.fax_rows.proofs.Names.{Reaches, Row, found_here, words_of, words_of_turn, Stand, AtLine, BehindRow, AtEnd, AtFault}
+use Rattle.fax_rows.proofs.Names.{Reaches, Row, found_here, words_of, words_of_turn, Stand, AtLine, AfterRow, AtEnd, AtFault}
 use Rattle.fax_rows.proofs.Names.{EncodingMode, Group4, RowsRead, ReadsNext, damage_since, start_after}
-use Rattle.fax_rows.proofs.Names.{ReachesNextLine, seen, line_after, DamageIsCounted, MissesAreCounted, MissesBehindRow}
-use Rattle.fax_rows.proofs.Names.{Misses, ReaderStands, ended, stand_after, is_at_line, StandsAtLine, StandsBehindRow}
+use Rattle.fax_rows.proofs.Names.{ReachesNextLine, seen, line_after, DamageIsCounted, MissesAreCounted, MissesAfterRow}
+use Rattle.fax_rows.proofs.Names.{Misses, ReaderStands, ended, stand_after, is_at_line, StandsAtLine, StandsAfterRow}
 use Rattle.fax_rows.proofs.Names.{redrawn, White, end_of, ends_with, add_row}
 use Rattle.fax_rows.proofs.Names.{IsWhole, IsFault, cut_by_turn, cuts_by_line, cut_in, cut_since}
 use Rattle.fax_rows.proofs.Names.{cuts_run}
@@ -27,12 +27,12 @@ use Rattle.fax_rows.proofs.Names.{front_of}
 use Rattle.fax_reading.proofs.Readings.GapsAndRows.{first_gap_t4}
 use Rattle.fax_bits.proofs.Repetition.Repeated.{reaches_on}
 use Rattle.fax_reading.proofs.Readings.DamageCounted.{repaired_counts, repaired_none, missed_counts, missed_none, missed_starts}
-use Rattle.fax_reading.proofs.Readings.DamageCounted.{few_behind, last_behind, cuts_keep, cut_counts, cut_once, cut_is_told}
+use Rattle.fax_reading.proofs.Readings.DamageCounted.{few_after, last_after, cuts_keep, cut_counts, cut_once, cut_is_told}
 use Rattle.fax_reading.proofs.Readings.DamageCounted.{cut_none}
 use Rattle.fax_reading.proofs.Readings.PlainAnswers.{some_columns, bytes_before-place}
 use Rattle.fax_reading.proofs.Readings.RowsAndGaps.{unmissed}
 use Rattle.fax_reading.proofs.Readings.RunsOverRows.{row_of_turn, row_adds, turn_is, Comes}
-use Rattle.fax_reading.proofs.Readings.RunsOverRows.{context_at-more, comes_done, comes_more, get_or-behind}
+use Rattle.fax_reading.proofs.Readings.RunsOverRows.{context_at-more, comes_done, comes_more, get_or-after}
 use Rattle.fax_reading.proofs.Readings.RunsOverRows.{none_first, comes, given_there, given_is, given_at, given_more, given_whole}
 use Rattle.fax_reading.proofs.Readings.RunsOverRows.{none_given}
 use Rattle.fax_reading.proofs.Readings.TurnsMoveOn.{left_below}
@@ -49,7 +49,7 @@ module _ (settings : DecodeSettings) (wide : 0 < settings.columns) (bits : Bits)
     (begins : first_gap settings.encoding settings bits ≡ Turn.next first) where
   -- the reading ends as that from the first line on
   end_is : end_of settings bits ≡ ending_from (move_on settings) first
-  end_is = ap (ending_behind settings) begins
+  end_is = ap (ending_after settings) begins
 
   pub plain_is : plain settings bits ≡ whole_reading bits (ending_from (move_on settings) first)
   plain_is = plain_whole settings wide bits end_is
@@ -70,9 +70,9 @@ module _ (settings : DecodeSettings) (wide : 0 < settings.columns) (bits : Bits)
     ends_with_turn is = end_is ∙ comes_done settings wide first_of come is
 
     -- where its turn is the last, a reading fails there
-    pub fails_behind : {end : Ending} → move_on settings so_far ≡ Turn.done end → {row : Row} {rest : Bits} → row_of_turn
+    pub fails_after : {end : Ending} → move_on settings so_far ≡ Turn.done end → {row : Row} {rest : Bits} → row_of_turn
         settings so_far ≡ Ok (row, rest) → failed_at settings bits (length so_far.rows + 1) ≡ length bits - length rest
-    fails_behind ends is =
+    fails_after ends is =
         let index : (length so_far.rows + 1) - 1 ≡ length so_far.rows = omega arith in
         none_given settings wide bits begins reaches (start_of_turn bits) ends _
         ∙ ap (λ (n : ℕ). get_or (row_ends settings bits) n 0) index
@@ -86,16 +86,16 @@ module _ (settings : DecodeSettings) (wide : 0 < settings.columns) (bits : Bits)
 
       -- the row that is read is the next one of the plain reading
       pub row_is_next : get_or (plain settings bits).rows (length so_far.rows) [] ≡ row
-      row_is_next = grind (arith, common_steps, prefix, get_or-behind)
+      row_is_next = grind (arith, common_steps, prefix, get_or-after)
 
       pub row_is_there : length so_far.rows + 1 ≤ length (plain settings bits).rows
       row_is_there = grind (arith, common_steps, prefix, length-append)
 
     -- where its turn is the last, what is known of the whole reading: with its row
-    pub whole_behind : {end : Ending} → move_on settings so_far ≡ Turn.done end → (held : Held)
+    pub whole_after : {end : Ending} → move_on settings so_far ≡ Turn.done end → (held : Held)
         → held.taken ≡ length so_far.rows + 1 → length end.rows ≡ length so_far.rows + 1 → held.has_eols ≡ end.has_eols
         → IsWhole settings bits held end.outcome
-    whole_behind ends held more rows eols =
+    whole_after ends held more rows eols =
         let at = ap (λ (e : Ending). length e.rows) (ends_with_turn ends) in
         let all_given : (gives : Progress → List Damaged) → sum_by length (take held.taken (map gives (turns_of settings bits)))
         ≡ sum_by length (map gives (turns_of settings bits)) = λ gives.
@@ -167,7 +167,7 @@ repaired_told : (settings : DecodeSettings) (has_eols : Bool) (index offset : �
     (row : Row) (rest : Bits) (taken : ℕ) (before : Repairs) → row_of_line settings has_eols start line ≡ Ok (row, rest)
     → damage_since (repairs_with line strict taken before) before.rows ≡ fault_in
     (repaired_in settings has_eols index offset line)
-repaired_told settings has_eols index offset start (Line.whole pixels behind) strict row rest taken before is =
+repaired_told settings has_eols index offset start (Line.whole pixels after) strict row rest taken before is =
     grind (arith, common_steps, cond-true, eq-eqb, cuts_keep)
 repaired_told settings has_eols index offset start (Line.broken front fault) strict row rest taken before is =
     grind (arith, common_steps, cond-true, cond-false, ne_eqb)
@@ -175,12 +175,12 @@ repaired_told settings has_eols index offset start (Line.broken front fault) str
 -- it is one row at most
 repaired_once : (settings : DecodeSettings) (has_eols : Bool) (index offset : ℕ) (line : Line)
     → length (repaired_in settings has_eols index offset line) ≤ 1
-repaired_once settings has_eols index offset (Line.whole pixels behind) = omega arith
+repaired_once settings has_eols index offset (Line.whole pixels after) = omega arith
 repaired_once settings has_eols index offset (Line.broken front fault) = grind (arith, common_steps)
 
 -- a row was read there
 pub record IsRead (settings : DecodeSettings) (bits : Bits) (held new : Held) (here left_over : Bits) : Type 0 where
-  pub stands : StandsBehindRow settings bits new left_over
+  pub stands : StandsAfterRow settings bits new left_over
   pub settings_are : new.settings ≡ settings
   pub more : new.taken ≡ held.taken + 1
   pub within : new.taken ≤ length (plain settings bits).rows
@@ -199,7 +199,7 @@ pub record IsRead (settings : DecodeSettings) (bits : Bits) (held new : Held) (h
       ≡ sum_by length (take held.taken (words_of settings bits)) + length (found_here settings held.reference here)
   pub counted : held.repairs.rows ≡ sum_by length (take held.taken (repairs_by_line settings bits))
       → new.repairs.rows ≡ sum_by length (take new.taken (repairs_by_line settings bits))
-  pub misses : MissesAreCounted settings bits held.repairs held.taken → MissesBehindRow settings bits new
+  pub misses : MissesAreCounted settings bits held.repairs held.taken → MissesAfterRow settings bits new
 
 pub is_read : {settings : DecodeSettings} {bits : Bits} {held : Held} {here : Bits} → StandsAtLine settings bits held here
     → {new : Held} {left_over : Bits} → TakesOneRow (line_here held.settings held.reference here)
@@ -327,7 +327,7 @@ paints_at_line {settings} {bits} {held} {here} stands black = grind (arith, comm
 pub at_line_stands : (stand : Stand) (settings : DecodeSettings) (bits : Bits) (held : Held) (place : ℕ) → is_at_line stand ≡ true
     → ReaderStands stand settings bits held place → StandsAtLine settings bits held (drop place bits)
 at_line_stands AtLine settings bits held place is stands = stands
-at_line_stands BehindRow settings bits held place is stands = absurd (false≢true is)
+at_line_stands AfterRow settings bits held place is stands = absurd (false≢true is)
 at_line_stands AtEnd settings bits held place is stands = absurd (false≢true is)
 at_line_stands (AtFault error) settings bits held place is stands = absurd (false≢true is)
 
@@ -337,25 +337,25 @@ pub begun_is : {settings : DecodeSettings} {bits : Bits} {held : Held} {here : B
 begun_is stands is = is ∙ ap (λ (h : Held). redrawn h [] White) stands.held_is ∙ sym stands.held_is
 
 -- so it does after a row
-pub behind_row_stands : (stand : Stand) (settings : DecodeSettings) (bits : Bits) (held : Held) (place : ℕ) → ended stand ≡ None →
-    is_at_line stand ≡ false → ReaderStands stand settings bits held place → StandsBehindRow settings bits held (drop place bits)
-behind_row_stands AtLine settings bits held place unended no_line stands = absurd (false≢true (sym no_line))
-behind_row_stands BehindRow settings bits held place unended no_line stands = stands
-behind_row_stands AtEnd settings bits held place unended no_line stands = absurd cc
-behind_row_stands (AtFault error) settings bits held place unended no_line stands = absurd cc
+pub after_row_stands : (stand : Stand) (settings : DecodeSettings) (bits : Bits) (held : Held) (place : ℕ) → ended stand ≡ None →
+    is_at_line stand ≡ false → ReaderStands stand settings bits held place → StandsAfterRow settings bits held (drop place bits)
+after_row_stands AtLine settings bits held place unended no_line stands = absurd (false≢true (sym no_line))
+after_row_stands AfterRow settings bits held place unended no_line stands = stands
+after_row_stands AtEnd settings bits held place unended no_line stands = absurd cc
+after_row_stands (AtFault error) settings bits held place unended no_line stands = absurd cc
 
 -- and after the end
 pub ended_stands : (stand : Stand) (settings : DecodeSettings) (bits : Bits) (held : Held) (place : ℕ)
     → ended stand ≡ Some (Ok tt) → ReaderStands stand settings bits held place → ReaderStands AtEnd settings bits held place
 ended_stands AtLine settings bits held place is stands = absurd cc
-ended_stands BehindRow settings bits held place is stands = absurd cc
+ended_stands AfterRow settings bits held place is stands = absurd cc
 ended_stands AtEnd settings bits held place is stands = stands
 ended_stands (AtFault error) settings bits held place is stands = absurd cc
 
 pub failed_stands : (stand : Stand) (settings : DecodeSettings) (bits : Bits) (held : Held) (place : ℕ) {e : DecodeError} → ended
     stand ≡ Some (Err e) → ReaderStands stand settings bits held place → ReaderStands (AtFault e) settings bits held place
 failed_stands AtLine settings bits held place is stands = absurd cc
-failed_stands BehindRow settings bits held place is stands = absurd cc
+failed_stands AfterRow settings bits held place is stands = absurd cc
 failed_stands AtEnd settings bits held place is stands = absurd cc
 failed_stands (AtFault error) settings bits held place {e} is stands = grind (arith, common_steps)
 
@@ -379,13 +379,13 @@ module _ (settings : DecodeSettings) (wide : 0 < settings.columns) (bits : Bits)
 
 -- the gap after a row leads to a line, or to the end
 module _ (settings : DecodeSettings) (bits : Bits) (held : Held) (here_now : Bits)
-    (stands : StandsBehindRow settings bits held here_now) (last : Held) (place : ℕ) (within : place ≤ length bits)
+    (stands : StandsAfterRow settings bits held here_now) (last : Held) (place : ℕ) (within : place ≤ length bits)
     (frame : last ≡ record held { has_eols = last.has_eols; repairs = last.repairs }) where
   abbrev next : Progress
   next = with_row stands.so_far stands.row here_now
 
   turn_said : (answer : Result Bool DecodeError)
-      → gap_behind_row held.settings held.taken held.has_eols here_now ≡ gap_said answer last.has_eols (drop place bits)
+      → gap_after_row held.settings held.taken held.has_eols here_now ≡ gap_said answer last.has_eols (drop place bits)
       → move_on settings stands.so_far ≡ at_gap next (gap_said answer last.has_eols (drop place bits))
   turn_said answer said = grind (arith, common_steps, turn_is)
 
@@ -393,30 +393,30 @@ module _ (settings : DecodeSettings) (bits : Bits) (held : Held) (here_now : Bit
   last_taken = ap (λ (h : Held). h.taken) frame ∙ ap (λ (h : Held). h.taken) stands.held_is
 
   -- with a faulty gap the reading fails where it begins
-  fails_there : (e : DecodeError) → gap_behind_row held.settings held.taken held.has_eols here_now
+  fails_there : (e : DecodeError) → gap_after_row held.settings held.taken held.has_eols here_now
       ≡ gap_said (Err e) last.has_eols (drop place bits) → failed_at settings bits held.taken ≡ length bits - length here_now
   fails_there e said =
       let more : held.taken ≡ length stands.so_far.rows + 1
       = ap (λ (h : Held). h.taken) stands.held_is ∙ length-append stands.so_far.rows (stands.row ∷ []) in
       ap (failed_at settings bits)
-      more ∙ fails_behind settings stands.wide bits stands.begins stands.reaches (turn_said (Err e) said) stands.row_is
+      more ∙ fails_after settings stands.wide bits stands.begins stands.reaches (turn_said (Err e) said) stands.row_is
 
-  pub starts_behind : (answer : Result Bool DecodeError) → gap_behind_row held.settings held.taken held.has_eols here_now
+  pub starts_following : (answer : Result Bool DecodeError) → gap_after_row held.settings held.taken held.has_eols here_now
       ≡ gap_said answer last.has_eols (drop place bits) → (offset before : ℕ) → offset ≡ length bits - length here_now
       → OnErr answer (start_after answer offset before ≡ failed_at settings bits held.taken)
-  starts_behind (Ok over) said offset before is = tt
-  starts_behind (Err e) said offset before is = is ∙ sym (fails_there e said)
+  starts_following (Ok over) said offset before is = tt
+  starts_following (Err e) said offset before is = is ∙ sym (fails_there e said)
 
   -- if it is the end, that is all of the reading
   whole : {outcome : Result Bits DecodeError} → move_on settings stands.so_far ≡ ends_with next outcome
       → last.has_eols ≡ held.has_eols → IsWhole settings bits last outcome
   whole ends kept =
       let more = length-append stands.so_far.rows (stands.row ∷ []) in
-      whole_behind settings stands.wide bits stands.begins stands.reaches ends last (last_taken ∙ more) more
+      whole_after settings stands.wide bits stands.begins stands.reaches ends last (last_taken ∙ more) more
       (kept ∙ ap (λ (h : Held). h.has_eols) stands.held_is)
 
   pub gap_stands : (answer : Result Bool DecodeError)
-      → gap_behind_row held.settings held.taken held.has_eols here_now ≡ gap_said answer last.has_eols (drop place bits)
+      → gap_after_row held.settings held.taken held.has_eols here_now ≡ gap_said answer last.has_eols (drop place bits)
       → IsOkUnless answer InvalidCode → IfOk answer (λ over. over ≡ true → last.has_eols ≡ held.has_eols)
       → OnErr answer (last.has_eols ≡ held.has_eols) → ReaderStands (stand_after answer) settings bits last place
   gap_stands (Ok true) said code kept same =
@@ -447,12 +447,12 @@ module _ (settings : DecodeSettings) (bits : Bits) (held : Held) (here_now : Bit
 module _ (settings : DecodeSettings) (wide : 0 < settings.columns) (bits : Bits) (is : settings.encoding ≡ Group4) (last : Held)
     (place : ℕ) (within : place ≤ length bits) (frame : last ≡ record (fresh settings) { has_eols = last.has_eols }) where
   first_said : (answer : Result Bool DecodeError)
-      → gap_behind_row settings 0 false bits ≡ gap_said answer last.has_eols (drop place bits)
+      → gap_after_row settings 0 false bits ≡ gap_said answer last.has_eols (drop place bits)
       → first_gap settings.encoding settings bits ≡ at_gap (at_front bits) (gap_said answer last.has_eols (drop place bits))
   first_said answer said = ap (λ (e : EncodingMode). first_gap e settings bits) is ∙ ap (at_gap (at_front bits)) said
 
   first_ended : {end : Ending} → first_gap settings.encoding settings bits ≡ Turn.done end → end_of settings bits ≡ end
-  first_ended ends = ap (ending_behind settings) ends
+  first_ended ends = ap (ending_after settings) ends
 
   none : last.taken ≡ length (at_front bits).rows
   none = ap (λ (h : Held). h.taken) frame
@@ -462,7 +462,7 @@ module _ (settings : DecodeSettings) (wide : 0 < settings.columns) (bits : Bits)
       → last.has_eols ≡ false → IsWhole settings bits last outcome
   whole_front ends unsought = grind (arith, common_steps, cond-false, has_columns, first_ended)
 
-  pub first_gap_stands : (answer : Result Bool DecodeError) → gap_behind_row settings 0 false bits ≡ gap_said answer last.has_eols
+  pub first_gap_stands : (answer : Result Bool DecodeError) → gap_after_row settings 0 false bits ≡ gap_said answer last.has_eols
       (drop place bits) → IsOkUnless answer InvalidCode → last.has_eols ≡ false
       → ReaderStands (stand_after answer) settings bits last place
   first_gap_stands (Ok true) said code unsought = grind (arith, common_steps, first_said, ended_well, first_ended, whole_front)
@@ -482,7 +482,7 @@ module _ (settings : DecodeSettings) (wide : 0 < settings.columns) (bits : Bits)
 -- where no EOLs are sought, no gap is faulty
 pub no_fault : (settings : DecodeSettings) (taken : ℕ) (here : Bits) (answer : Result Bool DecodeError) (has_eols : Bool)
     (rest : Bits)
-    → gap_behind_row settings taken false here ≡ gap_said answer has_eols rest → (error : DecodeError)
+    → gap_after_row settings taken false here ≡ gap_said answer has_eols rest → (error : DecodeError)
     → ended (stand_after answer) ≡ Some (Err error) → ⊥
 no_fault settings taken here (Ok true) has_eols rest said error is = cc
 no_fault settings taken here (Ok false) has_eols rest said error is = cc
@@ -509,9 +509,9 @@ pub repairs_with_missed : (line strict : Line) (taken : ℕ) (before : Repairs)
 repairs_with_missed (Line.whole row rest) strict taken before = grind (arith, common_steps, cuts_keep)
 repairs_with_missed (Line.broken front fault) strict taken before = refl
 
--- the gap behind a row tells of its EOL
-module _ (settings : DecodeSettings) (bits : Bits) (held : Held) (here : Bits) (stands : StandsBehindRow settings bits held here)
-    (misses : MissesBehindRow settings bits held) (last : Held) (counts : last.repairs ≡ repairs_behind held here) where
+-- the gap after a row tells of its EOL
+module _ (settings : DecodeSettings) (bits : Bits) (held : Held) (here : Bits) (stands : StandsAfterRow settings bits held here)
+    (misses : MissesAfterRow settings bits held) (last : Held) (counts : last.repairs ≡ repairs_after held here) where
   abbrev there : Progress
   there = stands.so_far
 
@@ -540,7 +540,7 @@ module _ (settings : DecodeSettings) (bits : Bits) (held : Held) (here : Bits) (
       ∙ ap (λ (l : Line). repairs_with l misses.strict read misses.before) same
 
   then : last.repairs
-      ≡ repairs_behind (context_at settings (with_row there stands.row here)
+      ≡ repairs_after (context_at settings (with_row there stands.row here)
       (repairs_with its_line misses.strict read misses.before)) here
   then = grind (arith, common_steps, read_with)
 
@@ -551,8 +551,8 @@ module _ (settings : DecodeSettings) (bits : Bits) (held : Held) (here : Bits) (
   pub misses_passed : last.taken ≡ held.taken → MissesAreCounted settings bits last.repairs last.taken
   misses_passed taken =
       record {
-        few = grind (arith, common_steps, one_more, then, few_behind, there, its_line, known);
-        last = grind (arith, common_steps, one_more, then, last_behind, there, its_line, known);
+        few = grind (arith, common_steps, one_more, then, few_after, there, its_line, known);
+        last = grind (arith, common_steps, one_more, then, last_after, there, its_line, known);
         counted = omega (
           arith,
           one,
@@ -574,27 +574,27 @@ module _ (settings : DecodeSettings) (bits : Bits) (held : Held) (here : Bits) (
       ∙ sym (ap (missed_before settings bits) next
       ∙ ap start_in (given_at settings stands.wide bits stands.begins stands.reaches (missed_by_turn settings bits) refl))
 
--- the count of missed EOLs at a line, behind a row, and after a gap
+-- the count of missed EOLs at a line, after a row, and after a gap
 pub misses_at_line : (stand : Stand) (settings : DecodeSettings) (bits : Bits) (held : Held) → is_at_line stand ≡ true
     → Misses stand settings bits held → MissesAreCounted settings bits held.repairs held.taken
 misses_at_line AtLine settings bits held is misses = misses
-misses_at_line BehindRow settings bits held is misses = absurd (false≢true is)
+misses_at_line AfterRow settings bits held is misses = absurd (false≢true is)
 misses_at_line AtEnd settings bits held is misses = misses
 misses_at_line (AtFault error) settings bits held is misses = misses
 
 pub misses_ended : (stand : Stand) (settings : DecodeSettings) (bits : Bits) (held : Held) {end : Result (Unit {0}) DecodeError}
     → ended stand ≡ Some end → Misses stand settings bits held → MissesAreCounted settings bits held.repairs held.taken
 misses_ended AtLine settings bits held is misses = misses
-misses_ended BehindRow settings bits held is misses = absurd cc
+misses_ended AfterRow settings bits held is misses = absurd cc
 misses_ended AtEnd settings bits held is misses = misses
 misses_ended (AtFault error) settings bits held is misses = misses
 
-pub misses_behind_row : (stand : Stand) (settings : DecodeSettings) (bits : Bits) (held : Held) → ended stand ≡ None
-    → is_at_line stand ≡ false → Misses stand settings bits held → MissesBehindRow settings bits held
-misses_behind_row AtLine settings bits held unended no_line misses = absurd (false≢true (sym no_line))
-misses_behind_row BehindRow settings bits held unended no_line misses = misses
-misses_behind_row AtEnd settings bits held unended no_line misses = absurd cc
-misses_behind_row (AtFault error) settings bits held unended no_line misses = absurd cc
+pub misses_after_row : (stand : Stand) (settings : DecodeSettings) (bits : Bits) (held : Held) → ended stand ≡ None
+    → is_at_line stand ≡ false → Misses stand settings bits held → MissesAfterRow settings bits held
+misses_after_row AtLine settings bits held unended no_line misses = absurd (false≢true (sym no_line))
+misses_after_row AfterRow settings bits held unended no_line misses = misses
+misses_after_row AtEnd settings bits held unended no_line misses = absurd cc
+misses_after_row (AtFault error) settings bits held unended no_line misses = absurd cc
 
 pub misses_after : (answer : Result Bool DecodeError) (settings : DecodeSettings) (bits : Bits) (held : Held)
     → MissesAreCounted settings bits held.repairs held.taken → Misses (stand_after answer) settings bits held
@@ -606,7 +606,7 @@ misses_after (Err error) settings bits held misses = misses
 pub told_at_line : (stand : Stand) (settings : DecodeSettings) (bits : Bits) (taken : ℕ) (missed : Option ℕ)
     → is_at_line stand ≡ true → MissIsTold stand settings bits taken missed → missed ≡ missed_before settings bits taken
 told_at_line AtLine settings bits taken missed is told = told
-told_at_line BehindRow settings bits taken missed is told = absurd (false≢true is)
+told_at_line AfterRow settings bits taken missed is told = absurd (false≢true is)
 told_at_line AtEnd settings bits taken missed is told = told
 told_at_line (AtFault error) settings bits taken missed is told = told
 

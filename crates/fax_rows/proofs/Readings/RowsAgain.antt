@@ -4,15 +4,15 @@ use Rattle.fax_rows.proofs.Names.{◌≡◌, ◌+◌, ◌-◌, ◌*◌, ◌≤�
 use Rattle.fax_rows.proofs.Names.{[], length, drop, cond, min, suc, None, Some, Ok, refl, sym}
 use Rattle.fax_rows.proofs.Names.{ap, ◌∙◌, subst, arith, cond-true, cond-false, eq-eqb, length-drop}
 use Rattle.fax_rows.proofs.Names.{DecodeSettings, EncodingMode, Group4, Bits, BitsAt, here, Context, Held}
-use Rattle.fax_rows.proofs.Names.{TakesOneRow, repairs_with, repairs_behind, with_row_taken, Line}
+use Rattle.fax_rows.proofs.Names.{TakesOneRow, repairs_with, repairs_after, with_row_taken, Line}
 use Rattle.fax_rows.proofs.Names.{line_here, row_of_line}
-use Rattle.fax_rows.proofs.Names.{Gap, gap_behind_row, misses_eol, eols_by, eols_here, is_over, limit_met}
+use Rattle.fax_rows.proofs.Names.{Gap, gap_after_row, misses_eol, eols_by, eols_here, is_over, limit_met}
 use Rattle.fax_reading.specs.PlainReading.{eols_of_end}
 use Rattle.fax_rows.proofs.Names.{Row, changes, pixels, found_here}
-use Rattle.fax_rows.proofs.Names.{Stand, AtLine, BehindRow, ReadsNext, seen}
-use Rattle.fax_rows.proofs.Names.{StandsAtLine, StandsBehindRow, ReaderStands, DamageIsCounted, MissesAreCounted}
-use Rattle.fax_rows.proofs.Names.{MissesBehindRow}
-use Rattle.fax_rows.proofs.Names.{Misses, MissIsTold, WorkIsPaid, PaidAtLine, PaidBehindRow, IsPaid, IsStanding, missed_before}
+use Rattle.fax_rows.proofs.Names.{Stand, AtLine, AfterRow, ReadsNext, seen}
+use Rattle.fax_rows.proofs.Names.{StandsAtLine, StandsAfterRow, ReaderStands, DamageIsCounted, MissesAreCounted}
+use Rattle.fax_rows.proofs.Names.{MissesAfterRow}
+use Rattle.fax_rows.proofs.Names.{Misses, MissIsTold, WorkIsPaid, PaidAtLine, PaidAfterRow, IsPaid, IsStanding, missed_before}
 use Rattle.fax_rows.proofs.Names.{failed_at, tag_tests, looked_ahead}
 use Rattle.fax_rows.specs.declared.row_reader.RowState.{RowState}
 use Rattle.fax_rows.proofs.Names.{Group3_1D, Group3_2D, at_end, ne_eqb, ◌<◌, ◌≢◌}
@@ -34,9 +34,9 @@ use Rattle.fax_rows.proofs.Work.CallsPaid.{gap_paid}
 -- ---- A gap at which nothing is missed, and the line after it
 
 module _ (from : ℕ) (rows : RowState) (ctx : Context) (at : BitsAt) (stands : IsStanding from rows ctx at)
-    (behind_row : rows.stand ≡ BehindRow) (place now : ℕ) (within : place ≤ length at.bits)
-    (said : gap_behind_row ctx.held.settings ctx.held.taken ctx.held.has_eols (here at)
-    ≡ Gap.line_at ctx.held.has_eols (drop place at.bits)) (kept : ctx.held.repairs ≡ repairs_behind ctx.held (here at))
+    (aligned_after_row : rows.stand ≡ AfterRow) (place now : ℕ) (within : place ≤ length at.bits)
+    (said : gap_after_row ctx.held.settings ctx.held.taken ctx.held.has_eols (here at)
+    ≡ Gap.line_at ctx.held.has_eols (drop place at.bits)) (kept : ctx.held.repairs ≡ repairs_after ctx.held (here at))
     (counts : ctx.ticks ≤ now) (work : now + 4 * length (drop place at.bits) ≤ ctx.ticks + 4 * length (here at)
     + tag_tests ctx.held.settings.encoding + looked_ahead ctx.held.settings.encoding (drop place at.bits)) where
   abbrev held : Held
@@ -51,30 +51,30 @@ module _ (from : ℕ) (rows : RowState) (ctx : Context) (at : BitsAt) (stands : 
   abbrev line : Bits
   line = drop place bits
 
-  stands_behind : StandsBehindRow settings bits held (here at)
-  stands_behind = subst (λ (s : Stand). ReaderStands s settings bits held at.place) behind_row stands.0
+  stands_after : StandsAfterRow settings bits held (here at)
+  stands_after = subst (λ (s : Stand). ReaderStands s settings bits held at.place) aligned_after_row stands.0
 
-  misses : MissesBehindRow settings bits held
-  misses = subst (λ (s : Stand). Misses s settings bits held) behind_row stands.1.misses
+  misses : MissesAfterRow settings bits held
+  misses = subst (λ (s : Stand). Misses s settings bits held) aligned_after_row stands.1.misses
 
-  is_paid : PaidBehindRow from settings bits held (here at) ctx.ticks
-  is_paid = subst (λ (s : Stand). IsPaid from s settings bits held at.place ctx.ticks) behind_row stands.2.paid
+  is_paid : PaidAfterRow from settings bits held (here at) ctx.ticks
+  is_paid = subst (λ (s : Stand). IsPaid from s settings bits held at.place ctx.ticks) aligned_after_row stands.2.paid
 
   at_line : StandsAtLine settings bits held line
-  at_line = gap_stands settings bits held (here at) stands_behind held place within refl (Ok false) said tt (λ over. refl) tt
+  at_line = gap_stands settings bits held (here at) stands_after held place within refl (Ok false) said tt (λ over. refl) tt
 
   counted : MissesAreCounted settings bits held.repairs held.taken
-  counted = misses_passed settings bits held (here at) stands_behind misses held kept refl
+  counted = misses_passed settings bits held (here at) stands_after misses held kept refl
 
   told : None ≡ missed_before settings bits held.taken
   told =
       let offset = length bits - length (here at) in
       sym (cond-true (eqb held.repairs.missed held.repairs.missed) None (Some offset)
       (eq-eqb held.repairs.missed held.repairs.missed refl))
-      ∙ miss_told settings bits held (here at) stands_behind misses held kept offset refl
+      ∙ miss_told settings bits held (here at) stands_after misses held kept offset refl
 
   line_paid : PaidAtLine from settings bits held line now
-  line_paid = gap_paid from settings stands_behind.wide bits held (here at) ctx.ticks is_paid held place now refl (Ok false) said
+  line_paid = gap_paid from settings stands_after.wide bits held (here at) ctx.ticks is_paid held place now refl (Ok false) said
       (λ over. refl) (λ same. work) (λ other. absurd (other refl)) tt
 
   abbrev mid : RowState
@@ -101,7 +101,7 @@ module _ (from : ℕ) (rows : RowState) (ctx : Context) (at : BitsAt) (stands : 
     read = is_read at_line takes
 
     abbrev after : RowState
-    after = record { started_at = place; damage = None; cut = false; missed = None; stand = BehindRow }
+    after = record { started_at = place; damage = None; cut = false; missed = None; stand = AfterRow }
 
     abbrev after_ctx : Context
     after_ctx = record ctx { held = new; ticks = last }
@@ -117,13 +117,13 @@ module _ (from : ℕ) (rows : RowState) (ctx : Context) (at : BitsAt) (stands : 
     reads_again = grind (arith, common_steps, reads_on, reads_line)
 
     abbrev Standing : DecodeSettings → Type 0
-    Standing s = StandsBehindRow s bits new (drop end bits) × DamageIsCounted BehindRow s bits new
-        × WorkIsPaid from BehindRow s bits new end last × MissIsTold BehindRow s bits new.taken None
+    Standing s = StandsAfterRow s bits new (drop end bits) × DamageIsCounted AfterRow s bits new
+        × WorkIsPaid from AfterRow s bits new end last × MissIsTold AfterRow s bits new.taken None
 
     standing : Standing settings
     standing = grind (arith, common_steps, read, counted, misses, held, line, at_line, line_paid, bits, most)
 
-    -- and the reading is behind it
+    -- and the reading is after it
     pub stands_again : IsStanding from after after_ctx after_at
     stands_again = subst Standing (sym read.settings_are) standing
 
@@ -208,7 +208,7 @@ pub not_at_limit : (settings : DecodeSettings) (has_eols : Bool) (reference : Ro
 not_at_limit settings has_eols reference lines taken follow other = grind (arith, common_steps, ne_eqb)
 
 module _ (from : ℕ) (rows : RowState) (ctx : Context) (at : BitsAt) (stands : IsStanding from rows ctx at)
-    (behind_row : rows.stand ≡ BehindRow) (lines : WhiteLines) (follow : MayFollow ctx.held.settings ctx.held.has_eols
+    (aligned_after_row : rows.stand ≡ AfterRow) (lines : WhiteLines) (follow : MayFollow ctx.held.settings ctx.held.has_eols
     ctx.held.reference lines) (limit : limit_met ctx.held.settings ctx.held.taken ≡ false) (next : BitsAt)
     (passes : PassesLine lines at next) where
   abbrev settings_now : DecodeSettings
@@ -262,7 +262,7 @@ module _ (from : ℕ) (rows : RowState) (ctx : Context) (at : BitsAt) (stands : 
   goes_on : is_over settings_now ctx.held.taken (cond sought 1 0, line_bits ++ rest) ≡ false
   goes_on = grind (arith, common_steps, one_is_not_end, open_end, white_is)
 
-  gap_said : gap_behind_row settings_now ctx.held.taken sought (here at) ≡ Gap.line_at sought (drop place at.bits)
+  gap_said : gap_after_row settings_now ctx.held.taken sought (here at) ≡ Gap.line_at sought (drop place at.bits)
   gap_said =
       grind (
         arith,
@@ -278,7 +278,7 @@ module _ (from : ℕ) (rows : RowState) (ctx : Context) (at : BitsAt) (stands : 
         line_there,
       )
 
-  kept_repairs : ctx.held.repairs ≡ repairs_behind ctx.held (here at)
+  kept_repairs : ctx.held.repairs ≡ repairs_after ctx.held (here at)
   kept_repairs = grind (arith, common_steps, none_misses)
 
   gap_work : ctx.ticks + 4 * length (drop place at.bits) ≤ ctx.ticks + 4 * length (here at) + tag_tests settings_now.encoding
@@ -327,7 +327,7 @@ module _ (from : ℕ) (rows : RowState) (ctx : Context) (at : BitsAt) (stands : 
   found_short = omega (arith, no_changes)
 
   abbrev rows_then : RowState
-  rows_then = record { started_at = place; damage = None; cut = false; missed = None; stand = BehindRow }
+  rows_then = record { started_at = place; damage = None; cut = false; missed = None; stand = AfterRow }
 
   abbrev ctx_then : Context
   ctx_then = record ctx { held = one_row_more; ticks = ctx.ticks + 2 }
@@ -336,55 +336,55 @@ module _ (from : ℕ) (rows : RowState) (ctx : Context) (at : BitsAt) (stands : 
   pub white_reads : ReadsNext (seen rows ctx at) (seen rows_then ctx_then next) (Ok true)
   white_reads =
       subst (λ (n : BitsAt). ReadsNext (seen rows ctx at) (seen rows_then ctx_then n) (Ok true)) (sym passes.moved_on)
-      (reads_again from rows ctx at stands behind_row place ctx.ticks within_place gap_said kept_repairs (omega arith) gap_work
+      (reads_again from rows ctx at stands aligned_after_row place ctx.ticks within_place gap_said kept_repairs (omega arith) gap_work
       one_row_more (at.place + passes.word.count) (ctx.ticks + 2) passes.within takes_white refl found_least (omega arith)
       found_stored found_short)
 
-  -- and the reading is behind it
+  -- and the reading is after it
   pub white_stands : IsStanding from rows_then ctx_then next
   white_stands =
       subst (λ (n : BitsAt). IsStanding from rows_then ctx_then n) (sym passes.moved_on)
-      (stands_again from rows ctx at stands behind_row place ctx.ticks within_place gap_said kept_repairs (omega arith) gap_work
+      (stands_again from rows ctx at stands aligned_after_row place ctx.ticks within_place gap_said kept_repairs (omega arith) gap_work
       one_row_more (at.place + passes.word.count) (ctx.ticks + 2) passes.within takes_white refl found_least (omega arith)
       found_stored found_short)
 
-  -- its line begins behind the EOL
+  -- its line begins after the EOL
   pub white_starts : length at.bits - length (drop place at.bits) ≡ failed_at settings_now at.bits ctx.held.taken
-  white_starts = again_starts from rows ctx at stands behind_row place ctx.ticks within_place gap_said kept_repairs (omega arith)
+  white_starts = again_starts from rows ctx at stands aligned_after_row place ctx.ticks within_place gap_said kept_repairs (omega arith)
       gap_work
 
 -- ---- A white row that is taken
 
 module _ {from start : ℕ} {rows kept : RowState} {old new : Context} {before after : BitsAt} {lines : WhiteLines}
-    (stands : IsStanding from rows old before) (behind_row : rows.stand ≡ BehindRow)
+    (stands : IsStanding from rows old before) (aligned_after_row : rows.stand ≡ AfterRow)
     (follow : MayFollow old.held.settings old.held.has_eols old.held.reference lines) (there : start ≡ before.place)
     (takes : TakesWhite lines start rows kept old new before after) where
-  abbrev rows_behind : RowState
-  rows_behind = record { started_at = before.place + lines.gap; damage = None; cut = false; missed = None; stand = BehindRow }
+  abbrev rows_after : RowState
+  rows_after = record { started_at = before.place + lines.gap; damage = None; cut = false; missed = None; stand = AfterRow }
 
-  rows_are : kept ≡ rows_behind
-  rows_are = takes.kept_is ∙ ap (λ (n : ℕ). record rows_behind { started_at = n + lines.gap }) there
+  rows_are : kept ≡ rows_after
+  rows_are = takes.kept_is ∙ ap (λ (n : ℕ). record rows_after { started_at = n + lines.gap }) there
 
   -- it is the next one
   pub taken_reads : ReadsNext (seen rows old before) (seen kept new after) (Ok true)
   taken_reads =
       subst (λ (r : RowState). ReadsNext (seen rows old before) (seen r new after) (Ok true)) (sym rows_are)
-      (subst (λ (x : Context). ReadsNext (seen rows old before) (seen rows_behind x after) (Ok true)) (sym takes.new_is)
-      (white_reads from rows old before stands behind_row lines follow takes.unmet after takes.passes))
+      (subst (λ (x : Context). ReadsNext (seen rows old before) (seen rows_after x after) (Ok true)) (sym takes.new_is)
+      (white_reads from rows old before stands aligned_after_row lines follow takes.unmet after takes.passes))
 
-  -- the reading is behind it
+  -- the reading is after it
   pub taken_stands : IsStanding from kept new after
   taken_stands =
       subst (λ (r : RowState). IsStanding from r new after) (sym rows_are)
-      (subst (λ (x : Context). IsStanding from rows_behind x after) (sym takes.new_is)
-      (white_stands from rows old before stands behind_row lines follow takes.unmet after takes.passes))
+      (subst (λ (x : Context). IsStanding from rows_after x after) (sym takes.new_is)
+      (white_stands from rows old before stands aligned_after_row lines follow takes.unmet after takes.passes))
 
   -- its line begins there
   pub taken_starts : length before.bits - length (drop kept.started_at before.bits)
       ≡ failed_at old.held.settings before.bits old.held.taken
   taken_starts =
       ap (λ (r : RowState). length before.bits - length (drop r.started_at before.bits)) rows_are
-      ∙ white_starts from rows old before stands behind_row lines follow takes.unmet after takes.passes
+      ∙ white_starts from rows old before stands aligned_after_row lines follow takes.unmet after takes.passes
 
   pub taken_within : kept.started_at ≤ length before.bits
   taken_within = omega (

@@ -9,7 +9,7 @@ use Rattle.fax_rows.proofs.Names.{cuts_by_line}
 use Rattle.fax_rows.proofs.Names.{repairs_by_line, misses_by_line, words_of}
 use Rattle.fax_rows.proofs.Names.{most_counted, Row, changes, is_some, ReadsNext}
 use Rattle.fax_rows.proofs.Names.{map-append, fold-append}
-use Rattle.fax_rows.proofs.Names.{IsStanding, IsWhole, MissesBehindRow, MissIsTold, Stand, AtLine, BehindRow}
+use Rattle.fax_rows.proofs.Names.{IsStanding, IsWhole, MissesAfterRow, MissIsTold, Stand, AtLine, AfterRow}
 use Rattle.fax_rows.proofs.Names.{AtEnd, AtFault, ended, missed_before, seen}
 use Rattle.fax_rows.specs.declared.row_reader.RowState.{RowState}
 use Rattle.fax_reading.proofs.DrawingLines.CountedLines.{on_answer_weaker}
@@ -71,7 +71,7 @@ means_pushed {M} by_width width first start before after rows taken now row push
 pub ends_unfailed : (stand : Stand) → ((error : DecodeError) → ended stand ≢ Some (Err error)) → is_some (ended stand) ≡ true
     → ended stand ≡ Some (Ok tt)
 ends_unfailed AtLine unfailed is = cc
-ends_unfailed BehindRow unfailed is = cc
+ends_unfailed AfterRow unfailed is = cc
 ends_unfailed AtEnd unfailed is = refl
 ends_unfailed (AtFault error) unfailed is = absurd (unfailed error refl)
 
@@ -79,7 +79,7 @@ ends_unfailed (AtFault error) unfailed is = absurd (unfailed error refl)
 pub none_missed : (stand : Stand) (settings : DecodeSettings) (bits : Bits) {taken : ℕ} → taken ≡ 0
     → MissIsTold stand settings bits taken None
 none_missed AtLine settings bits none = sym (ap (missed_before settings bits) none)
-none_missed BehindRow settings bits none = tt
+none_missed AfterRow settings bits none = tt
 none_missed AtEnd settings bits none = sym (ap (missed_before settings bits) none)
 none_missed (AtFault error) settings bits none = sym (ap (missed_before settings bits) none)
 
@@ -127,9 +127,9 @@ module _ {M : Type 0} {step : M → List ℕ → M} {before after : SinkState M}
   run_is_over rows ctx reader stands same are wide few means unrefused answer is = grind (arith, common_steps, of_same, run_ended)
 
   -- where a row was refused, and taken back
-  pub run_refused : (rows read : RowState) (ctx new : Context) (reader behind : BitsAt) → IsStanding from rows ctx reader
-      → IsStanding from read new behind → read.stand ≡ BehindRow
-      → ReadsNext (seen rows ctx reader) (seen read new behind) (Ok true) → (last : Held)
+  pub run_refused : (rows read : RowState) (ctx new : Context) (reader following : BitsAt) → IsStanding from rows ctx reader
+      → IsStanding from read new following → read.stand ≡ AfterRow
+      → ReadsNext (seen rows ctx reader) (seen read new following) (Ok true) → (last : Held)
       → last ≡ record new.held {
         taken = new.held.taken - 1;
         repairs = record new.held.repairs {
@@ -141,12 +141,12 @@ module _ {M : Type 0} {step : M → List ℕ → M} {before after : SinkState M}
       → after.meaning ≡ meaning_after step before.meaning (take ctx.held.taken (plain ctx.held.settings reader.bits).rows)
       → after.refused ≡ true → after.refuses (changes new.held.reference)
       → HasRun ctx.held.settings reader.bits from step before after last new.ticks (Err Refused)
-  run_refused rows read ctx new reader behind stands still is reads last back means refused row =
+  run_refused rows read ctx new reader following stands still is reads last back means refused row =
       let settings = ctx.held.settings in
       let bits = reader.bits in
       let (unended, more, within) = reads.more refl in
       let index : last.taken ≡ ctx.held.taken = omega (arith, ap (λ (h : Held). h.taken) back, more) in
-      let misses : MissesBehindRow settings bits new.held = grind (arith, common_steps) in
+      let misses : MissesAfterRow settings bits new.held = grind (arith, common_steps) in
       let there : new.held.taken - 1 ≡ ctx.held.taken = omega (arith, more) in
       record {
         few = omega (arith, index, more, within);
@@ -177,10 +177,10 @@ module _ {M : Type 0} {step : M → List ℕ → M} {before after : SinkState M}
       answer is)
 
   -- and where the sink refused the row that was read, and it was taken back
-  pub rows_refused : (rows read : RowState) (ctx : Context) {last : Context} {reader behind : BitsAt} {damaged cut : ℕ}
+  pub rows_refused : (rows read : RowState) (ctx : Context) {last : Context} {reader following : BitsAt} {damaged cut : ℕ}
       {error : DecodeError} → ctx.held.settings ≡ old.held.settings → reader.bits ≡ bits → IsStanding old.ticks rows ctx reader
-      → IsStanding old.ticks read new behind → read.stand ≡ BehindRow
-      → ReadsNext (seen rows ctx reader) (seen read new behind) (Ok true)
+      → IsStanding old.ticks read new following → read.stand ≡ AfterRow
+      → ReadsNext (seen rows ctx reader) (seen read new following) (Ok true)
       → last ≡ record new {
         held = record new.held {
           taken = new.held.taken - 1;
@@ -191,11 +191,11 @@ module _ {M : Type 0} {step : M → List ℕ → M} {before after : SinkState M}
       → after.meaning ≡ meaning_after step before.meaning (take ctx.held.taken (plain old.held.settings bits).rows)
       → after.refused ≡ true → after.refuses (changes new.held.reference) → error ≡ Refused
       → DecodesRows bits step before after old last (Err error)
-  rows_refused rows read ctx {last} {reader} {behind} same are stands still is reads frame damaged cut means refused row error =
+  rows_refused rows read ctx {last} {reader} {following} same are stands still is reads frame damaged cut means refused row error =
       let held = rw (damaged, cut) at (ap (λ (x : Context). x.held) frame) in
       let meant = of_same (λ s b. after.meaning ≡ meaning_after step before.meaning (take ctx.held.taken (plain s b).rows))
       (sym same) (sym are) means in
-      let run = run_refused {step = step} {before = before} {after = after} rows read ctx new reader behind stands still is reads
+      let run = run_refused {step = step} {before = before} {after = after} rows read ctx new reader following stands still is reads
       last.held held meant refused row in
       subst (λ (e : DecodeError). DecodesRows bits step before after old last (Err e)) (sym error) (decodes_rows bits step before
       after old last (Err Refused) wide (ap (λ (x : Context). x.held.settings) frame ∙ reads.settings ∙ same)

@@ -27,18 +27,18 @@ pub isnt_short : (line : Line) (answer : Result (Unit {0}) DecodeError) (front :
 isnt_short line (Ok x) front rest drawn other = ap is_short drawn
 isnt_short line (Err e) front rest drawn other = λ fault. ap is_short (at_fault_kind (kind_of e) _ _ _ fault drawn) ∙ other
 
--- a line with more bits behind it has the same front, is as broken, and counts as the same damage
+-- a line with more bits after it has the same front, is as broken, and counts as the same damage
 pub same_front : (more : Bits) (line : Line) → front_of (line_before more line) ≡ front_of line
 same_front more (Line.whole row rest) = refl
 same_front more (Line.broken front fault) = refl
 
 same_repairs : (more : Bits) (line strict : Line) (taken : ℕ) (before : Repairs)
     → repairs_with (line_before more line) (line_before more strict) taken before ≡ repairs_with line strict taken before
-same_repairs more (Line.whole row rest) (Line.whole other behind) taken before = refl
+same_repairs more (Line.whole row rest) (Line.whole other after) taken before = refl
 same_repairs more (Line.whole row rest) (Line.broken front fault) taken before = refl
 same_repairs more (Line.broken front fault) strict taken before = refl
 
--- the row of a line is taken, also with more bits behind it
+-- the row of a line is taken, also with more bits after it
 row_continues : (more : Bits) (line strict : Line) (row : Result (Row × Bits) DecodeError) (old new : Held)
     (answer : Result (Unit {0}) DecodeError) (rest : Bits) → TakesOneRow line strict row old new answer rest
     → TakesOneRow (line_before more line) (line_before more strict) (row_continued more row) old new answer (rest ++ more)

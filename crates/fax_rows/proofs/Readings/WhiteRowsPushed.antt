@@ -1,7 +1,7 @@
 -- White rows that are read one after another, and passed to a sink.
 use Rattle.fax_rows.proofs.Names.{common_steps}
 use Rattle.fax_rows.proofs.Names.{◌≡◌, ◌+◌, ◌-◌, ◌<◌, ◌≤◌, ◌∙◌, ℕ, zero, suc, List, [], Ok, Err, ap, arith, refl, subst, sym}
-use Rattle.fax_rows.proofs.Names.{BitsAt, BehindRow, Context, DecodeError, None, Refused, SinkState, false, true}
+use Rattle.fax_rows.proofs.Names.{BitsAt, AfterRow, Context, DecodeError, None, Refused, SinkState, false, true}
 use Rattle.fax_rows.proofs.Readings.RowsAgain.{not_at_limit}
 use Rattle.fax_rows.specs.WhiteRows.{TakesWhite}
 use Rattle.fax_lines.specs.WhiteLines.{MayFollow, PassesLine}
@@ -9,20 +9,20 @@ use Rattle.fax_rows.specs.WhiteRows.{PassWhite, Pushed, PushesWhite, ReadsWhite}
 use Rattle.fax_rows.specs.declared.row_reader.RowState.{RowState}
 use Rattle.fax_lines.specs.declared.white_lines.WhiteLines.{WhiteLines}
 
--- what is known behind so many rows, of which the last one's line begins there
-abbrev pub rows_behind : ℕ → ℕ → RowState → RowState
-rows_behind zero start rows = rows
-rows_behind (suc count) start rows =
-    record { started_at = start; damage = None; cut = false; missed = None; stand = BehindRow }
+-- what is known after so many rows, of which the last one's line begins there
+abbrev pub rows_after : ℕ → ℕ → RowState → RowState
+rows_after zero start rows = rows
+rows_after (suc count) start rows =
+    record { started_at = start; damage = None; cut = false; missed = None; stand = AfterRow }
 
-abbrev pub ctx_behind : ℕ → Context → Context
-ctx_behind count ctx =
+abbrev pub ctx_after : ℕ → Context → Context
+ctx_after count ctx =
     record ctx { held = record ctx.held { taken = ctx.held.taken + count }; ticks = ctx.ticks + count + count }
 
-some_behind : (count start : ℕ) (rows : RowState) → 0 < count → rows_behind count start rows
-    ≡ record { started_at = start; damage = None; cut = false; missed = None; stand = BehindRow }
-some_behind zero start rows some = absurd (omega arith)
-some_behind (suc count) start rows some = refl
+some_after : (count start : ℕ) (rows : RowState) → 0 < count → rows_after count start rows
+    ≡ record { started_at = start; damage = None; cut = false; missed = None; stand = AfterRow }
+some_after zero start rows some = absurd (omega arith)
+some_after (suc count) start rows some = refl
 
 -- no row was passed
 first_meaning : {M : Type 0} (step : M → List ℕ → M) (lines : WhiteLines) (dropped : ℕ) (old new : Pushed M) (count : ℕ)
@@ -38,8 +38,8 @@ pub record HasPushedWhite {M : Type 0} (step : M → List ℕ → M) (lines : Wh
   pub count_is : count ≡ counted
   pub within : counted ≤ most
   pub pass : PassWhite step lines dropped count (record { rows = rows; ctx = ctx; at = at; meaning = before }) (record {
-    rows = rows_behind count (dropped + start + lines.gap) rows;
-    ctx = ctx_behind count ctx;
+    rows = rows_after count (dropped + start + lines.gap) rows;
+    ctx = ctx_after count ctx;
     at = next;
     meaning = after;
   })
@@ -58,8 +58,8 @@ module _ {M : Type 0} {step : M → List ℕ → M} {lines : WhiteLines} {droppe
 
   abbrev so_far : Pushed M
   so_far = record {
-    rows = rows_behind count (dropped + start + lines.gap) rows;
-    ctx = ctx_behind count ctx;
+    rows = rows_after count (dropped + start + lines.gap) rows;
+    ctx = ctx_after count ctx;
     at = next;
     meaning = after;
   }
@@ -71,13 +71,13 @@ module _ {M : Type 0} {step : M → List ℕ → M} {lines : WhiteLines} {droppe
     abbrev start_then : ℕ
     start_then = dropped + next.place + lines.gap
 
-    takes_more : TakesWhite lines (dropped + next.place) so_far.rows (rows_behind (suc count) start_then rows) so_far.ctx
-        (ctx_behind (suc count) ctx) next then
+    takes_more : TakesWhite lines (dropped + next.place) so_far.rows (rows_after (suc count) start_then rows) so_far.ctx
+        (ctx_after (suc count) ctx) next then
     takes_more = grind (arith, common_steps, not_at_limit)
 
     reads_more : {after_it : M} → ReadsWhite lines dropped so_far (record {
-      rows = rows_behind (suc count) start_then rows;
-      ctx = ctx_behind (suc count) ctx;
+      rows = rows_after (suc count) start_then rows;
+      ctx = ctx_after (suc count) ctx;
       at = then;
       meaning = after_it;
     })
@@ -95,19 +95,19 @@ module _ {M : Type 0} {step : M → List ℕ → M} {lines : WhiteLines} {droppe
 
     -- or the sink refuses its row
     pub one_refused : {kept : RowState} {new : Context} {last : BitsAt} {first end : SinkState M} {error : DecodeError}
-        → kept ≡ record { started_at = start_then; damage = None; cut = false; missed = None; stand = BehindRow }
-        → new ≡ ctx_behind (counted + 1) ctx → last ≡ then → first.meaning ≡ before → end.meaning ≡ after → error ≡ Refused
+        → kept ≡ record { started_at = start_then; damage = None; cut = false; missed = None; stand = AfterRow }
+        → new ≡ ctx_after (counted + 1) ctx → last ≡ then → first.meaning ≡ before → end.meaning ≡ after → error ≡ Refused
         → end.refused ≡ true → end.refuses []
         → PushesWhite step lines dropped first end rows kept ctx new at last (Err error)
     one_refused {kept} {new} {last} {first} {end} kept_is new_is last_is start_is means is flag row =
         let all : counted + 1 ≡ suc count = omega (arith, pushed.count_is) in
-        let new_then : new ≡ ctx_behind (suc count) ctx = new_is ∙ ap (λ (n : ℕ). ctx_behind n ctx) all in
+        let new_then : new ≡ ctx_after (suc count) ctx = new_is ∙ ap (λ (n : ℕ). ctx_after n ctx) all in
         record {
           count = count;
           mid = so_far;
           pass = subst (λ (m : M). PassWhite step lines dropped count (record { rows = rows; ctx = ctx; at = at; meaning = m })
               so_far) (sym start_is) pushed.pass;
-          ends = grind (arith, common_steps, so_far, rows_behind, count, start_then, ctx_behind, takes_more);
+          ends = grind (arith, common_steps, so_far, rows_after, count, start_then, ctx_after, takes_more);
         }
 
   -- none is next
@@ -123,9 +123,9 @@ module _ {M : Type 0} {step : M → List ℕ → M} {lines : WhiteLines} {droppe
     }
 
     pub some_pushed : 0 < counted
-        → kept ≡ record { started_at = dropped + start + lines.gap; damage = None; cut = false; missed = None; stand = BehindRow }
-        → new ≡ ctx_behind counted ctx → last ≡ next → PushesWhite step lines dropped first end rows kept ctx new at last (Ok tt)
-    some_pushed some kept_is new_is last_is = grind (arith, common_steps, all_pushed, some_behind)
+        → kept ≡ record { started_at = dropped + start + lines.gap; damage = None; cut = false; missed = None; stand = AfterRow }
+        → new ≡ ctx_after counted ctx → last ≡ next → PushesWhite step lines dropped first end rows kept ctx new at last (Ok tt)
+    some_pushed some kept_is new_is last_is = grind (arith, common_steps, all_pushed, some_after)
 
     pub no_row_left : counted ≡ 0 → kept ≡ rows → new ≡ ctx → last ≡ at
         → PushesWhite step lines dropped first end rows kept ctx new at last (Ok tt)

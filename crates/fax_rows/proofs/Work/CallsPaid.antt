@@ -2,9 +2,9 @@
 use Rattle.fax_rows.proofs.Names.{common_steps}
 use Rattle.fax_rows.proofs.Names.{IfOk, OnOk, OnErr, ◌≡◌, ◌≢◌, ◌+◌, ◌*◌, ◌<◌, ◌≤◌, ℕ, Bool, true, false, length}
 use Rattle.fax_rows.proofs.Names.{drop, None, Result, Ok, Err, refl, sym, ap, ◌∙◌, arith, false≢true, length-drop, DecodeError}
-use Rattle.fax_rows.proofs.Names.{Stand, AtLine, BehindRow, AtEnd, AtFault, DecodeSettings, EncodingMode, Group4, Group3_1D}
-use Rattle.fax_rows.proofs.Names.{Group3_2D, Bits, Held, fresh, gap_said, Gap, gap_behind_row, changes, IsPaid, PaidAtLine}
-use Rattle.fax_rows.proofs.Names.{PaidBehindRow, ReaderStands, WorkIsPaid, ended, is_at_line, stand_after, looked}
+use Rattle.fax_rows.proofs.Names.{Stand, AtLine, AfterRow, AtEnd, AtFault, DecodeSettings, EncodingMode, Group4, Group3_1D}
+use Rattle.fax_rows.proofs.Names.{Group3_2D, Bits, Held, fresh, gap_said, Gap, gap_after_row, changes, IsPaid, PaidAtLine}
+use Rattle.fax_rows.proofs.Names.{PaidAfterRow, ReaderStands, WorkIsPaid, ended, is_at_line, stand_after, looked}
 use Rattle.fax_rows.proofs.Names.{looked_ahead, tag_tests, CountsWork, found_here, most_counted}
 use Rattle.fax_rows.proofs.Names.{line_here, most_room, most_stored, room_for}
 use Rattle.fax_reading.proofs.Work.ChangesStored.{changes_white}
@@ -38,49 +38,49 @@ module _ (from : ℕ) (settings : DecodeSettings) (wide : 0 < settings.columns) 
   line_most = failed_most ticks (omega arith)
 
 module _ (from : ℕ) (settings : DecodeSettings) (wide : 0 < settings.columns) (bits : Bits) (held : Held) (rest : Bits)
-    (ticks : ℕ) (behind : PaidBehindRow from settings bits held rest ticks) where
+    (ticks : ℕ) (after : PaidAfterRow from settings bits held rest ticks) where
   row_most : ticks ≤ from + most_counted settings.encoding (length bits)
-  row_most = failed_most from settings wide bits behind.before behind.start behind.ticks_before behind.at_line ticks behind.line
+  row_most = failed_most from settings wide bits after.before after.start after.ticks_before after.at_line ticks after.line
 
 -- if a line is here, the account says so
 pub at_line_paid : (from : ℕ) (stand : Stand) (settings : DecodeSettings) (bits : Bits) (held : Held) (place ticks : ℕ)
     → is_at_line stand ≡ true → IsPaid from stand settings bits held place ticks
     → PaidAtLine from settings bits held (drop place bits) ticks
 at_line_paid from AtLine settings bits held place ticks is paid = paid
-at_line_paid from BehindRow settings bits held place ticks is paid = absurd (false≢true is)
+at_line_paid from AfterRow settings bits held place ticks is paid = absurd (false≢true is)
 at_line_paid from AtEnd settings bits held place ticks is paid = absurd (false≢true is)
 at_line_paid from (AtFault error) settings bits held place ticks is paid = absurd (false≢true is)
 
 -- so it does after a row
-pub behind_row_paid : (from : ℕ) (stand : Stand) (settings : DecodeSettings) (bits : Bits) (held : Held) (place ticks : ℕ)
+pub after_row_paid : (from : ℕ) (stand : Stand) (settings : DecodeSettings) (bits : Bits) (held : Held) (place ticks : ℕ)
     → ended stand ≡ None → is_at_line stand ≡ false → IsPaid from stand settings bits held place ticks
-    → PaidBehindRow from settings bits held (drop place bits) ticks
-behind_row_paid from AtLine settings bits held place ticks unended no_line paid = absurd (false≢true (sym no_line))
-behind_row_paid from BehindRow settings bits held place ticks unended no_line paid = paid
-behind_row_paid from AtEnd settings bits held place ticks unended no_line paid = absurd cc
-behind_row_paid from (AtFault error) settings bits held place ticks unended no_line paid = absurd cc
+    → PaidAfterRow from settings bits held (drop place bits) ticks
+after_row_paid from AtLine settings bits held place ticks unended no_line paid = absurd (false≢true (sym no_line))
+after_row_paid from AfterRow settings bits held place ticks unended no_line paid = paid
+after_row_paid from AtEnd settings bits held place ticks unended no_line paid = absurd cc
+after_row_paid from (AtFault error) settings bits held place ticks unended no_line paid = absurd cc
 
 -- ---- The gap after a row
 
 module _ (from : ℕ) (settings : DecodeSettings) (wide : 0 < settings.columns) (bits : Bits) (held : Held) (rest : Bits)
-    (ticks : ℕ) (behind : PaidBehindRow from settings bits held rest ticks) (last : Held) (place now : ℕ)
+    (ticks : ℕ) (after : PaidAfterRow from settings bits held rest ticks) (last : Held) (place now : ℕ)
     (frame : last ≡ record held { has_eols = last.has_eols; repairs = last.repairs }) where
   abbrev next : Bits
   next = drop place bits
 
   -- EOLs are sought only where they were sought before
-  still_sought : gap_behind_row settings held.taken held.has_eols rest ≡ Gap.line_at last.has_eols next → last.has_eols ≡ true
+  still_sought : gap_after_row settings held.taken held.has_eols rest ≡ Gap.line_at last.has_eols next → last.has_eols ≡ true
       → held.has_eols ≡ true
   still_sought said is = by_has_eols held.has_eols refl
     where
       by_has_eols : (b : Bool) → held.has_eols ≡ b → held.has_eols ≡ true
       by_has_eols true h_is = h_is
       by_has_eols false h_is =
-          let stands : gap_behind_row settings held.taken false rest ≡ Gap.line_at last.has_eols next
-          = ap (λ (b : Bool). gap_behind_row settings held.taken b rest) (sym h_is) ∙ said in
+          let stands : gap_after_row settings held.taken false rest ≡ Gap.line_at last.has_eols next
+          = ap (λ (b : Bool). gap_after_row settings held.taken b rest) (sym h_is) ∙ said in
           absurd (false≢true (sym (line_without_eols settings held.taken last.has_eols rest next stands).0 ∙ is))
 
-  pub gap_paid : (answer : Result Bool DecodeError) → gap_behind_row settings held.taken held.has_eols rest
+  pub gap_paid : (answer : Result Bool DecodeError) → gap_after_row settings held.taken held.has_eols rest
       ≡ gap_said answer last.has_eols next
       → IfOk answer (λ over. over ≡ true → last.has_eols ≡ held.has_eols)
       → OnOk answer (last.has_eols ≡ held.has_eols
@@ -88,44 +88,44 @@ module _ (from : ℕ) (settings : DecodeSettings) (wide : 0 < settings.columns) 
       → OnOk answer (last.has_eols ≢ held.has_eols → now ≤ ticks + 2 * length rest) → OnErr answer (now ≤ ticks + looked rest)
       → IsPaid from (stand_after answer) settings bits last place now
   gap_paid (Ok true) said over kept given_up refused =
-      let at = behind.at_line in
+      let at = after.at_line in
       omega (
         arith,
         at.enough,
-        gap_ends settings wide at.begun (length bits) at.giving_up behind.before.reference behind.before.has_eols behind.start
-            at.within behind.ticks_before (length
-            (changes behind.before.reference)) at.paid ticks behind.line held.reference rest
-            behind.row_is now next (omega (arith, kept (over refl), few_tag_tests settings.encoding)),
+        gap_ends settings wide at.begun (length bits) at.giving_up after.before.reference after.before.has_eols after.start
+            at.within after.ticks_before (length
+            (changes after.before.reference)) at.paid ticks after.line held.reference rest
+            after.row_is now next (omega (arith, kept (over refl), few_tag_tests settings.encoding)),
       )
   gap_paid (Ok false) said over kept given_up refused =
-      let at = behind.at_line in
-      let line : gap_behind_row settings held.taken behind.before.has_eols rest ≡ Gap.line_at last.has_eols next
-      = ap (λ (b : Bool). gap_behind_row settings held.taken b rest) (sym behind.kept) ∙ said in
+      let at = after.at_line in
+      let line : gap_after_row settings held.taken after.before.has_eols rest ≡ Gap.line_at last.has_eols next
+      = ap (λ (b : Bool). gap_after_row settings held.taken b rest) (sym after.kept) ∙ said in
       record {
         begun = at.begun;
         giving_up = at.giving_up;
         enough = at.enough;
-        sought = λ is. at.sought (sym behind.kept ∙ still_sought said is);
+        sought = λ is. at.sought (sym after.kept ∙ still_sought said is);
         within = omega (arith, length-drop place bits);
-        paid = turn_goes_on settings wide at.begun (length bits) at.giving_up behind.before.reference behind.before.has_eols
-            behind.start at.within behind.ticks_before (length (changes behind.before.reference)) at.paid ticks
-            behind.line held.reference rest behind.row_is held.taken last.has_eols next now (length
+        paid = turn_goes_on settings wide at.begun (length bits) at.giving_up after.before.reference after.before.has_eols
+            after.start at.within after.ticks_before (length (changes after.before.reference)) at.paid ticks
+            after.line held.reference rest after.row_is held.taken last.has_eols next now (length
             (changes last.reference)) line
-            (omega (arith, behind.stored, ap (λ (h : Held). length (changes h.reference)) frame))
-            (λ same. omega (arith, kept (same ∙ sym behind.kept), few_tag_tests settings.encoding))
-            (λ other. given_up (λ same. other (same ∙ behind.kept))) at.sought;
-        short = omega (arith, behind.short, ap (λ (h : Held). length (changes h.reference)) frame);
+            (omega (arith, after.stored, ap (λ (h : Held). length (changes h.reference)) frame))
+            (λ same. omega (arith, kept (same ∙ sym after.kept), few_tag_tests settings.encoding))
+            (λ other. given_up (λ same. other (same ∙ after.kept))) at.sought;
+        short = omega (arith, after.short, ap (λ (h : Held). length (changes h.reference)) frame);
       }
   gap_paid (Err e) said over kept given_up refused =
-      let at = behind.at_line in
+      let at = after.at_line in
       omega (
         arith,
         at.enough,
         missing_ends settings wide at.begun
-            (length bits) at.giving_up behind.before.reference behind.before.has_eols behind.start
-            at.within behind.ticks_before (length
-            (changes behind.before.reference)) at.paid ticks behind.line held.reference rest
-            behind.row_is now (omega (arith, refused, looked_most rest)),
+            (length bits) at.giving_up after.before.reference after.before.has_eols after.start
+            at.within after.ticks_before (length
+            (changes after.before.reference)) at.paid ticks after.line held.reference rest
+            after.row_is now (omega (arith, refused, looked_most rest)),
       )
 
 -- ---- Before the first line
@@ -139,7 +139,7 @@ module _ (from : ℕ) (settings : DecodeSettings) (is : settings.encoding ≡ Gr
   most_t6 : most_counted settings.encoding (length bits) ≡ 22 * length bits + 1
   most_t6 = ap (λ (e : EncodingMode). most_counted e (length bits)) is
 
-  pub first_gap_paid : (answer : Result Bool DecodeError) → gap_behind_row settings 0 false bits
+  pub first_gap_paid : (answer : Result Bool DecodeError) → gap_after_row settings 0 false bits
       ≡ gap_said answer last.has_eols line
       → IfOk answer (λ over. over ≡ true → last.has_eols ≡ false)
       → OnOk answer (last.has_eols ≡ false
@@ -187,7 +187,7 @@ pub within_most : (from : ℕ) (stand : Stand) (settings : DecodeSettings) (bits
     → ticks ≤ from + most_counted settings.encoding (length bits)
 within_most from AtLine settings bits held place ticks stands paid =
     line_most from settings stands.wide bits held (drop place bits) ticks paid
-within_most from BehindRow settings bits held place ticks stands paid =
+within_most from AfterRow settings bits held place ticks stands paid =
     row_most from settings stands.wide bits held (drop place bits) ticks paid
 within_most from AtEnd settings bits held place ticks stands paid = paid
 within_most from (AtFault error) settings bits held place ticks stands paid = paid

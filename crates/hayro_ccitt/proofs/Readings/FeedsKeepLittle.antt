@@ -3,7 +3,7 @@ use Rattle.hayro_ccitt.proofs.Names.{common_steps}
 use Rattle.hayro_ccitt.proofs.Names.{◌≡◌, ◌∙◌, ◌+◌, ◌*◌, ◌≤◌, ◌++◌, ◌∷◌, [], ℕ, Bool, true, false, Option, None, Some}
 use Rattle.hayro_ccitt.proofs.Names.{Result, Ok, Err, refl, sym, ap, subst, arith, drop, length, length-append, length-drop}
 use Rattle.hayro_ccitt.proofs.Names.{false≢true, Bits, Context, DecodeError, DecodeSettings, Held, Row}
-use Rattle.hayro_ccitt.proofs.Names.{Stand, AtLine, BehindRow, AtEnd, AtFault, ReaderStands, StandsAtLine, StandsBehindRow, ended}
+use Rattle.hayro_ccitt.proofs.Names.{Stand, AtLine, AfterRow, AtEnd, AtFault, ReaderStands, StandsAtLine, StandsAfterRow, ended}
 use Rattle.hayro_ccitt.proofs.Names.{line_here}
 use Rattle.hayro_ccitt.specs.Continuations.{is_short, line_before}
 use Rattle.fax_feeds.specs.FeedsKeepLittle.{AreNeeded, AreOpenFor, FeedsKeepLittle, IsFedInTurn}
@@ -32,7 +32,7 @@ open_before_it : (begun : Bool) (stand : Stand) (ctx : Context) (first rest : Bi
 open_before_it false stand ctx first rest waits =
     open_first_gap_before ctx.held.settings first rest waits
 open_before_it true AtLine ctx first rest waits = open_line_before ctx.held.settings ctx.held.reference first rest waits
-open_before_it true BehindRow ctx first rest waits =
+open_before_it true AfterRow ctx first rest waits =
     open_gap_before ctx.held.settings ctx.held.taken ctx.held.has_eols first rest waits
 open_before_it true AtEnd ctx first rest waits = absurd waits
 open_before_it true (AtFault error) ctx first rest waits = absurd waits
@@ -64,7 +64,7 @@ module _ {whole : Bits} {tried most : ℕ} {feed : Feeding} (stands : IsFeedOf w
       (sym at.rest_is ∙ there)
       (ap (λ (h : Held). is_short (line_here settings h.reference bits_next)) (sym at.held_is) ∙ waits)
 
-  gap_most : StandsBehindRow settings whole feed.ctx.held (drop (feed.dropped + feed.place) whole)
+  gap_most : StandsAfterRow settings whole feed.ctx.held (drop (feed.dropped + feed.place) whole)
       → gap_is_settled settings feed.ctx.held.taken feed.ctx.held.has_eols bits_next ≡ false → length bits_next ≤ most
   gap_most at waits =
       let taken : feed.ctx.held.taken ≡ length at.so_far.rows + 1 =
@@ -80,7 +80,7 @@ module _ {whole : Bits} {tried most : ℕ} {feed : Feeding} (stands : IsFeedOf w
   by_stand : (stand : Stand) → feed.rows.stand ≡ stand → IsOpenAt true stand feed.ctx bits_next
       → ReaderStands stand settings whole feed.ctx.held (feed.dropped + feed.place) → length bits_next ≤ most
   by_stand AtLine is waits at = line_most at waits
-  by_stand BehindRow is waits at = gap_most at waits
+  by_stand AfterRow is waits at = gap_most at waits
   by_stand AtEnd is waits at = absurd waits
   by_stand (AtFault error) is waits at = absurd waits
 
@@ -135,7 +135,7 @@ unended {old} {new} call = by_end (ended old.rows.stand) refl
     by_end None is = refl
     by_end (Some end) over = absurd (never_ended end (call.over end over).1)
 
--- what is kept behind a piece
+-- what is kept after a piece
 fed_most : {next : Bits} {old new : Feeding} → HoldsMore next old new
     → length new.kept ≤ length (drop old.place old.kept) + length next + 7
 fed_most {next} {old} {new} holds = grind (arith, common_steps, length-append, length-drop)
@@ -172,7 +172,7 @@ module _ (whole : Bits) (most piece : ℕ) where
   known_before {m} {n} {s} {t} le is known = subst (KnownFor m) is (record {
     first_gap = known.first_gap;
     line = λ turn first rest there among. known.line turn first rest there (omega (arith, among, le));
-    gap = λ turn row behind first rest there among. known.gap turn row behind first rest there (omega (arith, among, le));
+    gap = λ turn row after first rest there among. known.gap turn row after first rest there (omega (arith, among, le));
   })
 
   keeps_few : (feed : Feeding) → IsFedInTurn whole piece feed → KeepsFew feed

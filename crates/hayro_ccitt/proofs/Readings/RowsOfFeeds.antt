@@ -27,7 +27,7 @@ same_rows : (whole : Bits) {s t : DecodeSettings} {m n : ℕ} (count : ℕ) → 
     → take count (drop m (plain s whole).rows) ≡ take count (drop n (plain t whole).rows)
 same_rows whole {s} {t} {m} {n} count settings index = grind (arith, common_steps)
 
--- behind the first row there are at least as many rows as were read
+-- after the first row there are at least as many rows as were read
 within_rows : (whole : Bits) (old : Feeding) {new last : Feeding} (rows : List Feeding) → HaveRead whole new last rows
     → new.ctx.held.settings ≡ old.ctx.held.settings → new.ctx.held.taken ≤ length (rows_of old whole)
     → last.ctx.held.taken ≤ length (rows_of old whole)

@@ -1,4 +1,4 @@
-use Rattle.worked_rows.proofs.Examples.{local_bodies, damage_read, limit_behind}
+use Rattle.worked_rows.proofs.Examples.{local_bodies, damage_read, limit_after}
 use Rattle.worked_rows.proofs.locality_examples.Goals as goal
 
 pub returns-clause-bodies : goal.returns-clause-bodies
@@ -8,4 +8,4 @@ pub returns-clause-damage : goal.returns-clause-damage
 returns-clause-damage c = damage_read
 
 pub returns-clause-limit : goal.returns-clause-limit
-returns-clause-limit c = limit_behind
+returns-clause-limit c = limit_after

@@ -1,5 +1,5 @@
 use Rattle.fax_bits.proofs.Names.{◌≡◌, ℕ, ◌+◌, ◌-◌, ◌*◌, ◌<◌, get_or, false, length, arith, take_rest, Bits, bit_of, bits_in}
-use Rattle.fax_bits.proofs.BitReading.{BitLists.length-bits_in, FilledWindows.all_behind, WindowWords.bits_in-drop}
+use Rattle.fax_bits.proofs.BitReading.{BitLists.length-bits_in, FilledWindows.all_after, WindowWords.bits_in-drop}
 use Rattle.fax_bits.proofs.bit_reader.near_end.Goals as goal
 
 pub returns : goal.returns
@@ -10,6 +10,6 @@ returns c k h = let bytes = c.args.«data».now in
     let size = length-bits_in c.args.order bytes in
     let word : (k : ℕ) → k < 64
     → bit_of c.whole_word.result (63 - k) ≡ get_or bits (8 * start + k) false = grind (arith, take_rest, bits_in-drop) in
-    let less = all_behind bits (8 * start) most c.whole_word.result (omega (arith, size, c.requires.whole)) word in
+    let less = all_after bits (8 * start) most c.whole_word.result (omega (arith, size, c.requires.whole)) word in
     let at : 8 * start + most + 8 + k ≡ 8 * c.args.byte + k = omega (arith, c.requires.whole, c.requires.near) in
-    grind (arith, all_behind)
+    grind (arith, all_after)

@@ -1,5 +1,5 @@
 use Rattle.fax_bits.proofs.Names.{eqb-true, ◌≡◌, ◌-◌, ◌≤◌, arith, Bits, bits_in}
-use Rattle.fax_bits.proofs.BitReading.{BitLists.length-bits_in, FilledWindows.all_behind, WindowWords.filled}
+use Rattle.fax_bits.proofs.BitReading.{BitLists.length-bits_in, FilledWindows.all_after, WindowWords.filled}
 use Rattle.fax_bits.proofs.bit_reader.scanner_over.Goals as goal
 
 pub invariant_of-result : goal.invariant_of-result
@@ -12,4 +12,4 @@ invariant_of-result c = let order = c.args.order in
     let size = length-bits_in order bytes in
     let least : place ≤ limit = omega (arith, c.min-limit.ensures, c.requires.within) in
     let back : limit - (limit - place) ≡ place = omega (arith, least) in
-    grind (arith, filled, all_behind, eqb-true)
+    grind (arith, filled, all_after, eqb-true)

@@ -1,5 +1,5 @@
 use Rattle.fax_bits.proofs.Names.{◌<◌, length, arith, BitsAt, here}
-use Rattle.fax_bits.proofs.CodeWords.WordsHere.{run_on_word, shorter_behind}
+use Rattle.fax_bits.proofs.CodeWords.WordsHere.{run_on_word, shorter_following}
 use Rattle.fax_bits.proofs.words_at_hand.pass_makeup_word.Goals as goal
 
 pub returns-clause-on : goal.returns-clause-on
@@ -13,5 +13,5 @@ pub returns-clause-shorter : goal.returns-clause-shorter
 returns-clause-shorter c = let word = c.word_at_hand-run in
     let at : BitsAt = c.has_two_words.new.hand.at in
     let shorter : length (here c.pass.new.self.at) < length (here at) = rw c.pass.ensures.moved
-    (shorter_behind c.args.color at word.result.0 word.result.1 (word.ensures.word c.if-run-eq4095.false)) in
+    (shorter_following c.args.color at word.result.0 word.result.1 (word.ensures.word c.if-run-eq4095.false)) in
     rw (← c.has_two_words.ensures.same) shorter

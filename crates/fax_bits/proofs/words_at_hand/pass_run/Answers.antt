@@ -1,5 +1,5 @@
 use Rattle.fax_bits.proofs.Names.{◌<◌, arith, length, here, common_steps}
-use Rattle.fax_bits.proofs.CodeWords.WordsHere.{on_after_words, run_after_words, shorter_behind}
+use Rattle.fax_bits.proofs.CodeWords.WordsHere.{on_after_words, run_after_words, shorter_following}
 use Rattle.fax_bits.proofs.words_at_hand.pass_run.Goals as goal
 
 pub returns-then-run-lt64-clause-run : goal.returns-then-run-lt64-clause-run
@@ -14,7 +14,7 @@ pub words-smaller : goal.words-smaller
 words-smaller c =
     let word = c.word_at_hand-run in
     let shorter : length (here c.pass.new.self.at) < length (here c.has_word.new.hand.at) =
-    rw c.pass.ensures.moved (shorter_behind c.args.color c.has_word.new.hand.at word.result.0 word.result.1
+    rw c.pass.ensures.moved (shorter_following c.args.color c.has_word.new.hand.at word.result.0 word.result.1
     (word.ensures.word c.if-run-eq4095.false)) in
     rw c.has_word.ensures.same at shorter
 

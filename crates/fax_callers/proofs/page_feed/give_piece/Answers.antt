@@ -8,7 +8,7 @@ use Rattle.std.proofs.Math.Seq.{take-length}
 use Rattle.hayro_ccitt.specs.RowFeeds.{Feeding, fed_bits}
 use Rattle.hayro_ccitt.specs.RowState.{RowState}
 use Rattle.fax_callers.specs.PageFeeds.{IsPageReading}
-use Rattle.fax_callers.specs.Rtc.{GoesOnBehind, page_size}
+use Rattle.fax_callers.specs.Rtc.{GoesOnAfter, page_size}
 use Rattle.fax_callers.proofs.PageReadings.{bytes_are, count_within, front_length, kept_page, longer, longer_within, none_all}
 use Rattle.fax_callers.proofs.PageReadings.{none_is}
 use Rattle.fax_callers.proofs.PageReadings.{page_finished, page_goes_on, reads_on, some_is}
@@ -33,21 +33,21 @@ module _ (c : After-feed) where
   piece_length : length (take n c.args.piece.now) ≡ n
   piece_length = length-take-le n c.args.piece.now within
 
-  -- the page goes on behind all of them
-  behind : (bytes rest : List ℕ) (given : ℕ) (page : IsPageReading c.args.order bytes given c.args.seen.now c.args.page.now)
+  -- the page goes on after all of them
+  after : (bytes rest : List ℕ) (given : ℕ) (page : IsPageReading c.args.order bytes given c.args.seen.now c.args.page.now)
       → drop given bytes ≡ c.args.piece.now ++ rest → n ≡ size
-      → ((front : List ℕ) → GoesOnBehind c.settings.result.encoding c.args.order front c.args.seen.now
-      → GoesOnBehind c.settings.result.encoding c.args.order (front ++ c.args.piece.now) c.find_page_end-end.new.seen)
-      → GoesOnBehind c.args.page.now.ctx.held.settings.encoding c.args.order (take (given + n) bytes) c.find_page_end-end.new.seen
-  behind bytes rest given page split all passes =
+      → ((front : List ℕ) → GoesOnAfter c.settings.result.encoding c.args.order front c.args.seen.now
+      → GoesOnAfter c.settings.result.encoding c.args.order (front ++ c.args.piece.now) c.find_page_end-end.new.seen)
+      → GoesOnAfter c.args.page.now.ctx.held.settings.encoding c.args.order (take (given + n) bytes) c.find_page_end-end.new.seen
+  after bytes rest given page split all passes =
       let whole : take (given + n) bytes ≡ take given bytes ++ c.args.piece.now
       = longer bytes c.args.piece.now rest given page.within split n within
       ∙ ap (λ (k : ℕ). take given bytes ++ take k c.args.piece.now) all
       ∙ ap (λ (l : List ℕ). take given bytes ++ l) (take-length c.args.piece.now) in
-      subst (λ (l : List ℕ). GoesOnBehind c.args.page.now.ctx.held.settings.encoding c.args.order l c.find_page_end-end.new.seen)
-      (sym whole) (subst (λ (s : DecodeSettings). GoesOnBehind s.encoding c.args.order (take given bytes ++ c.args.piece.now)
+      subst (λ (l : List ℕ). GoesOnAfter c.args.page.now.ctx.held.settings.encoding c.args.order l c.find_page_end-end.new.seen)
+      (sym whole) (subst (λ (s : DecodeSettings). GoesOnAfter s.encoding c.args.order (take given bytes ++ c.args.piece.now)
       c.find_page_end-end.new.seen) c.settings.ensures (passes (take given bytes)
-      (subst (λ (s : DecodeSettings). GoesOnBehind s.encoding c.args.order (take given bytes) c.args.seen.now)
+      (subst (λ (s : DecodeSettings). GoesOnAfter s.encoding c.args.order (take given bytes) c.args.seen.now)
       (sym c.settings.ensures) (page.sought c.requires.unfinished))))
 
 pub returns-in_err-feed : goal.returns-in_err-feed
@@ -98,7 +98,7 @@ returns-then-is_some c =
       rows = ap (λ (f : Feeding). f.rows) frame ∙ feed.held.reading.1;
       given = λ bytes rest given page split.
           let ends = (some_is _ c.find_page_end-end.result (n at) (size at) (n_is at) found c.find_page_end-end.ensures.found).1
-          (take given bytes) rest (subst (λ (s : DecodeSettings). GoesOnBehind s.encoding c.args.order (take given bytes)
+          (take given bytes) rest (subst (λ (s : DecodeSettings). GoesOnAfter s.encoding c.args.order (take given bytes)
           c.args.seen.now) (sym c.settings.ensures) (page.sought c.requires.unfinished)) in
           page_finished page.fit (longer_within bytes c.args.piece.now rest given page.within split (n at) (within at))
           (feed.held.order ∙ page.order_is) (omega (arith, count, page.counted))
@@ -137,7 +137,7 @@ returns-else-is_some c =
           page_goes_on bytes c.args.piece.now rest given page split c.requires.unfinished (n at) (within at) feed.fed count
           feed.held.reading.0 feed.held.reading.1 feed.held.order c.find_page_end-end.new.seen
           (feed.held.reading.2 ∙ c.requires.unfinished)
-          (behind at bytes rest given page split all (none_is _ c.find_page_end-end.result none
+          (after at bytes rest given page split all (none_is _ c.find_page_end-end.result none
           c.find_page_end-end.ensures.none));
       failed = λ bytes rest given page split. tt;
       paid = λ bytes rest given calls lost page split paid.

@@ -28,7 +28,7 @@ returns-in-None c = (
 pub eols-preserved : goal.eols-preserved
 eols-preserved c = record {
   stands = iff_on c.eols.invariant.stands (one_eol_left c.args.encoding c.eols.left (here c.eols.next) _
-      c.eols-test.true c.in-Some-behind_tagged_eol.ensures.found);
+      c.eols-test.true c.in-Some-after_tagged_eol.ensures.found);
   few = omega (arith, c.eols.invariant.few);
 }
 

@@ -8,36 +8,36 @@ use Rattle.fax_conforms.proofs.pictures.read_lines.Goals as goal
 pub rows-preserved : goal.rows-preserved
 rows-preserved c =
     let columns = c.args.settings.columns in
-    let row : Row = pixels c.args.settings.columns c.draw_line_behind_eol.new.coding.items in
-    let lawful = c.in_ok-draw_line_behind_eol.ensures.reads.lawful in
+    let row : Row = pixels c.args.settings.columns c.draw_line_following_eol.new.coding.items in
+    let lawful = c.in_ok-draw_line_following_eol.ensures.reads.lawful in
     let on = lines_lead c.args.settings c.rows.taken (pixels c.args.settings.columns c.rows.reference.items) (here c.rows.reader)
     (c.limit_met.ensures.unmet c.if-limit_met.false)
-    (λ rtc. absurd (false≢true (sym c.if-is_rtc.false ∙ c.is_rtc.ensures.1 rtc))) row (here c.draw_line_behind_eol.new.reader)
-    (length-pixels c.args.settings.columns c.draw_line_behind_eol.new.coding.items lawful)
-    (rw c.as_slice.ensures.value at c.in_ok-draw_line_behind_eol.ensures.reads.row) in
+    (λ rtc. absurd (false≢true (sym c.if-is_rtc.false ∙ c.is_rtc.ensures.1 rtc))) row (here c.draw_line_following_eol.new.reader)
+    (length-pixels c.args.settings.columns c.draw_line_following_eol.new.coding.items lawful)
+    (rw c.as_slice.ensures.value at c.in_ok-draw_line_following_eol.ensures.reads.row) in
     record {
       stands = rw c.swap.ensures.x_after (iff_on c.rows.invariant.stands on);
       lawful = rw c.swap.ensures.x_after lawful;
       allows = c.limit_met.ensures.allows c.if-limit_met.false c.rows.invariant.allows;
-      same_bits = c.draw_line_behind_eol.ensures.same_bits ∙ c.rows.invariant.same_bits;
+      same_bits = c.draw_line_following_eol.ensures.same_bits ∙ c.rows.invariant.same_bits;
       few = omega (
         arith,
         c.rows.invariant.few,
-        c.in_ok-draw_line_behind_eol.ensures.shorter,
-        ap length c.draw_line_behind_eol.ensures.same_bits,
+        c.in_ok-draw_line_following_eol.ensures.shorter,
+        ap length c.draw_line_following_eol.ensures.same_bits,
       );
     }
 
-pub returns-in_err-draw_line_behind_eol-clause-none : goal.returns-in_err-draw_line_behind_eol-clause-none
-returns-in_err-draw_line_behind_eol-clause-none c =
+pub returns-in_err-draw_line_following_eol-clause-none : goal.returns-in_err-draw_line_following_eol-clause-none
+returns-in_err-draw_line_following_eol-clause-none c =
     let p = err_from_is_err_and c.from_residual.result c.from_residual.ensures.1 in
     rw (p.1, p.2) (λ broken stands. lines_fail c.args.settings c.rows.taken
     (pixels c.args.settings.columns c.rows.reference.items) (here c.rows.reader) (c.limit_met.ensures.unmet c.if-limit_met.false)
     (λ rtc. absurd (false≢true (sym c.if-is_rtc.false ∙ c.is_rtc.ensures.1 rtc)))
-    (rw c.as_slice.ensures.value at (c.in_err-draw_line_behind_eol.ensures.reads.none broken)) (c.rows.invariant.stands.0 stands))
+    (rw c.as_slice.ensures.value at (c.in_err-draw_line_following_eol.ensures.reads.none broken)) (c.rows.invariant.stands.0 stands))
 
-pub returns-in_err-draw_line_behind_eol-clause-at : goal.returns-in_err-draw_line_behind_eol-clause-at
-returns-in_err-draw_line_behind_eol-clause-at c =
+pub returns-in_err-draw_line_following_eol-clause-at : goal.returns-in_err-draw_line_following_eol-clause-at
+returns-in_err-draw_line_following_eol-clause-at c =
     let p = err_from_is_err_and c.from_residual.result c.from_residual.ensures.1 in
     ends_in c.from_residual.result c.args.reader.now.bits c.rows.reader.bits c.rows.invariant.same_bits
-    (rw (p.1, p.2) c.in_err-draw_line_behind_eol.ensures.reads.at)
+    (rw (p.1, p.2) c.in_err-draw_line_following_eol.ensures.reads.at)

@@ -25,7 +25,7 @@ loop-start-preserved-then-is_plain c =
     let fit : 64 * words ≤ n = omega (arith, c.plain_words-plain.ensures.within) in
     let room : 8 * words ≤ length rest = omega (arith, c.loop-start.invariant.room) in
     let more : n - 64 * words ≡ c.args.columns - (start + 64 * words) = omega arith in
-    let behind : take (length rest - 8 * words) (drop (8 * words) rest) ≡ drop (8 * words) rest = take_rest rest (8 * words) in
+    let following : take (length rest - 8 * words) (drop (8 * words) rest) ≡ drop (8 * words) rest = take_rest rest (8 * words) in
     let color : nat_eq (c.loop-start.before % 2) 1 ≡ bit_of c.loop-start.before 0 =
     ap (λ (b : ℕ). nat_eq b 1) (let e : c.loop-start.before % 2 ≡ c.loop-start.before / 2 ^ 0 % 2 = omega arith in e) in
     let scanned = plain_scanned start n c.loop-start.before words _ rest color fit room c.plain_words-plain.ensures.plain in
@@ -33,8 +33,8 @@ loop-start-preserved-then-is_plain c =
     λ (m : ℕ). λ (l : List ℕ). changes_from (start + 64 * words) (bit_of c.loop-start.before 0) (take m (bits_of l)) in
     record {
       within = omega (arith, fit);
-      room = omega (arith, c.loop-start.invariant.room, length-drop (8 * words) rest, ap length behind);
-      left = ap (λ (l : List ℕ). c.loop-start.list.items ++ after (c.args.columns - (start + 64 * words)) l) behind
+      room = omega (arith, c.loop-start.invariant.room, length-drop (8 * words) rest, ap length following);
+      left = ap (λ (l : List ℕ). c.loop-start.list.items ++ after (c.args.columns - (start + 64 * words)) l) following
           ∙ ap (λ (m : ℕ). c.loop-start.list.items ++ after m (drop (8 * words) rest)) (sym more)
           ∙ ap (λ (l : List ℕ). c.loop-start.list.items ++ l) (sym scanned) ∙ c.loop-start.invariant.left;
     }
@@ -45,7 +45,7 @@ loop-start-preserved c =
     let n : ℕ = c.args.columns - start in
     let rest : List ℕ = c.loop-start.rest.now in
     let more : n - 64 ≡ c.args.columns - (start + 64) = omega arith in
-    let behind : take (length rest - 8) (drop 8 rest) ≡ drop 8 rest = take_rest rest 8 in
+    let following : take (length rest - 8) (drop 8 rest) ≡ drop 8 rest = take_rest rest 8 in
     let some : 64 ≤ n = c.loop-start-test.true in
     let scanned = word_scanned start n c.loop-start.before c.first_pixels-word.result c.turns-ones.result rest some
     c.loop-start.invariant.room c.first_pixels-word.ensures c.turns-ones.ensures in
@@ -54,8 +54,8 @@ loop-start-preserved c =
     let found : List ℕ = ones_from start (take 64 (low_bits 64 c.turns-ones.result)) in
     record {
       within = omega arith;
-      room = omega (arith, c.loop-start.invariant.room, length-drop 8 rest, ap length behind);
-      left = ap (λ (l : List ℕ). c.push_ones.new.list.items ++ after l) behind
+      room = omega (arith, c.loop-start.invariant.room, length-drop 8 rest, ap length following);
+      left = ap (λ (l : List ℕ). c.push_ones.new.list.items ++ after l) following
           ∙ ap (λ (l : List ℕ). l ++ after (drop 8 rest)) c.in_ok-push_ones.ensures
           ∙ append_assoc c.loop-start.list.items found (after (drop 8 rest)) ∙ ap (λ (m : ℕ). c.loop-start.list.items
           ++ (found ++ changes_from (start + 64) (bit_of c.first_pixels-word.result 0) (take m (bits_of (drop 8 rest)))))

@@ -41,16 +41,16 @@ returns-clause-written c =
     let above : Row = pixels c.args._columns c.args.reference.now in
     let row : Row = pixels c.args._columns c.args.changes.now in
     let old : Bits = all_bits c.args.writer.now in
-    let behind : ℕ → Bits = λ n. chosen_from above row (record { from = n + 1; color = color_after to }) in
+    let after : ℕ → Bits = λ n. chosen_from above row (record { from = n + 1; color = color_after to }) in
     let place : ℕ = get_or c.args.changes.now (to - 1) c.args._columns in
     let one : 1 * 2 ^ count % 2 ^ 64 ≡ 2 ^ count = one_shl count 64 (omega (arith, c.count_below-count.ensures.few)) in
     let more : count ≡ suc (count - 1) = omega (arith, c.count_below-count.ensures.some) in
-    ap (λ (n : ℕ). all_bits c.put.new.self ++ behind n) (last d)
-    ∙ ap (λ (b : Bits). b ++ behind place) c.in_ok-put.ensures
-    ∙ ap (λ (m : ℕ). (old ++ low_bits count (m - 1)) ++ behind place) one
-    ∙ ap (λ (b : Bits). (old ++ b) ++ behind place) (ones_below count count (omega arith))
-    ∙ ap (λ (m : ℕ). (old ++ replicate m true) ++ behind place) more
-    ∙ append_assoc old (replicate (suc (count - 1)) true) (behind place) ∙ ap (λ (b : Bits). old ++ b) (sym (below d).bits)
+    ap (λ (n : ℕ). all_bits c.put.new.self ++ after n) (last d)
+    ∙ ap (λ (b : Bits). b ++ after place) c.in_ok-put.ensures
+    ∙ ap (λ (m : ℕ). (old ++ low_bits count (m - 1)) ++ after place) one
+    ∙ ap (λ (b : Bits). (old ++ b) ++ after place) (ones_below count count (omega arith))
+    ∙ ap (λ (m : ℕ). (old ++ replicate m true) ++ after place) more
+    ∙ append_assoc old (replicate (suc (count - 1)) true) (after place) ∙ ap (λ (b : Bits). old ++ b) (sym (below d).bits)
 
 pub returns-clause-coded : goal.returns-clause-coded
 returns-clause-coded c =

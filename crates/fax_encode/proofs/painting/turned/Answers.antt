@@ -1,5 +1,5 @@
 use Rattle.fax_encode.proofs.Names.{◌≡◌, ◌-◌, ◌≤◌, ◌%◌, ◌^◌, ℕ, length, ap, ◌∙◌, arith, bit_xor, low_bits}
-use Rattle.fax_encode.proofs.PaintedWords.{turned_behind}
+use Rattle.fax_encode.proofs.PaintedWords.{turned_following}
 use Rattle.fax_encode.proofs.painting.turned.Goals as goal
 
 pub returns-clause-word : goal.returns-clause-word
@@ -10,4 +10,4 @@ returns-clause-word c = λ front len e.
     let mask : c.ones_from.result ≡ 2 ^ (64 - length front) - 1 =
     c.ones_from.ensures ∙ ap (λ (k : ℕ). 2 ^ (64 - k) - 1) in_word in
     ap (λ (m : ℕ). low_bits 64 (bit_xor c.args.brush.word m)) mask
-    ∙ turned_behind front (64 - length front) c.args.brush.word 64 c.args.brush.is_black (omega arith) e
+    ∙ turned_following front (64 - length front) c.args.brush.word 64 c.args.brush.is_black (omega arith) e

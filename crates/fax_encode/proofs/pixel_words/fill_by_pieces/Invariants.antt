@@ -1,7 +1,7 @@
 use Rattle.std.proofs.Common.{◌≡◌, ◌≤◌, ◌-◌, length, replicate, drop}
 use Rattle.fax_encode.proofs.pixel_words.fill_by_pieces.Given as goal
 
--- the bytes behind those that are left are filled
+-- the bytes after those that are left are filled
 abbrev pub invariant-pieces : goal.invariant-pieces
 invariant-pieces l = (length l.bytes ≡ length l.fn.bytes) × (l.left ≤ length l.bytes)
     × (drop l.left l.bytes ≡ replicate (length l.bytes - l.left) l.fn.byte)

@@ -18,13 +18,13 @@ twos-preserved c =
     let second : i + 1 < length changes = omega (arith, c.twos-test.true) in
     let two : i + 1 + 1 ≡ i + 2 = omega arith in
     let ascend = c.twos.invariant.ascend in
-    let behind = two_ascend columns place i White changes second ascend in
+    let after = two_ascend columns place i White changes second ascend in
     let left : Bits = chosen_runs columns White white (drop (i + 1 + 1) changes) in
     let split = two_runs columns place i White changes first second ascend in
     record {
       counted = omega (arith, second);
-      within = behind.0;
-      ascend = behind.1;
+      within = after.0;
+      ascend = after.1;
       written = ap (λ (n : ℕ). all_bits c.put_runs.new.writer ++ chosen_runs columns White white (drop n changes)) (sym two)
           ∙ one_part (all_bits c.put_runs.new.writer)
           (all_bits c.twos.writer) (chosen_runs columns White place (drop i changes)) (chosen_run White (black - place)

@@ -16,11 +16,11 @@ loop-next-preserved c =
     let second : i + 1 < length changes = omega (arith, c.loop-next-test.true) in
     let two : i + 1 + 1 ≡ i + 2 = omega arith in
     let ascend = c.loop-next.invariant.ascend in
-    let behind = two_ascend columns place i White changes second ascend in
+    let after = two_ascend columns place i White changes second ascend in
     record {
       counted = omega (arith, second);
-      within = behind.0;
-      ascend = behind.1;
+      within = after.0;
+      ascend = after.1;
       few = omega (
         arith,
         c.from-bits.ensures,

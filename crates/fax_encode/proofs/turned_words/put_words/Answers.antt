@@ -8,11 +8,11 @@ words-preserved c =
     let put = c.put_pixels.ensures in
     let more : 8 * c.words.at + 8 ≤ length c.words.row = omega (arith, c.words-test.true) in
     record {
-      written = word_joined c.words.at c.after-word.result (bit_of c.words.color 0) (bit_of c.color_behind-color.result 0)
+      written = word_joined c.words.at c.after-word.result (bit_of c.words.color 0) (bit_of c.color_following-color.result 0)
           c.words.row c.put_pixels.new.bytes c.args.words.now (joined_pixels false c.args.words.now) more
           (omega (arith, more, is.room, c.requires)) c.after-word.ensures.pixels c.after-word.ensures.last
-          c.color_behind-color.ensures.same put.written is.written;
-      plain = c.color_behind-color.ensures.plain;
+          c.color_following-color.ensures.same put.written is.written;
+      plain = c.color_following-color.ensures.plain;
       within = omega (arith, more, put.length);
       room = put.length ∙ is.room;
     }

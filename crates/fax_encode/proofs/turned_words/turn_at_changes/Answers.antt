@@ -8,8 +8,8 @@ use Rattle.fax_encode.proofs.TurnedWords.{one_turned, plain_turned, turned_is_ro
 use Rattle.fax_encode.proofs.turned_words.turn_at_changes.Goals as goal
 use Rattle.hayro_ccitt.proofs.PixelRows.ChangesAndPixels.{turned_at}
 
-pub turn_behind-requires : goal.turn_behind-requires
-turn_behind-requires c = change_inside _ _ c.changes.done c.changes-test.true c.requires.changes c.changes.invariant.room
+pub turn_following-requires : goal.turn_following-requires
+turn_following-requires c = change_inside _ _ c.changes.done c.changes-test.true c.requires.changes c.changes.invariant.room
     c.requires.room
 
 pub changes-preserved : goal.changes-preserved
@@ -18,7 +18,7 @@ changes-preserved c =
     let changes : List ℕ = c.args.changes.now in
     let is = c.changes.invariant in
     let more = c.changes-test.true in
-    let turned = c.turn_behind.ensures in
+    let turned = c.turn_following.ensures in
     record {
       left = ap (turned_at_all (drop (done + 1) changes)) turned.turned
           ∙ sym (one_turned changes done (joined_pixels false c.changes.words) more) ∙ is.left;
@@ -54,7 +54,7 @@ returns-then-changes-eq1-clause-painted c =
     let row : Bits = pixels columns changes in
     let black : joined_pixels false c.changes.words ≡ row ++ replicate n true =
     all ∙ ap (λ (b : Bool). row ++ replicate n b) (odd_ends_black changes c.if-changes-eq1.true) in
-    c.turn_behind-then-changes-eq1.ensures.turned ∙ ap (turned_from columns) black
+    c.turn_following-then-changes-eq1.ensures.turned ∙ ap (turned_from columns) black
     ∙ ap (λ (k : ℕ). turned_from k (row ++ replicate n true)) (sym (length-pixels columns changes c.requires.changes))
     ∙ plain_turned row n true
 

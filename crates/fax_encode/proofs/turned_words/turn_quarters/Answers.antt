@@ -10,25 +10,25 @@ quarters-init c = record {
   room = refl;
 }
 
-pub turn_behind-requires : goal.turn_behind-requires
-turn_behind-requires c = change_inside _ _ c.quarters.done (omega (arith, c.quarters-test.true)) c.requires.changes
+pub turn_following-requires : goal.turn_following-requires
+turn_following-requires c = change_inside _ _ c.quarters.done (omega (arith, c.quarters-test.true)) c.requires.changes
     c.quarters.invariant.room c.requires.room
 
-pub turn_behind-requires-in-quarters : goal.turn_behind-requires-in-quarters
-turn_behind-requires-in-quarters c = change_inside _ _ (length c.args.changes.now / 4 + c.quarters.done)
+pub turn_following-requires-in-quarters : goal.turn_following-requires-in-quarters
+turn_following-requires-in-quarters c = change_inside _ _ (length c.args.changes.now / 4 + c.quarters.done)
     (omega (arith, c.quarters-test.true)) c.requires.changes
-    (c.turn_behind.ensures.length ∙ c.quarters.invariant.room) c.requires.room
+    (c.turn_following.ensures.length ∙ c.quarters.invariant.room) c.requires.room
 
-pub turn_behind-requires-in-quarters-2 : goal.turn_behind-requires-in-quarters-2
-turn_behind-requires-in-quarters-2 c = change_inside _ _ (2 * (length c.args.changes.now / 4) + c.quarters.done)
+pub turn_following-requires-in-quarters-2 : goal.turn_following-requires-in-quarters-2
+turn_following-requires-in-quarters-2 c = change_inside _ _ (2 * (length c.args.changes.now / 4) + c.quarters.done)
     (omega (arith, c.quarters-test.true)) c.requires.changes
-    (c.turn_behind-in-quarters.ensures.length ∙ c.turn_behind.ensures.length
+    (c.turn_following-in-quarters.ensures.length ∙ c.turn_following.ensures.length
     ∙ c.quarters.invariant.room) c.requires.room
 
-pub turn_behind-requires-in-quarters-3 : goal.turn_behind-requires-in-quarters-3
-turn_behind-requires-in-quarters-3 c = change_inside _ _ (3 * (length c.args.changes.now / 4) + c.quarters.done)
+pub turn_following-requires-in-quarters-3 : goal.turn_following-requires-in-quarters-3
+turn_following-requires-in-quarters-3 c = change_inside _ _ (3 * (length c.args.changes.now / 4) + c.quarters.done)
     (omega (arith, c.quarters-test.true)) c.requires.changes
-    (c.turn_behind-in-quarters-2.ensures.length ∙ c.turn_behind-in-quarters.ensures.length ∙ c.turn_behind.ensures.length
+    (c.turn_following-in-quarters-2.ensures.length ∙ c.turn_following-in-quarters.ensures.length ∙ c.turn_following.ensures.length
     ∙ c.quarters.invariant.room) c.requires.room
 
 pub quarters-preserved : goal.quarters-preserved
@@ -37,10 +37,10 @@ quarters-preserved c =
     let part : ℕ = length changes / 4 in
     let done : ℕ = c.quarters.done in
     let is = c.quarters.invariant in
-    let one = c.turn_behind.ensures in
-    let two = c.turn_behind-in-quarters.ensures in
-    let three = c.turn_behind-in-quarters-2.ensures in
-    let four = c.turn_behind-in-quarters-3.ensures in
+    let one = c.turn_following.ensures in
+    let two = c.turn_following-in-quarters.ensures in
+    let three = c.turn_following-in-quarters-2.ensures in
+    let four = c.turn_following-in-quarters-3.ensures in
     record {
       turned = four.turned ∙ ap (turned_from (get_or changes (3 * part + done) 0)) (three.turned
           ∙ ap (turned_from (get_or changes (2 * part + done) 0)) (two.turned

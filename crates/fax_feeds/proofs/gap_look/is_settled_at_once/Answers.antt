@@ -1,5 +1,5 @@
 use Rattle.fax_feeds.proofs.Names.{arith, common_steps}
-use Rattle.fax_feeds.proofs.Readings.GapsSeen.{settled_at_one, settled_behind_eol, settled_behind_tagged}
+use Rattle.fax_feeds.proofs.Readings.GapsSeen.{settled_at_one, settled_after_eol, settled_after_tagged}
 use Rattle.fax_feeds.proofs.gap_look.is_settled_at_once.Goals.{then-rules, else-rules}
 use Rattle.fax_feeds.proofs.gap_look.is_settled_at_once.Goals as goal
 use Rattle.std.proofs.lemmas.Bool.{not-true}
@@ -20,8 +20,8 @@ returns c =
     λ e. grind (
       arith,
       common_steps,
-      settled_behind_tagged,
-      settled_behind_eol,
+      settled_after_tagged,
+      settled_after_eol,
       c.pass_near_eol.ensures.eol c.if-not-pass_near_eol.false,
       c.holds_near_one-2.ensures.near e,
       c.holds_near_one-2.ensures.one e,

@@ -3,12 +3,12 @@ use Rattle.fax_feeds.proofs.Names.{◌≡◌, ◌∙◌, ◌-◌, ap, subst, ref
 use Rattle.fax_feeds.proofs.Names.{b2, right_of_painted}
 use Rattle.fax_feeds.specs.declared.line_parts.KeptPart.{KeptPart}
 use Rattle.fax_feeds.specs.LineParts.{PaintsTo, IsLawfulPart}
-use Rattle.fax_feeds.proofs.DrawingLines.PartsOfLines.{at_mode_is, lawful_behind, pass_ends, pass_goes}
+use Rattle.fax_feeds.proofs.DrawingLines.PartsOfLines.{at_mode_is, lawful_after, pass_ends, pass_goes}
 use Rattle.fax_feeds.proofs.line_parts.pass.Goals.{After-paint}
 use Rattle.fax_feeds.proofs.line_parts.pass.Goals as goal
 
 pass_settings : (c : After-paint) → c.settings.result ≡ c.args.ctx.now.held.settings
-pass_settings c = c.settings.ensures.value ∙ ap (λ (x : Context). x.held.settings) c.places_behind-b2.ensures.frame
+pass_settings c = c.settings.ensures.value ∙ ap (λ (x : Context). x.held.settings) c.places_after-b2.ensures.frame
 
 pass_counted : (c : After-paint) (front : Row) → length front ≡ c.args.part.now.painted
     → b2 c.args.ctx.now.held.reference (right_of_painted (length front)) c.args.part.now.color - length front
@@ -16,7 +16,7 @@ pass_counted : (c : After-paint) (front : Row) → length front ≡ c.args.part.
 pass_counted c front is = grind (arith, common_steps)
 
 pass_lawful : (c : After-paint) → IsLawfulPart c.args.ctx.now.held.settings c.args.ctx.now.held.reference c.paint.new.part
-pass_lawful c = grind (arith, common_steps, lawful_behind, pass_settings c)
+pass_lawful c = grind (arith, common_steps, lawful_after, pass_settings c)
 
 pub returns-then-not-paint-clause-goes : goal.returns-then-not-paint-clause-goes
 returns-then-not-paint-clause-goes c = λ rest.

@@ -3,8 +3,8 @@ use Rattle.fax_feeds.proofs.Names.{inl, inr, Color, Context, DecodeSettings, Ok,
 use Rattle.fax_bits.specs.Faults.{misses_end}
 use Rattle.fax_feeds.specs.declared.line_parts.KeptPart.{KeptPart}
 use Rattle.fax_bits.proofs.CodeWords.ReadRuns.{some_where}
-use Rattle.fax_feeds.proofs.DrawingLines.PartsOfLines.{goes_in_run, lawful_behind, makeup_ends, part_behind_makeup}
-use Rattle.fax_feeds.proofs.DrawingLines.PartsOfLines.{part_behind_run, run_ends_line, stops_in_run, word_fails}
+use Rattle.fax_feeds.proofs.DrawingLines.PartsOfLines.{goes_in_run, lawful_after, makeup_ends, part_after_makeup}
+use Rattle.fax_feeds.proofs.DrawingLines.PartsOfLines.{part_after_run, run_ends_line, stops_in_run, word_fails}
 use Rattle.fax_feeds.proofs.line_parts.read_next_run.Goals.{In-Ok, In-Err, After-from-in-Ok-4}
 use Rattle.fax_feeds.proofs.line_parts.read_next_run.Goals as goal
 use Rattle.fax_bits.proofs.ErrorKinds.{missing_end}
@@ -41,7 +41,7 @@ returns-then-n-ge64-clause-steps c =
     c.read_word.new.reader c.in-Ok.n c.args.color own c.read_word.ensures.frame c.read_word.ensures.same_bits
     (record { within = c.requires.lawful.within; passed = c.requires.lawful.passed }) refl
     (record { line = c.requires.run.line; run = c.requires.run.run; last = c.requires.run.last }) c.requires.color
-    (rw total (part_behind_makeup held.settings held.reference part c.requires.run (here c.args.reader.now) c.in-Ok.n
+    (rw total (part_after_makeup held.settings held.reference part c.requires.run (here c.args.reader.now) c.in-Ok.n
     (here c.read_word.new.reader) own (omega (arith, c.if-n-ge64.true)) (omega (arith, sum.0, c.from.ensures))))
 
 -- the width
@@ -86,11 +86,11 @@ returns-else-end-from-clause-steps c =
     let within : painted < held.settings.columns = omega (arith, c.if-end-from.false, columns_are at.After-from-in-Ok-4) in
     goes_in_run part new c.args.ctx.now c.read_word.new.ctx c.args.reader.now c.read_word.new.reader c.in-Ok.n
     (opposite c.args.color) own c.read_word.ensures.frame c.read_word.ensures.same_bits
-    (lawful_behind held.settings held.reference new part.painted part.passed c.requires.lawful.passed refl (omega (arith, there))
+    (lawful_after held.settings held.reference new part.painted part.passed c.requires.lawful.passed refl (omega (arith, there))
     (omega (arith, within))) refl (record { line = c.requires.run.line; run = c.requires.run.run; last = c.requires.run.last })
     c.opposite-part.ensures
     (rw (there, c.opposite-part.ensures, sym c.requires.color)
-    (part_behind_run held.settings held.reference part c.requires.run c.in-Ok.n (here c.args.reader.now)
+    (part_after_run held.settings held.reference part c.requires.run c.in-Ok.n (here c.args.reader.now)
     (here c.read_word.new.reader) own (omega (arith, c.if-n-ge64.false)) (omega (arith, there, within))
     (omega (arith, there, within))))
 

@@ -3,7 +3,7 @@ use Rattle.fax_feeds.proofs.Names.{ℕ}
 use Rattle.fax_feeds.specs.LineParts.{Leads, part_by, pen_of_part, run_of_part}
 use Rattle.fax_reading.specs.LinesGoOn.{read_on, word_added}
 use Rattle.fax_bits.proofs.CodeWords.ReadRuns.{read_code_shorter, words_not_empty}
-use Rattle.fax_feeds.proofs.DrawingLines.PartsOfLines.{lawful_behind, word_is_read}
+use Rattle.fax_feeds.proofs.DrawingLines.PartsOfLines.{lawful_after, word_is_read}
 use Rattle.fax_feeds.proofs.line_parts.read_run.Goals as goal
 
 pub returns-in-Ok : goal.returns-in-Ok
@@ -33,7 +33,7 @@ returns-in-Ok c =
               (subst (λ (s : DecodeSettings). Leads c.add_word.result new after (word_added s.strict s.columns
               (run_of_part part) (pen_of_part part front after)
               c.from.result).turn) same (c.add_word.ensures.goes after front is)));
-          lawful = lawful_behind held.settings held.reference new part.painted part.passed c.requires.lawful.passed
+          lawful = lawful_after held.settings held.reference new part.painted part.passed c.requires.lawful.passed
               c.add_word.ensures.passed c.add_word.ensures.onward
               (omega (arith, c.add_word.ensures.within, ap (λ (s : DecodeSettings). s.columns) same));
         };

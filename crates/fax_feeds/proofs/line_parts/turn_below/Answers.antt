@@ -14,17 +14,17 @@ pub returns-clause-goes : goal.returns-clause-goes
 returns-clause-goes c = λ rest.
     let held = c.args.ctx.now.held in
     let part = c.args.part.now in
-    let place = c.places_behind-b1.result.0 in
-    let within = c.places_behind-b1.ensures.within in
-    let onward = c.places_behind-b1.ensures.onward c.requires.lawful.within in
+    let place = c.places_after-b1.result.0 in
+    let within = c.places_after-b1.ensures.within in
+    let onward = c.places_after-b1.ensures.onward c.requires.lawful.within in
     record {
       leads = λ front is.
           let there : place_from (length front) (pos (b1 held.reference (right_of_painted (length front)) part.color) +ℤ pos 0)
           ≡ Ok place
           = subst (λ (n : ℕ). place_from (length front) (pos (b1 held.reference (right_of_painted n) part.color) +ℤ pos 0)
           ≡ Ok place) (sym is)
-          (subst (λ (n : ℕ). place_from (length front) (pos n +ℤ pos 0) ≡ Ok place) c.places_behind-b1.ensures.b1
-          (place_itself (length front) place (omega (arith, is, onward)) (omega (arith, c.places_behind-b1.type_inv.1)))) in
+          (subst (λ (n : ℕ). place_from (length front) (pos n +ℤ pos 0) ≡ Ok place) c.places_after-b1.ensures.b1
+          (place_itself (length front) place (omega (arith, is, onward)) (omega (arith, c.places_after-b1.type_inv.1)))) in
           let paints : PaintsTo held.settings front part.color (place - length front) place
           = subst (PaintsTo held.settings front part.color (place - length front)) (omega (arith, is, onward))
           (paints_all held.settings front part.color (place - length front) part.painted is c.requires.lawful.within
@@ -37,7 +37,7 @@ returns-clause-goes c = λ rest.
           );
       lawful = record {
         within = within;
-        passed = passed_on (changes held.reference) part.painted place c.places_behind-b1.new.passed onward
-            c.places_behind-b1.ensures.passes.passed;
+        passed = passed_on (changes held.reference) part.painted place c.places_after-b1.new.passed onward
+            c.places_after-b1.ensures.passes.passed;
       };
     }

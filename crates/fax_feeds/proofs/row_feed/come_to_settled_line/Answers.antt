@@ -2,7 +2,7 @@ use Rattle.fax_feeds.proofs.Names.{common_steps}
 use Rattle.fax_feeds.proofs.Names.{◌≡◌, ◌∙◌, ◌+◌, ◌-◌, ◌⊎◌, ap, sym, subst, refl, true, inl, ℕ}
 use Rattle.fax_feeds.proofs.Names.{arith, [], Ok, here, Held}
 use Rattle.fax_feeds.proofs.Names.{false≢true, inr, length-drop, append-nil, Result, Bool, DecodeError, BitsAt, Context}
-use Rattle.fax_feeds.proofs.Names.{gap_behind_row, gap_said, length, ◌≤◌}
+use Rattle.fax_feeds.proofs.Names.{gap_after_row, gap_said, length, ◌≤◌}
 use Rattle.fax_feeds.specs.GapsSeen.{bits_needed, rules_for}
 use Rattle.fax_rows.specs.RowsTried.{PassesGapHere}
 use Rattle.fax_feeds.specs.declared.gap_look.GapStage.TheVariants.{Start}
@@ -80,15 +80,15 @@ near_end old mid new before after same settled gap =
     ≤ length (here before) + 12) same
     (passed_near mid.held.settings mid.held.taken mid.held.has_eols (here before) (here after)
     (ap (λ (h : Held). gap_is_settled h.settings h.taken h.has_eols (here before)) same ∙ settled) gap.over new.held.has_eols
-    (ap (gap_behind_row mid.held.settings mid.held.taken mid.held.has_eols) (sym (append-nil (here before)))
+    (ap (gap_after_row mid.held.settings mid.held.taken mid.held.has_eols) (sym (append-nil (here before)))
     ∙ passes.gap ∙ ap (gap_said gap.over new.held.has_eols) (append-nil (here after))) gap.put_back)
 
 gap_is : {gap_start : ℕ} {rows kept : RowState} (mid new : Context) (before after : BitsAt) {answer : Result Bool DecodeError}
     → (gap : PassesGapHere gap_start rows kept mid new before after answer)
-    → gap_behind_row mid.held.settings mid.held.taken mid.held.has_eols (here before)
+    → gap_after_row mid.held.settings mid.held.taken mid.held.has_eols (here before)
     ≡ gap_said gap.over new.held.has_eols (here after)
 gap_is mid new before after gap =
-    ap (gap_behind_row mid.held.settings mid.held.taken mid.held.has_eols) (sym (append-nil (here before)))
+    ap (gap_after_row mid.held.settings mid.held.taken mid.held.has_eols) (sym (append-nil (here before)))
     ∙ (gap.passes [] (inl refl)).gap ∙ ap (gap_said gap.over new.held.has_eols) (append-nil (here after))
 
 gap_shorter : {gap_start : ℕ} {rows kept : RowState} (mid new : Context) (before after : BitsAt)
@@ -117,7 +117,7 @@ eol_passed : {gap_start : ℕ} {rows kept : RowState} (mid new : Context) (befor
 eol_passed mid new before after settled sought gap over =
     let settings = mid.held.settings in
     let taken = mid.held.taken in
-    let line : gap_behind_row settings taken true (here before) ≡ Gap.line_at new.held.has_eols (here after) =
+    let line : gap_after_row settings taken true (here before) ≡ Gap.line_at new.held.has_eols (here after) =
     grind (arith, common_steps, gap_is mid new before after gap) in
     let still = settled_sought settings taken (here before) (here after) new.held.has_eols
     (ap (λ (b : Bool). gap_is_settled settings taken b (here before)) (sym sought) ∙ settled) line in
@@ -125,7 +125,7 @@ eol_passed mid new before after settled sought gap over =
     (line ∙ ap (λ (b : Bool). Gap.line_at b (here after)) still) in
     record {
       fill = eol.1.fill;
-      behind = eol.0;
+      after = eol.0;
       place = eol.1.place;
       passed = grind (arith, common_steps, length-within, length-drop);
     }

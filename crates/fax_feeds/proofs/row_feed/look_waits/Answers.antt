@@ -1,6 +1,6 @@
 use Rattle.fax_feeds.proofs.Names.{◌≡◌, ◌∙◌, ◌+◌, ◌&&◌, ap, sym, arith, length, drop, length-drop, drop-drop, not, Bool, Bits}
 use Rattle.fax_feeds.proofs.Names.{ℕ, subst, length-append, here}
-use Rattle.fax_feeds.specs.GapsSeen.{LooksTo, nothing_seen, is_settled, stage_behind}
+use Rattle.fax_feeds.specs.GapsSeen.{LooksTo, nothing_seen, is_settled, stage_following}
 use Rattle.fax_feeds.specs.declared.gap_look.GapStage.TheVariants.{Start}
 use Rattle.fax_feeds.proofs.Readings.GapsSeen.{found_settled, looked_within, looks_then, rest_is}
 use Rattle.fax_feeds.proofs.row_feed.look_waits.Goals.{After-bit_pos, After-look_on}
@@ -54,7 +54,7 @@ returns-clause-waits c =
       ap length looks.1.are,
       length-append looks.1.looked looks.0,
     )))))
-    ∙ sym (ap (λ (b : Bool). not b && not (is_settled (stage_behind c.args.rules.now Start 0 (here c.args.reader.now))))
+    ∙ sym (ap (λ (b : Bool). not b && not (is_settled (stage_following c.args.rules.now Start 0 (here c.args.reader.now))))
     c.if-is_last.false)
 
 pub returns-clause-seen : goal.returns-clause-seen

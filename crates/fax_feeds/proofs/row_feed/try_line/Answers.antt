@@ -1,10 +1,10 @@
 use Rattle.fax_feeds.proofs.Names.{common_steps}
 use Rattle.fax_feeds.proofs.Names.{rules, ◌≡◌, ◌∙◌, sym, refl, arith, length, ◌≤◌, ℕ, Bool, true, Result, Ok, Err}
-use Rattle.fax_feeds.proofs.Names.{BehindRow, DecodeError}
+use Rattle.fax_feeds.proofs.Names.{AfterRow, DecodeError}
 use Rattle.fax_reading.specs.Context.{Repairs}
 use Rattle.fax_rows.specs.declared.row_reader.RowState.{RowState}
 use Rattle.fax_feeds.proofs.Readings.RowsFed.{left_is, left_not, line_step_stands, line_step_reads, none_read}
-use Rattle.fax_rows.specs.RowsTried.{rows_behind_line}
+use Rattle.fax_rows.specs.RowsTried.{rows_after_line}
 use Rattle.fax_feeds.specs.RowFeeds.{line_answer}
 use Rattle.fax_feeds.proofs.row_feed.try_line.Goals.{After-note_line}
 use Rattle.fax_feeds.proofs.row_feed.try_line.Goals as goal
@@ -18,22 +18,22 @@ returns-then-is_left-clause-tries c =
       same_bits = row.same_bits;
       within = omega (arith, c.bit_pos-end.ensures.place, c.bit_pos-end.ensures.within);
       left = λ is. (refl, row.put_back (none_read c.try_row-row.result left));
-      behind = λ e. absurd (none_read c.try_row-row.result left e);
+      after = λ e. absurd (none_read c.try_row-row.result left e);
       reads = λ from whole dropped read lie starts at. absurd (read left);
       stands = λ from whole dropped read lie starts at. absurd (read left);
     }
 
 -- what is kept
-kept_behind_try : (c : After-note_line) → c.note_line.new.self ≡ rows_behind_line c.args.rows.now
+kept_after_try : (c : After-note_line) → c.note_line.new.self ≡ rows_after_line c.args.rows.now
     (line_answer c.try_row-row.result)
     c.args.line_start c.args.ctx.now.held.repairs.rows c.args.ctx.now.held.repairs.cut c.try_row-row.new.ctx.held.repairs
-kept_behind_try c = search rules
+kept_after_try c = search rules
 
-read_behind : (rows : RowState) (answer : Result Bool DecodeError) (start rows_before cut_before : ℕ) (repairs : Repairs)
+read_after : (rows : RowState) (answer : Result Bool DecodeError) (start rows_before cut_before : ℕ) (repairs : Repairs)
     → answer ≡ Ok true
-    → (rows_behind_line rows (line_answer answer) start rows_before cut_before repairs).stand ≡ BehindRow
-read_behind rows (Ok read) start rows_before cut_before repairs e = refl
-read_behind rows (Err error) start rows_before cut_before repairs e = absurd cc
+    → (rows_after_line rows (line_answer answer) start rows_before cut_before repairs).stand ≡ AfterRow
+read_after rows (Ok read) start rows_before cut_before repairs e = refl
+read_after rows (Err error) start rows_before cut_before repairs e = absurd cc
 
 pub returns-clause-tries : goal.returns-clause-tries
 returns-clause-tries c =
@@ -49,19 +49,19 @@ returns-clause-tries c =
       same_bits = row.same_bits;
       within = omega (arith, c.bit_pos-end.ensures.place, c.bit_pos-end.ensures.within);
       left = λ is. absurd (left_not answer other is);
-      behind = λ e. grind (
+      after = λ e. grind (
         arith,
         common_steps,
-        kept_behind_try c,
-        read_behind c.args.rows.now answer c.args.line_start c.args.ctx.now.held.repairs.rows
+        kept_after_try c,
+        read_after c.args.rows.now answer c.args.line_start c.args.ctx.now.held.repairs.rows
             c.args.ctx.now.held.repairs.cut c.try_row-row.new.ctx.held.repairs e,
       );
       reads = λ from whole dropped read lie starts at. line_step_reads c.args.is_last c.args.line_start c.args.rows.now
           c.note_line.new.self c.args.ctx.now c.try_row-row.new.ctx c.args.reader.now c.try_row-row.new.reader answer row.row
           other
-          row.same_bits begun ends (kept_behind_try c) from whole dropped lie starts at;
+          row.same_bits begun ends (kept_after_try c) from whole dropped lie starts at;
       stands = λ from whole dropped read lie starts at. line_step_stands c.args.is_last c.args.line_start c.args.rows.now
           c.note_line.new.self c.args.ctx.now c.try_row-row.new.ctx c.args.reader.now c.try_row-row.new.reader answer row.row
           other
-          row.same_bits begun ends (kept_behind_try c) from whole dropped lie starts at;
+          row.same_bits begun ends (kept_after_try c) from whole dropped lie starts at;
     }

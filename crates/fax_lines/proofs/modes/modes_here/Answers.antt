@@ -22,6 +22,6 @@ returns-clause-lead c =
           record {
             right = is.right;
             left = rw (at (c.args.stroke.index + k + 1)) at is.left;
-            behind = λ some. rw (at (c.args.stroke.index + k - 1)) at (is.behind some);
+            after = λ some. rw (at (c.args.stroke.index + k - 1)) at (is.after some);
           };
     }

@@ -8,6 +8,6 @@ returns-clause-known c =
     grind (
       arith,
       common_steps,
-      c.behind_eol.ensures c.args.settings.encoding c.args.settings.columns 20 c.first_line-first.ensures,
-      c.behind_eol-2.ensures c.args.settings.encoding c.args.settings.columns 21 c.second_line-second.ensures,
+      c.following_eol.ensures c.args.settings.encoding c.args.settings.columns 20 c.first_line-first.ensures,
+      c.following_eol-2.ensures c.args.settings.encoding c.args.settings.columns 21 c.second_line-second.ensures,
     )

@@ -11,8 +11,8 @@ use Rattle.fax_rows.specs.WhiteRows.{Pushed, PushesWhite, RefusesWhite, ReadsWhi
 use Rattle.fax_lines.specs.SinkStates.{state_of}
 use Rattle.fax_lines.specs.WhiteLines.{AreKnown, MayFollow}
 use Rattle.fax_lines.specs.declared.white_lines.WhiteLines.{WhiteLines}
-use Rattle.fax_rows.proofs.Readings.WhiteRowsRead.{IsBehindRows, some_on, white_comes}
-use Rattle.fax_rows.proofs.Readings.WhiteRowsRead.{came_behind, counted_mid, counted_now, one_on, refused_behind}
+use Rattle.fax_rows.proofs.Readings.WhiteRowsRead.{IsAfterRows, some_on, white_comes}
+use Rattle.fax_rows.proofs.Readings.WhiteRowsRead.{came_after, counted_mid, counted_now, one_on, refused_after}
 use Rattle.fax_rows.proofs.Readings.WhiteRowsRead.{white_fails, white_refused, white_within}
 use Rattle.fax_rows.proofs.Work.CallsPaid.{line_enough}
 use Rattle.fax_lines.proofs.Work.RoomTaken.{grown_more}
@@ -115,7 +115,7 @@ pub returns-in-Err-clause-rows : goal.returns-in-Err-clause-rows
 returns-in-Err-clause-rows g c =
     let inv = c.rows.invariant in
     rows_refused c.requires.begins.columns c.rows.rows c.read_line.new.self c.rows.ctx inv.settings inv.bits inv.stands
-    (c.read_line.ensures.stands c.args.ctx.now.ticks (inv.at_line, inv.stands)) c.in_ok-read_line.ensures.behind_row
+    (c.read_line.ensures.stands c.args.ctx.now.ticks (inv.at_line, inv.stands)) c.in_ok-read_line.ensures.aligned_after_row
     (row_came_here g (goal.at.returns-in-Err-clause-rows g c).After-push_row) c.take_back_row.ensures.frame
     c.damaged_rows-damaged_rows.ensures c.cut_rows-cut_rows.ensures (c.in-Err.ensures.kept ∙ inv.meaning) c.in-Err.ensures.refused
     (subst (g.D.Decoder.refuses c.push_row.new.self) c.reference_row.ensures.changes c.in-Err.ensures.refused_row)
@@ -140,7 +140,7 @@ returns-in-Err-clause-fails g c =
 
 -- ---- The white rows after a row
 
--- the reading is behind the row, which the sink means
+-- the reading is after the row, which the sink means
 abbrev read_before : (g : Over) → After-push_white_rows g → Pushed g.D.Decoder.Meaning
 read_before g c = record {
   rows = c.read_line.new.self;
@@ -149,10 +149,10 @@ read_before g c = record {
   meaning = g.D.Decoder.meaning c.push_row.new.self;
 }
 
-behind_before : (g : Over) (c : After-push_white_rows g) → IsBehindRows (g.D.Decoder.step (g.D.Decoder.width c.args.decoder.now))
+after_before : (g : Over) (c : After-push_white_rows g) → IsAfterRows (g.D.Decoder.step (g.D.Decoder.width c.args.decoder.now))
     c.args.ctx.now.ticks c.args.ctx.now.held.settings c.args.reader.now.bits (g.D.Decoder.meaning c.args.decoder.now)
     (read_before g c)
-behind_before g c =
+after_before g c =
     grind (
       arith,
       common_steps,
@@ -180,9 +180,9 @@ module _ (g : Over) (c : After-push_white_rows g) where
       c.read_line.new.ctx c.push_white_rows.new.ctx c.read_line.new.reader c.push_white_rows.new.reader c.push_white_rows.result
   pushes_white = grind (arith, common_steps, lines_here)
 
-  behind_mid : IsBehindRows step_here c.args.ctx.now.ticks c.args.ctx.now.held.settings c.args.reader.now.bits
+  after_mid : IsAfterRows step_here c.args.ctx.now.ticks c.args.ctx.now.held.settings c.args.reader.now.bits
       (g.D.Decoder.meaning c.args.decoder.now) pushes_white.mid
-  behind_mid = some_on step_here _ _ _ _ lines_here pushes_white.count (read_before g c) pushes_white.mid (behind_before g c)
+  after_mid = some_on step_here _ _ _ _ lines_here pushes_white.count (read_before g c) pushes_white.mid (after_before g c)
       pushes_white.pass
 
 pub white-init : goal.white-init
@@ -190,11 +190,11 @@ white-init g c =
     let at = (goal.at.white-init g c).After-push_white_rows in
     let is = c.in_default-push_white_rows.is in
     let inv = c.rows.invariant in
-    let came = came_behind (pushes_white g at) is in
+    let came = came_after (pushes_white g at) is in
     let counted = counted_now (pushes_white g at) is in
     record {
-      behind = subst (IsBehindRows (step_here g at) c.args.ctx.now.ticks c.args.ctx.now.held.settings c.args.reader.now.bits
-          (g.D.Decoder.meaning c.args.decoder.now)) (sym came.0) (behind_mid g at);
+      after = subst (IsAfterRows (step_here g at) c.args.ctx.now.ticks c.args.ctx.now.held.settings c.args.reader.now.bits
+          (g.D.Decoder.meaning c.args.decoder.now)) (sym came.0) (after_mid g at);
       more = omega arith;
       width = c.push_white_rows.ensures.width ∙ c.push_row.ensures.same_width ∙ inv.width;
       unrefused = came.1 ∙ c.in_default.ensures.not_refused ∙ inv.unrefused;
@@ -210,18 +210,18 @@ white-init g c =
 pub at_bit-requires-in-Err-push_white_rows : goal.at_bit-requires-in-Err-push_white_rows
 at_bit-requires-in-Err-push_white_rows g c =
     let at = (goal.at.at_bit-requires-in-Err-push_white_rows g c).After-push_white_rows in
-    white_within (behind_mid g at) (refused_behind (pushes_white g at) c.in-Err-push_white_rows.is).reads
+    white_within (after_mid g at) (refused_after (pushes_white g at) c.in-Err-push_white_rows.is).reads
 
 pub returns-in-Err-push_white_rows-clause-rows : goal.returns-in-Err-push_white_rows-clause-rows
 returns-in-Err-push_white_rows-clause-rows g c =
     let at = (goal.at.returns-in-Err-push_white_rows-clause-rows g c).After-push_white_rows in
-    white_refused c.requires.begins.columns (behind_mid g at) (refused_behind (pushes_white g at) c.in-Err-push_white_rows.is)
+    white_refused c.requires.begins.columns (after_mid g at) (refused_after (pushes_white g at) c.in-Err-push_white_rows.is)
     c.take_back_row-in-Err-push_white_rows.ensures.frame c.damaged_rows-repaired.ensures c.cut_rows-cut.ensures refl
 
 pub returns-in-Err-push_white_rows-clause-fails : goal.returns-in-Err-push_white_rows-clause-fails
 returns-in-Err-push_white_rows-clause-fails g c =
     let at = (goal.at.returns-in-Err-push_white_rows-clause-fails g c).After-push_white_rows in
-    white_fails (behind_mid g at) (refused_behind (pushes_white g at) c.in-Err-push_white_rows.is).reads _ _
+    white_fails (after_mid g at) (refused_after (pushes_white g at) c.in-Err-push_white_rows.is).reads _ _
     (ap (λ (x : Context). x.held.taken) c.take_back_row-in-Err-push_white_rows.ensures.frame)
     c.at_bit-in-Err-push_white_rows.ensures
 
@@ -231,7 +231,7 @@ returns-in-Err-push_white_rows-clause-no_eols g c = λ is.
     grind (
       arith,
       common_steps,
-      refused_behind (pushes_white g at) c.in-Err-push_white_rows.is,
+      refused_after (pushes_white g at) c.in-Err-push_white_rows.is,
       counted_mid (pushes_white g at),
       c.rows.invariant.unsought is,
     )
@@ -239,7 +239,7 @@ returns-in-Err-push_white_rows-clause-no_eols g c = λ is.
 pub returns-in-Err-push_white_rows-clause-same_bits : goal.returns-in-Err-push_white_rows-clause-same_bits
 returns-in-Err-push_white_rows-clause-same_bits g c =
     let at = (goal.at.returns-in-Err-push_white_rows-clause-same_bits g c).After-push_white_rows in
-    grind (arith, common_steps, refused_behind (pushes_white g at) c.in-Err-push_white_rows.is, behind_mid g at)
+    grind (arith, common_steps, refused_after (pushes_white g at) c.in-Err-push_white_rows.is, after_mid g at)
 
 pub returns-in-Err-push_white_rows-clause-space : goal.returns-in-Err-push_white_rows-clause-space
 returns-in-Err-push_white_rows-clause-space g c =
@@ -247,7 +247,7 @@ returns-in-Err-push_white_rows-clause-space g c =
     grind (
       arith,
       common_steps,
-      refused_behind (pushes_white g at) c.in-Err-push_white_rows.is,
+      refused_after (pushes_white g at) c.in-Err-push_white_rows.is,
       counted_mid (pushes_white g at),
       room_there g (goal.at.returns-in-Err-push_white_rows-clause-space g c).After-read_line,
     )
@@ -291,12 +291,12 @@ white-preserved g c =
     let reads = row_taken g at (g.D.Decoder.meaning c.push_row-in-white.new.self) c.white-test.true in
     let new_is = reads.takes.new_is in
     record {
-      behind = one_on inv.behind (record {
+      after = one_on inv.after (record {
         reads = reads;
         meaning = c.in_default-push_row.ensures.taken
             ∙ ap (λ (w : ℕ). g.D.Decoder.step w (g.D.Decoder.meaning c.white.decoder) []) inv.width;
       });
-      more = omega (arith, inv.more, ((white_comes inv.behind reads).more refl).1);
+      more = omega (arith, inv.more, ((white_comes inv.after reads).more refl).1);
       width = c.push_row-in-white.ensures.same_width ∙ inv.width;
       unrefused = c.in_default-push_row.ensures.not_refused ∙ inv.unrefused;
       space = rw (ap (λ (x : Context). x.space) new_is) inv.space;
@@ -308,14 +308,14 @@ white-preserved g c =
 
 pub white-smaller : goal.white-smaller
 white-smaller g c =
-    let behind = c.white.invariant.behind in
+    let after = c.white.invariant.after in
     let reads = row_taken g (goal.at.white-smaller g c).After-take_white_row (g.D.Decoder.meaning c.white.decoder)
     c.white-test.true in
-    let came = (white_comes behind reads).more refl in
+    let came = (white_comes after reads).more refl in
     omega (
       arith,
       came.1,
-      of_same (λ s b. c.take_white_row.new.ctx.held.taken ≤ length (plain s b).rows) behind.settings_are behind.bits_are came.2,
+      of_same (λ s b. c.take_white_row.new.ctx.held.taken ≤ length (plain s b).rows) after.settings_are after.bits_are came.2,
     )
 
 -- which the sink refuses
@@ -336,15 +336,15 @@ refused_in_white g c = record {
 pub at_bit-requires-in-Err-push_row : goal.at_bit-requires-in-Err-push_row
 at_bit-requires-in-Err-push_row g c =
     let at = (goal.at.at_bit-requires-in-Err-push_row g c).After-take_white_row in
-    white_within c.white.invariant.behind (row_taken g at (g.D.Decoder.meaning c.white.decoder) c.white-test.true)
+    white_within c.white.invariant.after (row_taken g at (g.D.Decoder.meaning c.white.decoder) c.white-test.true)
 
 pub returns-in-Err-push_row-clause-rows : goal.returns-in-Err-push_row-clause-rows
-returns-in-Err-push_row-clause-rows g c = white_refused c.requires.begins.columns c.white.invariant.behind
+returns-in-Err-push_row-clause-rows g c = white_refused c.requires.begins.columns c.white.invariant.after
     (refused_in_white g (goal.at.returns-in-Err-push_row-clause-rows g c).In-Err-push_row)
     c.take_back_row-in-Err-push_row.ensures.frame c.damaged_rows-damage.ensures c.cut_rows-cuts.ensures refl
 
 pub returns-in-Err-push_row-clause-fails : goal.returns-in-Err-push_row-clause-fails
-returns-in-Err-push_row-clause-fails g c = white_fails c.white.invariant.behind
+returns-in-Err-push_row-clause-fails g c = white_fails c.white.invariant.after
     (refused_in_white g (goal.at.returns-in-Err-push_row-clause-fails g c).In-Err-push_row).reads _ _
     (ap (λ (x : Context). x.held.taken) c.take_back_row-in-Err-push_row.ensures.frame) c.at_bit-in-Err-push_row.ensures
 
@@ -360,7 +360,7 @@ rows-smaller g c =
     let comes = c.come_to_line.ensures.comes from stands in
     let counted = counted_now (pushes_white g (goal.at.rows-smaller g c).After-push_white_rows) c.in_default-push_white_rows.is in
     let taken = ap (λ (x : Context). x.held.taken) none.1 in
-    omega (arith, (came.more refl).1, counted.more, inv.more, inv.behind.within, taken, comes.taken)
+    omega (arith, (came.more refl).1, counted.more, inv.more, inv.after.within, taken, comes.taken)
 
 pub returns-in_err-come_to_line-clause-rows : goal.returns-in_err-come_to_line-clause-rows
 returns-in_err-come_to_line-clause-rows g c =
@@ -373,10 +373,10 @@ returns-in_err-come_to_line-clause-rows g c =
     c.take_white_row.new.reader) (seen c.come_to_line.new.self c.come_to_line.new.ctx c.come_to_line.new.reader) r)
     c.in_err-come_to_line.was (c.come_to_line.ensures.comes from stands) in
     rw (answer.1, answer.2) (rows_ended c.requires.begins.columns c.come_to_line.new.self
-    (c.come_to_line.ensures.settings ∙ ap (λ (x : Context). x.held.settings) none.1 ∙ inv.behind.settings_are)
-    (c.come_to_line.ensures.same_bits ∙ ap (λ (b : BitsAt). b.bits) none.2 ∙ inv.behind.bits_are)
+    (c.come_to_line.ensures.settings ∙ ap (λ (x : Context). x.held.settings) none.1 ∙ inv.after.settings_are)
+    (c.come_to_line.ensures.same_bits ∙ ap (λ (b : BitsAt). b.bits) none.2 ∙ inv.after.bits_are)
     (c.come_to_line.ensures.stands from stands)
-    (is.taken ∙ ap (λ (x : Context). x.held.taken) none.1) inv.behind.within inv.behind.means inv.unrefused
+    (is.taken ∙ ap (λ (x : Context). x.held.taken) none.1) inv.after.within inv.after.means inv.unrefused
     (Err c.in_err-come_to_line.field-0.0) is.error.0)
 
 pub rows-preserved : goal.rows-preserved
@@ -394,9 +394,9 @@ rows-preserved g c =
     record {
       stands = c.come_to_line.ensures.stands from stands;
       at_line = comes.line line;
-      settings = c.come_to_line.ensures.settings ∙ ap (λ (x : Context). x.held.settings) none.1 ∙ inv.behind.settings_are;
-      bits = c.come_to_line.ensures.same_bits ∙ ap (λ (b : BitsAt). b.bits) none.2 ∙ inv.behind.bits_are;
-      within = omega (arith, taken, inv.behind.within);
+      settings = c.come_to_line.ensures.settings ∙ ap (λ (x : Context). x.held.settings) none.1 ∙ inv.after.settings_are;
+      bits = c.come_to_line.ensures.same_bits ∙ ap (λ (b : BitsAt). b.bits) none.2 ∙ inv.after.bits_are;
+      within = omega (arith, taken, inv.after.within);
       width = inv.width;
       meaning = grind (arith, common_steps, g.D.Decoder.meaning c.args.decoder.now);
       unrefused = inv.unrefused;
@@ -414,10 +414,10 @@ returns-then-not-branch-clause-rows g c =
     let comes = c.come_to_line.ensures.comes from stands in
     let none : c.come_to_line.result ≡ Ok false = c.in_ok-come_to_line.was ∙ ap (λ (b : Bool). Ok b) c.if-not-branch.true in
     rows_ended c.requires.begins.columns c.come_to_line.new.self
-    (c.come_to_line.ensures.settings ∙ ap (λ (x : Context). x.held.settings) unread.1 ∙ inv.behind.settings_are)
-    (c.come_to_line.ensures.same_bits ∙ ap (λ (b : BitsAt). b.bits) unread.2 ∙ inv.behind.bits_are)
-    (c.come_to_line.ensures.stands from stands) (comes.taken ∙ ap (λ (x : Context). x.held.taken) unread.1) inv.behind.within
-    inv.behind.means
+    (c.come_to_line.ensures.settings ∙ ap (λ (x : Context). x.held.settings) unread.1 ∙ inv.after.settings_are)
+    (c.come_to_line.ensures.same_bits ∙ ap (λ (b : BitsAt). b.bits) unread.2 ∙ inv.after.bits_are)
+    (c.come_to_line.ensures.stands from stands) (comes.taken ∙ ap (λ (x : Context). x.held.taken) unread.1) inv.after.within
+    inv.after.means
     inv.unrefused (Ok tt) (comes.end none).0
 
 -- ---- The room of the lists

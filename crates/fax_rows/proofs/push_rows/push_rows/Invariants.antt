@@ -2,7 +2,7 @@ use Rattle.fax_rows.proofs.Names.{◌≡◌, ◌≤◌, ◌-◌, false, length, 
 use Rattle.fax_rows.proofs.Names.{true, max, most_room}
 use Rattle.fax_lines.specs.WhiteLines.{AreKnown, MayFollow}
 use Rattle.fax_rows.proofs.push_rows.push_rows.Given as goal
-use Rattle.fax_rows.proofs.Readings.WhiteRowsRead.{IsBehindRows}
+use Rattle.fax_rows.proofs.Readings.WhiteRowsRead.{IsAfterRows}
 
 -- the rows so far were read, and the sink means them
 abbrev pub invariant-rows : goal.invariant-rows
@@ -24,7 +24,7 @@ invariant-rows g l = record {
 -- so they were with the white rows after them
 abbrev pub invariant-white : goal.invariant-white
 invariant-white g l = record {
-  behind : IsBehindRows (g.D.Decoder.step (g.D.Decoder.width l.fn.decoder)) l.fn.ctx.ticks l.fn.ctx.held.settings l.fn.reader.bits
+  after : IsAfterRows (g.D.Decoder.step (g.D.Decoder.width l.fn.decoder)) l.fn.ctx.ticks l.fn.ctx.held.settings l.fn.reader.bits
       (g.D.Decoder.meaning l.fn.decoder)
       (record { rows = l.rows; ctx = l.ctx; at = l.reader; meaning = g.D.Decoder.meaning l.decoder });
   more : l.initial.ctx.held.taken ≤ l.ctx.held.taken;

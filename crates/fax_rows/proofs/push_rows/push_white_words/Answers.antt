@@ -1,8 +1,8 @@
 use Rattle.fax_rows.proofs.Names.{common_steps}
-use Rattle.fax_rows.proofs.Names.{◌≡◌, ◌∙◌, ◌+◌, ◌-◌, ℕ, BehindRow, BitsAt, None, ap, arith, refl}
+use Rattle.fax_rows.proofs.Names.{◌≡◌, ◌∙◌, ◌+◌, ◌-◌, ℕ, AfterRow, BitsAt, None, ap, arith, refl}
 use Rattle.fax_rows.proofs.Names.{sym, false}
 use Rattle.fax_bits.specs.Window.{WordsAt}
-use Rattle.fax_rows.proofs.Readings.WhiteRowsPushed.{ctx_behind, no_row_left, none_pushed, one_pushed}
+use Rattle.fax_rows.proofs.Readings.WhiteRowsPushed.{ctx_after, no_row_left, none_pushed, one_pushed}
 use Rattle.fax_rows.proofs.Readings.WhiteRowsPushed.{one_refused, some_pushed}
 use Rattle.fax_lines.specs.WhiteLines.{PassesLine}
 use Rattle.fax_rows.proofs.push_rows.push_white_words.{Given.Over}
@@ -35,9 +35,9 @@ returns-in-Err-clause-pushes g c =
       damage = None;
       cut = false;
       missed = None;
-      stand = BehindRow;
+      stand = AfterRow;
     }) c.passed-place.ensures.place) (c.take_white_rows.ensures.frame
-    ∙ ap (ctx_behind (c.many.count + 1)) inv.ctx) c.go_on_at.ensures refl
+    ∙ ap (ctx_after (c.many.count + 1)) inv.ctx) c.go_on_at.ensures refl
     c.in-Err.ensures.kept c.in-Err.ensures.only_refused c.in-Err.ensures.refused c.in-Err.ensures.refused_row
 
 pub many-preserved : goal.many-preserved
@@ -64,7 +64,7 @@ returns-then-count-gt0-clause-pushes g c =
           w.words-is ∙ w.pass_placed_line.ensures.unchanged w.if-not-pass_placed_line.true
     ] in
     some_pushed inv.pushed refl refl inv.unrefused c.if-count-gt0.true c.take_white_rows-then-count-gt0.ensures.kept
-    (c.take_white_rows-then-count-gt0.ensures.frame ∙ ap (ctx_behind c.many.count) inv.ctx)
+    (c.take_white_rows-then-count-gt0.ensures.frame ∙ ap (ctx_after c.many.count) inv.ctx)
     (c.go_on_at-then-count-gt0.ensures ∙ ap (λ (w : WordsAt). w.at) stopped)
 
 pub returns-else-count-gt0-clause-pushes : goal.returns-else-count-gt0-clause-pushes

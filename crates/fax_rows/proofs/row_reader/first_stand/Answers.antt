@@ -2,7 +2,7 @@ use Rattle.fax_rows.proofs.Names.{common_steps}
 use Rattle.fax_rows.proofs.Names.{◌≡◌, ◌≢◌, ◌∙◌, ◌<◌, ℕ, false, length, drop, ap, sym, subst, arith}
 use Rattle.fax_rows.proofs.Names.{on_err_weaker, Stand, DecodeSettings}
 use Rattle.fax_rows.proofs.Names.{refl}
-use Rattle.fax_rows.proofs.Names.{Group4, Bits, here, Held, gap_said, gap_behind_row, first_line}
+use Rattle.fax_rows.proofs.Names.{Group4, Bits, here, Held, gap_said, gap_after_row, first_line}
 use Rattle.fax_rows.proofs.Names.{ended, stand_after, AtLine, looked}
 use Rattle.fax_rows.proofs.Readings.RowByRow.{no_fault}
 use Rattle.fax_reading.proofs.Work.EolsPassed.{unsought_after}
@@ -11,7 +11,7 @@ use Rattle.fax_rows.specs.RowsTried.{PassesGap, StandsFirst}
 use Rattle.fax_rows.proofs.row_reader.first_stand.Goals as goal
 
 -- what the gap says
-first_gap_said : (c : goal.After-stand_after_gap) → gap_behind_row c.args.ctx.now.held.settings 0 false c.args.reader.now.bits
+first_gap_said : (c : goal.After-stand_after_gap) → gap_after_row c.args.ctx.now.held.settings 0 false c.args.reader.now.bits
     ≡ gap_said c.pass_gap-over.result c.pass_gap-over.new.ctx.held.has_eols
     (drop c.pass_gap-over.new.reader.place c.args.reader.now.bits)
 first_gap_said c = grind (arith, common_steps)
@@ -29,7 +29,7 @@ returns-in-Group4-clause-unfailed c error is =
     let last = c.pass_gap-over.new.ctx.held in
     let rest = here c.pass_gap-over.new.reader in
     let unsought : held.has_eols ≡ false = ap (λ (h : Held). h.has_eols) c.requires.fresh in
-    let said : gap_behind_row held.settings held.taken false (here c.args.reader.now)
+    let said : gap_after_row held.settings held.taken false (here c.args.reader.now)
     ≡ gap_said c.pass_gap-over.result last.has_eols rest
     = grind (arith, common_steps) in
     no_fault held.settings held.taken (here c.args.reader.now) c.pass_gap-over.result last.has_eols rest said error

@@ -1,7 +1,7 @@
 use Rattle.fax_rows.proofs.Names.{common_steps}
 use Rattle.fax_rows.proofs.Names.{rules, ◌≡◌, ℕ, Bool, true, false, cond, length, Option, Some, None, Ok, refl, sym, ap, ◌∙◌}
 use Rattle.fax_rows.proofs.Names.{arith, cond-true, cond-false, DecodeSettings, Bits, here, Context, Held, gap_said, next_eol}
-use Rattle.fax_rows.proofs.Names.{Gap, eols_here, misses_eol, is_over, behind_eols, from_next_eol, looked, looked_ahead}
+use Rattle.fax_rows.proofs.Names.{Gap, eols_here, misses_eol, is_over, after_eols, from_next_eol, looked, looked_ahead}
 use Rattle.fax_rows.proofs.Names.{◌≤◌, tag_tests}
 use Rattle.fax_bits.proofs.BitReading.ConsecutiveEols.{next_eol_found}
 use Rattle.fax_reading.proofs.Work.EolsPassed.{eols_here_shorter, eols_here_stay, looked_most, sought_looks}
@@ -76,7 +76,7 @@ returns-clause-passes c = record {
       ∙ ap (λ (x : Context). x.held.has_eols) c.count_missed_eol.ensures.frame
       ∙ ap (λ (h : Held). h.has_eols) c.read_eols-count.ensures.only_ticks.held ∙ sought in
       cond-true (misses_eol settings held.taken held.has_eols start) _ _ misses ∙ cond-false settings.strict _ _ lenient
-      ∙ ap (from_next_eol settings held.taken start) (ap next_eol (sym still) ∙ next) ∙ ap (behind_eols settings held.taken true)
+      ∙ ap (from_next_eol settings held.taken start) (ap next_eol (sym still) ∙ next) ∙ ap (after_eols settings held.taken true)
       (ap (λ (s : DecodeSettings). eols_here s found) (sym same) ∙ c.read_eols-count-2.ensures.eols)
       ∙ ap (λ (b : Bool). cond b (Gap.over (Ok rest)) (Gap.line_at true rest)) over ∙ said_of c.is_over-2.result true rest
       ∙ ap (λ (b : Bool). gap_said (Ok c.is_over-2.result) b rest) (sym on);

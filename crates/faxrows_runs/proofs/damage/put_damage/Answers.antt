@@ -2,7 +2,7 @@ use Rattle.faxrows_runs.proofs.Names.{rules, ◌≡◌, ◌++◌, ◌-◌, ◌�
 use Rattle.faxrows_runs.proofs.RowsInTurn.{ended_badly, ended_well}
 use Rattle.faxrows_runs.proofs.Names.{Option, ap, subst, DecodeError, ReadsNext, AppendsFront, damage_lines, line_of_damage}
 use Rattle.faxrows_runs.proofs.Names.{line_of_miss, PassesOn, rows_of}
-use Rattle.faxrows_runs.proofs.{Outputs.front_behind, Outputs.passes_both, RowsInTurn.Came, RowsInTurn.came}
+use Rattle.faxrows_runs.proofs.{Outputs.front_following, Outputs.passes_both, RowsInTurn.Came, RowsInTurn.came}
 use Rattle.faxrows_runs.proofs.{damage.put_damage.Given.Over, damage.put_damage.Goals.After-put_last_row}
 use Rattle.faxrows_runs.proofs.{damage.put_damage.Goals.After-put_missed}
 use Rattle.faxrows_runs.proofs.DamageTexts.{damage_more, damage_so_far, failed_there, front_of_damage, front_so_far, miss_told}
@@ -82,7 +82,7 @@ returns-in_err-put_missed-clause-front g c =
     let so_far : AppendsFront (g.W.Write.contents c.args.writer.now.0) (g.W.Write.contents c.put_missed.new.writer.0)
     (damage_lines settings bits c.loop-rows.rows.taken)
     = subst (AppendsFront (g.W.Write.contents c.args.writer.now.0) (g.W.Write.contents c.put_missed.new.writer.0)) (miss g at)
-    (front_behind _ _ _ [] _ c.loop-rows.waiting.items _ c.loop-rows.invariant.lines c.in_err-put_missed.ensures.front) in
+    (front_following _ _ _ [] _ c.loop-rows.waiting.items _ c.loop-rows.invariant.lines c.in_err-put_missed.ensures.front) in
     let front : AppendsFront (g.W.Write.contents c.args.writer.now.0) (g.W.Write.contents c.put_missed.new.writer.0)
     (damage_lines settings bits all)
     = front_of_damage _ _ settings bits c.loop-rows.rows.taken all c.loop-rows.invariant.within so_far in
@@ -126,7 +126,7 @@ returns-in_err-put_last_row-in-Ok-true-clause-front g c =
     let so_far : AppendsFront (g.W.Write.contents c.args.writer.now.0) (g.W.Write.contents c.put_last_row.new.writer.0)
     (damage_so_far settings bits taken)
     = subst (AppendsFront (g.W.Write.contents c.args.writer.now.0) (g.W.Write.contents c.put_last_row.new.writer.0))
-    (line_of_damage_put g at) (front_behind _ _ _ [] _ c.put_missed.new.waiting.items _
+    (line_of_damage_put g at) (front_following _ _ _ [] _ c.put_missed.new.waiting.items _
     (rows_came g before c.in_ok-put_missed.ensures.ok) c.in_err-put_last_row-in-Ok-true.ensures.front) in
     let front : AppendsFront (g.W.Write.contents c.args.writer.now.0) (g.W.Write.contents c.put_last_row.new.writer.0)
     (damage_lines settings bits all) = front_so_far _ _ settings bits taken all (next_row_came g at).within so_far in

@@ -3,7 +3,7 @@ use Rattle.faxrows_runs.proofs.Names.{AppendsFront}
 use Rattle.faxrows_runs.proofs.Names.{Bits, DecodeSettings, Done, IsDamageText, IsDamageWithoutMemory, Outcome, PassesOn, done_of}
 use Rattle.faxrows_runs.proofs.Names.{damage_after, damage_lines, last_line_of_damage, outcome_of, rows_of, whole_damage}
 use Rattle.faxrows_runs.proofs.{DamageTexts.is_damage_text, ProgramRuns.wrote, Texts.whole_end, damage.write_damage.Given.Over}
-use Rattle.faxrows_runs.proofs.Outputs.{passes_both, front_behind, front_of_more, front_of_waiting}
+use Rattle.faxrows_runs.proofs.Outputs.{passes_both, front_following, front_of_more, front_of_waiting}
 use Rattle.faxrows_runs.proofs.damage.write_damage.Goals.{After-put_end}
 use Rattle.faxrows_runs.proofs.damage.write_damage.Goals as goal
 
@@ -75,7 +75,7 @@ returns-in_err-put_end g c =
       done_of (outcome g at),
       text g at,
       is_text g at,
-      front_behind _ _ _ [] (damage_lines (settings g at) (bits g at) (read g at)) waits _ c.in_ok-outcome.ensures.lines end,
+      front_following _ _ _ [] (damage_lines (settings g at) (bits g at) (read g at)) waits _ c.in_ok-outcome.ensures.lines end,
     ) in
     search rules
 

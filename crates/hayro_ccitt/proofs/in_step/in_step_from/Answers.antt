@@ -30,14 +30,14 @@ place_found c =
     let set = subst (λ (s : DecodeSettings). ((s.encoding ≡ Group3_1D) ⊎ (s.encoding ≡ Group3_2D))
     × (s.strict ≡ false) × (s.rows ≡ 0) × (0 < s.columns)) c.settings.ensures.value are in
     let same : at.bits ≡ bits = c.pass_to_step.ensures.same_bits ∙ ap (λ (at : BitsAt). at.bits) c.starting_at-reader.ensures in
-    let behind : here at ≡ drop c.bit_pos.result bits =
+    let after : here at ≡ drop c.bit_pos.result bits =
     ap (λ (b : Bits). drop at.place b) same ∙ ap (λ (n : ℕ). drop n bits) (sym c.bit_pos.ensures.place) in
     let told = c.pass_to_step.ensures.step c.if-not-pass_to_step.false in
     step_found settings bits told.0 c.args.to c.bit_pos.result set.0 set.1 set.2 set.3
     (omega (arith, c.if-to-data.false, length-bits_of c.args.data.now))
     (omega (arith, c.bit_pos.ensures.within, ap length same))
     (subst (λ (at : BitsAt). TellsStep settings (here at) told.0 (drop c.bit_pos.result bits)) c.starting_at-reader.ensures
-    (subst (λ (b : Bits). TellsStep settings (here c.starting_at-reader.result) told.0 b) behind told.1))
+    (subst (λ (b : Bits). TellsStep settings (here c.starting_at-reader.result) told.0 b) after told.1))
 
 pub returns-clause-place : goal.returns-clause-place
 returns-clause-place c = place_found (goal.at.returns-clause-place c).After-bit_pos

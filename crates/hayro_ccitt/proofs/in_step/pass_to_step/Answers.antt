@@ -100,10 +100,10 @@ pub returns-then-not-line_ends_before-clause-at_most : goal.returns-then-not-lin
 returns-then-not-line_ends_before-clause-at_most c =
     omega (arith, (counted (goal.at.returns-then-not-line_ends_before-clause-at_most c).After-line_ends_before).1)
 
--- the EOLs behind the line were counted
-behind : (c : After-needs_no_reference) → eols_here c.args.ctx.now.held.settings (here c.skip_to_eol.new.self)
+-- the EOLs after the line were counted
+after : (c : After-needs_no_reference) → eols_here c.args.ctx.now.held.settings (here c.skip_to_eol.new.self)
     ≡ (c.read_eols-count.result, here c.read_eols-count.new.reader)
-behind c = grind (arith, common_steps)
+after c = grind (arith, common_steps)
 
 -- whether what follows them needs no reference row
 unreferred : (c : After-needs_no_reference)
@@ -114,7 +114,7 @@ unreferred c eol =
     grind (
       arith,
       common_steps,
-      behind c,
+      after c,
       c.needs_no_reference.ensures.tag (here c.skip_to_eol.new.self) (here c.pass_eol.new.reader, eol),
     )
 
@@ -125,7 +125,7 @@ returns-clause-step c = λ e.
       here c.copy-line.result,
       told_by c.args.ctx.now.held.settings (here c.args.reader.now) (here c.copy-line.result) (here c.skip_to_eol.new.self)
           (here c.pass_eol.new.reader) (here c.read_eols-count.new.reader) c.read_eols-count.result c.requires.group3
-          c.requires.lenient (alone at) (next at).0 (next at).1 ((ends at).0 c.if-not-line_ends_before.false) (behind last)
+          c.requires.lenient (alone at) (next at).0 (next at).1 ((ends at).0 c.if-not-line_ends_before.false) (after last)
           ((unreferred last (next at).1).0 e),
     )
 

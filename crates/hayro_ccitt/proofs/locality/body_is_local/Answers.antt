@@ -3,7 +3,7 @@ use Rattle.hayro_ccitt.proofs.Names.{IfOk-weaker, DecodeSettings, bits_of, IsLoc
 use Rattle.hayro_ccitt.proofs.{BitReading.BitLists.length-bits_of, DamagedLines.BodyWork.tests_looked}
 use Rattle.hayro_ccitt.proofs.DamagedLines.BodyTests.{local_by_end}
 use Rattle.hayro_ccitt.proofs.DamagedLines.BodyTests.{to_tests}
-use Rattle.hayro_ccitt.proofs.locality.body_is_local.Goals.{After-is_behind_eol, After-holds_one, After-end_of_eol}
+use Rattle.hayro_ccitt.proofs.locality.body_is_local.Goals.{After-is_following_eol, After-holds_one, After-end_of_eol}
 use Rattle.hayro_ccitt.proofs.locality.body_is_local.Goals.{After-holds_eol, then-not-is_lenient_1d-via-then-not-is_lenient_1d}
 use Rattle.hayro_ccitt.proofs.locality.body_is_local.Goals as goal
 
@@ -11,8 +11,8 @@ pub returns-then-not-is_lenient_1d-clause-local : goal.returns-then-not-is_lenie
 returns-then-not-is_lenient_1d-clause-local c =
     grind (arith, common_steps, false≢true, length-bits_of, then-not-is_lenient_1d-via-then-not-is_lenient_1d)
 
-pub returns-then-not-is_behind_eol-clause-local : goal.returns-then-not-is_behind_eol-clause-local
-returns-then-not-is_behind_eol-clause-local c =
+pub returns-then-not-is_following_eol-clause-local : goal.returns-then-not-is_following_eol-clause-local
+returns-then-not-is_following_eol-clause-local c =
     grind (arith, common_steps, false≢true, to_tests c.args.ctx.now.held.settings (bits_of c.args.data.now) c.args.from c.args.to)
 
 pub returns-then-not-holds_one-clause-local : goal.returns-then-not-holds_one-clause-local
@@ -38,7 +38,7 @@ returns-clause-local c =
     let body : Bool → Type 0 = λ before. IsTrue before ↔ IsLocal settings bits c.args.from c.args.to in
     IfOk-weaker c.line_ends_before.result ends body (λ before is.
     local_by_end settings bits c.args.from c.args.to c.in-Some.end before (encoding, lenient) c.if-from-to.false within
-    (c.is_behind_eol.ensures.behind.0 c.if-not-is_behind_eol.false) (c.holds_one.ensures.one.0 c.if-not-holds_one.false)
+    (c.is_following_eol.ensures.after.0 c.if-not-is_following_eol.false) (c.holds_one.ensures.one.0 c.if-not-holds_one.false)
     (sym c.holds_eol.ensures.eol ∙ c.if-holds_eol.false) eol is) c.line_ends_before.ensures.before
 
 pub returns-clause-memory : goal.returns-clause-memory
@@ -48,13 +48,13 @@ returns-clause-memory c =
     rw lenient c.line_ends_before.ensures.memory
 
 -- what the first test counts
-behind_counted : (c : After-is_behind_eol)
-    → c.is_behind_eol.new.ticks ≤ c.args.ctx.now.ticks + looked (drop (c.args.from - 12) (bits_of c.args.data.now))
-behind_counted c = omega (arith, c.is_behind_eol.ensures.at_most, c.ticks.ensures.value)
+after_counted : (c : After-is_following_eol)
+    → c.is_following_eol.new.ticks ≤ c.args.ctx.now.ticks + looked (drop (c.args.from - 12) (bits_of c.args.data.now))
+after_counted c = omega (arith, c.is_following_eol.ensures.at_most, c.ticks.ensures.value)
 
 -- and the second
 one_counted : (c : After-holds_one)
-    → c.holds_one.new.ticks ≡ c.is_behind_eol.new.ticks + looked (drop c.args.from (bits_of c.args.data.now))
+    → c.holds_one.new.ticks ≡ c.is_following_eol.new.ticks + looked (drop c.args.from (bits_of c.args.data.now))
 one_counted c = omega (arith, c.holds_one.ensures.work, c.ticks-2.ensures.value)
 
 -- and the third
@@ -67,27 +67,27 @@ eol_counted : (c : After-holds_eol) → c.holds_eol.new.ticks ≤ c.end_of_eol.n
     * looked (drop c.args.to (bits_of c.args.data.now))
 eol_counted c = omega (arith, c.holds_eol.ensures.at_most, c.ticks-4.ensures.value)
 
-pub returns-then-not-is_behind_eol-clause-at_most : goal.returns-then-not-is_behind_eol-clause-at_most
-returns-then-not-is_behind_eol-clause-at_most c =
-    let at = goal.at.returns-then-not-is_behind_eol-clause-at_most c in
+pub returns-then-not-is_following_eol-clause-at_most : goal.returns-then-not-is_following_eol-clause-at_most
+returns-then-not-is_following_eol-clause-at_most c =
+    let at = goal.at.returns-then-not-is_following_eol-clause-at_most c in
     omega (
       arith,
       tests_looked (bits_of c.args.data.now) c.args.from c.args.to c.if-from-to.false,
-      behind_counted
-          at.After-is_behind_eol,
+      after_counted
+          at.After-is_following_eol,
     )
 
 pub returns-then-not-holds_one-clause-at_most : goal.returns-then-not-holds_one-clause-at_most
 returns-then-not-holds_one-clause-at_most c =
     let at = goal.at.returns-then-not-holds_one-clause-at_most c in
     let looks = tests_looked (bits_of c.args.data.now) c.args.from c.args.to c.if-from-to.false in
-    omega (arith, looks, behind_counted at.After-is_behind_eol, one_counted at.After-holds_one)
+    omega (arith, looks, after_counted at.After-is_following_eol, one_counted at.After-holds_one)
 
 pub returns-in_default-clause-at_most : goal.returns-in_default-clause-at_most
 returns-in_default-clause-at_most c =
     let at = goal.at.returns-in_default-clause-at_most c in
     let looks = tests_looked (bits_of c.args.data.now) c.args.from c.args.to c.if-from-to.false in
-    omega (arith, looks, behind_counted at.After-is_behind_eol, one_counted at.After-holds_one, end_counted at.After-end_of_eol)
+    omega (arith, looks, after_counted at.After-is_following_eol, one_counted at.After-holds_one, end_counted at.After-end_of_eol)
 
 pub returns-then-holds_eol-clause-at_most : goal.returns-then-holds_eol-clause-at_most
 returns-then-holds_eol-clause-at_most c =
@@ -96,7 +96,7 @@ returns-then-holds_eol-clause-at_most c =
     omega (
       arith,
       looks,
-      behind_counted at.After-is_behind_eol,
+      after_counted at.After-is_following_eol,
       one_counted at.After-holds_one,
       end_counted at.After-end_of_eol,
       eol_counted at.After-holds_eol,
@@ -109,7 +109,7 @@ returns-clause-at_most c =
     omega (
       arith,
       looks,
-      behind_counted at.After-is_behind_eol,
+      after_counted at.After-is_following_eol,
       one_counted at.After-holds_one,
       end_counted at.After-end_of_eol,
       eol_counted at.After-holds_eol,

@@ -2,7 +2,7 @@ use Rattle.hayro_ccitt.proofs.Names.{◌≡◌, ◌+◌, ◌-◌, ◌*◌, ◌�
 use Rattle.hayro_ccitt.proofs.Names.{here, after_eol, next_eol, looked, common_steps}
 use Rattle.hayro_ccitt.proofs.{BitReading.BitLists.length-bits_of, locality.holds_eol.Goals.After-end_of_eol}
 use Rattle.hayro_ccitt.proofs.DamagedLines.BodyTests.{no_eol_in_front, eol_by_ends, eol_found_stands}
-use Rattle.hayro_ccitt.proofs.DamagedLines.BodyWork.{eol_behind_body, sought_work}
+use Rattle.hayro_ccitt.proofs.DamagedLines.BodyWork.{eol_after_body, sought_work}
 use Rattle.hayro_ccitt.proofs.locality.holds_eol.Goals as goal
 
 pub returns-then-not-skip_to_eol-clause-eol : goal.returns-then-not-skip_to_eol-clause-eol
@@ -28,7 +28,7 @@ pub returns-in-None-clause-eol : goal.returns-in-None-clause-eol
 returns-in-None-clause-eol c = grind (arith, common_steps, eol_found_stands)
 
 pub returns-then-not-skip_to_eol-clause-at_most : goal.returns-then-not-skip_to_eol-clause-at_most
-returns-then-not-skip_to_eol-clause-at_most c = grind (arith, common_steps, eol_behind_body, length-bits_of)
+returns-then-not-skip_to_eol-clause-at_most c = grind (arith, common_steps, eol_after_body, length-bits_of)
 
 -- what is counted while the next EOL is sought and read
 sought_counted : (c : After-end_of_eol) → (c.args.ticks.now ≤ c.end_of_eol.new.ticks)

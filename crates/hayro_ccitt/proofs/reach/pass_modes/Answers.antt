@@ -1,23 +1,23 @@
-use Rattle.hayro_ccitt.proofs.Names.{sym, ap, ◌∙◌, arith, length, BitsAt, here, ReadsModes, behind_mode, mode_found}
-use Rattle.hayro_ccitt.proofs.DamagedLines.LinesPassed.{behind_mode_shorter, further, all_read}
+use Rattle.hayro_ccitt.proofs.Names.{sym, ap, ◌∙◌, arith, length, BitsAt, here, ReadsModes, after_mode, mode_found}
+use Rattle.hayro_ccitt.proofs.DamagedLines.LinesPassed.{after_mode_shorter, further, all_read}
 use Rattle.hayro_ccitt.proofs.DamagedLines.PassedWork.{passed_mode, all_passed}
 use Rattle.hayro_ccitt.proofs.reach.pass_modes.Goals as goal
 
 pub modes-smaller : goal.modes-smaller
 modes-smaller c =
-    behind_mode_shorter c.modes.color (here c.modes.reader) (c.in-Some.behind, here c.pass_mode.new.reader)
-    (ap (λ (at : BitsAt). behind_mode c.modes.color (here at)) (sym c.copy-next.ensures.value) ∙ sym c.in-Some.ensures.behind)
+    after_mode_shorter c.modes.color (here c.modes.reader) (c.in-Some.after, here c.pass_mode.new.reader)
+    (ap (λ (at : BitsAt). after_mode c.modes.color (here at)) (sym c.copy-next.ensures.value) ∙ sym c.in-Some.ensures.after)
 
 pub modes-preserved : goal.modes-preserved
 modes-preserved c =
     let read =
-    ap (λ (at : BitsAt). behind_mode c.modes.color (here at)) (sym c.copy-next.ensures.value) ∙ sym c.in-Some.ensures.behind in (
+    ap (λ (at : BitsAt). after_mode c.modes.color (here at)) (sym c.copy-next.ensures.value) ∙ sym c.in-Some.ensures.after in (
       c.in-Some.ensures.same_bits ∙ ap (λ (at : BitsAt). at.bits) c.copy-next.ensures.value ∙ c.modes.invariant.0,
       c.in-Some.ensures.only_ticks.held ∙ c.modes.invariant.1,
       omega (arith, c.in-Some.ensures.only_ticks.counts, c.modes.invariant.2),
-      further (here c.args.reader.now) c.modes.color (here c.modes.reader) c.in-Some.behind (here c.pass_mode.new.reader)
+      further (here c.args.reader.now) c.modes.color (here c.modes.reader) c.in-Some.after (here c.pass_mode.new.reader)
           c.modes.invariant.3 read,
-      passed_mode (here c.args.reader.now) c.modes.color (here c.modes.reader) c.in-Some.behind (here c.pass_mode.new.reader)
+      passed_mode (here c.args.reader.now) c.modes.color (here c.modes.reader) c.in-Some.after (here c.pass_mode.new.reader)
           c.args.ctx.now.ticks c.modes.ctx.ticks c.pass_mode.new.ctx.ticks c.modes.invariant.4 read (omega (
             arith,
             c.in-Some.ensures.at_most,
@@ -32,7 +32,7 @@ returns-in-None-clause-read c = c.modes.invariant.3.0 (here c.modes.reader) Read
 pub returns-in-None-clause-last : goal.returns-in-None-clause-last
 returns-in-None-clause-last c =
     all_read (here c.args.reader.now) c.modes.color (here c.modes.reader) c.modes.invariant.3
-    (ap (λ (at : BitsAt). behind_mode c.modes.color (here at)) (sym c.copy-next.ensures.value) ∙ sym c.in-None.ensures.behind)
+    (ap (λ (at : BitsAt). after_mode c.modes.color (here at)) (sym c.copy-next.ensures.value) ∙ sym c.in-None.ensures.after)
 
 pub returns-in-None-clause-at_most : goal.returns-in-None-clause-at_most
 returns-in-None-clause-at_most c =

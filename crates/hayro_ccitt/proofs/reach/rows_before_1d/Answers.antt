@@ -7,7 +7,7 @@ use Rattle.hayro_ccitt.proofs.{EncodedPictures.PicturesT4.eols_here_two, reach.r
 use Rattle.hayro_ccitt.proofs.reach.rows_before_1d.Goals.{After-is_before_1d}
 use Rattle.hayro_ccitt.proofs.DamagedLines.LinesPassed.{before_1d, not_before_1d, counted_on, last_line_counted, counted_none}
 use Rattle.hayro_ccitt.proofs.DamagedLines.LinesPassed.{no_eol_no_end, no_eol_no_line, no_line_there}
-use Rattle.hayro_ccitt.proofs.DamagedLines.PassedWork.{line_paid, lines_end, lines_end_behind}
+use Rattle.hayro_ccitt.proofs.DamagedLines.PassedWork.{line_paid, lines_end, lines_end_after}
 use Rattle.hayro_ccitt.proofs.Readings.TurnsMoveOn.{eols_here_counted}
 use Rattle.fax_bits.proofs.BitReading.ConsecutiveEols.{after_eol_shorter}
 use Rattle.hayro_ccitt.proofs.reach.rows_before_1d.Goals as goal
@@ -29,7 +29,7 @@ module _ (c : After-read_tagged_eols-count) where
 
   eols_counted : tagged_eols (here c.lines.reader) ≡ (c.read_tagged_eols-count.result, here c.read_tagged_eols-count.new.self)
   eols_counted =
-      ap (λ (at : BitsAt). tagged_eols (here at)) (sym c.copy-behind.ensures.value) ∙ c.read_tagged_eols-count.ensures.eols
+      ap (λ (at : BitsAt). tagged_eols (here at)) (sym c.copy-after.ensures.value) ∙ c.read_tagged_eols-count.ensures.eols
 
 same_settings : (c : After-is_before_1d) → c.settings.result ≡ c.args.ctx.now.held.settings
 same_settings c = c.settings.ensures.value ∙ ap (λ (h : Held). h.settings) c.lines.invariant.1
@@ -73,7 +73,7 @@ counted_to_tag c =
       c.pass_eol.ensures.ticks,
       c.ticks-in-lines.ensures.value,
       c.read_tagged_eols-count.ensures.at_least,
-      ap (λ (at : BitsAt). length (here at)) c.copy-behind.ensures.value,
+      ap (λ (at : BitsAt). length (here at)) c.copy-after.ensures.value,
       (eols_here_counted settings now).0,
       ap (λ (e : ℕ × Bits). length e.1) (eols_here_two settings now c.requires.encoding ∙ eols_counted c),
     )
@@ -117,12 +117,12 @@ returns-then-not-pass_eol-clause-at_most c =
       ap (λ (at : BitsAt). looked (here at)) c.copy-line.ensures.value,
     ))
 
--- where no line follows, what was counted is within the bound, and so are three times the bits behind the EOL
+-- where no line follows, what was counted is within the bound, and so are three times the bits after the EOL
 within_bound : (c : After-read_tagged_eols-count) (now : ℕ)
     → now ≤ c.read_tagged_eols-count.new.ticks + 3 * length (here c.pass_eol.new.reader)
     → now ≤ c.args.ctx.now.ticks + most_for_lines (length (here c.args.reader.now))
 within_bound c now passed =
-    lines_end_behind (here c.args.reader.now) (here c.lines.reader) (here c.pass_eol.new.reader)
+    lines_end_after (here c.args.reader.now) (here c.lines.reader) (here c.pass_eol.new.reader)
     (here c.read_tagged_eols-count.new.self) c.args.ctx.now.ticks c.lines.ctx.ticks c.pass_eol.new.ticks
     c.read_tagged_eols-count.new.ticks now c.lines.invariant.5 (eol_there c) (read c) (ahead c) passed
 

@@ -17,7 +17,7 @@ loop-rest-preserved c =
     let new : RowsEncoded = c.push_row.new.encoder in
     let width : c.div_ceil-width.result ≡ bytes_of_row columns = omega (arith, c.div_ceil-width.ensures) in
     let here : List ℕ = take c.div_ceil-width.result rest in
-    let behind : take (length rest - c.min.result) (drop c.min.result rest) ≡ drop stride rest =
+    let after : take (length rest - c.min.result) (drop c.min.result rest) ≡ drop stride rest =
     take_rest rest c.min.result ∙ ap (λ (n : ℕ). drop n rest) c.min.ensures ∙ drop_min stride rest in
     let below : List Row = rows_read c.args.layout columns (drop stride rest) in
     let first : with_row old (row_read black old.columns (bits_of here)) ≡ with_row old (row_read black columns
@@ -27,8 +27,8 @@ loop-rest-preserved c =
     (omega (arith, width, c.loop-rest-test.true)) in
     record {
       columns = c.push_row.ensures.columns ∙ c.loop-rest.invariant.columns;
-      shorter = omega (arith, ap length behind, length-drop stride rest, c.loop-rest.invariant.shorter);
-      pushed = ap (λ (l : List ℕ). with_rows new (rows_read c.args.layout columns l)) behind
+      shorter = omega (arith, ap length after, length-drop stride rest, c.loop-rest.invariant.shorter);
+      pushed = ap (λ (l : List ℕ). with_rows new (rows_read c.args.layout columns l)) after
           ∙ ap (λ (r : RowsEncoded). with_rows r below) (c.in_ok-push_row.ensures.pushed ∙ first)
           ∙ ap (λ (l : List Row). with_rows old l) (sym split) ∙ c.loop-rest.invariant.pushed;
     }

@@ -24,25 +24,25 @@ words-preserved c = elim c.match-read_two_words.branch [
 
 pub returns-in_err-consume-clause-run : goal.returns-in_err-consume-clause-run
 returns-in_err-consume-clause-run c = let at : BitsAt = c.words.self in
-    let missing : length at.bits < at.place + c.word_behind-last.result.1 = c.in_err-consume.ensures.end.0 refl in
+    let missing : length at.bits < at.place + c.word_after-last.result.1 = c.in_err-consume.ensures.end.0 refl in
     let cut : read_code (codes_of c.args.color)
-    (here (moved 0 at)) ≡ Err UnexpectedEof = c.word_behind-last.ensures.cut (omega (arith, missing)) in
+    (here (moved 0 at)) ≡ Err UnexpectedEof = c.word_after-last.ensures.cut (omega (arith, missing)) in
     let none : at.place + 0 ≡ at.place = omega arith in
     grind (arith, err_from_is_err_and, run_fails)
 
 -- the bits of the last word are here
-ends_within : (c : goal.In_ok-consume) → c.words.self.place + c.word_behind-last.result.1 ≤ length c.words.self.bits
+ends_within : (c : goal.In_ok-consume) → c.words.self.place + c.word_after-last.result.1 ≤ length c.words.self.bits
 ends_within c = grind (arith, common_steps)
 
-moved_past : (c : goal.In_ok-consume) → c.consume.new.self ≡ moved c.word_behind-last.result.1 c.words.self
+moved_past : (c : goal.In_ok-consume) → c.consume.new.self ≡ moved c.word_after-last.result.1 c.words.self
 moved_past c = grind (arith, common_steps, min, ends_within)
 
 pub returns-then-last-lt64-clause-run : goal.returns-then-last-lt64-clause-run
 returns-then-last-lt64-clause-run c =
-    let some : c.word_behind-last.result.0 ≢ 4095 = λ e. absurd (omega (arith, e, c.if-last-lt64.true)) in
-    let word = c.word_behind-last.ensures.word some (omega (arith, ends_within c)) in
-    c.words.invariant.0 ∙ rw (moved_past c) (run_ends_by_one c.args.color c.words.self c.words.total c.word_behind-last.result.0
-    c.word_behind-last.result.1 word c.if-last-lt64.true (omega (arith, c.words.invariant, c.if-last-lt64.true)))
+    let some : c.word_after-last.result.0 ≢ 4095 = λ e. absurd (omega (arith, e, c.if-last-lt64.true)) in
+    let word = c.word_after-last.ensures.word some (omega (arith, ends_within c)) in
+    c.words.invariant.0 ∙ rw (moved_past c) (run_ends_by_one c.args.color c.words.self c.words.total c.word_after-last.result.0
+    c.word_after-last.result.1 word c.if-last-lt64.true (omega (arith, c.words.invariant, c.if-last-lt64.true)))
 
 pub returns-in_err-run-in-None-clause-ticks : goal.returns-in_err-run-in-None-clause-ticks
 returns-in_err-run-in-None-clause-ticks c = let e : DecodeError = c.in_err-run-in-None.field-0.0 in

@@ -1,5 +1,5 @@
 use Rattle.fax_bits.proofs.Names.{◌≡◌, ◌+◌, ◌-◌, ◌*◌, ◌/◌, ◌<◌, ℕ, get_or, false, arith, take_rest, bit_of, bits_in}
-use Rattle.fax_bits.proofs.BitReading.WindowWords.{bits_in-drop, filled, filled_behind}
+use Rattle.fax_bits.proofs.BitReading.WindowWords.{bits_in-drop, filled, filled_after}
 use Rattle.fax_bits.proofs.bit_reader.BitReader.move_far.Goals as goal
 
 pub invariant_of-self : goal.invariant_of-self
@@ -16,7 +16,7 @@ invariant_of-self c =
       before_end = omega (arith, c.if-edge-self.false);
       near = omega arith;
       held = λ k h. filled r.order bytes place word fresh k (omega (arith, h));
-      behind = λ k h past. filled_behind r.order bytes place word fresh k h (omega (arith, past));
+      after = λ k h past. filled_after r.order bytes place word fresh k h (omega (arith, past));
       ahead = fresh;
       reached = omega arith;
       near_edge = omega arith;

@@ -22,8 +22,8 @@ use Rattle.fax_rows.specs.WhiteRows.{Pushed, PushesWhite}
 use Rattle.fax_lines.specs.declared.white_lines.WhiteLines.{WhiteLines}
 use Rattle.fax_feeds.proofs.Names.{List}
 use Rattle.fax_feeds.proofs.Readings.WhiteRowsFed.{IsFedTo, fed_to, some_fed, white_fed_by, white_fed_empty, white_fed_row}
-use Rattle.fax_rows.proofs.Readings.WhiteRowsRead.{came_behind, counted_now, white_read}
-use Rattle.fax_rows.proofs.Readings.WhiteRowsRead.{refused_behind}
+use Rattle.fax_rows.proofs.Readings.WhiteRowsRead.{came_after, counted_now, white_read}
+use Rattle.fax_rows.proofs.Readings.WhiteRowsRead.{refused_after}
 use Rattle.fax_rows.specs.declared.row_reader.RowState.{RowState}
 use Rattle.fax_feeds.specs.declared.row_feed.Fed.{Fed}
 use Rattle.fax_feeds.specs.declared.row_feed.RowFeed.TheInside.{Inside}
@@ -38,7 +38,7 @@ come_to_settled_line-line-requires-clause-seen g c = seen_by c.rows.invariant.re
 
 -- ---- The gap
 
--- the feed behind the rows so far
+-- the feed after the rows so far
 abbrev at_rows : (g : Over) → After-is_some_line g → Inside
 at_rows g c = past_gap c.self.inside c.rows.self-inside.1.0 c.rows.self-inside.1.1.0
     c.rows.self-inside.1.1.1.1.1.1.1.1.0 c.rows.self-inside.1.1.1.1.1.1.1.1.1.0
@@ -62,7 +62,7 @@ returns-then-not-is_some_line-clause-pushes g c =
     let here = (goal.at.returns-then-not-is_some_line-clause-pushes g c).After-is_some_line in
     let inv = c.rows.invariant in
     rw c.fed_none.ensures (pushed_to_end inv.passes inv.keeps inv.settings
-    (gap_row (rows_by g here) c.bit_pos-self-inside.ensures.place c.come_to_settled_line-line.ensures (ap ended inv.behind)
+    (gap_row (rows_by g here) c.bit_pos-self-inside.ensures.place c.come_to_settled_line-line.ensures (ap ended inv.after)
     (c.is_some_line.ensures.none c.if-not-is_some_line.true)) (none_row c.come_to_settled_line-line.result) inv.unrefused)
 
 pub invariant_of-self-then-not-can_take_row : goal.invariant_of-self-then-not-can_take_row
@@ -74,7 +74,7 @@ returns-then-not-can_take_row-clause-pushes g c =
     let here = (goal.at.returns-then-not-can_take_row-clause-pushes g c).After-is_some_line in
     let inv = c.rows.invariant in
     pushed_to_end inv.passes inv.keeps inv.settings
-    (full_row (rows_by g here) c.bit_pos-self-inside.ensures.place c.come_to_settled_line-line.ensures (ap ended inv.behind)
+    (full_row (rows_by g here) c.bit_pos-self-inside.ensures.place c.come_to_settled_line-line.ensures (ap ended inv.after)
     (c.is_some_line.ensures.here c.if-not-is_some_line.false)
     (λ fits few. false≢true (sym c.if-not-can_take_row.true ∙ c.can_take_row.ensures.room fits few)) _) (λ e. cc) inv.unrefused
 
@@ -112,7 +112,7 @@ reads_next_row g c is =
     subst (λ (r : Result Bool DecodeError). FeedsRow (feeding_of (at_rows g (gap_here g c))) (feeding_of (at_row g c))
     (fed_row r)) is
     (line_row (rows_by g (gap_here g c)) c.bit_pos-self-inside.ensures.place c.come_to_settled_line-line.ensures
-    (ap ended c.rows.invariant.behind) (c.is_some_line.ensures.here c.if-not-is_some_line.false)
+    (ap ended c.rows.invariant.after) (c.is_some_line.ensures.here c.if-not-is_some_line.false)
     (c.can_take_row.ensures.rows c.if-not-can_take_row.false) (reads_line g c)
     (λ left none. let never = sym is ∙ left in absurd cc))
 
@@ -159,7 +159,7 @@ module _ (g : Over) (here : After-is_read g) (is : here.try_line-row.result ≡ 
   abbrev gap_there : Inside
   gap_there = at_gap g (gap_here g here)
 
-  -- the feed is behind the row, which the sink means
+  -- the feed is after the row, which the sink means
   fed_before : {meaning : g.D.Decoder.Meaning} → meaning ≡ g.D.Decoder.step (g.D.Decoder.width here.args.decoder.now)
       (g.D.Decoder.meaning here.rows.decoder) (changes here.try_line-row.new.ctx.held.reference)
       → IsFedTo (g.D.Decoder.step (g.D.Decoder.width here.args.decoder.now)) here.args.self.now
@@ -176,7 +176,7 @@ module _ (g : Over) (here : After-is_read g) (is : here.try_line-row.result ≡ 
       let inv = here.rows.invariant in
       record {
         read_by = grind (arith, common_steps, past_line, row_by g here);
-        behind = (row.counts.stands refl).1;
+        after = (row.counts.stands refl).1;
         passes = grind (arith, common_steps, past_line, passes_more, g.D.Decoder.meaning here.args.decoder.now);
         keeps = grind (arith, common_steps, past_line, keeps_on);
         settings = row.counts.settings ∙ inv.settings;
@@ -221,9 +221,9 @@ module _ (g : Over) (c : After-push_white_rows g) where
     fed_now : c.push_white_rows.result ≡ Ok tt
         → IsFedTo step_here c.args.self.now (g.D.Decoder.meaning c.args.decoder.now) gap_before (white_read pushes_white)
     fed_now is = subst (IsFedTo step_here c.args.self.now (g.D.Decoder.meaning c.args.decoder.now) gap_before)
-        (sym (came_behind pushes_white is).0) fed_mid
+        (sym (came_after pushes_white is).0) fed_mid
 
--- what the sink means behind the row
+-- what the sink means after the row
 means_before : (g : Over) (c : After-push_white_rows g) (taken : g.D.Decoder.meaning c.push_row.new.self
     ≡ g.D.Decoder.step (g.D.Decoder.width c.rows.decoder) (g.D.Decoder.meaning c.rows.decoder) c.reference_row.result.now)
     → g.D.Decoder.meaning c.push_row.new.self ≡ step_here g c (g.D.Decoder.meaning c.rows.decoder)
@@ -247,7 +247,7 @@ invariant_of-self-in-Err-push_white_rows g c =
     let fed = fed_before g there.After-is_read read (means_before g there.After-push_white_rows c.in_default.ensures.taken) in
     let fresh = fresh_before g there.After-is_read read in
     let mid = fed_mid g there.After-push_white_rows fed fresh in
-    let reads = (refused_behind (pushes_white g there.After-push_white_rows) c.in-Err-push_white_rows.is).reads in
+    let reads = (refused_after (pushes_white g there.After-push_white_rows) c.in-Err-push_white_rows.is).reads in
     (subst (λ (n : ℕ). IsReadBy (past_line (gap_before g there.After-push_white_rows) c.push_white_rows.new.ctx
     c.push_white_rows.new.rows n) c.push_white_rows.new.reader)
     (sym c.bit_pos-self-inside-in-Err-push_white_rows.ensures.place) (white_fed_by fresh mid reads)).kept
@@ -260,7 +260,7 @@ returns-in-Err-push_white_rows-clause-pushes g c =
     let fed = fed_before g there.After-is_read read (means_before g at c.in_default.ensures.taken) in
     let fresh = fresh_before g there.After-is_read read in
     let mid = fed_mid g at fed fresh in
-    let refused = refused_behind (pushes_white g at) c.in-Err-push_white_rows.is in
+    let refused = refused_after (pushes_white g at) c.in-Err-push_white_rows.is in
     let step = step_here g at in
     pushed_to_refusal (subst (λ (m : g.D.Decoder.Meaning). PassesRows step (g.D.Decoder.meaning c.args.decoder.now) m
     c.args.self.now (feeding_of (fed_to (gap_before g at) (pushes_white g at).mid))) (sym refused.meaning) mid.passes) mid.keeps
@@ -296,30 +296,30 @@ white-init g c =
       keeps = grind (arith, common_steps, past_line, gap_before g at);
       settings = now.settings;
       width = c.push_white_rows.ensures.width ∙ c.push_row.ensures.same_width ∙ inv.width;
-      unrefused = (came_behind (pushes_white g at) is).1 ∙ c.in_default.ensures.not_refused ∙ inv.unrefused;
+      unrefused = (came_after (pushes_white g at) is).1 ∙ c.in_default.ensures.not_refused ∙ inv.unrefused;
       read_by = subst (λ (n : ℕ). IsReadBy (past_line (gap_before g at) new.ctx new.rows n) new.reader) place now.read_by;
-      behind = now.behind;
+      after = now.after;
       fresh = fresh;
       known = grind (arith, common_steps);
       follow = λ is. grind (arith, common_steps, c.repeats_white-repeats.ensures.follow is);
       more = omega arith;
     }
 
--- the feed behind the white rows so far
+-- the feed after the white rows so far
 abbrev at_white : (g : Over) → After-bit_pos-self-inside-in-white g → Inside
 at_white g c = past_gap c.self.inside c.white.self-inside.1.0 c.white.self-inside.1.1.0
     c.white.self-inside.1.1.1.1.1.1.1.1.0 c.come_to_settled_line-line.new.look
 
--- and behind one more
-abbrev behind_white : (g : Over) → After-bit_pos-self-inside-in-white g → Inside
-behind_white g c = past_line (at_white g c) c.take_white_row.new.ctx c.take_white_row.new.self
+-- and after one more
+abbrev following_white : (g : Over) → After-bit_pos-self-inside-in-white g → Inside
+following_white g c = past_line (at_white g c) c.take_white_row.new.ctx c.take_white_row.new.self
     c.bit_pos-self-inside-in-white.result
 
 reads_white : (g : Over) (c : After-bit_pos-self-inside-in-white g)
-    → FeedsRow (feeding_of (at_white g c)) (feeding_of (behind_white g c)) (Ok Fed.Row)
+    → FeedsRow (feeding_of (at_white g c)) (feeding_of (following_white g c)) (Ok Fed.Row)
 reads_white g c =
     let inv = c.white.invariant in
-    white_row inv.read_by c.bit_pos-self-inside-in-white.ensures.place inv.behind inv.fresh
+    white_row inv.read_by c.bit_pos-self-inside-in-white.ensures.place inv.after inv.fresh
     (inv.follow (c.take_white_row.ensures.repeats c.white-test.true))
     (c.take_white_row.ensures.taken c.white-test.true)
 
@@ -328,10 +328,10 @@ no_changes g c =
     white_unchanging (c.white.invariant.follow (c.take_white_row.ensures.repeats c.white-test.true))
     ∙ ap (λ (x : Context). changes x.held.reference) (sym (c.take_white_row.ensures.taken c.white-test.true).new_is)
 
-white_by : (g : Over) (c : After-bit_pos-self-inside-in-white g) → IsReadBy (behind_white g c) c.take_white_row.new.reader
+white_by : (g : Over) (c : After-bit_pos-self-inside-in-white g) → IsReadBy (following_white g c) c.take_white_row.new.reader
 white_by g c =
     let inv = c.white.invariant in
-    white_read_by inv.read_by c.bit_pos-self-inside-in-white.ensures.place inv.behind inv.fresh
+    white_read_by inv.read_by c.bit_pos-self-inside-in-white.ensures.place inv.after inv.fresh
     (inv.follow (c.take_white_row.ensures.repeats c.white-test.true))
     (c.take_white_row.ensures.taken c.white-test.true)
 
@@ -351,7 +351,7 @@ white-preserved g c =
       width = c.push_row-in-white.ensures.same_width ∙ inv.width;
       unrefused = c.in_default-push_row.ensures.not_refused ∙ inv.unrefused;
       read_by = white_by g here;
-      behind = (row.counts.stands refl).1;
+      after = (row.counts.stands refl).1;
       fresh = inv.fresh;
       known = inv.known;
       follow = λ is. grind (arith, common_steps, inv.follow is);
@@ -415,13 +415,13 @@ returns-clause-pushes g c =
           let short = subst (ReadsInFeed (feeding_of (at_gap g gap)) (feeding_of (at_row g here))) is reads in
           let kept = subst (ReadsInFeed (feeding_of (at_gap g gap)) w.keep_part.new.self) (sym is)
           (scanned_after short (gap_by g gap).none (row_by g here).none w.keep_part.ensures) in
-          rw w.self-is (line_row (rows_by g gap) c.bit_pos-self-inside.ensures.place on (ap ended inv.behind) some room kept
+          rw w.self-is (line_row (rows_by g gap) c.bit_pos-self-inside.ensures.place on (ap ended inv.after) some room kept
           (λ e still. unread_line short refl
           (λ tagged end. c.try_line-row.ensures.no_tag
           (ap (λ (x : Context). x.held.settings.encoding) c.begin_line.ensures.frame ∙ tagged)
           (ap (λ (b : BitsAt). drop b.place b.bits) (gap_by g gap).is ∙ end) is
           ∙ ap (λ (x : Context). x.ticks) c.begin_line.ensures.frame) w.keep_part.ensures still))
       | else-is_unsettled w ↦
-          rw w.self-is (line_row (rows_by g gap) c.bit_pos-self-inside.ensures.place on (ap ended inv.behind) some room reads
+          rw w.self-is (line_row (rows_by g gap) c.bit_pos-self-inside.ensures.place on (ap ended inv.after) some room reads
           (λ e none. absurd (c.is_unsettled.ensures.other w.if-is_unsettled.false e)))
     ]) (unread_row c.try_line-row.result (c.is_read.ensures.other c.if-not-is_read.true)) inv.unrefused)

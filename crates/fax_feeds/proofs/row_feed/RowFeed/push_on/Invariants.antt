@@ -1,4 +1,4 @@
-use Rattle.fax_feeds.proofs.Names.{◌≡◌, ◌≤◌, ◌-◌, BehindRow, true}
+use Rattle.fax_feeds.proofs.Names.{◌≡◌, ◌≤◌, ◌-◌, AfterRow, true}
 use Rattle.fax_feeds.specs.GapsSeen.{nothing_seen}
 use Rattle.fax_lines.specs.WhiteLines.{AreKnown, MayFollow}
 use Rattle.std.specs.Prelude.{◌^◌}
@@ -34,7 +34,7 @@ invariant-rows g l =
       width : g.D.Decoder.width l.decoder ≡ g.D.Decoder.width l.fn.decoder;
       unrefused : g.D.Decoder.has_refused l.decoder ≡ g.D.Decoder.has_refused l.fn.decoder;
       read_by : IsReadBy f l.reader;
-      behind : f.rows.stand ≡ BehindRow;
+      after : f.rows.stand ≡ AfterRow;
       known : AreKnown l.fn.self.ctx.held.settings l.lines;
     }
 
@@ -69,7 +69,7 @@ invariant-white g l =
       width : g.D.Decoder.width l.decoder ≡ g.D.Decoder.width l.fn.decoder;
       unrefused : g.D.Decoder.has_refused l.decoder ≡ g.D.Decoder.has_refused l.fn.decoder;
       read_by : IsReadBy f l.reader;
-      behind : f.rows.stand ≡ BehindRow;
+      after : f.rows.stand ≡ AfterRow;
       fresh : f.look ≡ nothing_seen;
       known : AreKnown l.fn.self.ctx.held.settings l.lines;
       follow : l.repeats ≡ true → MayFollow f.ctx.held.settings f.ctx.held.has_eols f.ctx.held.reference l.lines;

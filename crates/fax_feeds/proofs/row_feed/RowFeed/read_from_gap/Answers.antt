@@ -24,11 +24,11 @@ unended_feed : (c : After-is_some_line) → ended c.self.inside.rows.stand ≡ N
 unended_feed c = ap (λ (f : Feeding). ended f.rows.stand) c.self.view_is ∙ c.requires.unended
 
 -- the feed where the gap was passed
-abbrev behind_gap : After-is_some_line → Inside
-behind_gap c = past_gap c.self.inside c.come_to_settled_line-line.new.ctx c.come_to_settled_line-line.new.rows
+abbrev after_gap : After-is_some_line → Inside
+after_gap c = past_gap c.self.inside c.come_to_settled_line-line.new.ctx c.come_to_settled_line-line.new.rows
     c.bit_pos-self-inside.result c.come_to_settled_line-line.new.look
 
-gap_kept : (c : After-is_some_line) → IsReadBy (behind_gap c) c.come_to_settled_line-line.new.reader
+gap_kept : (c : After-is_some_line) → IsReadBy (after_gap c) c.come_to_settled_line-line.new.reader
 gap_kept c = gap_read_by (feed_by c) c.bit_pos-self-inside.ensures.place c.come_to_settled_line-line.ensures
 
 pub come_to_settled_line-line-requires-clause-seen : goal.come_to_settled_line-line-requires-clause-seen
@@ -74,14 +74,14 @@ module _ (c : After-is_unsettled) where
   line_is_at = c.come_to_settled_line-line.ensures.line (c.is_some_line.ensures.here c.if-not-is_some_line.false)
 
   -- the feed where the line was read, or left
-  abbrev behind_line : Inside
-  behind_line = past_line (behind_gap here_gap) c.try_line-row.new.ctx c.try_line-row.new.rows c.bit_pos-self-inside-2.result
+  abbrev following_line : Inside
+  following_line = past_line (after_gap here_gap) c.try_line-row.new.ctx c.try_line-row.new.rows c.bit_pos-self-inside-2.result
 
-  line_kept : IsReadBy behind_line c.try_line-row.new.reader
+  line_kept : IsReadBy following_line c.try_line-row.new.reader
   line_kept = line_read_by (gap_kept here_gap) line_is_at c.bit_pos-self-inside-2.ensures.place c.begin_line.ensures.frame
       c.try_line-row.ensures.tries
 
-  line_reads : ReadsInFeed (feeding_of (behind_gap here_gap)) (feeding_of behind_line) c.try_line-row.result
+  line_reads : ReadsInFeed (feeding_of (after_gap here_gap)) (feeding_of following_line) c.try_line-row.result
   line_reads = turn_reads (gap_kept here_gap) line_is_at c.bit_pos-self-inside-2.ensures.place c.begin_line.ensures.frame
       c.try_line-row.ensures.tries c.begin_line.ensures.width
 
@@ -93,17 +93,17 @@ invariant_of-self-else-is_unsettled c = (line_kept (goal.at.invariant_of-self-el
 
 -- the line was read, or failed
 whole_feeds : (c : After-is_unsettled) → c.try_line-row.result ≢ Ok false
-    → FeedsRow (feeding_of c.self.inside) (feeding_of (behind_line c)) (fed_row c.try_line-row.result)
+    → FeedsRow (feeding_of c.self.inside) (feeding_of (following_line c)) (fed_row c.try_line-row.result)
 whole_feeds c other = line_row (feed_by (here_gap c)) c.bit_pos-self-inside.ensures.place
     c.come_to_settled_line-line.ensures (unended_feed (here_gap c)) (c.is_some_line.ensures.here c.if-not-is_some_line.false)
     (c.can_take_row.ensures.rows c.if-not-can_take_row.false) (line_reads c) (λ e none. absurd (other e))
 
 -- it is short, and its part is kept
 short_feeds : (c : After-is_unsettled) {new : Feeding} → c.try_line-row.result ≡ Ok false
-    → KeepsPart (feeding_of (behind_line c)) new → FeedsRow (feeding_of c.self.inside) new (fed_row c.try_line-row.result)
+    → KeepsPart (feeding_of (following_line c)) new → FeedsRow (feeding_of c.self.inside) new (fed_row c.try_line-row.result)
 short_feeds c {new} is keeps =
-    let gap = feeding_of (behind_gap (here_gap c)) in
-    let short = subst (ReadsInFeed gap (feeding_of (behind_line c))) is (line_reads c) in
+    let gap = feeding_of (after_gap (here_gap c)) in
+    let short = subst (ReadsInFeed gap (feeding_of (following_line c))) is (line_reads c) in
     let kept = subst (ReadsInFeed gap new) (sym is)
     (scanned_after short (gap_kept (here_gap c)).none (line_kept c).none keeps) in
     line_row (feed_by (here_gap c)) c.bit_pos-self-inside.ensures.place c.come_to_settled_line-line.ensures

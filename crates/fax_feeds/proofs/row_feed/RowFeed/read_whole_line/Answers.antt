@@ -17,7 +17,7 @@ line_is_at : (c : After-try_line-row) → c.placed_at-reader.result
     ≡ record { bits = bits_in c.self.inside.order c.self.inside.«data».items; place = c.self.inside.place }
 line_is_at c = grind (arith, common_steps)
 
--- of the gap behind the line nothing was seen
+-- of the gap after the line nothing was seen
 at_line_fresh : (c : After-try_line-row) → c.self.inside.look ≡ nothing_seen
 at_line_fresh c =
     c.self.invariant.line (ap (λ (f : Feeding). is_at_line f.rows.stand) c.self.view_is ∙ c.requires.line)

@@ -3,7 +3,7 @@ use Rattle.fax_feeds.proofs.Names.{◌≡◌, ◌≢◌, arith, sym, subst, true
 use Rattle.fax_feeds.specs.RowFeeds.{Feeding, StaysShort}
 use Rattle.fax_feeds.proofs.row_feed.RowFeed.stays_within_line.Goals.{After-is_still_short}
 use Rattle.fax_feeds.proofs.row_feed.RowFeed.stays_within_line.Goals as goal
-use Rattle.fax_feeds.proofs.Readings.FeedsWait.{part_known, row_behind_line, row_waits}
+use Rattle.fax_feeds.proofs.Readings.FeedsWait.{part_known, row_after_line, row_waits}
 
 module _ (c : After-is_still_short) where
   some : c.args.self.now.part ≢ None
@@ -23,5 +23,5 @@ returns-clause-more c e =
 pub returns-clause-goes_on : goal.returns-clause-goes_on
 returns-clause-goes_on c e next answer row =
     let here = (goal.at.returns-clause-goes_on c).After-is_still_short in
-    row_behind_line (known here).0 (known here).1
+    row_after_line (known here).0 (known here).1
     (subst (StaysShort c.args.self.now c.is_still_short.new.self) e c.is_still_short.ensures) (some here) row

@@ -5,7 +5,7 @@ use Rattle.fax_rows.proofs.Names.{ReachesNextLine, IsStanding, seen, Held, lengt
 use Rattle.fax_rows.proofs.Names.{line_after}
 use Rattle.fax_rows.proofs.Names.{on_err_weaker}
 use Rattle.fax_rows.specs.declared.row_reader.RowState.{RowState}
-use Rattle.fax_rows.specs.RowsTried.{PassesGap, rows_behind_gap}
+use Rattle.fax_rows.specs.RowsTried.{PassesGap, rows_after_gap}
 use Rattle.fax_rows.proofs.Readings.GapsPassed.{gap_stays, gap_reaches}
 use Rattle.fax_reading.proofs.Work.EolsPassed.{unsought_after}
 use Rattle.fax_rows.proofs.row_reader.RowState.come_to_line.Goals.{After-pass_gap_here}
@@ -25,10 +25,10 @@ passed c =
     (append-nil (here before)) (gap.passes [] (inl refl))))
 
 -- what is kept
-kept_behind_gap : (c : After-pass_gap_here)
-    → c.pass_gap_here.new.self ≡ rows_behind_gap c.args.self.now c.pass_gap_here.ensures.over
+kept_after_gap : (c : After-pass_gap_here)
+    → c.pass_gap_here.new.self ≡ rows_after_gap c.args.self.now c.pass_gap_here.ensures.over
     c.args.reader.now.place c.args.ctx.now c.pass_gap_here.new.ctx
-kept_behind_gap c = grind (arith, common_steps)
+kept_after_gap c = grind (arith, common_steps)
 
 at_gap_end : (c : After-pass_gap_here)
     → record { bits = c.args.reader.now.bits; place = c.pass_gap_here.new.reader.place } ≡ c.pass_gap_here.new.reader
@@ -40,8 +40,8 @@ returns-clause-stands c from stands =
     let gap = c.pass_gap_here.ensures in
     let before = c.args.reader.now in
     let at = (goal.at.returns-clause-stands c).After-pass_gap_here in
-    subst (λ (r : RowState). IsStanding from r c.pass_gap_here.new.ctx c.pass_gap_here.new.reader) (sym (kept_behind_gap at))
-    (subst (IsStanding from (rows_behind_gap c.args.self.now gap.over before.place c.args.ctx.now c.pass_gap_here.new.ctx)
+    subst (λ (r : RowState). IsStanding from r c.pass_gap_here.new.ctx c.pass_gap_here.new.reader) (sym (kept_after_gap at))
+    (subst (IsStanding from (rows_after_gap c.args.self.now gap.over before.place c.args.ctx.now c.pass_gap_here.new.ctx)
     c.pass_gap_here.new.ctx) (at_gap_end at)
     (gap_stays from c.args.self.now c.args.ctx.now c.pass_gap_here.new.ctx before.bits before.place
     c.pass_gap_here.new.reader.place
@@ -54,12 +54,12 @@ returns-clause-comes c from stands =
     let before = c.args.reader.now in
     let old = seen c.args.self.now c.args.ctx.now before in
     let at = (goal.at.returns-clause-comes c).After-pass_gap_here in
-    let rows = rows_behind_gap c.args.self.now gap.over before.place c.args.ctx.now c.pass_gap_here.new.ctx in
+    let rows = rows_after_gap c.args.self.now gap.over before.place c.args.ctx.now c.pass_gap_here.new.ctx in
     subst (λ (r : Result Bool DecodeError). ReachesNextLine old (seen c.pass_gap_here.new.self c.pass_gap_here.new.ctx
     c.pass_gap_here.new.reader) r) (sym gap.said)
     (subst (λ (r : RowState). ReachesNextLine old (seen r c.pass_gap_here.new.ctx c.pass_gap_here.new.reader)
     (line_after gap.over))
-    (sym (kept_behind_gap at))
+    (sym (kept_after_gap at))
     (subst (λ (b : BitsAt). ReachesNextLine old (seen rows c.pass_gap_here.new.ctx b) (line_after gap.over)) (at_gap_end at)
     (gap_reaches from c.args.self.now c.args.ctx.now c.pass_gap_here.new.ctx before.bits before.place
     c.pass_gap_here.new.reader.place
@@ -73,7 +73,7 @@ returns-clause-fails c =
       common_steps,
       on_err_weaker,
       length-drop,
-      kept_behind_gap ((goal.at.returns-clause-fails c).After-pass_gap_here),
+      kept_after_gap ((goal.at.returns-clause-fails c).After-pass_gap_here),
     )
 
 pub returns-clause-unsought : goal.returns-clause-unsought

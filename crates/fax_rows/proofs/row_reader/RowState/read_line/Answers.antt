@@ -3,7 +3,7 @@ use Rattle.fax_rows.proofs.Names.{rules, ◌≡◌, ap, sym, subst, drop, here, 
 use Rattle.fax_rows.proofs.Names.{ReadsNext, seen, row_came}
 use Rattle.fax_rows.proofs.Readings.LinesRead.{line_stays, line_is_next}
 use Rattle.fax_rows.specs.declared.row_reader.RowState.{RowState}
-use Rattle.fax_rows.specs.RowsTried.{ReadsRow, rows_behind_line}
+use Rattle.fax_rows.specs.RowsTried.{ReadsRow, rows_after_line}
 use Rattle.fax_rows.proofs.row_reader.RowState.read_line.Goals.{After-note_line}
 use Rattle.fax_rows.proofs.row_reader.RowState.read_line.Goals as goal
 
@@ -19,19 +19,19 @@ at_line_end c = ap (λ (b : Bits). record { bits = b; place = c.read_row-row.new
     (sym c.read_row-row.ensures.same_bits)
 
 -- what is kept
-kept_behind_line : (c : After-note_line) → c.note_line.new.self ≡ rows_behind_line c.args.self.now c.read_row-row.result
+kept_after_line : (c : After-note_line) → c.note_line.new.self ≡ rows_after_line c.args.self.now c.read_row-row.result
     c.args.reader.now.place c.args.ctx.now.held.repairs.rows c.args.ctx.now.held.repairs.cut c.read_row-row.new.ctx.held.repairs
-kept_behind_line c = search rules
+kept_after_line c = search rules
 
 pub returns-clause-stands : goal.returns-clause-stands
 returns-clause-stands c from at =
     let before = c.args.reader.now in
     let ctx = c.read_row-row.new.ctx in
     let row = c.read_row-row.result in
-    let rows = rows_behind_line c.args.self.now row before.place c.args.ctx.now.held.repairs.rows
+    let rows = rows_after_line c.args.self.now row before.place c.args.ctx.now.held.repairs.rows
     c.args.ctx.now.held.repairs.cut
     ctx.held.repairs in
-    subst (λ (r : RowState). IsStanding from r ctx c.read_row-row.new.reader) (sym (kept_behind_line c))
+    subst (λ (r : RowState). IsStanding from r ctx c.read_row-row.new.reader) (sym (kept_after_line c))
     (subst (IsStanding from rows ctx) (at_line_end c)
     (line_stays from c.args.self.now c.args.ctx.now ctx before.bits before.place
     c.read_row-row.new.reader.place (omega (arith, c.bit_pos-line_start.ensures.place, c.bit_pos-line_start.ensures.within))
@@ -44,10 +44,10 @@ returns-clause-reads c from at =
     let ctx = c.read_row-row.new.ctx in
     let row = c.read_row-row.result in
     let old = seen c.args.self.now c.args.ctx.now before in
-    let rows = rows_behind_line c.args.self.now row before.place c.args.ctx.now.held.repairs.rows
+    let rows = rows_after_line c.args.self.now row before.place c.args.ctx.now.held.repairs.rows
     c.args.ctx.now.held.repairs.cut
     ctx.held.repairs in
-    subst (λ (r : RowState). ReadsNext old (seen r ctx c.read_row-row.new.reader) (row_came row)) (sym (kept_behind_line c))
+    subst (λ (r : RowState). ReadsNext old (seen r ctx c.read_row-row.new.reader) (row_came row)) (sym (kept_after_line c))
     (subst (λ (b : BitsAt). ReadsNext old (seen rows ctx b) (row_came row)) (at_line_end c)
     (line_is_next from c.args.self.now c.args.ctx.now ctx before.bits before.place
     c.read_row-row.new.reader.place (omega (arith, c.bit_pos-line_start.ensures.place, c.bit_pos-line_start.ensures.within))

@@ -28,7 +28,7 @@ returns c =
     let many : c.rows.result ≡ length c.push_all-answer.ensures.passes.given =
     omega (arith, c.rows.ensures.rows, (lists here).within within, as_many c.push_all-answer.ensures.passes.given) in
     gives_rows AreListedRows room_of_lists c.push_all-answer.ensures.passes _ refl c.has_refused-self.ensures refl
-    c.args.lists.now _ c.rows.result c.status_behind.result many (search rules)
+    c.args.lists.now _ c.rows.result c.status_after.result many (search rules)
     (λ refused full. let few : length c.push_all-answer.new.sink.lists.now
     < room_of_lists c.push_all-answer.new.self (rows here) = omega (arith, full, (lists here).end_is) in search rules)
-    c.status_behind.ensures
+    c.status_after.ensures

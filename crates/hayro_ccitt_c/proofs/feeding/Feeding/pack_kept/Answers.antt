@@ -119,6 +119,6 @@ returns c =
     let name = sym c.new-sink.ensures.same_reference ∙ same here in
     gives_rows ArePackedRows room_of_packed c.push_all-answer.ensures.passes _ refl
     (c.has_refused-self.ensures ∙ c.write_white.ensures.has_refused) refl
-    c.args.bytes.now _ c.rows.result c.status_behind.result (c.rows.ensures ∙ count_is here)
+    c.args.bytes.now _ c.rows.result c.status_after.result (c.rows.ensures ∙ count_is here)
     (on_memory (λ (m : List ℕ). ArePackedRows c.args.self.now (rows here) c.args.bytes.now m) _ (search rules) c.type_inv.bytes)
-    (λ refused _. search rules) c.status_behind.ensures
+    (λ refused _. search rules) c.status_after.ensures

@@ -1,6 +1,6 @@
 use Rattle.std.proofs.Common.{◌≡◌, ◌∙◌, arith, refl}
 use Rattle.hayro_ccitt_c.specs.Packing.{bytes_of_row}
-use Rattle.hayro_ccitt_c.proofs.WhiteRows.{packed_behind, same_up_to}
+use Rattle.hayro_ccitt_c.proofs.WhiteRows.{packed_after, same_up_to}
 use Rattle.hayro_ccitt_c.proofs.packed_rows.PackedRows.pack_next.Goals as goal
 
 pub returns-clause-meaning : goal.returns-clause-meaning
@@ -12,7 +12,7 @@ returns-clause-meaning c =
     same_up_to _ s.layout _ _ _ _ _ _ _ _ _ s.bitmap.ghost_name on.shape.layout on.start (on.written ∙ on.start) on.memory
     on.changes
     on.same_reference
-    ∙ packed_behind s.layout s.columns s.start s.written s.bytes c.args.changes.now s.bitmap.now c.pack_uncleared.new.row
+    ∙ packed_after s.layout s.columns s.start s.written s.bytes c.args.changes.now s.bitmap.now c.pack_uncleared.new.row
     s.changes _ s.bitmap.ghost_name same.written bytes s.reaches (omega (arith, c.requires.room, same.start, same.size))
     (omega (arith, bytes, same.shape.columns, c.requires.room, same.start, same.size)) c.pack_uncleared.auto.row
     c.pack_uncleared.ensures.packed refl _ _ same.meaning same.shape.columns

@@ -1,7 +1,7 @@
 use Rattle.std.proofs.Common.{◌≡◌, ◌+◌, ◌-◌, ◌≤◌, ◌∙◌, List, [], ℕ, arith, drop, length, refl, take}
 use Rattle.std.proofs.lemmas.List.{length-drop, length-take}
 use Rattle.hayro_ccitt_c.specs.Packing.{bytes_of_row}
-use Rattle.hayro_ccitt_c.proofs.WhiteRows.{packed_behind, same_up_to, white_bytes}
+use Rattle.hayro_ccitt_c.proofs.WhiteRows.{packed_after, same_up_to, white_bytes}
 use Rattle.hayro_ccitt_c.proofs.packed_rows.PackedRows.push_white.Goals as goal
 
 pub returns-clause-taken : goal.returns-clause-taken
@@ -20,7 +20,7 @@ returns-clause-taken c =
     same_up_to _ s.layout _ _ _ _ _ _ _ _ _ s.bitmap.ghost_name on.shape.layout on.start (on.written ∙ on.start) on.memory
     on.changes
     on.same_reference
-    ∙ packed_behind s.layout s.columns s.start s.written s.bytes [] s.bitmap.now row s.changes _
+    ∙ packed_after s.layout s.columns s.start s.written s.bytes [] s.bitmap.now row s.changes _
     s.bitmap.ghost_name same.written bytes s.reaches (omega (arith, room)) (omega (arith, room)) c.fill_bytes.auto.bytes
     (white_bytes s.layout.black_is_0 s.columns [] old row c.white_byte-white.result refl long c.white_byte-white.ensures
     c.fill_bytes.ensures)

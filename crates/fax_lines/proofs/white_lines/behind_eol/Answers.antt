@@ -1,9 +1,0 @@
-use Rattle.fax_lines.proofs.Names.{common_steps}
-use Rattle.fax_lines.proofs.Names.{arith}
-use Rattle.fax_lines.proofs.white_lines.behind_eol.Goals as goal
-
-pub returns-then-not-has_eols : goal.returns-then-not-has_eols
-returns-then-not-has_eols c = λ encoding columns most is. grind (arith, common_steps)
-
-pub returns : goal.returns
-returns c = λ encoding columns most is. grind (arith, common_steps)
