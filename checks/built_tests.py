@@ -9,7 +9,7 @@ from built import is_newest
 # The tests of each crate that name allocations: how often each names one, and how many of these were made, and so refused. All
 # others name none. A test that has each allocation refused in turn names one more than there are.
 NAMED = {
-    "encoder_tests": {
+    "test_encoder": {
         "callers_tests::refused_memory": (17, 12),
         "conforms_tests::refused_memory": (6, 4),
         "page_feed_tests::refused_memory": (21, 19),
@@ -19,13 +19,13 @@ NAMED = {
         "tests::refused_memory": (34, 28),
         "tests::sink_without_memory": (1, 0),
     },
-    "faxrows_tests": {
+    "test_faxrows": {
         "tests::refused_memory_by_row": (19, 5),
         "tests::refused_memory_of_checks": (19, 5),
         "tests::refused_memory_of_damage": (19, 6),
         "tests::sink_without_memory": (1, 0),
     },
-    "decoder_tests": {
+    "test_decoder": {
         "tests::refused_memory::calls_without_memory": (1, 0),
         "tests::refused_memory::contexts_without_memory": (1, 0),
         "tests::refused_memory::pushed_rows_without_memory": (8, 6),

@@ -17,7 +17,7 @@ WANT_OF_MEMORY, LOOPS = "checks/out_of_memory.txt", "checks/loops.txt"
 # The decoder's crates.
 DECODER = ["fax_bits", "fax_reading", "fax_lines", "fax_rows", "fax_feeds", "hayro_ccitt"]
 # Crates whose functions nobody calls: tests, and worked examples.
-NOT_CALLED = {"decoder_tests", "encoder_tests", "faxrows_tests", "named_requests", "worked_rows"}
+NOT_CALLED = {"test_decoder", "test_encoder", "test_faxrows", "test_allocations", "worked_examples"}
 WORDS = re.compile(
     r"\bOutOfMemory\b|\bOUT_OF_MEMORY\b|\bMemory\b|\bRefused\b|\bAllocError\b|\bAllocFailed\b|\bwants_memory\b|\bhas_refused\b|\b(?:try_)?reserve\w*\("
     r"|\bwith_capacity\w*\(|\bvec!|\bBox::new\b"

@@ -3,9 +3,9 @@
 use Rattle.std.specs.Prelude.{◌≡◌, ◌⊎◌, ℕ, Result, Ok, Err}
 use Rattle.hayro_ccitt.specs.DecodeError.{DecodeError}
 use Rattle.hayro_ccitt.specs.Faults.{kind_of}
-use Rattle.faxrows_runs.specs.Runs.{done_of_kind}
-use Rattle.faxrows_runs.specs.declared.program.Done.{Done}
-use Rattle.faxrows_runs.specs.declared.program.Done.TheVariants.{Good, Faulty, Memory}
+use Rattle.faxrows_lib.specs.Runs.{done_of_kind}
+use Rattle.faxrows_lib.specs.declared.program.Done.{Done}
+use Rattle.faxrows_lib.specs.declared.program.Done.TheVariants.{Good, Faulty, Memory}
 
 -- the status of a run that wrote its text
 abbrev pub status_of_done : Done → ℕ

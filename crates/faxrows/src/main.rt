@@ -13,7 +13,7 @@ ghost use Rattle.faxrows.specs.Statuses.{IsStatusOfRun, status_of_answer, status
 use fax_program::words::{is_first_word, is_only_word};
 use fax_program::{print, status_of_fault, words_of_run};
 pub use fax_program::{Device, Failed, RunFault};
-pub use faxrows_runs::{Done, TextSink, run, run_by_row, run_check, run_damage, run_packed};
+pub use faxrows_lib::{Done, TextSink, run, run_by_row, run_check, run_damage, run_packed};
 use hayro_ccitt::DecodeError;
 use std::process::ExitCode;
 

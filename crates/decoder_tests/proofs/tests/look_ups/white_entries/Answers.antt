@@ -1,5 +1,0 @@
-use Rattle.std.proofs.Common.{inl, refl}
-use Rattle.decoder_tests.proofs.tests.look_ups.white_entries.Goals as goal
-
-pub build_lookup-requires : goal.build_lookup-requires
-build_lookup-requires c c' = record { one_color = inl (refl, refl) }

@@ -1,0 +1,99 @@
+//! A run of the program that writes whether the data is an encoding of a picture by every rule, and otherwise where it first
+//! breaks one.
+
+ghost use Rattle.std.specs.Prelude.{◌≡◌, map, string_bytes};
+ghost use Rattle.faxrows_lib.specs.CheckText.{IsCheck, done_of_check, end_with_rule, line_of_check};
+ghost use Rattle.faxrows_lib.specs.Output.{PutsText, WritesText, used};
+ghost use Rattle.faxrows_lib.specs.ProgramRuns.{RunsProgram};
+
+use crate::damage_lines::put_number;
+use crate::input::read_input;
+use crate::output::{flush, put};
+use crate::program::Done;
+use fax_conforms::{Rule, Violation, first_violation};
+use fax_program::{Device, RunFault};
+use std::alloc::Global;
+use std::io::{Read, Write};
+
+/// Reads all that the reader has, and writes whether it begins with an encoding of a picture, by every rule of T.4 and T.6, that is
+/// closed as the arguments ask ([`first_violation`]): `ok` if it does; and if not, `violation`, an offset in bits, and the rule that
+/// is broken there. It is `Done::Good` in the first case, and `Done::Faulty` in the second.
+///
+/// # Errors
+///
+/// Those of [`run`](crate::run). An allocation that fails during the check is `Memory`; nothing is written then.
+pub fn run_check<R: Read, W: Write>(
+    alloc: Global,
+    words: &[String],
+    reader: &mut Device<R>,
+    writer: &mut Device<W>,
+) -> std::result::Result<Done, RunFault>
+    ensures runs { RunsProgram IsCheck (map string_bytes words.now) (used R.remaining reader.old reader.new)
+        (used W.contents writer.old writer.new) result }
+{
+    let (arguments, input) = read_input(alloc, words, reader)?;
+    let Ok(found) = first_violation(alloc, arguments.settings, arguments.order, input.as_slice())
+    else {
+        return Err(RunFault::Memory);
+    };
+    write_found(alloc, found, writer)
+}
+
+/// Writes the line of a check. It fails only if the writer does.
+fn write_found<W: Write>(
+    alloc: Global,
+    found: Option<Violation>,
+    writer: &mut Device<W>,
+) -> std::result::Result<Done, RunFault>
+    ensures writes { WritesText (λ done text. (done ≡ done_of_check found) × (text ≡ line_of_check found))
+        (used W.contents writer.old writer.new) result }
+{
+    let mut waiting = Vec::new(alloc);
+    put_found(found, &mut waiting, writer)?;
+    flush(&mut waiting, writer)?;
+    Ok(done_of_check(found))
+}
+
+/// Returns how a run ends that wrote the line of a check.
+fn done_of_check(found: Option<Violation>) -> Done
+    ensures { result ≡ done_of_check found }
+{
+    match found {
+        None => Done::Good,
+        Some(_) => Done::Faulty,
+    }
+}
+
+/// Puts the line of a check: `ok`, or `violation`, its offset in bits, and the rule.
+fn put_found<W: Write>(
+    found: Option<Violation>,
+    waiting: &mut Vec<u8>,
+    writer: &mut Device<W>,
+) -> std::result::Result<(), RunFault>
+    ensures { PutsText (line_of_check found)
+        waiting.old.items waiting.new.items (used W.contents writer.old writer.new) result }
+{
+    let Some(violation) = found else {
+        return put(b"ok\n", waiting, writer);
+    };
+    put(b"violation ", waiting, writer)?;
+    put_number(violation.place as u64, b' ', waiting, writer)?;
+    put(rule_and_end(violation.rule), waiting, writer)
+}
+
+/// Returns a rule's text with the line's end.
+fn rule_and_end(rule: Rule) -> &'static [u8]
+    ensures { result.now ≡ end_with_rule rule }
+{
+    match rule {
+        Rule::Mode => b"a mode is expected (T.4, 4.2.1.3)\n",
+        Rule::Run => b"a run is expected (T.4, 4.1.1)\n",
+        Rule::RowEnd => b"beyond the row's end (T.4, 4.1.1 and 4.2.1.3)\n",
+        Rule::NoPixels => b"no pixels (T.4, 4.1.1 and 4.2.1.3)\n",
+        Rule::Columns => b"no columns\n",
+        Rule::Eol => b"an EOL is expected (T.4, 4.1.2)\n",
+        Rule::Tag => b"a tag is expected (T.4, 4.2.2)\n",
+        Rule::Padding => b"zeros up to a whole byte are expected (T.4, 4.1.3)\n",
+        Rule::PassToEnd => b"pass mode to the row's end (T.4, 4.2.1.3.2)\n",
+    }
+}

@@ -1,9 +1,0 @@
-use Rattle.faxrows_runs.proofs.Names.{◌∙◌, refl, sym, IsTextByRow}
-use Rattle.faxrows_runs.proofs.RowsUnderWay.{good_words, nothing_as_read}
-use Rattle.faxrows_runs.proofs.by_row.run_by_row.Goals as goal
-
-pub returns-in_default-new : goal.returns-in_default-new
-returns-in_default-new g c = record {
-  runs = good_words IsTextByRow _ _ _ c.in-Some.arguments _ (sym c.arguments_of.ensures ∙ c.in-Some.is)
-      (nothing_as_read IsTextByRow c.in-Some.arguments.settings c.in-Some.arguments.order _ _ refl refl);
-}

@@ -1,5 +1,0 @@
-use Rattle.worked_rows.proofs.Examples.{wide_row_read}
-use Rattle.worked_rows.proofs.group3_1d_examples.Goals as goal
-
-pub returns-clause-decode_the_encoded_wide_row : goal.returns-clause-decode_the_encoded_wide_row
-returns-clause-decode_the_encoded_wide_row c = wide_row_read
