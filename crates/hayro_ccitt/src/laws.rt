@@ -10,7 +10,7 @@ use crate::Decoder;
 pub use fax_reading::laws::{
     after_eofb, bits_of_bytes, changes_are_rows, code_reading, code_words,
     every_picture_has_an_encoding, gaps_settle, lines_by_eols, lines_go_on, lines_settle, locality,
-    locality_by_k, no_damage, one_picture, pictures, row_limit, rows_before, rows_after,
+    locality_by_k, no_damage, one_picture, pictures, row_limit, rows_after, rows_before,
     strict_then_lenient, synchronised, t4_pictures, t6_pictures,
 };
 

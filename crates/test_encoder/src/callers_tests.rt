@@ -19,9 +19,9 @@ use hayro_ccitt::bit_reader::BitOrder::HighestFirst;
 use hayro_ccitt::{
     DecodeError, DecodeSettings, Decoder, DecoderContext, EncodingMode, Result, bits_fit,
 };
-use test_allocations::made_at_last;
 use std::alloc::{AllocGlobal, Global};
 use std::process::Abort;
+use test_allocations::made_at_last;
 
 /// One row with the changes 3 and 5, and EOFB: 31C0040040.
 const ONE_ROW: [u8; 5] = [0x31, 0xC0, 0x04, 0x00, 0x40];

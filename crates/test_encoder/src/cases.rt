@@ -21,10 +21,10 @@ use fax_encode::{
 };
 use hayro_ccitt::bit_reader::BitOrder;
 use hayro_ccitt::{DecodeSettings, DecoderContext, EncodingMode, bits_fit};
-use test_allocations::made_at_last;
 use std::alloc::{AllocGlobal, Global};
 use std::fmt::Debug;
 use std::process::Abort;
+use test_allocations::made_at_last;
 
 /// Checks the case of each line of a text, with the same words in front of each. A line that begins with `//` is a comment.
 pub fn check(rt: &(impl Abort + AllocGlobal), front: &str, cases: &str) {

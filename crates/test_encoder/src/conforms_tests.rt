@@ -8,9 +8,9 @@ use hayro_ccitt::DecodeError::{OutOfMemory, Refused};
 use hayro_ccitt::bit_reader::BitOrder;
 use hayro_ccitt::bit_reader::BitOrder::{HighestFirst, LowestFirst};
 use hayro_ccitt::{DecodeError, DecodeSettings, EncodingMode, Result, bits_fit};
-use test_allocations::made_at_last;
 use std::alloc::{AllocGlobal, Global};
 use std::process::Abort;
+use test_allocations::made_at_last;
 
 /// Returns the settings that words name: the encoding, the number of columns, the row limit, and a letter for each flag.
 fn settings_named(

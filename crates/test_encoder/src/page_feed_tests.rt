@@ -9,9 +9,9 @@ use fax_callers::{PageFed, PageFeed, group3_pages, group4_pages};
 use hayro_ccitt::DecodeError::{InvalidCode, OutOfMemory};
 use hayro_ccitt::bit_reader::BitOrder::HighestFirst;
 use hayro_ccitt::{DecodeSettings, Result};
-use test_allocations::{refuse_request, was_refused};
 use std::alloc::AllocGlobal;
 use std::process::Abort;
+use test_allocations::{refuse_request, was_refused};
 
 /// What is noted after a row.
 const ROW: u32 = 1000;

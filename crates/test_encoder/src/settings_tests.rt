@@ -6,9 +6,9 @@ use crate::same;
 use fax_encode::{BitmapSink, Effort, EncodeError, EncodeSettings, Encoder, encode_bitmap};
 use hayro_ccitt::bit_reader::BitOrder;
 use hayro_ccitt::{DecodeSettings, DecoderContext, EncodingMode, bits_fit, decode_in};
-use test_allocations::{refuse_request, was_refused};
 use std::alloc::AllocGlobal;
 use std::process::Abort;
+use test_allocations::{refuse_request, was_refused};
 
 /// A picture of 24 columns as a bitmap; its rows are 3,5/3,5/4,7/white/0,9.
 const BITMAP: [u8; 15] = [

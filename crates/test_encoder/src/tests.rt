@@ -10,9 +10,9 @@ use fax_encode::{
 use hayro_ccitt::{
     DecodeError, DecodeSettings, Decoder, DecoderContext, EncodingMode, bits_fit, decode,
 };
-use test_allocations::{refuse_request, was_refused};
 use std::alloc::AllocGlobal;
 use std::process::Abort;
+use test_allocations::{refuse_request, was_refused};
 
 /// Encodes rows as Group 4, from their changes and from their bitmap, and decodes them, and compares the bytes and the bitmaps.
 fn packs(

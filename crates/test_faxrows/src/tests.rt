@@ -1,11 +1,11 @@
 use fax_program::{Device, RunFault};
 use faxrows_lib::{Done, TextSink, run, run_by_row, run_check, run_damage, run_packed};
-use test_allocations::{refuse_request, was_refused};
 use std::alloc::AllocGlobal;
 use std::fmt::Debug;
 use std::io;
 use std::io::{Read, Write};
 use std::process::Abort;
+use test_allocations::{refuse_request, was_refused};
 
 /// Compares two values. The proof of this call takes no time, and that of `assert_eq!` seconds.
 fn same<T: PartialEq + Debug + Drop>(rt: &impl Abort, found: T, expected: T) {

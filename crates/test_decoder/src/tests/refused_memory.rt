@@ -10,9 +10,9 @@ use super::{RowsAsText, bytes_of, context_of, decoded, joined, same, same_text, 
 use hayro_ccitt::DecodeError::{OutOfMemory, Refused};
 use hayro_ccitt::bit_reader::{BitOrder, BitReader};
 use hayro_ccitt::{DecodeSettings, DecoderContext, Result, RowFeed, bits_fit, decode};
-use test_allocations::{refuse_request, was_refused};
 use std::alloc::AllocGlobal;
 use std::process::Abort;
+use test_allocations::{refuse_request, was_refused};
 
 /// More allocations than any call here makes.
 const MANY: usize = 100;
