@@ -62,7 +62,7 @@ abbrev pub at_end : Bits → Bool
 at_end [] = true
 at_end (bit ∷ rest) = false
 
--- auxiliary: the bits from the next whole byte on, if the data are whole bytes
+-- auxiliary: the bits from the next whole byte on, if the data is whole bytes
 abbrev pub aligned : Bits → Bits
 aligned rest = drop (length rest % 8) rest
 

@@ -308,7 +308,7 @@ impl<'a> BitReader<'a> {
         self.edge = edge;
     }
 
-    /// The same where the window lacks bits.
+    /// Moves to an offset near the end of the data, where no whole word is left to load, and fills the window there.
     #[cold]
     #[inline(never)]
     fn move_near_end(&mut self, place: usize)
@@ -698,7 +698,8 @@ pub fn pass_bits(reader: &mut BitReader<'_>, bits: u64, count: usize) -> bool
     true
 }
 
-/// The same for up to 33 bits, which are more than one.
+/// Consumes the lowest `count` bits of a number, two to 33, if they are next, and returns whether they are; otherwise nothing
+/// changes.
 #[inline(always)]
 pub fn pass_more_bits(reader: &mut BitReader<'_>, bits: u64, count: usize) -> bool
     requires some { 1 < count }

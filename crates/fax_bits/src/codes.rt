@@ -331,7 +331,7 @@ impl<'a> BitReader<'a> {
         }
     }
 
-    /// The same, with the colour's look-up in the place of the call.
+    /// Reads a run as `decode_run` does. It is inlined for each colour, so that the colour is a constant.
     #[inline(always)]
     fn decode_words(&mut self, color: Color, tables: &Tables, ticks: &mut Ticks) -> Result<u32>
         ensures run { MatchResult result
@@ -436,7 +436,7 @@ impl<'a> BitReader<'a> {
         self.peek_u32() != 0 || self.holds_far_one()
     }
 
-    /// The same where the next 32 bits may be zeros.
+    /// Returns whether a one is left, where the next 32 bits may be zeros.
     #[cold]
     #[inline(never)]
     fn holds_far_one(&self) -> bool
@@ -563,7 +563,7 @@ impl<'a> BitReader<'a> {
         1 + self.read_all_eols(ticks)
     }
 
-    /// The same for EOLs of any number and with any fill.
+    /// Consumes all consecutive EOLs, of any number and with any fill, and returns their number.
     #[inline(never)]
     fn read_all_eols(&mut self, ticks: &mut Ticks) -> usize
         ensures eols { all_eols (here self.old) ≡ (result, here self.new) }
@@ -742,7 +742,7 @@ impl<'a> BitReader<'a> {
         self.read_all_tagged_eols(ticks)
     }
 
-    /// The same for EOLs of any number and with any fill.
+    /// Consumes all consecutive EOLs with their tags, of any number and with any fill, and returns their number.
     #[inline(never)]
     fn read_all_tagged_eols(&mut self, ticks: &mut Ticks) -> usize
         ensures eols { tagged_eols (here self.old) ≡ (result, here self.new) }

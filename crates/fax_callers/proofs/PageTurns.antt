@@ -28,7 +28,7 @@ use Rattle.fax_callers.proofs.PagesFed.{ended_within, has_ended, page_moves, pag
 
 -- ---- One call
 
--- the settings are the same, and want of memory isn't an end
+-- the settings are the same, and an allocation failure isn't an end
 turned : {whole : Bits} {tried : ℕ} {old new : Feeding} (answer : Result Fed DecodeError) → FeedsNext whole tried old new answer
     → (new.ctx.held.settings ≡ old.ctx.held.settings) × (ended new.rows.stand ≢ Some (Err OutOfMemory))
 turned (Ok ReadRow) next =

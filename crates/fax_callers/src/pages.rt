@@ -118,7 +118,7 @@ pub fn page_ends(alloc: Global, columns: u32, order: BitOrder, data: &[u8]) -> R
         × (page_from columns order «data».now begin ≡ Err e)) }
     ensures never_refused { result ≢ Err DecodeError.Refused }
 
-    // If the data are closed pages and nothing else, these are found.
+    // If the data is closed pages and nothing else, these are found.
     ensures closed { (ends : List ℕ) → StandAt columns order «data».now 0 ends
         → OnAnswer result (IsOk result × IfOk result (λ found. found.items ≡ ends)) }
 {

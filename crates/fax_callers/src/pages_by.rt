@@ -124,7 +124,7 @@ pub fn page_ends_by(
         × PagesEnd settings order «data».now 0 ends begin × (page_by settings order «data».now begin ≡ Err e)) }
     ensures never_refused { result ≢ Err DecodeError.Refused }
 
-    // If the data are pages and nothing else, these are found.
+    // If the data is pages and nothing else, these are found.
     ensures closed { (ends : List ℕ) → PagesStand settings order «data».now 0 ends
         → OnAnswer result (IsOk result × IfOk result (λ found. found.items ≡ ends)) }
 {

@@ -72,8 +72,8 @@ fn is_rtc(seen: EolsSeen) -> bool
     seen.eols >= 6 && !seen.at_tag
 }
 
-/// Moves after the first RTC that ends here or later, and returns whether there is one; otherwise all bits are passed, and what was
-/// seen is brought up to date.
+/// Moves past the first RTC that ends here or later, and returns whether there is one; otherwise all bits are passed, and what
+/// was seen is brought up to date.
 fn pass_rtc(tags: bool, seen: &mut EolsSeen, reader: &mut BitReader<'_>) -> bool
     ensures found { result ≡ true → (more : Bits)
         → after_rtc tags seen.old (here reader.old ++ more) ≡ Some (here reader.new ++ more) }

@@ -1,4 +1,4 @@
--- A mode that is read leads from one position of a line to another, where it is lawful.
+-- A mode that is read leads from one position of a line to another, where it is valid.
 use Rattle.hayro_ccitt.proofs.Names.{◌≡◌, ℕ, suc, ◌+◌, ◌-◌, ◌<◌, ◌≤◌, Bool, not, ◌++◌, length, take, replicate}
 use Rattle.hayro_ccitt.proofs.Names.{Ok, refl, ap, sym, subst, ◌∙◌, arith, inl, inr, cases_lt, false≢true, pos, ◌+ℤ◌, ℤ}
 use Rattle.hayro_ccitt.proofs.Names.{length-append, length-replicate, append-nil, Color, White, Mode, Pass, Horizontal}
@@ -177,7 +177,7 @@ module _ (columns : ℕ) (reference : Row) (at : Spot) (small : columns ≤ 4294
       none (a1 row at.from) (sym exact) above (omega (arith, within, row_len))
 
   -- ---- Horizontal.
-  -- the runs of a lawful horizontal mode
+  -- the runs of a valid horizontal mode
   pub record HasRuns (here : Bits) : Type 0 where
     pub one : ℕ
     pub two : ℕ

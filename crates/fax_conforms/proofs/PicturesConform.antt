@@ -113,7 +113,7 @@ module _ (settings : DecodeSettings) (wide : 0 < settings.columns) (whole : Bits
 
   -- ---- Group 3.
   module _ (small : settings.columns ≤ 4294967295) (three : settings.encoding ≢ Group4) where
-    -- data that begin with an EOL
+    -- data that begins with an EOL
     module _ (first : Bits) (stands_first : EolStands whole first) where
       eols_to : Conforms settings whole → LinesStand settings 0 white whole
       eols_to (rows, inl (count, IsClosedPicture.by_eofb bits begins counted)) = absurd (three begins.encoding)

@@ -39,7 +39,7 @@ module _ (columns : ℕ) (pen : Pen) (places : List ℕ) (small : columns ≤ 42
   front_len : length spot.front ≡ pen.painted
   front_len = len_front columns pen places small drawn open_end
 
-  -- no run is here that a lawful line may have
+  -- no run is here that a valid line may have
   pub run_fails : (here : Bits) → ((run : ℕ) (rest : Bits) → NextRun columns pen here rest run → ⊥)
       → Never columns (RunsFrom spot here)
   run_fails here none row rest row_len stands =

@@ -1,4 +1,4 @@
--- The runs of a one-dimensional line that are read, each of them lawful.
+-- The runs of a one-dimensional line that are read, each of them valid.
 use Rattle.hayro_ccitt.proofs.Names.{◌≡◌, ◌≢◌, ℕ, zero, suc, ◌+◌, ◌-◌, ◌<◌, ◌≤◌, Bool, true, false, not, [], ◌∷◌, ◌++◌}
 use Rattle.hayro_ccitt.proofs.Names.{length}
 use Rattle.hayro_ccitt.proofs.Names.{replicate, Ok, refl, ap, sym, ◌∙◌, append_assoc, arith, inl, inr, cases_lt}
@@ -70,7 +70,7 @@ has_run at here row rest columns row_len small open_end
     }
 
 module _ (columns : ℕ) (at : Spot) (here : Bits) (small : columns ≤ 4294967295) (open_end : length at.front < columns) where
-  -- the first run of a lawful line
+  -- the first run of a valid line
   pub record HasOneRun : Type 0 where
     pub run : ℕ
     pub after : Bits

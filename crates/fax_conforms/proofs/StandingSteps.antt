@@ -1,4 +1,4 @@
--- Lawful steps that stand here begin with a mode that is read here.
+-- Valid steps that stand here begin with a mode that is read here.
 use Rattle.hayro_ccitt.proofs.Names.{◌≡◌, ℕ, ◌-◌, ◌≤◌, ◌++◌, length, Ok, refl, ap, ◌∙◌, sym, append_assoc}
 use Rattle.hayro_ccitt.proofs.Names.{arith, Color, Mode, Pass, Horizontal, Vertical, Bits, Row, mode_codes, Has}
 use Rattle.hayro_ccitt.proofs.Names.{read_code, opposite, a1, a2, EncodesLine2D}
@@ -9,7 +9,7 @@ use Rattle.hayro_ccitt.proofs.PixelRows.ChangePlaces.{a1_next, a2_next}
 use Rattle.fax_conforms.specs.Standing.{StepsStand, StepsAfter}
 use Rattle.fax_conforms.proofs.SpelledRuns.{run_is_spelled}
 
--- a mode is read here, and the steps after its word are lawful
+-- a mode is read here, and the steps after its word are valid
 pub record HasMode (reference row : Row) (from : ℕ) (color : Color) (here rest : Bits) : Type 0 where
   pub mode : Mode
   pub after : Bits

@@ -1,4 +1,4 @@
--- Data that are an encoding of a picture, and what is left of one from a line on.
+-- Data that is an encoding of a picture, and what is left of one from a line on.
 use Rattle.std.specs.Prelude.{◌≡◌, ◌⊎◌, ◌↔◌, ℕ, ◌+◌, ◌<◌, Bool, true, List, [], ◌++◌, length, Ok, if◌then◌else◌}
 use Rattle.hayro_ccitt.specs.Bits.{AreWholeBytes, Bits, IsPrefix}
 use Rattle.hayro_ccitt.specs.DecodeSettings.{DecodeSettings}
@@ -10,21 +10,22 @@ use Rattle.hayro_ccitt.specs.PlainReading.{plain}
 use Rattle.hayro_ccitt.specs.Rows.{Row, HaveWidth}
 use Rattle.hayro_ccitt.specs.Settings.{AreSettings}
 
--- The data begin with an encoding of a picture, by every rule: closed as the settings ask, by EOFB or RTC, or with as many rows
--- as the row limit (T.4, 4.1.4; T.6, 2.4.1.1).
+-- The data begins with an encoding of a picture that every decoder must read back as these rows, with any make-up words, modes
+-- and kinds of line: closed as the settings ask, by EOFB or RTC, or with as many rows as the row limit (T.4, 4.1.4; T.6,
+-- 2.4.1.1).
 abbrev pub Conforms : DecodeSettings → Bits → Type 0
 Conforms settings whole = (rows : List Row)
     × (((count : ℕ) × IsClosedPicture settings rows count whole) ⊎ IsLimitedPicture settings rows whole)
 
--- The data begin with an encoding of the rows that are read from them, closed as the settings ask: by EOFB or RTC where the
+-- The data begins with an encoding of the rows that are read from it, closed as the settings ask: by EOFB or RTC where the
 -- reading ends, or with as many rows as the row limit (T.4, 4.1.4; T.6, 2.4.1.1).
 abbrev pub EncodesRowsRead : DecodeSettings → Bits → Type 0
 EncodesRowsRead settings whole = ((count : ℕ) × ((plain settings whole).outcome ≡ Ok count)
     × IsClosedPicture settings (plain settings whole).rows count whole)
     ⊎ IsLimitedPicture settings (plain settings whole).rows whole
 
--- Data conform exactly if they are an encoding of the rows that are read from them: these rows, encoded by the same choices, are
--- the same bits again.
+-- Data conforms exactly if it is an encoding of the rows that are read from it: these rows, encoded by the same choices, are the
+-- same bits again.
 abbrev pub RoundTrip : Type 0
 RoundTrip = (settings : DecodeSettings) (whole : Bits) → AreSettings settings → AreWholeBytes whole
     → Conforms settings whole ↔ EncodesRowsRead settings whole

@@ -49,16 +49,16 @@ pub record GoesOnFrom (row : Row) (at : Spot) : Type 0 where
   pub front : at.front ≡ take (at.from - 1) row
   pub color : at.from ≤ length row → pixel_before row at.from ≡ is_black at.color
 
--- lawful steps of a two-dimensional line stand here (T.4, 4.2.1.3; T.6, 2.2)
+-- valid steps of a two-dimensional line stand here (T.4, 4.2.1.3; T.6, 2.2)
 abbrev pub StepsStand : Row → Row → ℕ → Color → Bits → Bits → Type 0
 StepsStand reference row from color here rest = (bits : Bits) × EncodesLine2D reference row from color bits ×
     (here ≡ bits ++ rest)
 
--- a row goes on from a position, and its lawful steps stand here (T.4, 4.2.1.3; T.6, 2.2)
+-- a row goes on from a position, and its valid steps stand here (T.4, 4.2.1.3; T.6, 2.2)
 abbrev pub LineFrom : Row → Spot → Bits → Row → Bits → Type 0
 LineFrom reference at here row rest = GoesOnFrom row at × StepsStand reference row at.from at.color here rest
 
--- this mode is lawful at a position, with what stands after its word (T.4, 4.2.1.3; T.6, 2.2)
+-- this mode is valid at a position, with what stands after its word (T.4, 4.2.1.3; T.6, 2.2)
 abbrev pub StepsAfter : Row → Row → ℕ → Color → Mode → Bits → Bits → Type 0
 StepsAfter reference row from color Pass here rest =
     (b2 reference from color < a1 row from) × StepsStand reference row (suc (b2 reference from color)) color here rest
@@ -97,7 +97,7 @@ pub record IsDrawn (columns : ℕ) (pen : Pen) (places : List ℕ) : Type 0 wher
   pub start : pen.begun ≡ false → (pen.painted ≡ 0) × (pen.color ≡ White)
   pub black : pen.begun ≡ true → pen.painted ≡ 0 → pen.color ≡ Black
 
--- the reference row's changes are lawful, and those that the pen has passed are not right of a0
+-- the reference row's changes are valid, and those that the pen has passed are not right of a0
 pub record IsAbove (columns : ℕ) (pen : Pen) (reference : List ℕ) : Type 0 where
   pub lawful : AreChanges columns reference
   pub passed : ArePassed reference pen.painted pen.passed

@@ -46,7 +46,7 @@ abbrev pub VerticalIsHere : Bits → Type 0
 VerticalIsHere here = (k : ℤ) × ModeIsHere (Vertical k) here
 
 -- The bits from this place on are what breaks a rule: they begin with no word of the kind that is expected, or with one that can
--- be unlawful in this way (T.4, 4.1.1 to 4.1.3 and 4.2.1.3).
+-- be invalid in this way (T.4, 4.1.1 to 4.1.3 and 4.2.1.3).
 abbrev pub Breaks : Rule → ℕ → Bits → Type 0
 Breaks rule.Mode place here = (mode : Mode) → ModeIsHere mode here → ⊥
 Breaks rule.Run place here = NoRunIsHere here

@@ -89,14 +89,17 @@ fn read_data(
     )
 }
 
-/// Returns where data breaks a rule of its encoding, and which rule; `None` if it begins with an encoding of a picture, by every
-/// rule of T.4 and T.6, that is closed as the settings ask: by EOFB (T.6, 2.4.1.1) or RTC (T.4, 4.1.4) with `end_of_block`, or by
-/// as many rows as the row limit, whichever comes first. What follows the picture isn't looked at. Each byte has its bits in
-/// this order.
+/// Returns `None` if data begins with an encoding of a picture that every decoder must read back as its rows, closed as the
+/// settings ask: by EOFB (T.6, 2.4.1.1) or RTC (T.4, 4.1.4) with `end_of_block`, or by as many rows as the row limit, whichever
+/// comes first. Else it returns a place where the data breaks a rule of its encoding, and which rule. What follows the picture is
+/// ignored. Each byte has its bits in this order.
 ///
-/// The place is at most the number of bits, and the bits from there on break the rule: they begin with no word of the kind that the
-/// rule asks for, or with one that the rule is about. That the lines and the words before it keep to the rules is tested, and not
-/// proved.
+/// Any make-up words, modes and kinds of line that lead to the rows are taken. So the choices that T.4 and T.6 prescribe to an
+/// encoder aren't checked: a run of 128 may be 64 + 64 + 0 (T.4, 4.1.1), horizontal mode may stand for a vertical one (T.4,
+/// 4.2.1.3.2), each line may be two-dimensional (T.4, 4.2.1), and fill may precede the first EOL (T.4, 4.1.3).
+///
+/// The place is at most the number of bits, and the bits from there on begin with no word of the kind that the rule asks for, or
+/// with one that the rule is about. That nothing before it breaks a rule is tested, and not proved.
 ///
 /// More is asked here than of data that [`hayro_ccitt::decode`] reads strictly. Pass mode is only where b2 is left of a1, and
 /// each vertical mode to the right of a0 (T.4, 4.2.1.3); only the first run of a row has no pixels, and one at the row's end in
@@ -130,8 +133,8 @@ pub fn first_violation(
     }
 }
 
-/// Returns whether data begins with an encoding of a picture, by every rule of T.4 and T.6, that is closed as the settings ask:
-/// whether it has no [`first_violation`].
+/// Returns whether data begins with an encoding of a picture that every decoder must read back as its rows, closed as the
+/// settings ask: whether it has no [`first_violation`], which says what that leaves open.
 ///
 /// # Errors
 ///

@@ -1,5 +1,6 @@
-//! Whether data is an encoding of a picture by every rule of ITU-T T.4 and T.6, closed as its settings ask: for those who write
-//! encoders, of whose data a reader that takes more than these rules allow says too little.
+//! Whether data is an encoding of a picture that every decoder of ITU-T T.4 and T.6 must read back as its rows, with any make-up
+//! words, modes and kinds of line, closed as its settings ask: for those who write encoders, since a decoder also reads other
+//! data.
 //!
 //! Data has at most `(usize::MAX - 64) / 8` bytes, as in [`hayro_ccitt::decode`]; [`hayro_ccitt::bits_fit`] tests it.
 #![tactic(auto)]

@@ -1,4 +1,4 @@
-//! Lines of encodings: the modes and runs of a row, each of them lawful.
+//! Lines of encodings: the modes and runs of a row, each of them valid.
 
 ghost use Rattle.std.specs.Prelude.{◌≡◌, ◌+◌, ◌<◌, ◌≤◌, false, true, IfOk, OnOk, IfErr, length, drop, ℕ, List};
 ghost use Rattle.hayro_ccitt.specs.Bits.{Bits, here};

@@ -25,7 +25,7 @@ rows_of-changes columns (row ∷ rows) wide =
     (pixels_of_row columns row (All-head (λ row. length row ≡ columns) row rows wide))
     ∙ ap (λ (l : List Row). row ∷ l) (rows_of-changes columns rows (All-tail (λ row. length row ≡ columns) row rows wide))
 
--- which are lawful
+-- which are valid
 AreRows-changes : (columns : ℕ) (rows : List Row) → All (λ row. length row ≡ columns) rows → AreRows columns (map changes rows)
 AreRows-changes columns [] wide = All-nil (AreChanges columns)
 AreRows-changes columns (row ∷ rows) wide = All-cons (AreChanges columns) (changes row) (map changes rows)

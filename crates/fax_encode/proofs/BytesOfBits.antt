@@ -1,4 +1,4 @@
--- Bytes are told by their bits.
+-- Bytes are determined by their bits.
 use Rattle.fax_encode.proofs.Names.{◌≡◌, ℕ, ◌+◌, ◌*◌, ◌<◌, Bool, true, cond, eqb, List, [], ◌∷◌, length, take, drop, refl, sym}
 use Rattle.fax_encode.proofs.Names.{ap, ◌∙◌, arith, All, agree_below_at, eqb-true, All-head, All-tail, take-append_seam}
 use Rattle.fax_encode.proofs.Names.{drop-append_seam, BitOrder, HighestFirst, LowestFirst, Bits, bits_in, bits_of_byte}

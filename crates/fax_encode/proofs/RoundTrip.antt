@@ -10,7 +10,7 @@ use Rattle.fax_encode.proofs.Names.{closed_picture_t4, eols_here_one, chosen_t6,
 use Rattle.fax_encode.proofs.Names.{filled_up, rows_of, AreRows, RoundTripT6, RoundTripT4, ReadToTheEnd}
 use Rattle.fax_encode.proofs.ChosenLines.{chosen_is_an_encoding, lines_1d_encode, closes}
 
--- lawful lists are rows of the width
+-- valid lists are rows of the width
 pub widths_of : (columns : ℕ) (lists : List (List ℕ)) → AreRows columns lists → HaveWidth columns (rows_of columns lists)
 widths_of columns [] are = All-nil (λ row. length row ≡ columns)
 widths_of columns (list ∷ lists) are = All-cons (λ row. length row ≡ columns)

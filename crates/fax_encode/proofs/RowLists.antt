@@ -15,13 +15,13 @@ pub item_next : {X : Type 0} (list_of : X → List ℕ) (items : List X) (i : �
 item_next list_of items i item lt is = drop_some (map list_of items) i (list_of item) (slice_get-get_or (map list_of items) i []
     (omega (arith, length-map items list_of)) ∙ ap Some (item_at list_of items i item lt is))
 
--- and lawful where all are
+-- and valid where all are
 pub item_lawful : {X : Type 0} (columns : ℕ) (list_of : X → List ℕ) (items : List X) (i : ℕ) (item : X) → i < length items
     → item ≡ get_or items i item → AreRows columns (map list_of items) → AreChanges columns (list_of item)
 item_lawful columns list_of items i item lt is are =
     subst (AreChanges columns) (item_at list_of items i item lt is) (are i [] (omega (arith, length-map items list_of)))
 
--- the runs of a lawful list are those of its row
+-- the runs of a valid list are those of its row
 pub line_of_list : (columns : ℕ) (list : List ℕ) → AreChanges columns list
     → chosen_line_1d (pixels columns list) ≡ chosen_runs columns White 0 list
 line_of_list columns list lawful =

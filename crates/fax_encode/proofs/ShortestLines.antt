@@ -106,7 +106,7 @@ one_of P first second left right = by_leb (leb (length first) (length second))
     by_leb false = right
 
 module _ (bits_with : Mode → Bits) (vertical : Mode) where
-  -- the modes besides horizontal mode, if these are lawful
+  -- the modes besides horizontal mode, if these are valid
   unfoldable pub others : Bool → Bool → List Mode
   others left near = cond left (Pass ∷ []) [] ++ cond near (vertical ∷ []) []
 
@@ -134,7 +134,7 @@ module _ (bits_with : Mode → Bits) (vertical : Mode) where
   )
   no_longer false false = (omega arith, λ e. absurd (false≢true e), λ e. absurd (false≢true e))
 
-  -- what holds for each lawful mode holds for the shortest
+  -- what holds for each valid mode holds for the shortest
   holds : (P : Bits → Type 0) (left near : Bool) → (left ≡ true → P (bits_with Pass)) → (near ≡ true → P (bits_with vertical))
       → P (bits_with Horizontal) → P (shortest_of bits_with (others left near))
   unfolding others
@@ -145,7 +145,7 @@ module _ (bits_with : Mode → Bits) (vertical : Mode) where
   holds P false true pass vert horizontal = one_of P (bits_with vertical) (bits_with Horizontal) (vert refl) horizontal
   holds P false false pass vert horizontal = horizontal
 
-  -- the first lawful mode
+  -- the first valid mode
   first : Bool → Bool → Mode
   first left near = cond left Pass (cond near vertical Horizontal)
 
@@ -188,7 +188,7 @@ module _ (reference row : Row) (same : length reference ≡ length row) where
       let sides = b2_above reference from color (omega arith) in
       omega (arith, sides.0, sides.1)
 
-  -- the shortest is no longer than what begins with any lawful mode
+  -- the shortest is no longer than what begins with any valid mode
   pub at_most : (modes : ℕ) (at : Place) → at.from ≤ length row
       → (length (shortest_from (suc modes) reference row at) ≤ length (begins_with modes at Horizontal))
       × (ltb (b2 reference at.from at.color) (a1 row at.from) ≡ true

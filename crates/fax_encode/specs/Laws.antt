@@ -219,7 +219,7 @@ line_end settings columns rows row =
     + length (chosen_line settings.effort settings.encoding (with_rows (no_rows settings columns) rows).left
     (with_rows (no_rows settings columns) rows).last row)
 
--- two data differ only within a line of the first one, up to an EOL in both; in the second one a line is there too
+-- two inputs differ only within a line of the first one, up to an EOL in both; in the second one a line is there too
 abbrev pub DamagedLine : DecodeSettings → Bits → Bits → ℕ → ℕ → ℕ → Type 0
 DamagedLine settings one two from to to2 = (take from one ≡ take from two) × (drop to one ≡ drop to2 two)
     × IsTaggedBody settings two from to2

@@ -37,7 +37,7 @@ vertical_at reference row at = vertical_mode (b1 reference at.from at.color) (a1
 abbrev pub mode_of : Row → Row → Place → Bool → Mode
 mode_of reference row at vertical = if vertical then vertical_at reference row at else Horizontal
 
--- the shortest that begins in vertical mode, where that is lawful, or in horizontal mode
+-- the shortest that begins in vertical mode, where that is valid, or in horizontal mode
 unfoldable pub without_pass : Row → Row → Place → Bits
 without_pass reference row at =
     shortest_of (begun_in reference row at)
@@ -67,7 +67,7 @@ way_bits reference row at passes vertical =
 abbrev pub MayPass : Row → Row → Place → Type 0
 MayPass reference row at = b2 reference at.from at.color < a1 row at.from
 
--- the passes of a way and the mode after them are lawful (T.4, 4.2.1.3.1)
+-- the passes of a way and the mode after them are valid (T.4, 4.2.1.3.1)
 pub record IsLawful (reference row : Row) (at : Place) (way : Way) : Type 0 where
   pub passes : (k : ℕ) → k < way.passes → MayPass reference row (passed_by reference at k)
   pub near : way.is_vertical ≡ true → is_near (b1 reference (passed_by reference at way.passes).from
@@ -92,7 +92,7 @@ pub record IsFound (reference row : Row) (at : Place) (k : ℕ) (way : Way) : Ty
       (passed_by reference at k) ≡ way_bits reference row at k way.is_vertical
   pub spelled : IsSpelled reference row (passed_by reference at k) way
 
--- a way is lawful, and its bits are the fewest
+-- a way is valid, and its bits are the fewest
 pub record IsShortest (reference row : Row) (at : Place) (way : Way) : Type 0 where
   pub lawful : IsLawful reference row at way
   pub bits : way.bits ≡ length (way_bits reference row at way.passes way.is_vertical)

@@ -261,7 +261,7 @@ fn append_reserved(data: &mut Vec<u8>, bytes: &[u8])
     }
 }
 
-/// The same with a list of its own meanwhile, so that the list's fields are values of this call.
+/// Appends bytes for which there is room. It moves the list into a local, so that its length stays in a register.
 #[inline(never)]
 fn append_own(data: &mut Vec<u8>, bytes: &[u8])
     requires room { vec_len «data».old + length bytes.now ≤ vec_capacity «data».old }
@@ -768,7 +768,7 @@ impl RowFeed {
     }
 
     /// Returns whether the line that is next was found to be short, and goes on from a part that is kept. While
-    /// [`next_row`](RowFeed::next_row) then returns [`Fed::NeedsMore`], nothing changes that the other calls tell.
+    /// [`next_row`](RowFeed::next_row) then returns [`Fed::NeedsMore`], nothing that the other calls report changes.
     #[inline(always)]
     pub fn is_within_line(&self) -> bool
         ensures within { result ≡ true → self.now.part ≢ None }

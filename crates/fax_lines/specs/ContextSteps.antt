@@ -133,7 +133,7 @@ pub record DrawsUsualModes (old new : Context) (before after : BitsAt) : Type 0 
   pub space : new.space ≤ max old.space
       (room_for (max (length (changes old.held.reference)) (suc (length (changes new.held.front)))))
 
--- What a call leaves that draws a line at once, or nothing, and tells which (T.4, 4.2.1.3; T.6, 2.2).
+-- What a call leaves that draws a line at once, or nothing, and says which (T.4, 4.2.1.3; T.6, 2.2).
 pub record DrawsAtOnce (old new : Context) (before after : BitsAt) (drawn : Bool) : Type 0 where
   pub draws : DrawsUsualModes old new before after
   pub unchanged : drawn ≡ false → (new ≡ old) × (after ≡ before)

@@ -32,7 +32,7 @@ context_of c =
       space = max (vec_capacity c.ref_changes) (vec_capacity c.coding_changes);
     }
 
--- both lists are lawful; the front's changes are below the pixels decoded, which are at most the columns; and the
+-- both lists are valid; the front's changes are below the pixels decoded, which are at most the columns; and the
 -- changes that were passed are not right of a0
 pub record IsLawful (c : Inside) : Type 0 where
   pub reference : AreChanges c.settings.columns c.ref_changes.items

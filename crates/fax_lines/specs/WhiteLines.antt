@@ -47,7 +47,7 @@ pub record AreWhiteLine (encoding : EncodingMode) (columns : ℕ) (line : Bits) 
   pub no_eol : (rest : Bits) → after_eol 0 (line ++ rest) ≡ None
   pub no_tag : encoding ≡ Group3_2D → (rest : Bits) → after_eol 0 (drop 1 (line ++ rest)) ≡ None
 
--- the EOL before a line, without fill, in data that have EOLs (T.4, 4.1.2)
+-- the EOL before a line, without fill, in data that has EOLs (T.4, 4.1.2)
 abbrev pub eol_before : Bool → Bits
 eol_before true = eol 0
 eol_before false = []
@@ -57,7 +57,7 @@ pub record IsLine (encoding : EncodingMode) (columns most : ℕ) (word : CodeWor
   pub is_whole : FitsIn word most
   pub line : 0 < word.count → AreWhiteLine encoding columns (bits_of_word word)
 
--- A word of at most this many bits, if it has any, is the EOL before a line, in data that have EOLs, and a white line.
+-- A word of at most this many bits, if it has any, is the EOL before a line, in data that has EOLs, and a white line.
 pub record IsWhiteLine (encoding : EncodingMode) (columns : ℕ) (has_eols : Bool) (most : ℕ) (word : CodeWord) : Type 0 where
   pub few : word.count ≤ most
   pub line : 0 < word.count → (line : Bits) × AreWhiteLine encoding columns line

@@ -46,7 +46,7 @@ use std::alloc::Global;
 use std::marker::Model;
 use std::mem;
 
-/// A row with fewer changes doesn't tell whether vertical modes are best drawn several at a time.
+/// A row with fewer changes doesn't show whether vertical modes are best drawn several at a time.
 const MANY_CHANGES: usize = 16;
 
 /// Exchanges two lists of changes: two empty ones stay as they are. Each is moved by its fields: if one load took a length with what is
@@ -291,7 +291,8 @@ impl DecoderContext {
         Ok(())
     }
 
-    /// The same by a call, for more pixels than the row has room for: that is rare.
+    /// Paints a run with more pixels than the row has left: an error in strict data, else it is cut. That is rare, so it isn't
+    /// inlined.
     #[cold]
     #[inline(never)]
     fn push_and_cut(&mut self, _count: u32) -> Result<()>
@@ -501,7 +502,7 @@ impl DecoderContext {
         self.color = color;
     }
 
-    /// The same for a reader, in whichever order its bits are.
+    /// Draws usual runs from a reader, in whichever order its bits are.
     #[inline(never)]
     fn draw_runs_of(&mut self, reader: &mut BitReader<'_>)
         ensures { DrawsUsualRuns self.old self.new reader.old reader.new }
@@ -555,7 +556,7 @@ impl DecoderContext {
         self.color = color;
     }
 
-    /// The same for a reader, in whichever order its bits are.
+    /// Draws usual runs of any number of code words from a reader, in whichever order its bits are.
     #[inline(never)]
     fn draw_long_runs_of(&mut self, reader: &mut BitReader<'_>)
         ensures { DrawsUsualRuns self.old self.new reader.old reader.new }
@@ -669,7 +670,7 @@ impl DecoderContext {
         self.passed = reached.index.saturating_sub(1);
     }
 
-    /// The same for a reader, in whichever order its bits are.
+    /// Draws usual modes from a reader, in whichever order its bits are.
     #[inline(never)]
     fn draw_modes_of(&mut self, reader: &mut BitReader<'_>)
         requires { IsAtStart self.old }

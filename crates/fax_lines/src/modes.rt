@@ -995,7 +995,7 @@ fn draw_bits(
     }
 }
 
-/// The same with a copy of the window, so that its fields are values of this call.
+/// Draws modes by groups, as `draw_bits` does, with a copy of the window, so that its fields stay in registers.
 #[inline(always)]
 fn draw_groups(
     hand: &mut BitsAtHand<'_>,
@@ -1126,7 +1126,7 @@ fn draw_turns(
     requires can { CanDraw line.now stroke hand.old row.old }
     ensures { DrawsOn line.now stroke hand.old row.old ticks.old result hand.new row.new ticks.new }
 {
-    // A copy of the window, so that its fields are values of this call.
+    // A copy of the window, so that its fields stay in registers.
     let mut bits = hand.copy();
     let (first, is_done) = draw_to_white(&mut bits, row, line, stroke, ticks);
     if is_done {
@@ -1159,7 +1159,8 @@ fn draw_turns(
     }
 }
 
-/// The same with a list of its own meanwhile, so that the list's fields are values of this call.
+/// Draws modes by groups or in turns, as the line's settings say. It moves the list into a local, so that its length stays in a
+/// register.
 #[inline(always)]
 fn draw_own_row(
     hand: &mut BitsAtHand<'_>,
@@ -1269,7 +1270,7 @@ pub(crate) fn put_ends(changes: &mut Vec<u32>, columns: u32) -> bool
     if !has_room_for_ends(changes) && !make_room(changes) {
         return false;
     }
-    // A list of its own meanwhile, so that the list's fields are values of this call.
+    // The list is moved into a local, so that its length stays in a register.
     let empty = Vec::new(*changes.allocator());
     let mut own = mem::replace(changes, empty);
     turn_at(&mut own, columns);

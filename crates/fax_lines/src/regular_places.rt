@@ -33,7 +33,7 @@ pub(crate) fn regular_places(
     let reached = here.cast::<i32>() + offset.cast::<i32>() - i32x4::splat(3);
     let start = reached.shuffle::<4>(i32x4::splat(painted as i32), [4, 0, 1, 2]);
     let regular = reached.simd_gt(start) & next.simd_gt(reached) & !before.simd_gt(reached);
-    // The same sums, without a sign: the compiler adds once.
+    // These are the sums of `reached`, without a sign: the compiler adds once.
     let place = here + offset.cast::<u32>() - u32x4::splat(3);
     (place.to_array(), regular.to_bitmask())
 }

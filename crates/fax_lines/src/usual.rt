@@ -299,7 +299,7 @@ pub(crate) fn draw_two_runs(
     Some(draw_both(row, painted, settings, runs, ticks))
 }
 
-/// The same with runs of any number of code words.
+/// Draws two runs as `draw_two_runs` does, of any number of code words.
 #[inline(always)]
 fn draw_two_long_runs(
     hand: &mut BitsAtHand<'_>,
@@ -407,8 +407,8 @@ pub(crate) fn draw_long_pairs(
     }
 }
 
-/// Draws runs in pairs, by pairs that are looked up with a list of its own meanwhile, so that the list's fields are values of this
-/// call.
+/// Draws runs in pairs, looked up together where the line's settings say so. There it moves the list into a local, so that its
+/// length stays in a register.
 #[inline(always)]
 pub(crate) fn draw_runs(
     hand: &mut BitsAtHand<'_>,

@@ -85,7 +85,7 @@ fn second_line(encoding: EncodingMode, columns: u32) -> CodeWord
     joined(CodeWord { count: 1, bits: 1 }, run)
 }
 
-/// Returns a white line with the EOL before it, in data that have EOLs.
+/// Returns a white line with the EOL before it, in data that has EOLs.
 #[inline(always)]
 fn following_eol(has_eols: bool, line: CodeWord) -> CodeWord
     requires { FitsIn line 21 }

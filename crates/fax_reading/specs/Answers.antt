@@ -125,7 +125,7 @@ StoresChange held count = (row : Row)
 abbrev pub RepairStoresChange : Held → Type 0
 RepairStoresChange held = (length held.front < held.settings.columns) × (last_pixel false held.front ≡ true)
 
--- A line that failed with this error is repaired: the reading is lenient, the data have EOLs, and the error is a fault of
+-- A line that failed with this error is repaired: the reading is lenient, the data has EOLs, and the error is a fault of
 -- the data (T.4, 4.1.2).
 pub record IsRepairable (held : Held) (error : DecodeError) : Type 0 where
   pub lenient : held.settings.strict ≡ false

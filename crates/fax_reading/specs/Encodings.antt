@@ -26,7 +26,7 @@ pub data EncodesLine1D : Color → Row → Bits → Type 0 where
       → 0 < n + length row → ((rest : Row) → row ≢ is_black color ∷ rest) → EncodesLine1D (opposite color) row bits
       → EncodesLine1D color (replicate n (is_black color) ++ row) (word ++ bits)
 
--- Lawful steps from a position a0 to the row's end, against a reference row (T.4, 4.2.1.3; T.6, 2.2). Here `from` is
+-- Valid steps from a position a0 to the row's end, against a reference row (T.4, 4.2.1.3; T.6, 2.2). Here `from` is
 -- the first position right of a0, so the runs of a horizontal mode begin at `from - 1`, or at 0 if a0 is left of the
 -- row.
 pub data EncodesLine2D (reference row : Row) : ℕ → Color → Bits → Type 0 where

@@ -224,7 +224,7 @@ abbrev pub ComesToEofb : DecodeSettings → Bits → Type 0
 ComesToEofb settings bits =
     (last : Progress) × Reaches (gap_and_row (for_t6 settings)) (at_front bits) last × ((eols 2 last.rest).0 ≡ 2)
 
--- If T.6 data were read up to their EOFB, data that begin with the same bytes up to there are read the same (T.6,
+-- If T.6 data was read up to its EOFB, data that begins with the same bytes up to there is read the same (T.6,
 -- 2.4.1.1).
 abbrev pub AfterEofb : Type 0
 AfterEofb = (settings : DecodeSettings) (one two : Bits) (count : ℕ) → AreSettings settings → AreWholeBytes one
@@ -242,12 +242,12 @@ PicturesComeToEofb = (settings : DecodeSettings) (rows : List Row) (bits more : 
 
 -- ---- rows and their changes
 
--- a lawful list of changes is a row of the width, and that row's changes (T.4, 4.2.1.1)
+-- a valid list of changes is a row of the width, and that row's changes (T.4, 4.2.1.1)
 abbrev pub RowsOfChanges : Type 0
 RowsOfChanges = (width : ℕ) (places : List ℕ) → AreChanges width places
     → (length (pixels width places) ≡ width) × (changes (pixels width places) ≡ places)
 
--- the changes of a row are lawful, and represent the row (T.4, 4.2.1.1)
+-- the changes of a row are valid, and represent the row (T.4, 4.2.1.1)
 abbrev pub ChangesOfRows : Type 0
 ChangesOfRows = (row : Row) → AreChanges (length row) (changes row) × (pixels (length row) (changes row) ≡ row)
 

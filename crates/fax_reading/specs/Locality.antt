@@ -91,7 +91,7 @@ StartsAre = (bits : Bits)
 
 -- ---- locality
 
--- The body of a line lies between two positions: an EOL ends where it begins, or the data begin there; it contains a
+-- The body of a line lies between two positions: an EOL ends where it begins, or the data begins there; it contains a
 -- one and no EOL; an EOL follows it, and the line, if it is whole, ends before the last twelve bits of that EOL (T.4,
 -- 4.1.2).
 pub record IsLocal (settings : DecodeSettings) (bits : Bits) (from to : ℕ) : Type 0 where
@@ -126,7 +126,7 @@ ComesToLine settings bits place index = (so_far : Progress)
     × Reaches (move_on settings) (first_line settings bits) so_far
     × (so_far.rest ≡ drop place bits) × (length so_far.rows ≡ index)
 
--- the rows of two data are equal, except at most the one whose line begins at a position in both (T.4, 4.1.2)
+-- the rows of two inputs are equal, except at most the one whose line begins at a position in both (T.4, 4.1.2)
 abbrev pub OneRowDiffers : DecodeSettings → Bits → Bits → ℕ → List Row → List Row → Type 0
 OneRowDiffers settings one two from rows others = (others ≡ rows)
     ⊎ ((index : ℕ) × (row : Row)
@@ -139,7 +139,7 @@ pub record EndsAt (settings : DecodeSettings) (bits : Bits) (outcome : Result �
   pub place_is : place + length rest ≡ length bits
   pub count_is : outcome ≡ Ok count
 
--- How the readings of two data end whose rows may differ from the line at a position on, in as many rows at most; the
+-- How the readings of two inputs end whose rows may differ from the line at a position on, in as many rows at most; the
 -- first has these rows (T.4, 4.1.2).
 pub data EndAlike (settings : DecodeSettings) (one two : Bits) (from differ : ℕ) (rows : List Row)
     (outcome other : Result ℕ DecodeError) : Type 0 where
@@ -163,7 +163,7 @@ pub data EndAlike (settings : DecodeSettings) (one two : Bits) (from differ : �
       → EndsAt settings one outcome place count → EndsAt settings two other place2 count2
       → EndAlike settings one two from differ rows outcome other
 
--- Two data differ only within one body, which is local in both; and EOLs are sought from the start (T.4, 4.1.2).
+-- Two inputs differ only within one body, which is local in both; and EOLs are sought from the start (T.4, 4.1.2).
 pub record DifferInOneBody (settings : DecodeSettings) (one two : Bits) (from to to2 : ℕ) : Type 0 where
   pub before : take from one ≡ take from two
   pub after : drop to one ≡ drop to2 two
@@ -171,7 +171,7 @@ pub record DifferInOneBody (settings : DecodeSettings) (one two : Bits) (from to
   pub other : IsLocal settings two from to2
   pub sought : (settings.end_of_line ≡ true) ⊎ ((end : ℕ) × (end ≤ from) × IsEol one 0 end)
 
--- Some data were read as these rows, with this result. Whatever replaces one local body by another, all rows except at
+-- Some data was read as these rows, with this result. Whatever replaces one local body by another, all rows except at
 -- most the one of this body are those of the other data's plain reading, and both end alike (T.4, 4.1.2).
 abbrev pub DamageStaysInRow : DecodeSettings → Bits → List Row → Result ℕ DecodeError → Type 0
 DamageStaysInRow settings one rows outcome =

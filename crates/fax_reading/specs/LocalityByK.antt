@@ -36,7 +36,7 @@ IsReadBefore settings bits place after = (so_far : Progress)
     → Reaches (move_on settings) (first_line settings bits) so_far → so_far.rest ≡ drop place bits
     → (row : Row) (rest : Bits) → line_of_turn settings so_far ≡ Line.whole row rest → length after + 12 ≤ length rest
 
--- The tag and the body of a line lie between two positions: an EOL ends where the tag is, or the data begin there; after
+-- The tag and the body of a line lie between two positions: an EOL ends where the tag is, or the data begins there; after
 -- the tag is a one, and no EOL is in between; an EOL follows, and the line, as it is read, ends before the last twelve
 -- bits of that EOL if it is whole (T.4, 4.1.2 and 4.2.2).
 pub record IsTaggedBody (settings : DecodeSettings) (bits : Bits) (from to : ℕ) : Type 0 where
@@ -117,7 +117,7 @@ pub record IsFollowedBy (settings : DecodeSettings) (bits : Bits) (to lines : �
 
 -- ---- damage ends at the next one-dimensional line
 
--- Two data differ only within one line, tag and body; EOLs are sought from the start; and in the first data this number
+-- Two inputs differ only within one line, tag and body; EOLs are sought from the start; and in the first data this number
 -- of two-dimensional lines follows before the next one-dimensional one (T.4, 4.1.2 and 4.2).
 pub record DifferInOneLine (settings : DecodeSettings) (one two : Bits) (from to to2 lines : ℕ) : Type 0 where
   pub encoding : settings.encoding ≡ Group3_2D
@@ -135,13 +135,13 @@ SameBut index count rows others =
     (length others ≡ length rows) × (take index others ≡ take index rows)
     × (drop (index + count) others ≡ drop (index + count) rows)
 
--- the rows of two data are equal, except at most this number of them, from the one whose line begins at a position in
+-- the rows of two inputs are equal, except at most this number of them, from the one whose line begins at a position in
 -- both on (T.4, 4.2)
 abbrev pub RowsDiffer : DecodeSettings → Bits → Bits → ℕ → ℕ → List Row → List Row → Type 0
 RowsDiffer settings one two from count rows others = (others ≡ rows)
     ⊎ ((index : ℕ) × ComesToLine settings one from index × ComesToLine settings two from index × SameBut index count rows others)
 
--- Some data were read as these rows, with this result. Whatever replaces one line, up to the next one-dimensional line at
+-- Some data was read as these rows, with this result. Whatever replaces one line, up to the next one-dimensional line at
 -- most its row and those of the lines in between change, and the reading ends alike (T.4, 4.1.2 and 4.2).
 abbrev pub DamageEndsAt1D : DecodeSettings → Bits → List Row → Result ℕ DecodeError → Type 0
 DamageEndsAt1D settings one rows outcome = (two : Bits) (from to to2 lines : ℕ) → AreWholeBytes two
@@ -154,7 +154,7 @@ abbrev pub LocalityByK : Type 0
 LocalityByK = (settings : DecodeSettings) (bits : Bits) → AreSettings settings → AreWholeBytes bits
     → DamageEndsAt1D settings bits (plain settings bits).rows (plain settings bits).outcome
 
--- A line of an encoding, after lines of one with an EOL before each, is such a body in data that have an EOL after it
+-- A line of an encoding, after lines of one with an EOL before each, is such a body in data that has an EOL after it
 -- (T.4, 4.1.2 and 4.2).
 abbrev pub EncodedLinesAreBodies : Type 0
 EncodedLinesAreBodies = (settings : DecodeSettings) (reference above row : Row) (rows : List Row) (front line next : Bits)

@@ -81,18 +81,18 @@ abbrev pub from_next_eol : DecodeSettings → ℕ → Bits → Option Bits → G
 from_next_eol settings taken here (Some found) = after_eols settings taken true (eols_here settings found)
 from_next_eol settings taken here None = Gap.line_at false here
 
--- there is no EOL here, in data that have them: a strict reading fails, and a lenient one looks for the next EOL (T.4,
+-- there is no EOL here, in data that has them: a strict reading fails, and a lenient one looks for the next EOL (T.4,
 -- 4.1.2)
 abbrev pub missing_eol : DecodeSettings → ℕ → Bits → Gap
 missing_eol settings taken here =
     if settings.strict then Gap.over (Err InvalidCode) else from_next_eol settings taken here (next_eol here)
 
--- there is no EOL after this number of rows, although the data have EOLs, the limit isn't met and bits are left (T.4, 4.1.2)
+-- there is no EOL after this number of rows, although the data has EOLs, the limit isn't met and bits are left (T.4, 4.1.2)
 abbrev pub misses_eol : DecodeSettings → ℕ → Bool → Bits → Bool
 misses_eol settings taken has_eols here =
     ((eols_here settings here).0 == 0) && has_eols && not (limit_met settings taken) && not (at_end here)
 
--- What follows this number of rows: EOLs, which are counted, and searched for if there are none although the data have EOLs,
+-- What follows this number of rows: EOLs, which are counted, and searched for if there are none although the data has EOLs,
 -- the limit isn't met and bits are left (T.4, 4.1.2).
 abbrev pub gap_after_row : DecodeSettings → ℕ → Bool → Bits → Gap
 gap_after_row settings taken has_eols here =
@@ -121,7 +121,7 @@ line_by Group4 strict columns reference here = line_2d strict columns reference 
 abbrev pub line_here : DecodeSettings → Row → Bits → Line
 line_here settings reference here = line_by settings.encoding settings.strict settings.columns reference here
 
--- the bits after a row: where rows are aligned and the data have no EOLs, they begin at a whole byte (T.4, 4.1.3)
+-- the bits after a row: where rows are aligned and the data has no EOLs, they begin at a whole byte (T.4, 4.1.3)
 abbrev pub aligned_after_row : DecodeSettings → Bool → Bits → Bits
 aligned_after_row settings has_eols rest = if settings.rows_are_byte_aligned && not has_eols then aligned rest else rest
 
@@ -275,6 +275,6 @@ abbrev pub failing_at : List ℕ → List ℕ → ℕ → ℕ
 failing_at starts ends taken = get_or starts taken (get_or ends (taken - 1) 0)
 
 -- Where a reading fails after this number of rows: the offset of the first bit of the line there; or, if none begins there,
--- that of the first bit after the last row, where strict data lack an EOL (T.4, 4.1.2).
+-- that of the first bit after the last row, where strict data lacks an EOL (T.4, 4.1.2).
 abbrev pub failed_at : DecodeSettings → Bits → ℕ → ℕ
 failed_at settings bits taken = failing_at (line_starts settings bits) (row_ends settings bits) taken

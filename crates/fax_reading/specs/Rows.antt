@@ -59,7 +59,7 @@ abbrev pub AscendFrom : ℕ → ℕ → List ℕ → Type 0
 AscendFrom first width [] = Unit {0}
 AscendFrom first width (place ∷ places) = (first ≤ place) × (place < width) × AscendFrom (suc place) width places
 
--- a lawful list of changes of a row of this width: strictly ascending, and below the width (T.4, 4.2.1.1)
+-- a valid list of changes of a row of this width: strictly ascending, and below the width (T.4, 4.2.1.1)
 abbrev pub AreChanges : ℕ → List ℕ → Type 0
 AreChanges width places = AscendFrom 0 width places
 

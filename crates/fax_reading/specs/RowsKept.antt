@@ -30,7 +30,7 @@ pub record ReadsUpTo (settings : DecodeSettings) (bits : Bits) (place index : �
   pub place_is : last.rest ≡ drop place bits
   pub index_is : length last.rows ≡ index
 
--- Some data were read as these rows. In whatever other data begin with the same bits up to a line, the rows before that
+-- Some data was read as these rows. In whatever other data begins with the same bits up to a line, the rows before that
 -- line are the same (T.4, 4.1; T.6, 2.2).
 abbrev pub RowsBeforeStay : DecodeSettings → Bits → List Row → Type 0
 RowsBeforeStay settings one rows =
@@ -99,7 +99,7 @@ pub record AreInStep (settings : DecodeSettings) (one two following : Bits) (row
       ⊎ ((count count2 : ℕ) × (outcome ≡ Ok count) × (other ≡ Ok count2)
       × (8 * count + length two ≡ 8 * count2 + length one))
 
--- Some data were read as these rows, with this result. Whatever is changed, lost or added before an EOL, after the EOL
+-- Some data was read as these rows, with this result. Whatever is changed, lost or added before an EOL, after the EOL
 -- after it the rows are the same again, if the line in between ends before its EOL (T.4, 4.1.2).
 abbrev pub RowsAfterStay : DecodeSettings → Bits → List Row → Result ℕ DecodeError → Type 0
 RowsAfterStay settings one rows outcome =
@@ -111,9 +111,9 @@ abbrev pub RowsAfter : Type 0
 RowsAfter = (settings : DecodeSettings) (bits : Bits) → AreWholeBytes bits
     → RowsAfterStay settings bits (plain settings bits).rows (plain settings bits).outcome
 
--- ---- where the bits tell that they are in step
+-- ---- where the bits show that they are in step
 
--- auxiliary: the line here is broken or ends before the last twelve bits of an EOL, as its runs or modes tell without a
+-- auxiliary: the line here is broken or ends before the last twelve bits of an EOL, as its runs or modes show without a
 -- reference row; `after` is what follows that EOL (T.4, 4.1.2 and 4.2)
 abbrev pub EndsByWords : EncodingMode → ℕ → Bits → Bits → Type 0
 EndsByWords Group3_1D columns after line = EndsBefore columns after line
@@ -122,7 +122,7 @@ EndsByWords Group3_2D columns after (true ∷ line) = EndsBefore columns after l
 EndsByWords Group3_2D columns after (false ∷ line) = ModesEndBefore after line
 EndsByWords Group4 columns after line = ModesEndBefore after line
 
--- An EOL and the line after it put readings in step. In two-dimensional data modes and tags tell it, whatever the rows
+-- An EOL and the line after it put readings in step. In two-dimensional data modes and tags show it, whatever the rows
 -- are: a two-dimensional line there ends by its modes, and a one-dimensional line, RTC or the end follows (T.4, 4.2).
 pub record TellsStep (settings : DecodeSettings) (here line following : Bits) : Type 0 where
   pub step : PutsInStep settings here line following
@@ -141,7 +141,7 @@ pub record IsInStepFrom (settings : DecodeSettings) (bits : Bits) (to place : �
   pub line : Bits
   pub told : TellsStep settings (drop to bits) line (drop place bits)
 
--- Whatever other data are the same from that EOL on have the same rows from that other position on, and end alike, if EOLs
+-- Whatever other data is the same from that EOL on has the same rows from that other position on, and ends alike, if EOLs
 -- are sought from the start of both, and what is before the line makes no RTC (T.4, 4.1.2 and 4.1.4).
 abbrev pub RowsFollow : DecodeSettings → Bits → ℕ → ℕ → Type 0
 RowsFollow settings bits to place = (two line : Bits) (to2 : ℕ) → AreWholeBytes two → drop to bits ≡ drop to2 two

@@ -92,7 +92,7 @@ pub fn one_picture()
     ensures t4 { OnePictureT4 }
 {}
 
-/// If T.6 data were read up to their EOFB, as pictures are, data that begin with the same bytes up to there are read
+/// If T.6 data was read up to its EOFB, as pictures are, data that begins with the same bytes up to there is read
 /// the same, whatever follows.
 pub fn after_eofb()
     ensures law { AfterEofb }
@@ -126,7 +126,7 @@ pub fn locality_by_k()
     ensures bodies { EncodedLinesAreBodies }
 {}
 
-/// Damage changes no row before it, in any encoding: if two data begin with the same bits up to the start of a line of the
+/// Damage changes no row before it, in any encoding: if two inputs begin with the same bits up to the start of a line of the
 /// one, the rows before that line are the same in both. The line is one that the reading reaches without having given up
 /// EOLs, which it does where it misses one and there is none in the rest of the data (T.4, 4.1.2).
 pub fn rows_before()
@@ -150,7 +150,7 @@ pub fn gaps_settle()
     ensures { GapsSettle }
 {}
 
-/// Lawful lists of changes and rows of pixels correspond one to one (T.4, 4.2.1.1).
+/// Valid lists of changes and rows of pixels correspond one to one (T.4, 4.2.1.1).
 pub fn changes_are_rows()
     ensures pixels { RowsOfChanges }
     ensures changes { ChangesOfRows }

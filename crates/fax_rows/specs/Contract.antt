@@ -45,17 +45,17 @@ pub record Decodes {M : Type 0} (settings : DecodeSettings) (bits : Bits) (step 
   -- 4.2.1.1).
   pub short : StopsShort (plain settings bits).rows (lines_of settings bits) before after held answer
   -- After an error the context holds the offset of the first bit of the line that has no row, or if there is none, that of
-  -- the first bit after the last row, where strict data lack an EOL; else none (T.4, 4.1.2).
+  -- the first bit after the last row, where strict data lacks an EOL; else none (T.4, 4.1.2).
   pub fault_start : OnErr answer (held.fault_start ≡ Some (failed_at settings bits held.taken))
   pub no_fault : OnOk answer (held.fault_start ≡ None)
-  -- Data that begin with a T.6 encoding closed by EOFB, or a T.4 one closed by RTC, are read as its picture, whatever
+  -- Data that begins with a T.6 encoding closed by EOFB, or a T.4 one closed by RTC, is read as its picture, whatever
   -- follows it: the result is its byte count, the rows are its rows, and the sink means them (T.6, 2.4.1.1; T.4, 4.1.4
   -- and 4.2.4).
   pub closed : (rows : List Row) (count : ℕ) → IsClosedPicture settings rows count bits → OnAnswer answer (answer ≡ Ok count)
   pub closed_rows : (rows : List Row) (count : ℕ) → IsClosedPicture settings rows count bits → (plain settings bits).rows ≡ rows
   pub picture : (rows : List Row) (count : ℕ) → IsClosedPicture settings rows count bits
       → OnAnswer answer (after.meaning ≡ meaning_after step before.meaning rows)
-  -- So are data that begin with as many lines as the row limit (T.6, 2.2; T.4, 4.1.1, 4.1.2 and 4.2.1).
+  -- So is data that begins with as many lines as the row limit (T.6, 2.2; T.4, 4.1.1, 4.1.2 and 4.2.1).
   pub limited_rows : (rows : List Row) → IsLimitedPicture settings rows bits → (plain settings bits).rows ≡ rows
   pub limited : (rows : List Row) → IsLimitedPicture settings rows bits → OnAnswer answer (IsOk answer)
   pub limited_picture : (rows : List Row) → IsLimitedPicture settings rows bits
@@ -86,10 +86,10 @@ pub record Decodes {M : Type 0} (settings : DecodeSettings) (bits : Bits) (step 
       ↔ (IsOk answer × (held.repairs.rows ≡ 0) × (held.repairs.cut ≡ 0) × (held.repairs.missed ≡ 0)))
   -- In lenient one-dimensional data with EOLs a change inside one line's body changes that row alone (T.4, 4.1.2).
   pub damage : OnAnswer answer (DamageStaysInRow settings bits (take held.taken (plain settings bits).rows) answer)
-  -- In two-dimensional ones a change inside one line changes no row from the next one-dimensional line on, if the lines in
+  -- In two-dimensional data a change inside one line changes no row from the next one-dimensional line on, if the lines in
   -- between are those of an encoding (T.4, 4.1.2 and 4.2).
   pub damage_by_k : OnAnswer answer (DamageEndsAt1D settings bits (take held.taken (plain settings bits).rows) answer)
-  -- Whatever other data begin with the same bits up to a line have the same rows before that line (T.4, 4.1; T.6, 2.2).
+  -- Whatever other data begins with the same bits up to a line has the same rows before that line (T.4, 4.1; T.6, 2.2).
   pub before_damage : OnAnswer answer (RowsBeforeStay settings bits (take held.taken (plain settings bits).rows))
   -- In lenient data of Group 3 with EOLs, whatever is before an EOL, the rows are the same again after the next one, if the
   -- line in between ends before it (T.4, 4.1.2).

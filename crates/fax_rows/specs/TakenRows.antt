@@ -24,7 +24,7 @@ pub record CanTakeRow (held : Held) : Type 0 where
   pub rows : held.taken + 1 < 2 ^ 64
   pub damaged : held.repairs.rows ≤ held.taken
 
--- A repair fails for want of memory alone, where it stores a change; the error of a line that isn't repaired is returned.
+-- A repair fails only where memory runs out as it stores a change; the error of a line that isn't repaired is returned.
 pub record FailsToRepair (held : Held) (error : DecodeError) (answer : Result (Unit {0}) DecodeError) : Type 0 where
   pub only_memory : IsRepairable held error → IsOkUnless answer DecodeError.OutOfMemory
   pub memory : IsRepairable held error → answer ≡ Err DecodeError.OutOfMemory → RepairStoresChange held

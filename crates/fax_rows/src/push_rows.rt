@@ -110,7 +110,7 @@ fn push_white_in_order<D: Decoder>(
     Ok(())
 }
 
-/// The same by a call, so that registers hold what each row needs.
+/// Reads white lines as `push_white_in_order` does, in a call of its own, so that registers hold what each row needs.
 #[inline(never)]
 fn push_white_by_call<D: Decoder>(
     white: WhiteLinesAhead<'_>,

@@ -67,7 +67,7 @@ miss_added settings bits (suc row) =
     ++ line_of_miss n (start_in (get_or (misses_by_line settings bits) row []))) index
     ∙ append_assoc (damage_lines settings bits row) (repair_of_row settings bits row) (miss_of_row settings bits row)
 
--- a call tells of it
+-- a call reports it
 pub miss_told : (settings : DecodeSettings) (bits : Bits) (old new : RowsRead) (result : Result Bool DecodeError)
     → old.settings ≡ settings → old.bits ≡ bits → ReadsNext old new result → damage_so_far settings bits old.taken
     ++ line_of_miss (old.taken - 1) new.missed ≡ damage_lines settings bits old.taken
@@ -110,7 +110,7 @@ unended_before None error result is unfailed ended = refl
 unended_before (Some (Ok x)) error result is unfailed ended = let never = sym is ∙ ended (Ok x) refl in absurd cc
 unended_before (Some (Err e)) error result is unfailed ended = absurd (unfailed e refl)
 
--- and it tells where it fails
+-- and it says where it fails
 pub failed_there : (old new : RowsRead) (error : DecodeError) → ReadsNext old new (Err error) → old.end ≡ None
     → new.line_start ≡ failed_at new.settings new.bits new.taken
 failed_there old new error reads unended =

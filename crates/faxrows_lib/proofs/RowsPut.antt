@@ -164,7 +164,7 @@ module _ {W : Type 0} (contents : W → Option (List ℕ)) (begun mid : W × Boo
         by_end None e = on e
         by_end (Some end) e = after end e
 
-  -- a row, or want of data, isn't an end
+  -- neither a row nor a need of more data is an end
   unended_row : answer ≡ Ok Fed.Row → ended old.rows.stand ≡ None
   unended_row is = either_way (λ e. e) (λ end e. absurd (no_row end (sym is ∙ (at_end end e).1)))
     where

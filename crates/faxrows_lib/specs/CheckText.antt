@@ -41,7 +41,7 @@ abbrev pub done_of_check : Option Violation → Done
 done_of_check None = Good
 done_of_check (Some found) = Faulty
 
--- A run over some data may end like this, and write this: with `ok` if they begin with an encoding of a picture that is closed as
+-- A run over some data may end like this, and write this: with `ok` if it begins with an encoding of a picture that is closed as
 -- the settings ask, and otherwise with the line of a violation.
 abbrev pub IsCheck : DecodeSettings → Bits → Done → List ℕ → Type 0
 IsCheck settings bits Good text = Conforms settings bits × (text ≡ codes "ok\n")

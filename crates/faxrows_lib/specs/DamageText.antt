@@ -89,7 +89,7 @@ abbrev pub IsDamageText : DecodeSettings → Bits → Done → List ℕ → Type
 IsDamageText settings bits done =
     IsTextOfEnd done (outcome_of settings bits) (whole_damage settings bits) (IsDamageWithoutMemory settings bits)
 
--- ---- How far the rows are read whose damage is told
+-- ---- How far the rows are read whose damage is reported
 
 -- none is read, and reading hasn't failed
 pub record IsAtFirstRow (rows : RowsRead) : Type 0 where

@@ -11,7 +11,7 @@ use Rattle.faxrows_lib.specs.Output.{Used, bytes_before, bytes_after}
 use Rattle.faxrows_lib.specs.Runs.{OnKnown}
 use Rattle.faxrows_lib.specs.declared.arguments.Arguments.{Arguments}
 
--- a run has what its words mean, and all bytes that its reader had
+-- a run has what its arguments mean, and all bytes that its reader had
 pub record HasInput {R : Type 0} (words : List (List ℕ)) (reader : Used R) (arguments : Arguments) (input : List ℕ) : Type 0 where
   pub arguments_are : arguments_of_words words ≡ Some arguments
   pub all : IfSome (bytes_before reader) (λ known. input ≡ known)
@@ -29,8 +29,8 @@ pub record LacksInput {R : Type 0} (words : List (List ℕ)) (reader : Used R) (
   pub read : reader.before.1 ≡ false → ((fault ≡ Read) ↔ (reader.after.1 ≡ true))
   pub not_write : fault ≢ Write
 
--- A run with these words. `IsText` says what it may write of some data where it returns some value: it wrote such a text, or, if
--- its writer failed, a front of one.
+-- A run with these arguments. `IsText` says what it may write of some data where it returns some value: it wrote such a text, or,
+-- if its writer failed, a front of one.
 pub record RunsProgram {R W T : Type 0} (IsText : DecodeSettings → Bits → T → List ℕ → Type 0) (words : List (List ℕ))
     (reader : Used R) (writer : Used W) (result : Result T RunFault) : Type 0 where
   pub bad_arguments : (result ≡ Err BadArguments) ↔ (arguments_of_words words ≡ None)

@@ -42,7 +42,7 @@ pub record WritesAsRead {R W T : Type 0} (IsText : DecodeSettings → Bits → T
   pub write : writer.before.1 ≡ false → ((result ≡ Err Write) ↔ (writer.after.1 ≡ true))
   pub not_arguments : result ≢ Err BadArguments
 
--- a run with these words
+-- a run with these arguments
 pub record RunsAsRead {R W T : Type 0} (IsText : DecodeSettings → Bits → T → List ℕ → Type 0) (words : List (List ℕ))
     (reader : Used R) (writer : Used W) (result : Result T RunFault) : Type 0 where
   pub bad_arguments : (result ≡ Err BadArguments) ↔ (arguments_of_words words ≡ None)

@@ -1,5 +1,5 @@
-//! A run of the program that writes whether the data is an encoding of a picture by every rule, and otherwise where it first
-//! breaks one.
+//! A run of the program that writes whether the data is an encoding of a picture that every decoder must read back as its rows,
+//! and otherwise where it breaks a rule.
 
 ghost use Rattle.std.specs.Prelude.{◌≡◌, map, string_bytes};
 ghost use Rattle.faxrows_lib.specs.CheckText.{IsCheck, done_of_check, end_with_rule, line_of_check};
@@ -15,9 +15,9 @@ use fax_program::{Device, RunFault};
 use std::alloc::Global;
 use std::io::{Read, Write};
 
-/// Reads all that the reader has, and writes whether it begins with an encoding of a picture, by every rule of T.4 and T.6, that is
-/// closed as the arguments ask ([`first_violation`]): `ok` if it does; and if not, `violation`, an offset in bits, and the rule that
-/// is broken there. It is `Done::Good` in the first case, and `Done::Faulty` in the second.
+/// Reads all that the reader has, and writes whether it begins with an encoding of a picture that every decoder must read back as
+/// its rows, closed as the arguments ask ([`first_violation`]): `ok` if it does; and if not, `violation`, an offset in bits, and
+/// the rule that is broken there. It is `Done::Good` in the first case, and `Done::Faulty` in the second.
 ///
 /// # Errors
 ///

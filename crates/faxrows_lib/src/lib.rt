@@ -1,5 +1,6 @@
 //! The runs of the program `faxrows`: each reads all that a reader has, decodes it as the arguments mean, and writes the rows as
-//! text or as a bitmap, or the damage, or whether it is an encoding by every rule.
+//! text or as a bitmap, or the damage, or whether it is an encoding that every decoder must
+//! read back as its rows.
 #![tactic(auto)]
 
 mod arguments;

@@ -25,7 +25,7 @@ to_the_end rows outcome step before after held (Ok n) takes = (take_all held.tak
 to_the_end rows outcome step before after held (Err error) takes =
     λ fault. (take_all held.taken rows (omega (arith, takes.all fault)), sym (takes.fault fault))
 
--- what is known of the accepted rows stays so if the context is told the place of the fault
+-- what is known of the accepted rows stays so if the context records the place of the fault
 taken_still : {M : Type 0} (rows : List Row) (outcome : Result ℕ DecodeError) (sought : Bool) (step : M → List ℕ → M)
     (before after : SinkState M) (held : Held) (place : Option ℕ) (answer : Result ℕ DecodeError) → TakesRows rows outcome sought
     step before after held answer → TakesRows rows outcome sought step before after (record held { fault_start = place }) answer
@@ -42,7 +42,7 @@ counted_whole : {T : Type 0} (by_line : List (List Damaged)) (n : ℕ) (answer :
 counted_whole by_line n answer counted =
     on_answer_weaker answer (λ e. e ∙ sym (length-flat_map (λ (damaged : List Damaged). damaged) by_line)) counted
 
--- so the contract follows from the accepted rows, stopping short, and the work, where the context is told the place of the fault
+-- so the contract follows from the accepted rows, stopping short, and the work, where the context records the place of the fault
 pub decodes : {M : Type 0} (settings : DecodeSettings) (bits : Bits) (step : M → List ℕ → M) (before after : SinkState M)
     (held : Held) (place : Option ℕ) (ticks : ℕ) (answer : Result ℕ DecodeError) → AreSettings settings → AreWholeBytes bits
     → LeavesRows settings bits step before after held answer → ((settings.encoding ≡ Group4) ⊎ (settings.columns ≡ 0)

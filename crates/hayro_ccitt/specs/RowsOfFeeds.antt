@@ -49,7 +49,7 @@ sink_state meaning has_refused refuses sink = record {
   refuses = refuses sink;
 }
 
--- Whatever a call of many rows passes to a sink is, of each data of which the bytes fed so far are a beginning, what the plain
+-- Whatever a call of many rows passes to a sink is, of any data of which the bytes fed so far are a beginning, what the plain
 -- reading has next, in whatever pieces the bytes came.
 abbrev pub PassesPlainRows : {S M : Type 0} → (S → M) → (S → Bool) → (S → List ℕ → Type 0) → Type 0
 PassesPlainRows {S} {M} meaning has_refused refuses = (whole : Bits) (tried : ℕ) (step : M → List ℕ → M) (before after : S)

@@ -1,4 +1,4 @@
-//! From where on damaged data have the same rows again.
+//! From where on damaged data has the same rows again.
 
 ghost use Rattle.std.specs.Prelude.{◌≡◌, ◌+◌, ◌*◌, ◌<◌, ◌≤◌, ◌⊎◌, ◌↔◌, ℕ, Some, None, IfSome, IsTrue, true, false, length, drop};
 ghost use Rattle.hayro_ccitt.specs.Counting.{OnlyCounts};
@@ -94,7 +94,7 @@ fn tagged_line_ends_before(
     }
 }
 
-/// Returns whether the line here is broken or ends at least twelve bits before another offset, as its runs or modes tell.
+/// Returns whether the line here is broken or ends at least twelve bits before another offset, as its runs or modes show.
 fn line_ends_before(ctx: &mut DecoderContext, line: &BitReader<'_>, end: &BitReader<'_>) -> bool
     requires { end.now.bits ≡ line.now.bits }
     ensures before { IsTrue result ↔ EndsByWords ctx.old.held.settings.encoding ctx.old.held.settings.columns
@@ -130,7 +130,7 @@ fn is_alone(count: usize) -> bool
     count == 1
 }
 
-/// Returns whether an EOL and the line after it put readings in step, and then moves after the next EOL and those that
+/// Returns whether an EOL and the line after it put readings in step, and then moves past the next EOL and those that
 /// follow it.
 fn pass_to_step(ctx: &mut DecoderContext, reader: &mut BitReader<'_>) -> bool
     requires group3 { (ctx.old.held.settings.encoding ≡ EncodingMode.Group3_1D)
@@ -173,12 +173,12 @@ fn are_unlimited(settings: DecodeSettings) -> bool
 /// Returns from which bit on the rows of damaged data are the same again, if the damage lies before the EOL that begins at
 /// `to`: the offset after the next EOL (T.4, 4.1.2). It is `None`, and nothing is said, if no EOL begins at `to` or another
 /// follows it at once, and if the line between the two EOLs, with the context's `columns`, reaches into the last twelve bits
-/// of the latter. In two-dimensional data the modes of that line tell where it ends, and a one-dimensional line, RTC with
+/// of the latter. In two-dimensional data the modes of that line show where it ends, and a one-dimensional line, RTC with
 /// `end_of_block` or the end must come after it; else it is `None` too, and with other settings than those of lenient
 /// Group 3 data without a row limit.
 ///
 /// [`laws::rows_after`](crate::laws::rows_after) says what follows, whatever was changed, lost or added before `to`:
-/// undamaged data that are the same from there on have the same rows from that bit on, if EOLs are sought and the damage
+/// undamaged data that is the same from there on has the same rows from that bit on, if EOLs are sought and the damage
 /// makes no RTC. Offsets are counted in bits. It allocates nothing, and no row is read.
 ///
 /// The work is in proportion to the bits from `to` on; if there is another EOL, none after it and its zeros are examined.

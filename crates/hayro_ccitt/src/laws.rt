@@ -35,7 +35,7 @@ pub fn feeds_keep_little()
 {}
 
 /// The rows that a call of [`RowFeed::push_rows`](crate::RowFeed::push_rows) passes to its sink: those that the plain reading has
-/// next, of each data of which the bytes fed so far are a beginning, in whatever pieces they came. Its end, its fault, or the
+/// next, of any data of which the bytes fed so far are a beginning, in whatever pieces they came. Its end, its fault, or the
 /// refusal of the sink comes after them (T.4, 4; T.6, 2).
 pub fn feeds_pass_rows<D: Decoder>()
     ensures { PassesPlainRows D.meaning D.has_refused D.refuses }

@@ -30,7 +30,7 @@ fn wants_memory(error: DecodeError) -> bool
     matches!(error, DecodeError::OutOfMemory)
 }
 
-/// Returns whether an EOL ends at an offset, or the data begin there. Each bit that is examined is a tick.
+/// Returns whether an EOL ends at an offset, or the data begins there. Each bit that is examined is a tick.
 fn is_following_eol(data: &[u8], place: usize, ticks: &mut Ticks) -> bool
     requires fit { BitsFit «data».now }
     requires within { place ≤ 8 * length «data».now }

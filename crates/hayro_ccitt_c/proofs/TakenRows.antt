@@ -1,4 +1,4 @@
--- What adding a row to an encoder leaves, as C is told.
+-- What adding a row to an encoder leaves, as C sees it.
 use Rattle.std.proofs.Common.{◌≡◌, ◌≢◌, ◌↔◌, ℕ, true, false, refl, ap, Ok, Err, OnOk, inl, inr}
 use Rattle.std.specs.Prelude.{Result}
 use Rattle.hayro_ccitt.specs.Rows.{Row}

@@ -28,7 +28,7 @@ WantsMemory (Rows rows) = rows.wants_memory ≡ true
 WantsMemory (Whole finished) = ⊥
 WantsMemory OutOfMemory = Unit {0}
 
--- What adding a row leaves of the rows so far: one more row; all of them, if it isn't a row of their width; or want of memory,
+-- What adding a row leaves of the rows so far: one more row; all of them, if it isn't a row of their width; or out of memory,
 -- from then on.
 pub record TakesNext (rows : RowsEncoded) (new : Strip) (IsRow : Type 0) (row : Row) (status : ℕ) : Type 0 where
   pub statuses : (status ≡ OK) ⊎ (status ≡ OUT_OF_MEMORY) ⊎ (status ≡ NOT_TAKEN)
@@ -52,7 +52,7 @@ IsStripOf rows (Whole finished) =
     × (finished.rows ≡ rows.count)
 IsStripOf rows OutOfMemory = ⊥
 
--- What finishing leaves of the rows so far: their strip; all of them, if there are none and one is needed; or want of memory.
+-- What finishing leaves of the rows so far: their strip; all of them, if there are none and one is needed; or out of memory.
 pub record FinishesRows (rows : RowsEncoded) (new : Strip) (status : ℕ) : Type 0 where
   pub statuses : (status ≡ OK) ⊎ (status ≡ OUT_OF_MEMORY) ⊎ (status ≡ REFUSED) ⊎ (status ≡ NOT_TAKEN)
   pub finished : (status ≡ OK) ⊎ (status ≡ REFUSED) → IsStripOf rows new

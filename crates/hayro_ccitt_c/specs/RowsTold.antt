@@ -1,4 +1,4 @@
--- What C is told of rows of data in pieces.
+-- What is reported to C of rows of data in pieces.
 use Rattle.std.specs.Prelude.{◌+◌, Option}
 use Rattle.std.specs.Option.{ForSome}
 use Rattle.hayro_ccitt.specs.RowCursors.{Paused}
@@ -10,6 +10,6 @@ use Rattle.hayro_ccitt_c.specs.declared.row_outcome.RowOutcome.{RowOutcome}
 abbrev pub as_paused : RowsFed → Paused
 as_paused feed = record { ctx = feed.ctx; rows = feed.rows; order = feed.order; place = feed.dropped + feed.place }
 
--- what was told of it last is so still
+-- what was reported of it last still holds
 abbrev pub IsToldStill : RowsFed → Option RowOutcome → Type 0
 IsToldStill feed told = ForSome told (λ outcome. TellsOf (as_paused feed) outcome)

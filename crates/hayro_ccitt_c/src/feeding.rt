@@ -15,8 +15,8 @@ use hayro_ccitt::bit_reader::BitOrder;
 use hayro_ccitt::{DecodeError, DecodeSettings, Decoder, Fed, Result, RowFeed};
 use std::alloc::Global;
 
-/// What a handle owns: a reading, whether its last row is still to be returned, the layout of packed rows, and what C was told
-/// last, unless more was read since.
+/// What a handle owns: a reading, whether its last row is still to be returned, the layout of packed rows, and what was reported
+/// to C last, unless more was read since.
 #[derive(Drop)]
 pub struct Feeding {
     pub(crate) rows: RowFeed,
@@ -305,7 +305,7 @@ impl Feeding {
         status::OK
     }
 
-    /// Tells C of the last row: what it was told before, if that is so still.
+    /// Reports the last row to C: what was reported before, if that still holds.
     #[inline(always)]
     pub(crate) fn tell(&mut self, outcome: &mut RowOutcome)
         ensures told { TellsOf (as_paused self.new.rows) outcome.new }

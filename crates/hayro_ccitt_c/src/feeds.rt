@@ -174,7 +174,7 @@ pub extern "C" fn hayro_ccitt_feed_next_packed(
     status
 }
 
-/// Tells that no reading is open, and so no row is given.
+/// Reports that no reading is open, and so no row is given.
 fn nothing_given(count: &mut usize, outcome: &mut RowOutcome) -> u32
     ensures status { result ≡ NOT_TAKEN }
     ensures none { count.new ≡ 0 }

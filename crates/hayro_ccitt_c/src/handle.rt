@@ -1,4 +1,4 @@
-//! A value after an opaque pointer.
+//! A value behind an opaque pointer.
 
 ghost use Rattle.std.specs.Prelude.{◌≡◌, Option, Some, None, IsSome};
 ghost use Rattle.std_alloc.specs.Box.Ownership.{box_owns};

@@ -402,7 +402,7 @@ fn long_strips(rt: HostRuntime) {
     takes_all(&rt, &data, &expected);
 }
 
-/// Returns whether an error is want of memory.
+/// Returns whether an error is `OutOfMemory`.
 fn is_want(error: &DecodeError) -> bool {
     matches!(error, OutOfMemory | Refused)
 }

@@ -136,7 +136,7 @@ fn made_in_want(
     )
 }
 
-/// Returns whether an error is want of memory.
+/// Returns whether an error is `OutOfMemory`.
 fn is_want(error: &EncodeError) -> bool {
     matches!(error, EncodeError::OutOfMemory)
 }

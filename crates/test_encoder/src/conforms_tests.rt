@@ -179,7 +179,7 @@ fn damaged_strips(rt: HostRuntime) {
     damages(&rt, "2d 8 0 b 001CC006003001800C006003", 78);
 }
 
-/// Returns whether an error is want of memory.
+/// Returns whether an error is `OutOfMemory`.
 fn is_want(error: &DecodeError) -> bool {
     matches!(error, OutOfMemory)
 }

@@ -43,7 +43,7 @@ fn notes_next(rt: &impl Abort, pages: &mut PageFeed, notes: &mut Vec<u32>) -> Re
     }
 }
 
-/// Notes all that can be read. After want of memory the same call is made again.
+/// Notes all that can be read. After an allocation failure the same call is made again.
 fn notes_all(rt: &impl Abort, pages: &mut PageFeed, notes: &mut Vec<u32>) {
     for _ in 0..100 {
         let found = match notes_next(rt, pages, notes) {
@@ -57,7 +57,7 @@ fn notes_all(rt: &impl Abort, pages: &mut PageFeed, notes: &mut Vec<u32>) {
     panic!(rt; "no end")
 }
 
-/// Feeds a piece and notes what can be read then. After want of memory it is fed again.
+/// Feeds a piece and notes what can be read then. After an allocation failure it is fed again.
 fn notes_piece(rt: &impl Abort, pages: &mut PageFeed, piece: &[u8], notes: &mut Vec<u32>) {
     assert!(rt; !pages.is_finished());
     if pages.feed(piece).is_err() {
@@ -137,7 +137,7 @@ fn pages_of_one_row(rt: HostRuntime) {
     }
 }
 
-/// Of each row of a page it is told whether its line was damaged, and whether a run of it was cut: after a whole line one with a
+/// Each row of a page reports whether its line was damaged, and whether a run of it was cut: after a whole line one with a
 /// wrong code, and a run of ten white pixels in eight columns.
 #[test]
 fn damage_of_pages(rt: HostRuntime) {

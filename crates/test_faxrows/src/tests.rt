@@ -295,7 +295,7 @@ fn knows_good_words(rt: HostRuntime) {
     }
 }
 
-/// Runs whose arguments mean nothing. The first has one empty word, and others end in a space, before an empty word.
+/// Runs whose arguments mean nothing. The first has one empty argument, and others end in a space, before an empty argument.
 const BAD_WORDS: &str = r#"
     : 31C0: Err(BadArguments) ""
     g4: 31C0: Err(BadArguments) ""

@@ -25,7 +25,7 @@ use Rattle.fax_bits.proofs.ErrorKinds.{by_kind, no_memory_is}
 -- ---- Bits that lie in the whole data
 
 module _ {whole kept : Bits} {dropped : ℕ} {finished : Bool} (lie : LieIn whole dropped finished kept) where
-  -- from an offset on the whole data are those kept, and more
+  -- from an offset on the whole data is those kept, and more
   pub from_place : (place : ℕ) → place ≤ length kept → drop (dropped + place) whole ≡ drop place kept ++ lie.more
   from_place place within =
       sym (drop-drop place dropped whole) ∙ ap (drop place) lie.bits ∙ drop-append-le place kept lie.more within

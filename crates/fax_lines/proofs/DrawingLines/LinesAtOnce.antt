@@ -51,7 +51,7 @@ module _ (c : Inside) {ctx : Context} (view : context_of c ≡ ctx) (lawful : Is
   none : HasPaintedNothing c
   none = nothing_painted c view lawful start
 
-  -- The context stays lawful once its line is white,
+  -- The context stays valid once its line is white,
   pub white_lawful : (color : Color) (ticks : ℕ) → IsLawful (with_line c c.coding_changes color c.passed ticks)
   white_lawful color ticks = grind (arith, common_steps, none)
 

@@ -166,7 +166,7 @@ two_runs settings painted place row at last runs ticks now there follow reach on
     (AreChanges-wider (painted + 1) (suc turn) row (omega arith) lawful) even (omega (arith, short)) there.second follow.fits
     reach))
 
--- the row is lawful up to the next change
+-- the row is valid up to the next change
 pub next_lawful : (painted run : ℕ) (row : List ℕ) → AreChanges (painted + 1) row → (0 < run) ⊎ (row ≡ [])
     → AreChanges (painted + run) row
 next_lawful painted run row lawful (inl some) = AreChanges-wider (painted + 1) (painted + run) row (omega (arith, some)) lawful

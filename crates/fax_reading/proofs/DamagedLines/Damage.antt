@@ -103,7 +103,7 @@ module _ (settings : DecodeSettings) (one two : Bits) (from : ℕ) (after : Bits
       (take-append-drop from one ∙ sym (take-append-drop place one) ∙ is) in
       inr (closes.0, same ∙ closes.1)
 
-  -- where the first line of data that begin with them is
+  -- where the first line of data that begins with them is
   first_at : (bits : Bits) → bits ≡ front ++ drop from bits → after_eol 0 (drop from bits) ≡ None
       → (all_eols bits ≡ count_then_more (drop from bits) (all_eols front))
       × LeavesBits bits ((all_eols front).1 ++ drop from bits)

@@ -253,7 +253,7 @@ module _ (settings : DecodeSettings) (whole z after : Bits) (line : IsLineIn set
       in_front (inl none) = inr ([], ap (λ (b : Bits). replicate 11 false ++ true ∷ b) none)
       in_front (inr (first, is)) = inr (replicate 11 false ++ true ∷ first, ap (λ (b : Bits). replicate 11 false ++ true ∷ b) is)
 
-  -- the data don't end before it
+  -- the data doesn't end before it
   pub not_end : (bits : Bits) → at_end (bits ++ z) ≡ false
   not_end [] = not_past_end z after line.next
   not_end (b ∷ bits) = refl

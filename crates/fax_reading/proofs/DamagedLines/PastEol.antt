@@ -108,7 +108,7 @@ pub found_next : (here after : Bits) → past 0 here ≡ Some after → (found :
     × (after_eol 0 found ≡ Some after)
 found_next here after e = grind (arith, common_steps, past_is, then_after)
 
--- where an EOL is due the data continue
+-- where an EOL is due the data continues
 pub not_past_end : (here after : Bits) → past 0 here ≡ Some after → at_end here ≡ false
 not_past_end here after e = grind (arith, common_steps)
 

@@ -151,7 +151,7 @@ pub data RunsAlike (settings : DecodeSettings) (one two : Bits) (from : ℕ) (af
       → length rest ≤ length after → SameLine settings xs ys rest → s ≡ run_at xs has_eols rest → t ≡ run_at ys has_eols rest
       → RunsAlike settings one two from after lines s t
 
--- what is known of two data, in both of which a line begins at a position that may be damaged
+-- what is known of two inputs, in both of which a line begins at a position that may be damaged
 pub record LinesDiffer (settings : DecodeSettings) (one two : Bits) (from : ℕ) (after : Bits) (lines : ℕ) : Type 0 where
   pub line_one : IsLineIn settings one (drop from one) after
   pub line_two : IsLineIn settings two (drop from two) after

@@ -11,7 +11,7 @@ use Rattle.std.proofs.Math.Bool.{or-true}
 
 -- ---- One step
 
--- painting tells whether a run is cut
+-- painting reports whether a run is cut
 pub paint_cuts : (strict : Bool) (columns : ℕ) (front : Row) (color : Color) (n : ℕ) (row : Row) (go_on : Row → Step) (pen : Pen)
     (before now : Bool) → paint strict columns front color n ≡ Ok row → now ≡ (before || ltb (columns - length front) n)
     → go_on row ≡ Turn.next pen → TellsCut (try front (paint true columns front color n) go_on) pen before now

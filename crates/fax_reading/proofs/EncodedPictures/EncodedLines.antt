@@ -198,7 +198,7 @@ module _ (strict : Bool) (columns : ℕ) (reference row : Row) (wide : 0 < colum
         first = λ e. absurd (let r_over : suc p ≤ r = two.above (omega arith) in omega arith);
       }))
 
--- Strict or lenient, whatever follows: a lawful encoding of a row is read as that row.
+-- Strict or lenient, whatever follows: a valid encoding of a row is read as that row.
 pub line_2d_again : (strict : Bool) (columns : ℕ) (reference row : Row) (bits more : Bits)
     → EncodesLine2D reference row 0 White bits → 0 < columns → columns ≤ 4294967295 → length reference ≡ columns
     → length row ≡ columns → line_2d strict columns reference (bits ++ more) ≡ Line.whole row more

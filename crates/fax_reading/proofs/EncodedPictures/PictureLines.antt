@@ -28,7 +28,7 @@ no_eol_at_word seen [] more e = absurd (false≢true e)
 no_eol_at_word seen (false ∷ word) more e = no_eol_at_word (suc seen) word more e
 no_eol_at_word seen (true ∷ word) more e = rw (not-true (leb 11 seen) e) refl
 
--- nor do the data end there
+-- nor does the data end there
 pub bits_at_word : (word more : Bits) → begins_no_eol 0 word ≡ true → at_end (word ++ more) ≡ false
 bits_at_word [] more e = absurd (false≢true e)
 bits_at_word (b ∷ word) more e = refl

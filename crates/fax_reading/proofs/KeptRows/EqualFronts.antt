@@ -1,4 +1,4 @@
--- EOLs and lines of two data that begin with the same bits: what is found ahead of a one among these is found in both.
+-- EOLs and lines of two inputs that begin with the same bits: what is found ahead of a one among these is found in both.
 use Rattle.fax_reading.proofs.Names.{append_cancel_right, DecodeSettings, eols_with_tags, length-append, pass_last_tag, Group3_1D}
 use Rattle.fax_reading.proofs.Names.{EncodingMode, common_steps, tagged_eols, false≢true, line_found, Group3_2D, after_eol, arith}
 use Rattle.fax_reading.proofs.Names.{eols_here, none-some, AreWords, all_eols, one_more, or_right, past_tag, eols_by, line_by, []}

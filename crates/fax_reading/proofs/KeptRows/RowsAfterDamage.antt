@@ -1,4 +1,4 @@
--- Data that are the same from an EOL on have the same rows after the next, whatever comes before.
+-- Data that is the same from an EOL on has the same rows after the next, whatever comes before.
 use Rattle.fax_reading.proofs.Names.{MakesNoRtc, PutsInStep, AreInStep, cond-true, Group3_2D, after_eol, eols_here, limit_met, []}
 use Rattle.fax_reading.proofs.Names.{length, Option, at_end, end_of, Ending, plain, false, subst, zero, Bool, true, List, ◌++◌, ℕ}
 use Rattle.fax_reading.proofs.Names.{length-drop, RowsAfter, false≢true, append-nil, cond-false, row_before, first_line, is_over}

@@ -132,7 +132,7 @@ module _ (settings : DecodeSettings) (x y : Bits) where
 
   -- ---- The line
 
-  -- what follows a row is as much in both, where the data are whole bytes
+  -- what follows a row is as much in both, where the data is whole bytes
   module _ (bytes : length x % 8 ≡ length y % 8) (wide : 0 < settings.columns) where
     -- the bits after a row, aligned or not
     after_front : (has_eols : Bool) (bits : Bits) → length x ≤ length (aligned_after_row settings has_eols (bits ++ x)) → (left : Bits)

@@ -128,7 +128,7 @@ pub step_next : (settings : DecodeSettings) (here line next other following : Bi
     → next_eol line ≡ Some next → (told : TellsStep settings here other following) → told.step.next ≡ next
 step_next settings here line next other following alone next_is told = grind (arith, common_steps)
 
--- a line that doesn't end by its words tells no step
+-- a line that doesn't end by its words shows no step
 pub no_step_beyond : (settings : DecodeSettings) (here line next after : Bits) → IsGroup3 settings.encoding
     → settings.strict ≡ false → eols_here settings here ≡ (1, line) → next_eol line ≡ Some next → after_eol 0 next ≡ Some after
     → (EndsByWords settings.encoding settings.columns after line → ⊥) → (other following : Bits)

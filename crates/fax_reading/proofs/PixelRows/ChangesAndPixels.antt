@@ -1,4 +1,4 @@
--- Lawful lists of changes and rows of pixels correspond one to one, and what painting does to both.
+-- Valid lists of changes and rows of pixels correspond one to one, and what painting does to both.
 use Rattle.fax_reading.proofs.Names.{◌≡◌, ℕ, zero, suc, ◌+◌, ◌-◌, ◌%◌, ◌<◌, ◌≤◌, eqb, Bool, true, false, not, List, [], ◌∷◌}
 use Rattle.fax_reading.proofs.Names.{◌++◌, length, replicate, refl, sym, arith, append_assoc, length-append, add-one, beq}
 use Rattle.fax_reading.proofs.Names.{range_with_len, filter, length-replicate, replicate-append-replicate, Row, pixel, is_change}
@@ -52,7 +52,7 @@ length-pixels_from place color width (change ∷ places) le ascend =
     let step = length-pixels_from change (not color) width places (omega arith) (AscendFrom-here change width places ascend.2) in
     grind (arith, common_steps, AscendFrom-here, length-append, length-replicate, step)
 
--- a row of lawful changes has as many pixels as its width
+-- a row of valid changes has as many pixels as its width
 pub length-pixels : (width : ℕ) (places : List ℕ) → AreChanges width places → length (pixels width places) ≡ width
 length-pixels width places ascend = omega (arith, length-pixels_from 0 false width places (omega arith) ascend)
 
@@ -79,7 +79,7 @@ pub turned_at-even : (color : Bool) (places : List ℕ) → turned_at color plac
 turned_at-even color [] = grind (arith, common_steps)
 turned_at-even color (place ∷ places) = grind (arith, common_steps, turned_at-even (not color) places)
 
--- each lawful change is followed by a pixel, so the last pixel has the colour after all of them
+-- each valid change is followed by a pixel, so the last pixel has the colour after all of them
 pub last_pixel-pixels_from : (place : ℕ) (color : Bool) (width : ℕ) (places : List ℕ) → AscendFrom place width places
     → last_pixel color (pixels_from place color width places) ≡ turned_at color places
 last_pixel-pixels_from place color width [] ascend = last_pixel-same (width - place) color
@@ -87,7 +87,7 @@ last_pixel-pixels_from place color width (change ∷ places) ascend =
     let step = last_pixel-pixels_from change (not color) width places (AscendFrom-here change width places ascend.2) in
     grind (arith, common_steps, AscendFrom-here, last_pixel-append, last_pixel-same, pixels_from-first, step)
 
--- the last pixel of a row of lawful changes
+-- the last pixel of a row of valid changes
 pub last_pixel-pixels : (width : ℕ) (places : List ℕ) → AreChanges width places
     → last_pixel false (pixels width places) ≡ turned_at false places
 last_pixel-pixels width places ascend = last_pixel-pixels_from 0 false width places ascend
@@ -123,7 +123,7 @@ pub pixels-push : (width more : ℕ) (places : List ℕ) → AreChanges width pl
     ≡ pixels width places ++ replicate more (not (last_pixel false (pixels width places)))
 pixels-push width more places ascend = rw (last_pixel-pixels width places ascend) (pixels_from-push 0 false width more places)
 
--- and the changes are lawful
+-- and the changes are valid
 pub AreChanges-push : (width more : ℕ) (places : List ℕ) → 0 < more → AreChanges width places
     → AreChanges (width + more) (places ++ width ∷ [])
 AreChanges-push width more places some ascend = AscendFrom-push 0 width more places (omega arith) some ascend
@@ -157,7 +157,7 @@ changes_from-pixels_from place color width (change ∷ places) ascend = grind (
   changes_from-pixels_from (suc change) (not color) width places ascend.2,
 )
 
--- the changes of a row of lawful changes are these
+-- the changes of a row of valid changes are these
 pub changes-pixels : (width : ℕ) (places : List ℕ) → AreChanges width places → changes (pixels width places) ≡ places
 changes-pixels width places ascend = grind (arith, common_steps, changes-recursive, changes_from-pixels_from)
 
@@ -195,7 +195,7 @@ pixels_from-changes_from place false (true ∷ row) width e =
 pub pixels-changes : (row : Row) → pixels (length row) (changes row) ≡ row
 pixels-changes row = rw (changes-recursive row) (pixels_from-changes_from 0 false row (length row) (omega arith))
 
--- a row's changes are lawful
+-- a row's changes are valid
 pub AreChanges-changes : (row : Row) → AreChanges (length row) (changes row)
 AreChanges-changes row = rw (changes-recursive row) (AscendFrom-changes_from 0 false row (length row) (omega arith))
 

@@ -21,7 +21,7 @@ cut_counts line strict taken before x few = grind (arith, cond-true, le-leb)
 pub cut_once : (line strict : Line) (x : Damaged) → length (cond {A = List Damaged} (cuts_run line strict) (x ∷ []) []) ≤ 1
 cut_once line strict x = grind (arith, common_steps)
 
--- and it is told
+-- and it is reported
 pub cut_is_told : (cut : Bool) (x : Damaged) (now : Repairs) (before : ℕ) → now.cut ≡ before + length
     (cond {A = List Damaged} cut (x ∷ []) []) → cut_since now before ≡ cut_in (cond {A = List Damaged} cut (x ∷ []) [])
 cut_is_told cut x now before more = grind (arith, ne_eqb, eq-eqb)

@@ -15,7 +15,7 @@ abbrev pub seek_from : DecodeSettings → Progress → Option Bits → Move
 seek_from settings so_far (Some found) = unless_over settings so_far (eols_here settings found)
 seek_from settings so_far None = Turn.next (record so_far { has_eols = false })
 
--- no EOL follows a row in data that have them
+-- no EOL follows a row in data that has them
 abbrev pub seek_eol : DecodeSettings → Progress → Move
 seek_eol settings so_far =
     cond settings.strict (ends_with so_far (Err InvalidCode)) (seek_from settings so_far (next_eol so_far.rest))

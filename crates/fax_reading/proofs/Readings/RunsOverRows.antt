@@ -173,7 +173,7 @@ module _ (settings : DecodeSettings) (wide : 0 < settings.columns) (bits : Bits)
         pub none_given : (other : A) → get_or given (length so_far.rows + 1) other ≡ other
         none_given other = grind (arith, common_steps, get_or-drop (length so_far.rows) given 1 other, given_on)
 
-    -- what is told of each turn, and counted of them, with that of its turn
+    -- what is reported of each turn, and counted of them, with that of its turn
     module _ {A : Type 0} (gives : Progress → List A) {rows : ℕ} (taken : rows ≡ length so_far.rows) where
       there : slice_get (given gives) rows ≡ Some (gives so_far)
       there = ap (slice_get (given gives)) taken ∙ given_there gives

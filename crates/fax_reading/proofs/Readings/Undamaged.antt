@@ -256,7 +256,7 @@ none_damaged settings bits taken ok = (
 pub strict_is_undamaged : StrictIsUndamaged
 strict_is_undamaged settings bits = grind (arith, strict_first, no_damage, strict_ok, empty_joined)
 
--- the settings of a strict reading are lawful too
+-- the settings of a strict reading are valid too
 strict_are : (settings : DecodeSettings) → AreSettings settings → AreSettings (record settings { strict = true })
 strict_are settings are = record { columns = are.columns; rows = are.rows }
 

@@ -509,7 +509,7 @@ pub repairs_with_missed : (line strict : Line) (taken : ℕ) (before : Repairs)
 repairs_with_missed (Line.whole row rest) strict taken before = grind (arith, common_steps, cuts_keep)
 repairs_with_missed (Line.broken front fault) strict taken before = refl
 
--- the gap after a row tells of its EOL
+-- the gap after a row reports its EOL
 module _ (settings : DecodeSettings) (bits : Bits) (held : Held) (here : Bits) (stands : StandsAfterRow settings bits held here)
     (misses : MissesAfterRow settings bits held) (last : Held) (counts : last.repairs ≡ repairs_after held here) where
   abbrev there : Progress
@@ -562,7 +562,7 @@ module _ (settings : DecodeSettings) (bits : Bits) (held : Held) (here : Bits) (
         );
       }
 
-  -- and its offset is told
+  -- and its offset is reported
   pub miss_told : (place : ℕ) → place ≡ length bits - length here
       → missed_since last.repairs held.repairs.missed place ≡ missed_before settings bits held.taken
   miss_told place is =

@@ -28,7 +28,7 @@ module _ (g : Over) (c : After-put_end g) where
   is_text : IsDamageText settings bits (done_of outcome) text
   is_text = is_damage_text settings bits read outcome c.in_ok-outcome.ensures.ends
 
-  -- the last line is that of the data that are read
+  -- the last line is that of the data that is read
   last_lines : last_line_of_damage c.put_damage.new.rows.settings c.put_damage.new.rows.bits read outcome
       ≡ last_line_of_damage settings bits read outcome
   last_lines =

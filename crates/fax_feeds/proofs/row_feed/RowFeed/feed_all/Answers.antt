@@ -75,7 +75,7 @@ returns-clause-held c = grind (arith, common_steps, flat_map-append, holds_more,
 pub returns-then-bytes-kept-clause-too_long : goal.returns-then-bytes-kept-clause-too_long
 returns-then-bytes-kept-clause-too_long c = grind (arith, common_steps, length-bits_in, length-drop)
 
--- want of memory isn't a length
+-- an allocation failure isn't a length
 not_long : (answer : Result (Unit {0}) DecodeError) (error : DecodeError) → answer ≡ Err error → error ≡ OutOfMemory
     → answer ≡ Err Overflow → ⊥
 not_long answer error is memory e = cc
