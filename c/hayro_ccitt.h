@@ -38,8 +38,8 @@ extern "C" {
 #endif
 
 /* The version of this header: MAJOR * 10000 + MINOR * 100 + PATCH, and as a text. */
-#define HAYRO_CCITT_VERSION 600
-#define HAYRO_CCITT_VERSION_TEXT "0.6.0"
+#define HAYRO_CCITT_VERSION 700
+#define HAYRO_CCITT_VERSION_TEXT "0.7.0"
 
 /* How the data is encoded. */
 enum {

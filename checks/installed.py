@@ -255,7 +255,7 @@ def files_are_right(prefix, version):
 
 
 def versions_agree(version):
-    """One version: of the header, hayro_ccitt.pc, `faxrows --version`, the manual pages and CHANGELOG.md."""
+    """One version: of the header, hayro_ccitt.pc, the programs, the manual pages, the Python package and CHANGELOG.md."""
     with open("c/hayro_ccitt.h", encoding="utf-8") as file:
         header = file.read()
     number = 0
@@ -271,6 +271,8 @@ def versions_agree(version):
     for name in ("man/faxrows.1", "man/faxpack.1", "man/faxconv.1", "man/hayro_ccitt.3"):
         with open(name, encoding="utf-8") as file:
             assert f'"hayro_ccitt {version}"' in file.read(), name
+    with open("bindings/python/hayro_ccitt/__init__.py", encoding="utf-8") as file:
+        assert f'__version__ = "{version}"\n' in file.read(), version
 
 
 CHECKS = [installed]

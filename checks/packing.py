@@ -201,17 +201,22 @@ PACK = [  # arguments, input, status, output, error
 
 
 USAGE = """\
-faxpack MODE FLAGS [K]
-faxpack -o MODE COLUMNS ROWS FLAGS [K]
-faxpack --help
-faxpack --version
+usage: faxpack MODE FLAGS [K]
+       faxpack -o MODE COLUMNS ROWS FLAGS [K]
+       faxpack --help | --version
 
-MODE is g4, 1d or 2d. FLAGS are letters, or - for none:
+Encodes a bitmap from standard input as a strip of CCITT fax data, and writes it to standard output.
+      the input is a PBM picture (P4)
+  -o  the input is rows without a header, as faxrows -o writes them
+
+MODE is g4 (Group 4), 1d or 2d (Group 3). COLUMNS is the width in pixels, ROWS the largest
+number of rows, 0 for all. K is that of two-dimensional Group 3: 4 if it isn't given.
+FLAGS are letters, or - for none:
   b  EOFB or RTC after the last line
   l  an EOL before each line
   f  fill before EOLs, so that they end at whole bytes
-  a  rows aligned to bytes
-  r  the lowest bit of each byte first
+  a  rows are aligned to bytes
+  r  the lowest bit of each byte comes first
   m  the shortest lines: the fewest bits
   s  no effect; faxrows then reads strictly
 """
@@ -224,7 +229,7 @@ def packing_cases():
         done = run(data, PROGRAM, *words)
         told = f"faxpack: {error}\n".encode() if error else b""
         assert (done.returncode, done.stdout.hex(), done.stderr) == (status, output, told), (words, data, done)
-    for word, expected in (("--help", USAGE), ("--version", "faxpack 0.6.0\n")):
+    for word, expected in (("--help", USAGE), ("--version", f"faxpack {program.version()}\n")):
         done = run(b"", PROGRAM, word)
         assert (done.returncode, done.stdout.decode(), done.stderr) == (0, expected, b""), done
     with open("/dev/full", "wb") as full:

@@ -169,16 +169,39 @@ def statuses():
         assert (done.returncode, done.stdout, done.stderr) == (2, b"", b"faxrows: bad arguments\n"), (words, done)
 
 
-def words_alone():
-    """`--help` and `--version` read nothing, and print: the forms of a call; the name, and the version of the C header."""
+USAGE = """\
+usage: faxrows [-o | -i | -d | -c] MODE COLUMNS ROWS FLAGS
+       faxrows --help | --version
+
+Decodes a strip of CCITT fax data from standard input, and writes to standard output:
+      each row as a line: r, and the positions at which its colour changes
+  -o  the rows as a bitmap: one bit for each pixel, 1 for black
+  -i  the same lines as without an option, each as soon as it is known
+  -d  the damage: the rows that were repaired or cut, and the EOLs that were missed
+  -c  ok if every decoder must read the data back as the same rows, or a rule that it breaks
+
+MODE is g4 (Group 4), 1d or 2d (Group 3). COLUMNS is the width in pixels, ROWS the largest
+number of rows, 0 for no limit. FLAGS are letters, or - for none:
+  b  EOFB or RTC may end the data
+  l  an EOL precedes each line
+  a  rows are aligned to bytes
+  s  strict: data that breaks a rule is an error
+  r  the lowest bit of each byte comes first
+"""
+
+
+def version():
+    """The version that the C header has."""
     with open("c/hayro_ccitt.h", encoding="utf-8") as file:
-        version = re.search(r'^#define HAYRO_CCITT_VERSION_TEXT "(.*)"$', file.read(), re.MULTILINE).group(1)
+        return re.search(r'^#define HAYRO_CCITT_VERSION_TEXT "(.*)"$', file.read(), re.MULTILINE).group(1)
+
+
+def words_alone():
+    """`--help` and `--version` read nothing, and print: the arguments, each explained; the name, and the version of the C header."""
     done = run(["--version"], b"")
-    assert (done.returncode, done.stdout, done.stderr) == (0, f"faxrows {version}\n".encode(), b""), done
+    assert (done.returncode, done.stdout, done.stderr) == (0, f"faxrows {version()}\n".encode(), b""), done
     done = run(["--help"], b"")
-    forms = [f"faxrows {form}MODE COLUMNS ROWS FLAGS" for form in ("", "-o ", "-i ", "-d ", "-c ")]
-    text = "\n".join([*forms, "faxrows --help", "faxrows --version", ""])
-    assert (done.returncode, done.stdout, done.stderr) == (0, text.encode(), b""), done
+    assert (done.returncode, done.stdout.decode(), done.stderr) == (0, USAGE, b""), done
     with open("/dev/full", "wb") as full:
         for word in ("--help", "--version"):
             done = subprocess.run([PROGRAM, word], stdout=full, stderr=subprocess.PIPE, timeout=60, check=False)

@@ -27,7 +27,7 @@ from .errors import (
 )
 from .feeding import RowFeed, RowsFrom, rows_from
 
-__version__ = "0.6.0"
+__version__ = "0.7.0"
 __all__ = [
     "Damage",
     "DecodeError",

@@ -9,7 +9,7 @@ END_OF_BLOCK, END_OF_LINE, ALIGNED_ROWS, STRICT, LOW_FIRST, EOLS_END_AT_BYTES, S
 # Flags of decoding have numbers of their own, and that of 0 for black has one of each.
 BLACK_IS_0, ENCODED_BLACK_IS_0 = 32, 128
 # The installed library whose interface this package calls.
-SONAME = "libhayro_ccitt.so.0.6"
+SONAME = "libhayro_ccitt.so.0.7"
 
 
 class Settings(ctypes.Structure):

@@ -64,22 +64,27 @@ fn run_with(rt: &HostRuntime, words: &[String]) -> Result<u8, RunFault>
 
 /// What `--help` prints.
 const USAGE: &str = "\
-faxpack MODE FLAGS [K]
-faxpack -o MODE COLUMNS ROWS FLAGS [K]
-faxpack --help
-faxpack --version
+usage: faxpack MODE FLAGS [K]
+       faxpack -o MODE COLUMNS ROWS FLAGS [K]
+       faxpack --help | --version
 
-MODE is g4, 1d or 2d. FLAGS are letters, or - for none:
+Encodes a bitmap from standard input as a strip of CCITT fax data, and writes it to standard output.
+      the input is a PBM picture (P4)
+  -o  the input is rows without a header, as faxrows -o writes them
+
+MODE is g4 (Group 4), 1d or 2d (Group 3). COLUMNS is the width in pixels, ROWS the largest
+number of rows, 0 for all. K is that of two-dimensional Group 3: 4 if it isn't given.
+FLAGS are letters, or - for none:
   b  EOFB or RTC after the last line
   l  an EOL before each line
   f  fill before EOLs, so that they end at whole bytes
-  a  rows aligned to bytes
-  r  the lowest bit of each byte first
+  a  rows are aligned to bytes
+  r  the lowest bit of each byte comes first
   m  the shortest lines: the fewest bits
   s  no effect; faxrows then reads strictly";
 
 /// What `--version` prints.
-const VERSION: &str = "faxpack 0.6.0";
+const VERSION: &str = "faxpack 0.7.0";
 
 /// Returns the status of a run that read its input: 0 if the strip was written, 1 if the input is no picture that can be
 /// encoded.

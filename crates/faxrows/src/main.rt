@@ -70,12 +70,27 @@ fn run_with(rt: &HostRuntime, words: &[String]) -> Result<u8, RunFault>
 }
 
 /// What `--help` prints.
-const USAGE: &str = "faxrows MODE COLUMNS ROWS FLAGS\nfaxrows -o MODE COLUMNS ROWS FLAGS\n\
-     faxrows -i MODE COLUMNS ROWS FLAGS\nfaxrows -d MODE COLUMNS ROWS FLAGS\n\
-     faxrows -c MODE COLUMNS ROWS FLAGS\nfaxrows --help\nfaxrows --version";
+const USAGE: &str = "\
+usage: faxrows [-o | -i | -d | -c] MODE COLUMNS ROWS FLAGS
+       faxrows --help | --version
+
+Decodes a strip of CCITT fax data from standard input, and writes to standard output:
+      each row as a line: r, and the positions at which its colour changes
+  -o  the rows as a bitmap: one bit for each pixel, 1 for black
+  -i  the same lines as without an option, each as soon as it is known
+  -d  the damage: the rows that were repaired or cut, and the EOLs that were missed
+  -c  ok if every decoder must read the data back as the same rows, or a rule that it breaks
+
+MODE is g4 (Group 4), 1d or 2d (Group 3). COLUMNS is the width in pixels, ROWS the largest
+number of rows, 0 for no limit. FLAGS are letters, or - for none:
+  b  EOFB or RTC may end the data
+  l  an EOL precedes each line
+  a  rows are aligned to bytes
+  s  strict: data that breaks a rule is an error
+  r  the lowest bit of each byte comes first";
 
 /// What `--version` prints.
-const VERSION: &str = "faxrows 0.6.0";
+const VERSION: &str = "faxrows 0.7.0";
 
 /// Returns the status of a run that wrote its text.
 fn status_of_done(done: Done) -> u8
