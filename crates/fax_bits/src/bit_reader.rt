@@ -93,6 +93,7 @@ fn whole_word(bytes: &[u8], order: BitOrder) -> u64
     requires { 8 ≤ length bytes.now }
     ensures { HasFirstBits (bits_in order bytes.now) result }
 {
+    let bytes = &bytes[..8];
     let word = u64::from_be_bytes([
         bytes[0], bytes[1], bytes[2], bytes[3], bytes[4], bytes[5], bytes[6], bytes[7],
     ]);
@@ -436,6 +437,7 @@ fn low_word(bytes: &[u8]) -> u64
     requires { 8 ≤ length bytes.now }
     ensures { (k : ℕ) → k < 64 → bit_of result k ≡ get_or (bits_in BitOrder.LowestFirst bytes.now) k false }
 {
+    let bytes = &bytes[..8];
     u64::from_be_bytes([
         bytes[7], bytes[6], bytes[5], bytes[4], bytes[3], bytes[2], bytes[1], bytes[0],
     ])

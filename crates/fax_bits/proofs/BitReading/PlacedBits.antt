@@ -1,6 +1,7 @@
 -- Bits that are compared with a word of eight bytes as they stand.
 use Rattle.fax_bits.proofs.Names.{◌≡◌, ℕ, suc, zero, ◌+◌, ◌-◌, ◌*◌, ◌/◌, ◌%◌, ◌^◌, ◌<◌, ◌≤◌, ◌++◌, ◌∷◌, eqb, false, true, List}
 use Rattle.fax_bits.proofs.Names.{[], get_or, drop, length, refl, sym, ap, ◌∙◌, arith, eqb-true, drop-drop, length-drop}
+use Rattle.fax_bits.proofs.Names.{get_or-take, get_or_past, length-take, take}
 use Rattle.fax_bits.proofs.Names.{get_or-drop, append-nil, bit_and, bit_at-lt, BitOrder, HighestFirst, LowestFirst, Bits, BitsAt}
 use Rattle.fax_bits.proofs.Names.{bit_of, bits_in, from_be_bytes, w64, here, low_bits, min, moved, padded}
 use Rattle.fax_bits.proofs.BitReading.PeekedBits.{low_bits-padded}
@@ -41,6 +42,16 @@ low_word_bit bytes k fits h = let back : k ≡ 63 - (63 - k) = omega arith in
     (omega arith) ∙ get_or-bits_in HighestFirst (turned_round bytes) (63 - k) ∙ ap
     (λ (i : ℕ). bit_of (get_or (turned_round bytes) i 0) (7 - (63 - k) % 8)) byte ∙ ap (λ (b : ℕ). bit_of b (7 - (63 - k) % 8))
     (round_at bytes (k / 8) (omega arith)) ∙ ap (bit_of (get_or bytes (k / 8) 0)) bit ∙ sym (get_or-bits_in LowestFirst bytes k)
+
+-- bytes at the front of some are bytes
+front_fits : (bytes : List ℕ) (count : ℕ) → IsBytes bytes → IsBytes (take count bytes)
+front_fits bytes count fits i = grind (arith, get_or-take, get_or_past, length-take, fits)
+
+-- the same, of the first eight of some bytes
+pub low_front_bit : (bytes : List ℕ) (k : ℕ) → IsBytes bytes → k < 64
+    → bit_of (from_be_bytes w64 (turned_round (take 8 bytes))) k ≡ get_or (bits_in LowestFirst bytes) k false
+low_front_bit bytes k fits h = low_word_bit (take 8 bytes) k (front_fits bytes 8 fits) h ∙ get_or-bits_in LowestFirst
+    (take 8 bytes) k ∙ ap (λ (b : ℕ). bit_of b (k % 8)) (get_or-take 8 bytes (k / 8) 0 (omega arith)) ∙ sym (get_or-bits_in LowestFirst bytes k)
 
 -- the bytes of a word whose bytes were turned are the word from its lowest bit on
 pub turned_low : (bytes : List ℕ) (top turned k : ℕ) → IsBytes bytes → k < 64 → from_be_bytes w64 bytes ≡ turned
