@@ -51,7 +51,8 @@ front_fits bytes count fits i = grind (arith, get_or-take, get_or_past, length-t
 pub low_front_bit : (bytes : List ℕ) (k : ℕ) → IsBytes bytes → k < 64
     → bit_of (from_be_bytes w64 (turned_round (take 8 bytes))) k ≡ get_or (bits_in LowestFirst bytes) k false
 low_front_bit bytes k fits h = low_word_bit (take 8 bytes) k (front_fits bytes 8 fits) h ∙ get_or-bits_in LowestFirst
-    (take 8 bytes) k ∙ ap (λ (b : ℕ). bit_of b (k % 8)) (get_or-take 8 bytes (k / 8) 0 (omega arith)) ∙ sym (get_or-bits_in LowestFirst bytes k)
+    (take 8 bytes) k ∙ ap (λ (b : ℕ). bit_of b (k % 8)) (get_or-take 8 bytes (k / 8) 0 (omega arith)) ∙ sym
+    (get_or-bits_in LowestFirst bytes k)
 
 -- the bytes of a word whose bytes were turned are the word from its lowest bit on
 pub turned_low : (bytes : List ℕ) (top turned k : ℕ) → IsBytes bytes → k < 64 → from_be_bytes w64 bytes ≡ turned
