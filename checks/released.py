@@ -317,9 +317,9 @@ def python_package():
         library = {**os.environ, "HAYRO_CCITT_LIBRARY": f"{folder}/libhayro_ccitt.so"}
         told = run([found[0], "-m", "pytest", "-q", "-rs", "-p", "no:cacheprovider", "bindings/python/tests"], env=library)
     print(f"  {told.strip().splitlines()[-1]}")
-    for module, test in (("PIL", "Pillow"), ("pypdf", "pypdf"), ("pikepdf", "pikepdf")):
-        if f"could not import '{module}" in told:
-            leave_out(f"the Python package beside {test}", test)
+    lacking = re.findall(r"^SKIPPED .*?: (?:could not import '([\w.]+)|.*\bno ([\w, -]+)$)", told, re.MULTILINE)
+    for names in sorted(set(lacking)):
+        leave_out("tests of the Python package", "".join(names))
 
 
 CHECKS = [packages_where_the_kit_is_not, in_a_bare_debian, cargo_without_the_library, commands_of_the_readme, installed_as_printed, crates_in_another_repository, python_package]

@@ -32,7 +32,10 @@ class Reader(ctypes.Structure):
 class Row(ctypes.Structure):
     _fields_ = [
         (name, c_uint64)
-        for name in ("rows", "changes", "line_start", "bytes_read", "damaged_rows", "damage", "missed_eols", "cut_rows", "is_cut", "missed_eol")
+        for name in (
+            *("rows", "changes", "line_start", "bytes_read", "damaged_rows", "damage"),
+            *("missed_eols", "cut_rows", "is_cut", "missed_eol"),
+        )
     ]
 
 
@@ -63,7 +66,7 @@ CALLS = {
 }
 
 
-def loaded():
+def loaded() -> ctypes.CDLL:
     """The library that HAYRO_CCITT_LIBRARY names; or else that of the wheel, in this folder; or else the installed one."""
     named = os.environ.get("HAYRO_CCITT_LIBRARY")
     beside = os.path.join(os.path.dirname(os.path.abspath(__file__)), "libhayro_ccitt.so")

@@ -2,8 +2,9 @@
 from __future__ import annotations
 
 import ctypes
+import operator
 import threading
-from typing import Iterator, NamedTuple, TypeVar, Union
+from typing import Any, Callable, Iterator, NamedTuple, NoReturn, TypeVar, Union
 
 from . import _library as c
 from .errors import DecodeError, InvalidCode, Overflow, UnexpectedEof
@@ -21,12 +22,12 @@ USUAL_BYTES = 1 << 20
 
 
 class Damage(NamedTuple):
-    """What a lenient reading passed. It is false exactly if a strict one succeeds too, where the data was decoded."""
+    """What was wrong in data that was decoded all the same. It is false exactly if decoding with `strict` succeeds too."""
 
     damaged_rows: int
     """The number of rows whose line was damaged and repaired."""
     missed_eols: int
-    """The number of other rows after which bits were passed up to the next EOL, or no EOL was left."""
+    """The number of other rows after which bits were skipped up to the next EOL, or no EOL was left."""
     cut_rows: int
     """The number of rows in which a run was cut at the row's end."""
 
@@ -42,18 +43,19 @@ class Picture(NamedTuple):
     rows: int
     """The number of rows that were decoded."""
     packed: bytes
-    """The samples of the rows from the top, as PDF's CCITTFaxDecode yields them: `(columns + 7) // 8` bytes a row, or `stride` of
-    them, of which the last ones are zeros; one bit a pixel, the leftmost in a byte's highest bit. A sample is 0 for a black pixel, or 1 with `black_is_1`. Bits after a row's last pixel are
-    those of white pixels. As sample 0 is shown black, `PIL.Image.frombytes("1", (columns, rows), packed)` is the picture."""
+    """The samples of the rows from the top, as PDF's CCITTFaxDecode yields them: one bit per pixel, the leftmost in a byte's
+    highest bit; `(columns + 7) // 8` bytes per row, or `stride` bytes, of which the last ones are zeros. A sample is 0 for a
+    black pixel, or 1 with `black_is_1`. Bits after a row's last pixel are those of white pixels. As sample 0 is shown black, the
+    picture is `PIL.Image.frombytes("1", (columns, rows), packed)`."""
     bytes_read: int
     """The number of bytes of the data that were consumed; 0 after a fault."""
     damage: Damage
     """What was repaired."""
     stride: int = 0
-    """The bytes from the start of a row to the start of the next one, if they aren't those of a row; else 0."""
+    """The number of bytes from the start of a row to the start of the next one, if `decode` was given one; else 0."""
 
     def pbm(self, rows: int = 0) -> bytes:
-        """The picture as a PBM file (`P4`), in which samples of 0 are black; with white rows below, if there are fewer than `rows`."""
+        """The picture as a PBM file (`P4`): samples of 0 are black, and white rows follow if there are fewer than `rows`."""
         height = max(rows, self.rows)
         return b"P4\n%d %d\n" % (self.columns, height) + self.black(height)
 
@@ -93,7 +95,7 @@ def decode(
         k: below 0: Group 4 (T.6, MMR); 0: Group 3, one-dimensional (T.4, MH); above 0: Group 3, two-dimensional (T.4, MR).
         end_of_line: whether an EOL precedes each line of Group 3. If the data begins with an EOL, this isn't needed.
         encoded_byte_align: whether each row is padded up to a whole byte.
-        end_of_block: whether EOFB or RTC may end the data. It needn't be there.
+        end_of_block: whether EOFB or RTC ends the image. It may be missing.
         black_is_1: whether a sample is 1 for a black pixel, rather than 0.
         low_first: whether each byte's lowest bit comes first, as in TIFF files of FillOrder 2.
         strict: whether data that breaks a rule is a fault, rather than repaired or cut.
@@ -101,7 +103,8 @@ def decode(
             `(columns + 7) // 8`. With more, zeros follow each row.
 
     Raises:
-        UnexpectedEof, InvalidCode, Overflow: there is a fault, before which the exception's `picture` has the rows.
+        UnexpectedEof, InvalidCode, Overflow: there is a fault. The exception's `picture` has the rows before it.
+        TypeError: an argument has a wrong type.
         ValueError: `columns`, `rows` or `stride` isn't in its range.
         MemoryError: an allocation failed, or the picture is too large.
     """
@@ -142,7 +145,7 @@ def rows(
 ) -> Rows:
     """Reads an image one row at a time, in memory for a row. The arguments are those of `decode`.
 
-    Each row is lent: a `memoryview` of its `(columns + 7) // 8` bytes, as in `Picture.packed`, which is valid until the next row is
+    Each row is a `memoryview` of its `(columns + 7) // 8` bytes, as in `Picture.packed`, which is valid until the next row is
     read. `bytes(row)` keeps it.
 
     Raises:
@@ -153,31 +156,42 @@ def rows(
 
 
 class Reading:
-    """What readers of rows have in common. Its numbers are those of the rows read so far."""
+    """The base class of readers of rows. Its numbers are those of the rows read so far. Several threads may use one reader."""
 
     _close = c.LIBRARY.hayro_ccitt_close
 
     def __init__(self, columns: int):
         self._reader = c.Reader()
+        # Held in each call of the library that takes the reader: ctypes lets other threads run meanwhile.
         self._lock = threading.Lock()
-        self._bitmap = room_for((columns + 7) // 8)
+        self._width = (columns + 7) // 8
+        self._bitmap = room_for(0)
         self._row = c.Row()
-        self._lent = memoryview(self._bitmap).cast("B").toreadonly()
+        self._lent = memoryview(b"")
+
+    def _read_packed(self, call: Callable[..., int], *arguments: Any) -> int:
+        """Reads the next row by a call of the library, and returns its status. Room is made when there is a first row."""
+        status = call(*arguments, self._bitmap, len(self._lent), self._row)
+        if status == c.REFUSED:
+            self._bitmap = room_for(self._width)
+            self._lent = memoryview(self._bitmap).cast("B").toreadonly()
+            status = call(*arguments, self._bitmap, len(self._lent), self._row)
+        return status
 
     @property
     def rows_read(self) -> int:
         """The number of rows."""
-        return self._row.rows
+        return int(self._row.rows)
 
     @property
     def line_start(self) -> int:
         """The offset in bits at which the last row's line begins, after its EOL."""
-        return self._row.line_start
+        return int(self._row.line_start)
 
     @property
     def bytes_read(self) -> int:
-        """The number of bytes consumed; after the last row, those of the image."""
-        return self._row.bytes_read
+        """The number of bytes consumed; at the end, those of the image."""
+        return int(self._row.bytes_read)
 
     @property
     def damage(self) -> Damage:
@@ -187,7 +201,7 @@ class Reading:
     @property
     def is_cut(self) -> bool:
         """Whether a run of the last row was cut at the row's end."""
-        return self._row.is_cut != 0
+        return bool(self._row.is_cut)
 
     @property
     def fault(self) -> type[DecodeError] | None:
@@ -196,7 +210,7 @@ class Reading:
         return found and found[0]
 
     def close(self) -> None:
-        """Frees the reader."""
+        """Frees the reader. It has no more rows. Closing it again has no effect."""
         with self._lock:
             self._close(self._reader)
 
@@ -210,6 +224,9 @@ class Reading:
         # Nothing else has a reference, so no call is running.
         if hasattr(self, "_reader"):
             self._close(self._reader)
+
+    def __reduce__(self) -> NoReturn:
+        raise TypeError(f"{type(self).__name__} can't be copied or pickled")
 
 
 class Rows(Reading, Iterator[memoryview]):
@@ -227,15 +244,14 @@ class Rows(Reading, Iterator[memoryview]):
         with self._lock:
             if not self._reader.is_open:
                 raise StopIteration
-            room = len(self._lent)
-            status = c.LIBRARY.hayro_ccitt_next_packed(self._data, len(self._data), self._reader, self._bitmap, room, self._row)
+            status = self._read_packed(c.LIBRARY.hayro_ccitt_next_packed, self._data, len(self._data), self._reader)
             if status == c.OK:
                 return self._lent
-        self.close()
+            self._close(self._reader)
         if status == c.NO_ROW:
             raise StopIteration
         check(status)
-        raise fault_of(status, self._row.line_start, None)
+        raise fault_of(status, self.line_start, None)
 
 
 def bytes_of(data: Data) -> bytes:
@@ -244,12 +260,15 @@ def bytes_of(data: Data) -> bytes:
 
 
 def number(name: str, value: int) -> int:
+    """The value, as an `int`, if it is in its range."""
+    value = operator.index(value)
     if not 0 <= value < 1 << 32:
         raise ValueError(f"{name} is {value}: it must be at least 0 and below 2 ** 32")
     return value
 
 
 def encoding_of(k: int) -> int:
+    k = operator.index(k)
     return c.GROUP_4 if k < 0 else c.GROUP_3_1D if k == 0 else c.GROUP_3_2D
 
 
@@ -257,7 +276,17 @@ def sum_of(*flags: tuple[bool, int]) -> int:
     return sum(flag for is_set, flag in flags if is_set)
 
 
-def settings_of(columns, rows, k, end_of_line, encoded_byte_align, end_of_block, black_is_1, low_first, strict) -> c.Settings:
+def settings_of(
+    columns: int,
+    rows: int,
+    k: int,
+    end_of_line: bool,
+    encoded_byte_align: bool,
+    end_of_block: bool,
+    black_is_1: bool,
+    low_first: bool,
+    strict: bool,
+) -> c.Settings:
     flags = sum_of(
         (end_of_block, c.END_OF_BLOCK),
         (end_of_line, c.END_OF_LINE),
@@ -269,7 +298,7 @@ def settings_of(columns, rows, k, end_of_line, encoded_byte_align, end_of_block,
     return c.Settings(number("columns", columns), number("rows", rows), encoding_of(k), flags)
 
 
-def room_for(length: int) -> ctypes.Array:
+def room_for(length: int) -> ctypes.Array[ctypes.c_char]:
     try:
         return ctypes.create_string_buffer(length)
     except (OverflowError, ValueError):

@@ -20,22 +20,23 @@ def encode(
     shortest: bool = False,
     stride: int = 0,
 ) -> bytes:
-    """Encodes a bitmap. Decoded with the same arguments, the data gives exactly its rows; if `end_of_block` is false, with their number.
+    """Encodes a bitmap. Decoded with the same arguments, the data gives exactly its rows; if `end_of_block` is false, with their
+    number.
 
     Args:
-        packed: the samples, as `Picture.packed` has them. Bits after a row's last pixel are ignored, and the bytes between rows. The
-            last row needs only its own bytes.
+        packed: the samples, as `Picture.packed` has them. Bits after a row's last pixel are ignored, and the bytes between rows.
+            The last row needs only its own bytes.
         columns: the width in pixels, at least 1 and below 2 ** 32.
-        k: below 0: Group 4; 0: Group 3, one-dimensional; above 0: Group 3, two-dimensional, with at most `k` - 1 two-dimensional lines
-            after a one-dimensional one (T.4, 4.2.1).
+        k: below 0: Group 4; 0: Group 3, one-dimensional; above 0: Group 3, two-dimensional, with at most `k` - 1 two-dimensional
+            lines after a one-dimensional one (T.4, 4.2.1).
         end_of_line: whether an EOL precedes each line of Group 3. Group 4 has none.
         encoded_byte_align: whether each line without an EOL is padded up to a whole byte.
         end_of_block: whether EOFB follows the last line of Group 4, or RTC that of Group 3 with EOLs.
         black_is_1: whether a sample is 1 for a black pixel, rather than 0.
         low_first: whether each byte's lowest bit comes first, as in TIFF files of FillOrder 2.
         eols_end_at_bytes: whether fill precedes EOLs, so that they end at whole bytes, as TIFF's T4Options bit 2 says.
-        shortest: whether lines have the fewest bits that encode them, rather than those of T.4's words and T.6's procedure. Every
-            decoder reads either.
+        shortest: whether lines have the fewest bits that encode them, rather than those of T.4's make-up codes and T.6's
+            procedure. Every decoder reads either.
         stride: the bytes from the start of a row to the start of the next one; 0: those of a row, (`columns` + 7) // 8.
 
     Raises:
@@ -62,7 +63,7 @@ def encode(
     )
     settings = c.EncodeSettings(columns, encoding_of(k), flags, number("k", max(k, 0)), stride)
     outcome = c.EncodeOutcome()
-    # A first call, without room, tells the number of bytes.
+    # A first call, without room, returns the number of bytes.
     status = c.LIBRARY.fax_encode_bitmap(bitmap, len(bitmap), settings, None, 0, outcome)
     if status == c.REFUSED:
         data = room_for(outcome.bytes)

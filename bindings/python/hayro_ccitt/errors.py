@@ -8,14 +8,15 @@ if TYPE_CHECKING:
 
 
 class Error(Exception):
-    """What every exception of this package is. Wrong numbers are a `ValueError`, and want of memory is a `MemoryError`."""
+    """The base class of this package's exceptions. A number out of range raises `ValueError`, and a failed allocation
+    `MemoryError`."""
 
 
 class DecodeError(Error):
     """The data is damaged, or isn't what the arguments say.
 
-    `picture` has the rows before the fault, which can be used: they are the image as far as it goes. It is `None` where rows are
-    read one at a time. `fault_start` is the offset in bits at which the line after these rows begins, or strict data lacks an EOL.
+    `picture` has the rows before the fault: the image as far as it could be decoded. It is `None` where rows are read one at a
+    time. `fault_start` is the offset in bits at which the line after these rows begins, or at which strict data lacks an EOL.
     """
 
     picture: Picture | None = None
@@ -35,7 +36,7 @@ class Overflow(DecodeError):
 
 
 class EncodeError(Error, ValueError):
-    """The bitmap can't be encoded so."""
+    """The bitmap can't be encoded with these arguments."""
 
 
 class NotWholeRows(EncodeError):
@@ -43,7 +44,7 @@ class NotWholeRows(EncodeError):
 
 
 class NoRows(EncodeError):
-    """The bitmap is empty, which only Group 4 with EOFB has an encoding for."""
+    """The bitmap is empty: only Group 4 with EOFB has an encoding of no rows."""
 
 
 class NoEncoding(EncodeError):

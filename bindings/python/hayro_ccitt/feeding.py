@@ -2,11 +2,12 @@
 from __future__ import annotations
 
 import ctypes
+import operator
 import threading
 from typing import Iterator, Protocol
 
 from . import _library as c
-from .decoding import Data, Reading, bytes_of, check, fault_of, room_for, settings_of
+from .decoding import USUAL_BYTES, Data, Reading, bytes_of, check, fault_of, room_for, settings_of
 
 # The most bytes that are read of a file at once.
 PIECE = 1 << 16
@@ -19,7 +20,7 @@ class File(Protocol):
 
 
 class Feeding(Reading):
-    """What readers of data in pieces have in common."""
+    """The base class of readers of data in pieces."""
 
     _close = c.LIBRARY.hayro_ccitt_feed_close
 
@@ -35,8 +36,8 @@ class Feeding(Reading):
 
     @property
     def unused(self) -> bytes:
-        """The bytes that were fed and aren't consumed, from `bytes_read` on. At the end of the image they are what follows it. There are
-        none once the reader is closed."""
+        """The bytes that were fed and aren't consumed, from `bytes_read` on. At the end of the image they are those after it.
+        There are none once the reader is closed."""
         count = ctypes.c_size_t()
         with self._lock:
             c.LIBRARY.hayro_ccitt_feed_unused(self._reader, None, 0, count)
@@ -63,14 +64,14 @@ class Feeding(Reading):
         with self._lock:
             if not self._reader.is_open:
                 return None
-            status = c.LIBRARY.hayro_ccitt_feed_next_packed(self._reader, self._bitmap, len(self._lent), self._row)
-        if status == c.OK:
-            return self._lent
+            status = self._read_packed(c.LIBRARY.hayro_ccitt_feed_next_packed, self._reader)
+            if status == c.OK:
+                return self._lent
         self._is_none(status)
         return None
 
     def _is_none(self, status: int) -> None:
-        """What a status says where there is no row. Faults are raised."""
+        """Notes why there is no row: the image has ended, or more data is needed. Faults are raised."""
         self._ended = status == c.NO_ROW
         if status not in (c.NO_ROW, c.NEEDS_MORE):
             check(status)
@@ -90,11 +91,10 @@ class RowFeed(Feeding):
         for row in feed:
             show(row)
 
-    Each iteration goes over the rows that are known and that weren't read, and ends where more data is needed, or at the end of the
-    image, when `ended` is true. The rows are those of `rows` for all the data, and lent as there: a `memoryview` that is valid until
-    the next row is read. It raises the faults of `rows`, after which each further iteration raises the same; and `MemoryError`, after
-    which the call can be made again. What isn't known yet is read again when more was fed, so few long pieces take less time than many
-    short ones.
+    Each iteration goes over the rows that are known and haven't been read, and ends where more data is needed, or at the end of
+    the image, when `ended` is true. The rows are those of `rows` for all the data, and each is a `memoryview` that is valid until
+    the next row is read. It raises the faults of `rows`, after which each further iteration raises the same; and `MemoryError`,
+    after which the call can be made again. Few long pieces take less time than many short ones.
 
     Raises:
         ValueError, MemoryError: as `decode`.
@@ -134,26 +134,34 @@ class RowFeed(Feeding):
             yield row
 
     def read_rows(self, most: int) -> bytes:
-        """The next rows that are known and weren't read, at most this many, one after another as in the result of `decode`. There are
-        none where more data is needed, or at the end of the image. It takes less time than an iteration, and raises what that does.
-        If one more row is known, it was read too: `rows_read` counts it, and what is told of the last row is of it.
+        """The next rows that are known and haven't been read, at most this many, one after another as in `Picture.packed`. There
+        are none where more data is needed, or at the end of the image. It takes less time than an iteration. A fault is raised
+        where there is no row before it that hasn't been read: by the next call, if this one has rows. If one more row is known,
+        it was read too: `rows_read` counts it, and `damage`, `fault` and `is_cut` are of it.
 
         Raises:
             ValueError: `most` isn't at least 1.
         """
+        most = operator.index(most)
         if most < 1:
             raise ValueError("at least one row can be read")
-        width, count = len(self._lent), ctypes.c_size_t()
-        room = room_for(most * width)
+        at_once = min(most, max(USUAL_BYTES // max(self._width, 1), 1))
+        room, count, status = room_for(at_once * self._width), ctypes.c_size_t(), c.OK
+        found: list[bytes] = []
         with self._lock:
             if not self._reader.is_open:
                 return b""
-            status = c.LIBRARY.hayro_ccitt_feed_rows_packed(self._reader, room, most * width, count, self._row)
+            while status == c.OK and most > 0:
+                size = min(most, at_once) * self._width
+                status = c.LIBRARY.hayro_ccitt_feed_rows_packed(self._reader, room, size, count, self._row)
+                if count.value:
+                    found.append(ctypes.string_at(room, count.value * self._width))
+                most -= count.value
         self._ended = status == c.NO_ROW
-        if not count.value:
+        if not found:
             self._is_none(status)
-        # A fault behind these rows is raised by the next call.
-        return ctypes.string_at(room, count.value * width)
+        # A fault after these rows is raised by the next call.
+        return b"".join(found)
 
 
 def rows_from(
@@ -171,18 +179,20 @@ def rows_from(
     before: Data = b"",
 ) -> RowsFrom:
     """Reads an image from a file one row at a time, each as soon as no data that follows can change its line. The other arguments
-    are those of `decode`. The rows are those of `rows`, and lent as there.
+    are those of `decode`. The rows are those of `rows`, and each is valid until the next one is read.
 
     Args:
         file: what the data is read from, by `read1` or else `read`, 64 KiB at most at a time, until the image ends.
         before: bytes that come before those of the file: the `unused` of an image before this one.
 
-    More than the image may have been read of the file: `unused` has the bytes behind it. What is next in the file follows them.
+    More than the image may have been read from the file: `unused` has the bytes after the image, which the rest of the file
+    follows.
 
     Raises:
-        ValueError, MemoryError: as `decode`. The faults are raised by the iterator, after the rows before them; it also raises what
-            reading the file does, and `BlockingIOError` where the file has no bytes yet. After that and a `MemoryError` it can be used
-            on.
+        TypeError: `file` has no method `read`, or an argument has a wrong type.
+        ValueError, MemoryError: as `decode`. The faults are raised by the iterator, after the rows before them; it also raises
+            what reading the file does, and `BlockingIOError` if the file has no bytes yet. After these and `MemoryError` the
+            iteration can go on.
     """
     settings = settings_of(columns, rows, k, end_of_line, encoded_byte_align, end_of_block, black_is_1, low_first, strict)
     return RowsFrom(file, bytes_of(before), columns, settings)
@@ -194,13 +204,17 @@ class RowsFrom(Feeding, Iterator[memoryview]):
     def __init__(self, file: File, before: bytes, columns: int, settings: c.Settings):
         super().__init__(columns, settings)
         self._turn = threading.Lock()
-        self._read = getattr(file, "read1", file.read)
+        read = getattr(file, "read1", None) or getattr(file, "read", None)
+        if not callable(read):
+            raise TypeError(f"the file has no method `read`: {type(file).__name__}")
+        self._read = read
         self._piece = before  # what was read of the file and not fed
 
     @property
     def unused(self) -> bytes:
-        """The bytes that were read of the file and aren't consumed, from `bytes_read` on. At the end of the image they are what follows
-        it, before what is next in the file. There are none once the reader is closed."""
+        """The bytes that were read from the file and aren't consumed, from `bytes_read` on. At the end of the image they are
+        those after it, which the rest of the file follows. There are none once the reader is closed, but those that weren't
+        fed."""
         return super().unused + self._piece
 
     def __iter__(self) -> RowsFrom:

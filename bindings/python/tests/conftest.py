@@ -65,11 +65,13 @@ def answers(tmp_path_factory):
     folder = tmp_path_factory.mktemp("answers")
     library = os.environ["HAYRO_CCITT_LIBRARY"]
     source, program = str(ROOT / "checks/answers.c"), str(folder / "answers")
-    subprocess.run(["cc", "-O2", f"-I{ROOT}/c", source, library, f"-Wl,-rpath,{os.path.dirname(library)}", "-o", program], check=True)
+    found = f"-Wl,-rpath,{os.path.dirname(library)}"
+    subprocess.run(["cc", "-O2", f"-I{ROOT}/c", source, library, found, "-o", program], check=True)
     narrow = [(words, part) for words, data, _ in strips() if " 1240 " not in words for part in damaged(data)]
     cases = [*narrow, *stored_cases()]
     text = "".join(f"{words} {data.hex() or '-'}\n" for words, data in cases)
     done = subprocess.run([program], input=text, capture_output=True, text=True, check=True)
     answered = done.stdout.split("packed ")[1:]
     assert len(answered) == len(cases)
-    return [(words, data, [line.split() for line in f"packed {answer}".splitlines()]) for (words, data), answer in zip(cases, answered)]
+    lines = [[line.split() for line in f"packed {answer}".splitlines()] for answer in answered]
+    return [(words, data, of) for (words, data), of in zip(cases, lines)]

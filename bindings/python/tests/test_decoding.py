@@ -106,9 +106,20 @@ def test_any_bytes_are_data():
     expected = hayro_ccitt.decode(b"\x31\xc0", 8, 1, k=-1)
     for data in (bytearray(b"\x31\xc0"), memoryview(b"\x31\xc0"), memoryview(b"\x31-\xc0-")[::2]):
         assert hayro_ccitt.decode(data, 8, 1, k=-1) == expected
+
+
+def test_wrong_types_are_type_errors():
     for other in (2, "31", None, [0x31]):
+        for call in (hayro_ccitt.decode, hayro_ccitt.rows, hayro_ccitt.encode):
+            with pytest.raises(TypeError):
+                call(other, 8, k=-1)
+    for columns, rows, k in (("8", 0, 0), (8.0, 0, 0), (None, 0, 0), (8, "1", 0), (8, None, 0), (8, 0, 0.5), (8, 0, None)):
+        for call in (hayro_ccitt.decode, hayro_ccitt.rows):
+            with pytest.raises(TypeError):
+                call(b"\x31\xc0", columns, rows, k=k)
+    for columns, k, stride in (("8", 0, 0), (8.0, 0, 0), (None, 0, 0), (8, None, 0), (8, 0.5, 0), (8, 0, "1")):
         with pytest.raises(TypeError):
-            hayro_ccitt.decode(other, 8, 1, k=-1)
+            hayro_ccitt.encode(b"\x18", columns, k=k, stride=stride)
 
 
 @pytest.mark.parametrize("columns, rows", [(-1, 0), (1 << 32, 0), (8, -1), (8, 1 << 32)])
@@ -138,10 +149,11 @@ def test_a_reader_is_closed():
         next(iter(hayro_ccitt.rows(b"\x31\xf8", 8, 2, k=-1)))[0] = 0
 
 
-def test_threads():
+def test_threads_decode_at_the_same_time():
     words, data, bits = next(strip for strip in strips() if " 1240 " in strip[0])
     found = []
-    threads = [threading.Thread(target=lambda: found.append(hayro_ccitt.decode(data, **keys_of(words)).packed == bits)) for _ in range(8)]
+    decode = lambda: found.append(hayro_ccitt.decode(data, **keys_of(words)).packed == bits)  # noqa: E731
+    threads = [threading.Thread(target=decode) for _ in range(8)]
     rows = hayro_ccitt.rows(data, **keys_of(words))
     read = []
     threads += [threading.Thread(target=lambda: read.extend(1 for _ in rows)) for _ in range(4)]

@@ -29,8 +29,8 @@ def test_every_setting_decodes_to_the_bitmap():
             assert picture.packed == SMALL
         assert picture.bytes_read == len(data)
         encoded += 1
-    # Each with both polarities and both orders; Group 4: aligned or not, closed or not; Group 3: with EOLs filled or not, closed or
-    # not; without EOLs aligned or not.
+    # Each with both polarities and both orders; Group 4: aligned or not, closed or not; Group 3: with EOLs filled or not, closed
+    # or not; without EOLs aligned or not.
     assert (encoded, refused) == (4 * (4 + 3 * (4 + 2)), 4 * 64 - 4 * 22)
 
 

@@ -5,12 +5,16 @@ import random
 import subprocess
 import sys
 import threading
+import time
+from concurrent.futures import ThreadPoolExecutor
 
 import pytest
 from conftest import ROOT, damaged, keys_of, stored_cases, strips
 
 import hayro_ccitt
-from hayro_ccitt import DecodeError, InvalidCode, RowFeed, rows_from
+from hayro_ccitt import DecodeError, InvalidCode, RowFeed, Rows, rows_from
+from hayro_ccitt import _library as c
+from hayro_ccitt.feeding import Feeding
 
 PAGE = {"columns": 33, "k": -1, "black_is_1": True}
 
@@ -106,7 +110,8 @@ def test_files_have_the_rows_of_the_whole():
         file = (io.BytesIO(data), Trickle(data, 3), io.BufferedReader(Trickle(data, 5)), io.BytesIO(data))[at // 4 % 4]
         rows, found = rows_from(file, **keys), []
         assert (found, read(rows, found), told(rows)) == by_rows(data, keys), (words, data.hex())
-        assert rows.unused + (file.read(len(data)) if not isinstance(file, Trickle) else file.data.read()) == data[rows.bytes_read :]
+        rest = file.data.read() if isinstance(file, Trickle) else file.read(len(data))
+        assert rows.unused + rest == data[rows.bytes_read :]
         assert rows.ended == (read(rows, found) is None)
 
 
@@ -209,18 +214,50 @@ def test_rows_at_once_are_those_one_at_a_time():
     for at, (words, data) in enumerate(cases()):
         keys = keys_of(words)
         rows, fault, end = by_rows(data, keys)
-        feed, found, most = RowFeed(**keys), b"", at % 5 + 1
+        feed, found, most, raised = RowFeed(**keys), b"", at % 5 + 1, None
         for piece in [data[start : start + 99] for start in range(0, len(data), 99)] + [None]:
             feed.finish() if piece is None else feed.feed(piece)
             try:
                 while packed := feed.read_rows(most):
                     assert len(packed) <= most * ((keys["columns"] + 7) // 8)
                     found += packed
-            except DecodeError as raised:
-                assert (type(raised), raised.fault_start) == fault
+            except DecodeError as error:
+                raised = type(error), error.fault_start
                 break
         assert found == b"".join(row for row, _ in rows) and told(feed) == end, (words, data.hex())
-        assert feed.ended == (fault is None)
+        assert raised == fault and feed.ended == (fault is None)
+        if fault:
+            with pytest.raises(fault[0]):
+                feed.read_rows(most)
+
+
+def test_a_fault_comes_after_the_rows_before_it():
+    # Two rows, and a fault.
+    data = b"\x31\xf8\x00\x00"
+    feed = RowFeed(8, k=-1)
+    feed.feed(data)
+    feed.finish()
+    assert feed.read_rows(9) == b"\xe7\xe7"
+    by_pieces = RowFeed(8, k=-1)
+    by_pieces.feed(data)
+    by_pieces.finish()
+    for rows in (hayro_ccitt.rows(data, 8, k=-1), rows_from(io.BytesIO(data), 8, k=-1), by_pieces):
+        found = []
+        with pytest.raises(InvalidCode):
+            for row in rows:
+                found.append(bytes(row))
+        assert found == [b"\xe7", b"\xe7"]
+    for _ in range(2):
+        with pytest.raises(InvalidCode):
+            feed.read_rows(9)
+
+
+def test_more_rows_are_read_at_once_than_there_is_room_for():
+    row = bytes(1 << 14)
+    data = hayro_ccitt.encode(row * 200, 1 << 17, k=-1)  # three times the room that is made at once
+    feed = RowFeed(1 << 17, k=-1)
+    feed.feed(data)
+    assert feed.read_rows(150) == row * 150 and feed.read_rows(1 << 62) == row * 50 and feed.ended
 
 
 def test_no_rows_are_read_at_once():
@@ -229,8 +266,9 @@ def test_no_rows_are_read_at_once():
     for most in (0, -1):
         with pytest.raises(ValueError):
             feed.read_rows(most)
-    with pytest.raises(MemoryError):
-        feed.read_rows(1 << 62)
+    for most in ("1", None, 1.0):
+        with pytest.raises(TypeError):
+            feed.read_rows(most)
     assert feed.read_rows(7) == b"\xe7" and feed.ended
     assert feed.read_rows(7) == b""
     feed.close()
@@ -254,19 +292,93 @@ def test_a_feed_is_finished_and_closed():
         with pytest.raises(TypeError):
             next(rows)[0] = 0
     assert list(rows) == [] and not rows.ended
+
+
+def test_wrong_types_are_type_errors():
     for other in (2, "31", None, [0x31]):
         with pytest.raises(TypeError):
             RowFeed(8).feed(other)
+        with pytest.raises(TypeError):
+            rows_from(other, 8)
+        with pytest.raises(TypeError):
+            rows_from(io.BytesIO(), 8, before=other)
+    for columns, rows, k in (("8", 0, 0), (8.0, 0, 0), (None, 0, 0), (8, "1", 0), (8, None, 0), (8, 0, 0.5), (8, 0, None)):
+        for call in (lambda *words, **keys: rows_from(io.BytesIO(), *words, **keys), RowFeed):
+            with pytest.raises(TypeError):
+                call(columns, rows, k=k)
 
 
-def test_threads():
+def test_no_bytes_may_be_fed():
+    for empty in (b"", bytearray(), memoryview(b"")):
+        feed = RowFeed(8, k=-1)
+        for piece in (empty, b"\x31", empty, b"\xc0\x04", empty, b"\x00\x40", empty):
+            feed.feed(piece)
+        assert [bytes(row) for row in feed] == [b"\xe7"] and feed.ended
+
+
+class OneAtATime:
+    """A call of the library that takes a while, and notes whether another one was made meanwhile."""
+
+    inside, met = threading.Lock(), False
+
+    def __init__(self, call):
+        self.call = call
+
+    def __call__(self, *arguments):
+        is_alone = OneAtATime.inside.acquire(blocking=False)
+        OneAtATime.met |= not is_alone
+        time.sleep(0.0002)
+        status = self.call(*arguments)
+        if is_alone:
+            OneAtATime.inside.release()
+        return status
+
+
+def use_fed(feed, data):
+    """Feeds and reads in each way."""
+    try:
+        feed.feed(data)
+    except ValueError:
+        assert not feed._reader.is_open  # another thread has closed it
+    for _ in feed:
+        pass
+    assert isinstance(feed.unused, bytes) and isinstance(feed.read_rows(2), bytes)
+
+
+@pytest.mark.parametrize("kind", ["rows", "feed", "file"])
+def test_calls_for_one_reader_take_turns(kind, monkeypatch):
+    without_reader = ("hayro_ccitt_measure", "hayro_ccitt_decode_packed", "fax_encode_bitmap")
+    for name in c.CALLS.keys() - without_reader:
+        monkeypatch.setattr(c.LIBRARY, name, OneAtATime(getattr(c.LIBRARY, name)))
+    for of, name in ((Rows, "hayro_ccitt_close"), (Feeding, "hayro_ccitt_feed_close")):
+        monkeypatch.setattr(of, "_close", OneAtATime(getattr(c.LIBRARY, name).call))
+    data = pages()[0]
+    OneAtATime.met = False
+    if kind == "rows":
+        reader = hayro_ccitt.rows(data, **PAGE)
+        uses = [lambda: list(reader)] * 4
+    elif kind == "feed":
+        reader = RowFeed(**PAGE)
+        uses = [lambda: use_fed(reader, data[:9])] * 4
+    else:
+        reader = rows_from(Trickle(data, 3), **PAGE)
+        uses = [lambda: list(reader)] * 3 + [lambda: [reader.unused for _ in range(20)]]
+    in_threads([*uses, lambda: time.sleep(0.005) or reader.close()])
+    assert not OneAtATime.met
+    reader.close()
+
+
+def in_threads(uses):
+    """Runs each in a thread of its own. What one raises is raised here."""
+    with ThreadPoolExecutor(len(uses)) as pool:
+        for use in [pool.submit(use) for use in uses]:
+            use.result()
+
+
+def test_threads_share_the_rows_of_a_file():
     words, data, bits = next(strip for strip in strips() if " 1240 " in strip[0])
     rows, read = rows_from(Trickle(data, 1000), **keys_of(words)), []
-    threads = [threading.Thread(target=lambda: read.extend(1 for _ in rows)) for _ in range(4)]
-    for thread in threads:
-        thread.start()
-    for thread in threads:
-        thread.join()
+    in_threads([lambda: read.extend(1 for _ in rows)] * 4)
     assert len(read) == rows.rows_read == 1754
 
 
