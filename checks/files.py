@@ -1,5 +1,6 @@
-"""Checks of faxconv, by its name fax2pbm, and of the Python examples on files that other programs make of a page, as far as they are installed: each file
-is decoded to the page, or refused by a line that says why; so are files that are cut, damaged, or no fax at all."""
+"""Checks of faxconv, by its name fax2pbm, and of the Python package on files that other programs make of a page, as far as they
+are installed: each file is decoded to the page, or refused by a line that says why; so are files that are cut, damaged, or no fax
+at all."""
 import os
 import re
 import shutil
@@ -61,13 +62,15 @@ def ran(folder, *words):
 
 
 def pictures_of(folder, name, picture):
-    """What fax2pbm and the example for this ending write for a file, and what they print."""
-    here = os.path.abspath("examples")
-    example = "pdf_pages.py" if name.endswith(".pdf") else "tiff_strips.py"
-    found = []
+    """What fax2pbm and the Python package write for a file, and what they print."""
     done = ran(folder, os.path.abspath("build/fax2pbm"), name)
-    found.append((done.returncode, done.stdout, done.stderr))
-    done = ran(folder, "python3", f"{here}/{example}", name, picture)
+    found = [(done.returncode, done.stdout, done.stderr)]
+    interpreter = users.interpreter(*(("pikepdf", "pypdf") if name.endswith(".pdf") else ()))
+    if not interpreter:
+        leave_out("PDF files by the Python package", "pikepdf or pypdf")
+        return found
+    words = [interpreter, "-m", "hayro_ccitt", name, picture]
+    done = subprocess.run(words, cwd=folder, env=users.python_package(), capture_output=True, check=False, timeout=120)
     data = b""
     if os.path.exists(f"{folder}/{picture}-0.pbm"):
         with open(f"{folder}/{picture}-0.pbm", "rb") as file:
@@ -128,8 +131,6 @@ def files_by_other_programs():
             for ending in ("tif", "pdf"):
                 with open(f"{folder}/cut{number}.{ending}", "wb") as out:
                     out.write(data)
-                if ending == "pdf" and not shutil.which("pdfimages"):
-                    continue
                 for answer in pictures_of(folder, f"cut{number}.{ending}", "cut"):
                     assert says_why(answer) or data == page, f"cut{number}.{ending}: {answer}"
                     refused += 1

@@ -1,10 +1,11 @@
-"""Checks of what users are shown: the commands of the README and of docs/USING.md, the programs of examples/, and the Cargo package.
-What needs a tool that isn't installed is left out and reported."""
+"""Checks of what users are shown: the commands of the README and of docs/USING.md, the programs of examples/, and the Cargo
+package. What needs a tool that isn't installed is left out and reported."""
 import itertools
 import os
 import re
 import shutil
 import subprocess
+import sys
 import tempfile
 import threading
 
@@ -24,6 +25,23 @@ def make():
     """The library and the programs in build/, as the pages' commands need them, of what is proved and built by now."""
     c_library.build()
     made_by("RT=true")
+
+
+def interpreter(*modules):
+    """An interpreter of Python that has one of these modules, if any are given; None if there is none."""
+    for it in filter(os.path.exists, (sys.executable, "/usr/bin/python3")):
+        code = f"import importlib.util, sys; sys.exit(not any(map(importlib.util.find_spec, {modules!r})) and {bool(modules)})"
+        if subprocess.run([it, "-c", code], check=False).returncode == 0:
+            return it
+    return None
+
+
+def python_package():
+    """The environment in which `python3` finds the package, the library in build/, and pikepdf or pypdf if some interpreter
+    does."""
+    found = interpreter("pikepdf", "pypdf") or sys.executable
+    places = {"PYTHONPATH": os.path.abspath("bindings/python"), "HAYRO_CCITT_LIBRARY": os.path.abspath("build/libhayro_ccitt.so")}
+    return {**os.environ, **places, "PATH": f"{os.path.dirname(found)}:{os.environ['PATH']}"}
 
 
 def commands(page):
@@ -65,15 +83,14 @@ def outcomes(page):
             files = re.findall(r"out/[\w.-]+|FILE\.\w+", command)
             absent = [name for name in files if not os.path.exists(f"{folder}/{name}")]
             missing = [tool for tool in TOOLS if re.search(rf"(^|[|;&(]|&&) *{tool} ", command) and not shutil.which(tool)]
-            if "pdf_pages.py" in command and not shutil.which("pdfimages"):
-                missing.append("pdfimages")
+            if re.search(r"-m hayro_ccitt .*\.pdf", command) and not interpreter("pikepdf", "pypdf"):
+                missing.append("pikepdf or pypdf")
             if missing or any(name.startswith(("FILE.", *lost)) for name in absent):
                 lost += absent
                 yield command, text, None
                 continue
-            done = subprocess.run(
-                ["bash", "-c", command], cwd=folder, stdout=subprocess.PIPE, stderr=subprocess.STDOUT, check=False, timeout=600
-            )
+            words, together = ["bash", "-c", command], {"stdout": subprocess.PIPE, "stderr": subprocess.STDOUT}
+            done = subprocess.run(words, cwd=folder, env=python_package(), **together, check=False, timeout=600)
             printed = done.stdout.decode(errors="replace")
             assert "FILE." not in command or done.returncode == 0, f"{command}\n{printed}"
             yield command, text, text if "FILE." in command else printed
