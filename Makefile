@@ -1,5 +1,7 @@
 # The library for C and the programs, built into build/ and installed.
 #
+#   make first                decodes a row by the sources, before any proof: r 3 5, and ok 2
+#   make test                 all proofs, tests and checks
 #   make                      the library, static and shared, and the programs
 #   make check                runs what was built on the first program of hayro_ccitt.h and on a picture
 #   make install PREFIX=DIR   headers, libraries, hayro_ccitt.pc, manual pages and programs; DESTDIR is respected
@@ -54,7 +56,14 @@ SHARED = libhayro_ccitt.so.$(VERSION)
 SONAME = libhayro_ccitt.so.$(INTERFACE)
 OBJECTS = $(BUILD)/proved.o $(BUILD)/calls.o $(BUILD)/heap.o
 
-.PHONY: all library programs check install uninstall clean prove-library prove-programs
+.PHONY: all library programs first test check install uninstall clean prove-library prove-programs
+
+# Ends with a line that names the programs that are missing.
+missing = $(strip $(foreach program,$(1),$(if $(shell command -v $(program)),,$(program))))
+need = $(if $(call missing,$(1)),$(error missing: $(call missing,$(1)); README.md says where each is from))
+# the Debian packages of the tools without which some checks are left out
+TESTED_WITH = cargo ghostscript img2pdf libjbig2dec0-dev libmupdf-dev libqpdf-dev libtiff-dev libtiff-tools lintian mupdf-tools netpbm \
+	pkg-config poppler-utils python3-numpy python3-pikepdf python3-pil python3-pip python3-pypdf python3-pytest qpdf valgrind zlib1g-dev
 
 all: library programs
 library: $(BUILD)/libhayro_ccitt.a $(BUILD)/libhayro_ccitt.so $(BUILD)/hayro_ccitt.pc
@@ -64,7 +73,7 @@ programs: prove-programs $(BUILD)/faxrows $(BUILD)/faxpack $(BUILD)/fax2pbm $(EX
 prove-library:
 	cd crates/hayro_ccitt_c && $(RT) lib $(RT_JOBS)
 prove-programs:
-	cd crates/faxrows && printf '\061\300' | $(RT) run $(RT_JOBS) -- g4 8 1 -
+	cd crates/faxrows && printf '\061\300' | $(RT) run $(RT_JOBS) -- g4 8 1 - > /dev/null
 	cd crates/faxpack && printf 'P4\n8 1\n\030' | $(RT) run $(RT_JOBS) -- g4 - > /dev/null
 
 $(PROVED): prove-library ;
@@ -104,6 +113,15 @@ $(BUILD)/fax2pbm: $(BUILD)/faxconv
 	cp $< $@
 $(BUILD)/%: examples/%.c $(HEADERS) $(BUILD)/libhayro_ccitt.a
 	$(CC) $(CFLAGS) $(WARNINGS) -std=c99 -Ic $(LDFLAGS) -o $@ $< $(BUILD)/libhayro_ccitt.a
+
+# What `rt` says comes out only if it fails.
+first:
+	@$(call need,rt)mkdir -p $(BUILD); cd crates/faxrows && printf '\061\300' | rt try -- g4 8 1 - 2>$(abspath $(BUILD))/first.log || { cat $(abspath $(BUILD))/first.log; exit 1; }
+
+test:
+	@$(call need,rt git python3 $(CC) $(OBJCOPY))lacking=$$(for it in $(TESTED_WITH); do dpkg -s $$it >/dev/null 2>&1 || command -v $$it >/dev/null || printf ' %s' $$it; done); \
+		test -z "$$lacking" || echo "some checks will be left out, unless: apt-get install$$lacking"
+	bash test.sh
 
 check: all
 	sed -n 's/^ \*   //p' c/hayro_ccitt.h | sed '/^cc first/d' > $(BUILD)/first.c

@@ -19,8 +19,9 @@ enum {
 
 /* Flags, to be added up: as hayro_ccitt.h numbers those of the same name but FAX_ENCODE_BLACK_IS_0, which is another number than
  * HAYRO_CCITT_BLACK_IS_0. It has no effect on calls that don't take packed rows, and `stride` none on calls but fax_encode_bitmap; they
- * must be valid all the same. The settings name no encoding with any other flag or encoding; with FAX_ENCODE_END_OF_LINE in Group 4; with FAX_ENCODE_EOLS_END_AT_BYTES, or FAX_ENCODE_END_OF_BLOCK of Group 3, but
- * no FAX_ENCODE_END_OF_LINE; and with FAX_ENCODE_ALIGNED_ROWS and FAX_ENCODE_END_OF_LINE. */
+ * must be valid all the same. The settings name no encoding with any other flag or encoding; with FAX_ENCODE_END_OF_LINE in Group 4;
+ * with FAX_ENCODE_EOLS_END_AT_BYTES, or FAX_ENCODE_END_OF_BLOCK of Group 3, but no FAX_ENCODE_END_OF_LINE; and with
+ * FAX_ENCODE_ALIGNED_ROWS and FAX_ENCODE_END_OF_LINE. */
 enum {
     FAX_ENCODE_END_OF_BLOCK = 1,      /* EOFB follows the last line of Group 4, or RTC that of Group 3 */
     FAX_ENCODE_END_OF_LINE = 2,       /* an EOL precedes each line of Group 3 */
@@ -28,7 +29,7 @@ enum {
     FAX_ENCODE_LOW_FIRST = 16,        /* each byte's lowest bit comes first (TIFF's FillOrder 2), rather than its highest */
     FAX_ENCODE_EOLS_END_AT_BYTES = 32, /* fill precedes EOLs, so that they end at whole bytes (TIFF's T4Options bit 2) */
     FAX_ENCODE_SHORTEST = 64,         /* lines have the fewest bits that encode them, rather than those of T.4's make-up words and
-                                       * T.6's procedure; every decoder reads either */
+                                       * T.6's procedure; this library reads either as the same rows */
     FAX_ENCODE_BLACK_IS_0 = 128       /* packed rows have 0 for black and 1 for white, rather than 1 and 0 */
 };
 
@@ -55,8 +56,8 @@ enum {
     FAX_ENCODE_OUT_OF_MEMORY = 4, /* an allocation failed */
     FAX_ENCODE_REFUSED = 5,       /* there is no room for the number of bytes in the outcome */
     FAX_ENCODE_NOT_TAKEN = 6      /* the settings name no encoding, there are no columns, the stride is less than the bytes of a
-                                   * row, the bitmap isn't whole rows, or it is empty: only Group 4 with FAX_ENCODE_END_OF_BLOCK has a picture without rows. Calls of a
-                                   * writer say below what it means. */
+                                   * row, the bitmap isn't whole rows, or it is empty: only Group 4 with FAX_ENCODE_END_OF_BLOCK has
+                                   * a picture without rows. Calls of a writer say below what it means. */
 };
 
 /* Encodes a bitmap. A row of it has (columns + 7) / 8 bytes: one bit a pixel, 1 for black, or 0 with FAX_ENCODE_BLACK_IS_0, the

@@ -78,7 +78,8 @@ typedef struct {
                             * EOL; else 0, and also if HAYRO_CCITT_OUT_OF_MEMORY came before the data was read */
     uint64_t missed_eols;  /* the number of rows among them, not repaired, after which other bits were passed up to the next EOL,
                             * or none was left */
-    uint64_t cut_rows;     /* the number of rows among them in which a run was cut at the row's end, where strict data is in error */
+    uint64_t cut_rows;     /* the number of rows among them, not repaired, in which a run was cut at the row's end, where strict
+                            * data is in error */
 } hayro_ccitt_outcome;
 
 /* What a call returns. Unless it is HAYRO_CCITT_NOT_TAKEN, the outcome's rows were decoded: on an error, those before it. */
@@ -112,8 +113,8 @@ uint32_t hayro_ccitt_decode_packed(const uint8_t *data, size_t data_length, cons
 uint32_t hayro_ccitt_decode_changes(const uint8_t *data, size_t data_length, const hayro_ccitt_settings *settings,
                                     uint32_t *lists, size_t lists_length, hayro_ccitt_outcome *outcome);
 
-/* Rows one at a time, in memory for two rows, however long the data is: open a reader, read
- * rows until the status isn't HAYRO_CCITT_OK, and close the reader. The rows, the last status and bytes_read are those of
+/* Rows one at a time, in memory for two rows, however long the data is: open a reader, read rows until the status isn't
+ * HAYRO_CCITT_OK, and close the reader. The rows, the last status and bytes_read are those of
  * hayro_ccitt_decode_changes, except that HAYRO_CCITT_NO_ROW says what HAYRO_CCITT_OK says there. examples/rows_to_pbm.c is a
  * program that does so.
  *
@@ -137,8 +138,8 @@ typedef struct {
     uint64_t damage;       /* the status of the fault of the last row if its line was damaged and repaired; else 0 */
     uint64_t missed_eols;  /* the number of rows read so far, not repaired, after which other bits were passed up to the next EOL, or
                             * none was left: of the last row it is known after the next call */
-    uint64_t cut_rows;     /* the number of rows read so far in which a run was cut at the row's end */
-    uint64_t is_cut;       /* 1 if a run of the last row was cut, else 0 */
+    uint64_t cut_rows;     /* the number of rows read so far, not repaired, in which a run was cut at the row's end */
+    uint64_t is_cut;       /* 1 if the last row was not repaired and a run of it was cut, else 0 */
     uint64_t missed_eol;   /* the offset in bits at which the last call missed an EOL, after the row before; 0 if it missed none */
 } hayro_ccitt_row;
 
@@ -168,7 +169,8 @@ uint32_t hayro_ccitt_close(hayro_ccitt_reader *reader);
  * the data, and read the rows that are left; close the feed. The rows, the last status and bytes_read are those of a reader of
  * all the data.
  *
- * A feed keeps a copy of the bytes that it still needs: those of a line that isn't whole, and what was fed but not read yet.
+ * A feed keeps a copy of the bytes that it still needs: those of a line that isn't whole, all of a gap between lines that isn't,
+ * however long it is, and what was fed but not read yet.
  *
  * Several feeds may be open at a time. Each belongs to one thread at a time. A feed that isn't closed leaks its memory. */
 typedef struct {
@@ -200,7 +202,7 @@ uint32_t hayro_ccitt_feed_next_packed(hayro_ccitt_row_feed *feed, uint8_t *packe
 
 /* The rows one after another, as calls of hayro_ccitt_feed_next_changes give them, but listed as hayro_ccitt_decode_changes does, until
  * there is no room for one more; `count` is how many. HAYRO_CCITT_OK means that one more was read, which `row` describes: it doesn't
- * fit behind them, and the next call gives it first. After HAYRO_CCITT_NEEDS_MORE and the other statuses too `count` rows were
+ * fit after them, and the next call gives it first. After HAYRO_CCITT_NEEDS_MORE and the other statuses too `count` rows were
  * listed; it is 0 after HAYRO_CCITT_REFUSED, where there is no room for the first. Where room for many rows is passed, a row costs
  * less than by calls of its own. */
 uint32_t hayro_ccitt_feed_rows_changes(hayro_ccitt_row_feed *feed, uint32_t *lists, size_t lists_length, size_t *count,
@@ -210,7 +212,7 @@ uint32_t hayro_ccitt_feed_rows_changes(hayro_ccitt_row_feed *feed, uint32_t *lis
 uint32_t hayro_ccitt_feed_rows_packed(hayro_ccitt_row_feed *feed, uint8_t *bitmap, size_t bitmap_length, size_t *count,
                                       hayro_ccitt_row *row);
 
-/* Copies the bytes that were fed and aren't consumed, and stores in `count` how many they are: after HAYRO_CCITT_NO_ROW, those behind
+/* Copies the bytes that were fed and aren't consumed, and stores in `count` how many they are: after HAYRO_CCITT_NO_ROW, those after
  * the image. A byte of which a bit was read is consumed. After HAYRO_CCITT_REFUSED there was no room, and none is copied. The bytes
  * after them keep their values. HAYRO_CCITT_NOT_TAKEN means that the feed isn't open; `count` is 0. The feed stays as it is. */
 uint32_t hayro_ccitt_feed_unused(hayro_ccitt_row_feed *feed, uint8_t *bytes, size_t length, size_t *count);

@@ -278,6 +278,14 @@ CHECKED = [
     ("g4 1 0 b", "10010010", "violation 0 pass mode to the row's end (T.4, 4.2.1.3.2)", 1),
     ("1d 8 0 b", "00198008008008008008", f"violation 29 {RUN}", 1),
     ("1d 8 1 -", "", f"violation 0 {RUN}", 1),
+    # What T.4 and T.6 prescribe to an encoder, and no decoder can tell from the rows, isn't checked: a run of 128 as 64 + 64 + 0 (T.4,
+    # 4.1.1), horizontal mode in place of V0 (T.6, 2.2.5), no one-dimensional line first, and none among three (T.4, 4.2.1), fill
+    # before the first EOL and in RTC (T.4, 4.1.3 and 4.1.4).
+    ("1d 128 1 -", "DECD40", "ok", 0),
+    ("g4 8 1 -", "330DC0", "ok", 0),
+    ("2d 8 1 -", "40", "ok", 0),
+    ("2d 8 3 l", "001400500140", "ok", 0),
+    ("1d 8 0 b", "000330001000100010001000100010", "ok", 0),
 ]
 
 

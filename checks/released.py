@@ -257,25 +257,6 @@ def commands_of_the_readme():
     assert not lacking, lacking
 
 
-def installed_as_printed():
-    """The README's commands install the library below a home, where the header's first program is compiled and runs."""
-    if not shutil.which("pkg-config"):
-        leave_out("the README's commands after make install", "pkg-config")
-        return
-    c_library.build()
-    with open("README.md", encoding="utf-8") as file:
-        printed = re.findall(r"^\$ ((?:make install|export|cc first\.c) .*)$", file.read(), re.MULTILINE)
-    assert len(printed) == 3, printed
-    with tempfile.TemporaryDirectory() as folder:
-        home = {**os.environ, "HOME": folder, "FOLDER": folder, "MAKEFLAGS": f"BUILD={folder}/build RT=true"}
-        with open(f"{folder}/first.c", "w", encoding="utf-8") as file:
-            file.write(first_program())
-        install, *compile_it = printed
-        run(install, env=home)
-        told = run("\n".join(["cd $FOLDER", "unset MAKEFLAGS", *compile_it, "./first", ".local/bin/faxrows --version"]), env=home)
-    assert told.startswith("18\nfaxrows "), told
-
-
 def crates_in_another_repository():
     """The command of docs/SINKS.md copies the library as files into another repository, where the crate of that page names it; with PROVE
     in the environment, which takes a minute, that crate is proved over what is stored of the library."""
@@ -322,7 +303,7 @@ def python_package():
         leave_out("tests of the Python package", "".join(names))
 
 
-CHECKS = [packages_where_the_kit_is_not, in_a_bare_debian, cargo_without_the_library, commands_of_the_readme, installed_as_printed, crates_in_another_repository, python_package]
+CHECKS = [packages_where_the_kit_is_not, in_a_bare_debian, cargo_without_the_library, commands_of_the_readme, crates_in_another_repository, python_package]
 
 if __name__ == "__main__":
     for check in CHECKS:

@@ -34,6 +34,7 @@ import kept  # noqa: E402
 import large  # noqa: E402
 import memory  # noqa: E402
 import packing  # noqa: E402
+import premises  # noqa: E402
 import program  # noqa: E402
 import refusals  # noqa: E402
 import released  # noqa: E402
@@ -44,10 +45,10 @@ from left_out import LEFT_OUT  # noqa: E402
 
 
 FILES = [
-    repository, program, built_tests, packing, c_library, row_by_row, feed, encoder, refusals, devices, cuts, damage_by_k, hostile, memory, large, installed, users, files, fax, fax_others, inline_images, released, clients, cost,
+    repository, program, premises, built_tests, packing, c_library, row_by_row, feed, encoder, refusals, devices, cuts, damage_by_k, hostile, memory, large, installed, users, files, fax, fax_others, inline_images, released, clients, cost,
 ]
 # those that run beside the build of the library for C
-WITHOUT_LIBRARY = [repository, program, built_tests, packing, devices]
+WITHOUT_LIBRARY = [repository, program, premises, built_tests, packing, devices]
 # those that call `make`, which run in turn, and those that take longest
 MAKE = [installed, users, files]
 LONG = [cost, large, memory, hostile, released]

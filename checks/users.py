@@ -1,5 +1,7 @@
-"""Checks of what users are shown: the commands of the README and of docs/USING.md, the programs of examples/, and the Cargo
-package. What needs a tool that isn't installed is left out and reported."""
+"""Checks of what users are shown: each command of the README and of docs/USING.md, in the order of the page and in a copy of the
+repository in which nothing is made yet but what is proved; the programs of examples/; and the Cargo package. What needs a tool that
+isn't installed is left out and reported."""
+import importlib.util
 import itertools
 import os
 import re
@@ -10,49 +12,80 @@ import tempfile
 import threading
 
 import c_library
+import kept
 from built import made_by
 from left_out import leave_out
 
 PAGES = ["README.md", "docs/USING.md"]
 # Tools that a command may need and that need not be installed.
-TOOLS = ["cargo", "ppm2tiff", "tiffcp", "tiffdump", "gs", "img2pdf", "pdfimages", "strings"]
+TOOLS = ["cargo", "dpkg-deb", "pkg-config", "ppm2tiff", "tiffcp", "tiffdump", "gs", "img2pdf", "pdfimages", "strings"]
 PACKAGE = "bindings/rust"
-# What `installed` and `released` run: the commands that make and install, and what is compiled by hayro_ccitt.pc.
-ELSEWHERE = ("make ", "tar xzf ", "apt-get ", "python3 -m pip ", "export ", "cc first.c ")
+# The commands that take minutes or change the system, and the quick form of each that is run here: what is proved is built, the tests are
+# what runs this check, and packages are installed into a folder. What they print isn't on the page.
+QUICK = {
+    "make test": "make -n test | grep '^bash test.sh$'",
+    "make check": "make -s RT=true check | grep 'as they should be'",
+    "make JOBS=1 >log 2>&1": "make -s RT=true JOBS=1",
+    "make install PREFIX=$HOME/.local": "make -s RT=true install PREFIX=$HOME/.local",
+    "make dist": "make -s dist",
+    "apt-get install ./hayro-ccitt_*.deb": "dpkg-deb -x ./hayro-ccitt_*.deb root && root/usr/bin/faxrows --version",
+    "tar xzf hayro_ccitt-*-src.tar.gz && make -C hayro_ccitt-*-src install PREFIX=$HOME/.local":
+        "tar xzf hayro_ccitt-*-src.tar.gz && make -s -C hayro_ccitt-*-src install PREFIX=$HOME/.local",
+    "python3 -m pip install hayro_ccitt-*.whl": "python3 -m pip install -q --no-index --target site hayro_ccitt-*.whl",
+}
+# Commands after which the next ones run elsewhere, or with other variables.
+STAYS = ("cd ", "export ")
+# The last lines that a command may print whose status isn't 0.
+FAULTS = ("error: ", "violation ", "faxconv: ")
 
 
 def make():
-    """The library and the programs in build/, as the pages' commands need them, of what is proved and built by now."""
+    """The library and the programs in build/, of what is proved and built by now."""
     c_library.build()
     made_by("RT=true")
 
 
+def copied(folder):
+    """A copy of the files that git knows, and of what is proved and built."""
+    c_library.build()
+    listed = subprocess.run(
+        ["git", "ls-files", "-z", "--cached", "--others", "--exclude-standard"], capture_output=True, text=True, check=True
+    ).stdout.split("\0")
+    proved = [f"crates/{crate}/out/{name}" for crate, name in kept.BUILT.items()]
+    for name in [*(name for name in listed if name and os.path.isfile(name)), *proved]:
+        os.makedirs(os.path.dirname(f"{folder}/{name}"), exist_ok=True)
+        shutil.copy2(name, f"{folder}/{name}")
+
+
 def interpreter(*modules):
-    """An interpreter of Python that has one of these modules, if any are given; None if there is none."""
+    """An interpreter of Python that has one of these modules; None if there is none."""
     for it in filter(os.path.exists, (sys.executable, "/usr/bin/python3")):
-        code = f"import importlib.util, sys; sys.exit(not any(map(importlib.util.find_spec, {modules!r})) and {bool(modules)})"
+        code = f"import importlib.util, sys; sys.exit(not any(map(importlib.util.find_spec, {modules!r})))"
         if subprocess.run([it, "-c", code], check=False).returncode == 0:
             return it
     return None
 
 
-def python_package():
-    """The environment in which `python3` finds the package, the library in build/, and pikepdf or pypdf if some interpreter
-    does."""
+def with_python_package(folder):
+    """The environment in which `python3` finds the package and the library in a copy of the repository, and pikepdf or pypdf if some
+    interpreter does."""
     found = interpreter("pikepdf", "pypdf") or sys.executable
-    places = {"PYTHONPATH": os.path.abspath("bindings/python"), "HAYRO_CCITT_LIBRARY": os.path.abspath("build/libhayro_ccitt.so")}
+    places = {"PYTHONPATH": f"{folder}/bindings/python", "HAYRO_CCITT_LIBRARY": f"{folder}/build/libhayro_ccitt.so"}
     return {**os.environ, **places, "PATH": f"{os.path.dirname(found)}:{os.environ['PATH']}"}
 
 
 def commands(page):
     """Each command of a page's blocks, and the text below it."""
     with open(page, encoding="utf-8") as file:
-        blocks = re.findall(r"^```\n(\$ .*?)^```$", file.read(), re.MULTILINE | re.DOTALL)
-    for block in blocks:
+        whole = file.read()
+    found = 0
+    for block in re.findall(r"^```\n(\$ .*?)^```$", whole, re.MULTILINE | re.DOTALL):
         for part in re.split(r"^\$ ", block, flags=re.MULTILINE)[1:]:
             first, *rest = part.splitlines(keepends=True)
             more = sum(1 for _ in itertools.takewhile(lambda line: line.startswith("> "), rest))
-            yield "".join([first, *(line[2:] for line in rest[:more])]), "".join(rest[more:])
+            yield "".join([first, *(line[2:] for line in rest[:more])]).rstrip("\n"), "".join(rest[more:])
+            found += 1
+    assert found == len(re.findall(r"^ *\$ ", whole, re.MULTILINE)), f"{page} has commands that aren't run"
 
 
 def files_of_users(folder):
@@ -68,48 +101,60 @@ def files_of_users(folder):
         subprocess.run(["bash", "-c", command], cwd=folder, check=True, capture_output=True)
 
 
-def outcomes(page):
+def missing_tools(command):
+    """The tools that a command needs and that aren't installed."""
+    missing = [tool for tool in TOOLS if re.search(rf"(^|[|;&(]|&&|\$\() *{tool} ", command) and not shutil.which(tool)]
+    if re.search(r"-m hayro_ccitt .*\.pdf", command) and not interpreter("pikepdf", "pypdf"):
+        missing.append("pikepdf or pypdf")
+    if " -m pip " in command and not importlib.util.find_spec("pip"):
+        missing.append("pip")
+    return missing
+
+
+def outcomes(page, folder):
     """Each command, the text below it, and what it prints: None if it is left out because of a missing tool, or of a file that
     another such command would have made. What is printed for a user's file isn't on the page."""
-    with tempfile.TemporaryDirectory() as folder:
-        for name in ("bindings", "build", "c", "corpus", "crates", "examples"):
-            os.symlink(os.path.abspath(name), f"{folder}/{name}")
-        os.mkdir(f"{folder}/out")
-        files_of_users(folder)
-        lost = []  # files, and fronts of the names of several
-        for command, text in commands(page):
-            if command.startswith(ELSEWHERE):
-                continue
-            files = re.findall(r"out/[\w.-]+|FILE\.\w+", command)
-            absent = [name for name in files if not os.path.exists(f"{folder}/{name}")]
-            missing = [tool for tool in TOOLS if re.search(rf"(^|[|;&(]|&&) *{tool} ", command) and not shutil.which(tool)]
-            if re.search(r"-m hayro_ccitt .*\.pdf", command) and not interpreter("pikepdf", "pypdf"):
-                missing.append("pikepdf or pypdf")
-            if missing or any(name.startswith(("FILE.", *lost)) for name in absent):
-                lost += absent
-                yield command, text, None
-                continue
-            words, together = ["bash", "-c", command], {"stdout": subprocess.PIPE, "stderr": subprocess.STDOUT}
-            done = subprocess.run(words, cwd=folder, env=python_package(), **together, check=False, timeout=600)
-            printed = done.stdout.decode(errors="replace")
-            assert "FILE." not in command or done.returncode == 0, f"{command}\n{printed}"
-            yield command, text, text if "FILE." in command else printed
+    lost = []  # files, and fronts of the names of several
+    before = []
+    for command, text in commands(page):
+        quick = QUICK.get(command, command)
+        absent = [name for name in re.findall(r"out/[\w.-]+|FILE\.\w+", command) if not os.path.exists(f"{folder}/{name}")]
+        if missing_tools(quick) or any(name.startswith(("FILE.", *lost)) for name in absent):
+            lost += absent
+            yield command, text, None
+            continue
+        environment = with_python_package(folder) if "-m hayro_ccitt" in command else dict(os.environ)
+        if "$HOME" in command:
+            environment["HOME"] = f"{folder}/home"
+        done = subprocess.run(
+            ["bash", "-c", "\n".join([*before, quick])], cwd=folder, stdout=subprocess.PIPE, stderr=subprocess.STDOUT, check=False,
+            timeout=600, env=environment,
+        )
+        printed = done.stdout.decode(errors="replace")
+        last = text.splitlines()[-1] if text else ""
+        assert done.returncode == 0 or last.startswith(FAULTS), f"{page}: {command}\nends with status {done.returncode}\n{printed}"
+        before += [command] * command.startswith(STAYS)
+        yield command, text, text if "FILE." in command or quick != command else printed
 
 
 def commands_of_the_pages():
-    """Each command prints what is below it."""
-    make()
+    """Each command prints what is below it. Each quick form stands for a command of the README."""
     run = 0
     left_out = []
-    for page in PAGES:
-        for command, text, printed in outcomes(page):
-            if printed is None:
-                left_out.append(command)
-                continue
-            assert printed == text, f"{page}: {command}\nprints\n{printed}and not\n{text}"
-            run += 1
-    assert run > 0
-    print(f"  {run} commands run")
+    with tempfile.TemporaryDirectory() as folder:
+        copied(folder)
+        files_of_users(folder)
+        seen = set()
+        for page in PAGES:
+            for command, text, printed in outcomes(page, folder):
+                seen.add(command)
+                if printed is None:
+                    left_out.append(command)
+                    continue
+                assert printed == text, f"{page}: {command}\nprints\n{printed}and not\n{text}"
+                run += 1
+    assert run > 0 and seen >= set(QUICK), set(QUICK) - seen
+    print(f"  {run} commands run, {len(QUICK)} of them by a quick form")
     if left_out:
         absent = [tool for tool in TOOLS if not shutil.which(tool)]
         leave_out(f"{len(left_out)} commands of the pages", ", ".join(absent))

@@ -1,7 +1,7 @@
 """A decoder and an encoder for CCITT fax images: ITU-T T.4 (Group 3) and T.6 (Group 4), as TIFF and PDF files have them.
 
-It calls a library that is proved: for every input the rows, results and byte counts are those that T.4 and T.6 prescribe, as this
-project has formalized them.
+It calls a library that is proved: unless memory runs out, the rows, results and byte counts are those that T.4 and T.6 prescribe, as
+this project has formalized them.
 
     >>> import hayro_ccitt
     >>> picture = hayro_ccitt.decode(b"\\x31\\xc0", columns=8, rows=1, k=-1)
@@ -10,7 +10,7 @@ project has formalized them.
     >>> hayro_ccitt.encode(picture.packed, 8, k=-1).hex()
     '31c0040040'
 """
-from .containers import decode_pdf, from_pdf, from_tiff
+from .containers import from_pdf, from_tiff
 from .decoding import Damage, Picture, Rows, decode, rows
 from .encoding import encode
 from .errors import (
@@ -45,7 +45,6 @@ __all__ = [
     "RowsFrom",
     "UnexpectedEof",
     "decode",
-    "decode_pdf",
     "encode",
     "from_pdf",
     "from_tiff",

@@ -25,7 +25,7 @@ pub struct EncodeSettings {
     /// Whether each byte's lowest bit comes first, as in TIFF files of FillOrder 2.
     pub low_first: bool,
     /// Whether lines have the fewest bits that encode them, rather than those of T.4's words and T.6's procedure, which other
-    /// encoders follow. Every decoder reads either.
+    /// encoders follow. This decoder reads either as the same rows.
     pub shortest: bool,
 }
 

@@ -6,8 +6,8 @@
 //! time, [`RowFeed`] from data that comes in pieces, and `RowsFrom`, with the feature `std`, from any `BufRead`.
 //!
 //! The names are those of the crate `hayro-ccitt` 0.5.0, and a program that uses that crate needs no change. What runs is a C
-//! library that is proved: for every input its rows, results and byte counts are those that a formalization of T.4 and T.6
-//! prescribes, and no input makes it panic, loop, or read outside of its memory.
+//! library that is proved: unless memory or room runs out, its rows, results and byte counts are those that a formalization of T.4
+//! and T.6 prescribes, and no input makes it panic, loop, or read outside of its memory.
 //!
 //! # Example
 //!
