@@ -2,8 +2,8 @@
    the library holds, allocations that are refused, and `must`, which ends the program.
 
    A block ends where the page after it begins; with a variable FRONT it begins where the page before it ends. What is left of the
-   block's own pages is filled, and looked at when it is taken back. A block of no bytes is null, and every other time the page
-   after.
+   block's own pages is filled, and looked at when it is taken back. A block of no bytes is in turn a null pointer
+   and the address of the page after it.
 
    The library's blocks are counted in `malloc`, `realloc` and `free`, below the library's allocator. Under a sanitizer, which has
    these functions itself, they are counted by its hooks, and none is refused; with UNCOUNTED, for valgrind, they are neither. */

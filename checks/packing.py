@@ -94,7 +94,7 @@ VERTICAL = (1, 3, 6, 7)
 
 
 def least_bits(columns, above, row):
-    """The fewest bits of the modes of a row of pixels, by trying all that are lawful at each place (T.4, 4.2.1.3)."""
+    """The fewest bits of the modes of a row of pixels, by trying all that are valid at each place (T.4, 4.2.1.3)."""
     known = {}
 
     def change(pixels, start):

@@ -1,4 +1,4 @@
-"""Lists of places in the code: where want of memory and a refusal may be made, and the decoder's loops.
+"""Lists of places in the code: where `OutOfMemory` and a refusal may be made, and the decoder's loops.
 
     python3 checks/places.py --write    writes the lists anew; look at what has changed
 

@@ -267,7 +267,7 @@ def damage():
 
 MODE, RUN = "a mode is expected (T.4, 4.2.1.3)", "a run is expected (T.4, 4.1.1)"
 # Arguments after `-c` and data, the line that the program writes, and its status: EOFB closes it, in either order, and with `s`, which
-# has no effect; the row limit closes it, and what follows isn't looked at; nothing closes it; pass mode to the end of a row of one pixel,
+# has no effect; the row limit closes it, and what follows is ignored; nothing closes it; pass mode to the end of a row of one pixel,
 # which is read strictly without a fault; five EOLs in place of RTC; and nothing at all.
 CHECKED = [
     ("g4 8 0 b", "31C0040040", "ok", 0),

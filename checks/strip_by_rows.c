@@ -116,8 +116,8 @@ static void each_case(const uint8_t *bitmap, size_t length, const fax_encode_set
             must(last == (is_refused ? FAX_ENCODE_OUT_OF_MEMORY : FAX_ENCODE_OK), "a refused allocation");
             must(is_refused || are_same(data, strip, told.bytes), "the bytes without a refusal");
             if (is_refused && first.is_open) {
-                must(fax_encode_row_changes(&first, no_changes, 0) == FAX_ENCODE_OUT_OF_MEMORY, "a row after want of memory");
-                must(fax_encode_finish(&first, data, told.bytes, &outcome) == FAX_ENCODE_OUT_OF_MEMORY && !outcome.bytes, "a strip after want of memory");
+                must(fax_encode_row_changes(&first, no_changes, 0) == FAX_ENCODE_OUT_OF_MEMORY, "a row after an allocation failed");
+                must(fax_encode_finish(&first, data, told.bytes, &outcome) == FAX_ENCODE_OUT_OF_MEMORY && !outcome.bytes, "a strip after an allocation failed");
             }
             fax_encode_close(&first);
             must(is_freed(), "all is freed without memory");

@@ -2,9 +2,9 @@
  *
  *   inline_image_filter ROWS SIZE HEIGHT [NAME VALUE].. < content > rest
  *
- * The content on standard input begins behind the image's `ID `, and is read in pieces of SIZE bytes. HEIGHT is the image's; NAME
+ * The content on standard input begins after the image's `ID `, and is read in pieces of SIZE bytes. HEIGHT is the image's; NAME
  * VALUE are parameters of CCITTFaxDecode: /K -1 /Columns 1728 /BlackIs1 true. The packed rows are written to the file ROWS, and what
- * follows the image's data to standard output: white space, `EI`, and all behind it, where the viewer goes on.
+ * follows the image's data to standard output: white space, `EI`, and all after it, where the viewer goes on.
  *
  * The data ends where the height is reached, or without /EndOfBlock where /Rows is; EOFB or RTC may end it earlier, and belong to
  * it. It also ends at a fault, and, even if rows are missing, at an `EI` that is between white space and that text follows: so
@@ -134,7 +134,7 @@ static void keep_unused(inline_image *it)
         it->rest.length = count;
 }
 
-/* Ends the data. Behind all rows EOFB or RTC may have been read, which have at least 24 bits; what is shorter isn't read. */
+/* Ends the data. After all rows EOFB or RTC may have been read, which have at least 24 bits; what is shorter isn't read. */
 static void end_data(inline_image *it)
 {
     enum { LEAST = 3 };
@@ -194,7 +194,7 @@ static void end_at_ei(inline_image *it)
         it->rest.length = 0;
 }
 
-/* Finds `EI` behind the data. */
+/* Finds `EI` after the data. */
 static int seek_ei(inline_image *it, int is_last)
 {
     size_t at = 0;
@@ -226,7 +226,7 @@ static int go_on(inline_image *it, int is_last)
     return it->has_failed ? CANNOT : it->has_ended ? seek_ei(it, is_last) : WANTS_MORE;
 }
 
-/* Takes the piece of the content that comes next. Behind the image no more is taken. */
+/* Takes the piece of the content that comes next. After the image no more is taken. */
 static int take_piece(inline_image *it, const uint8_t *piece, size_t length)
 {
     it->taken += length;

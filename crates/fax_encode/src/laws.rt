@@ -58,9 +58,10 @@ pub fn rows_are_chosen()
     ensures { RowsAreChosen }
 {}
 
-/// In two-dimensional Group 3 with EOLs and RTC, as it is encoded, damage within one line, tag and body, that leaves no EOL there,
-/// and a line that is broken or ends before its EOL as it is read, changes at most `k` rows for a lenient reading: that of the
-/// line, and those of the two-dimensional lines up to the next one-dimensional one (T.4, 4.2.1).
+/// In two-dimensional Group 3 with EOLs and RTC, as it is encoded, damage within one line, tag and body, changes at most `k` rows
+/// for a lenient reading: that of the line, and those of the two-dimensional lines up to the next one-dimensional one (T.4,
+/// 4.2.1). What replaces the line must be a line too: after its tag is a one and no EOL, the tag isn't that of RTC, and as it is
+/// read the line is broken or ends before its EOL.
 pub fn damage_reaches_k_rows()
     ensures { DamageReachesKRows }
 {}
@@ -69,8 +70,8 @@ pub fn damage_reaches_k_rows()
 /// other encoding of them, with the same alignment, has fewer bits. Where T.4's words of a run, or the modes of the procedure of
 /// T.4, 4.2.1.3.2 with those words, are as short, they are the shortest. What an encoder chooses with
 /// [`Effort::Shortest`](crate::Effort) has no more bits than any lines that encode the rows with the same encoding, EOLs, fill,
-/// alignment and end, in two-dimensional Group 3 than lines of the same kinds; there a line that may be two-dimensional has no more
-/// than any two-dimensional one, and a line of one-dimensional Group 3 no more than any one-dimensional one.
+/// alignment and end. In two-dimensional Group 3 that is said of lines of the same kinds, and there a line that may be
+/// two-dimensional has no more bits than any two-dimensional one. A line of one-dimensional Group 3 has no more than any other.
 pub fn shortest()
     ensures runs { ShortestRuns }
     ensures lines { ShortestLines }

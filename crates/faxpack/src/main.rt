@@ -1,12 +1,8 @@
 //! `faxpack`: encodes a bitmap from standard input as a fax image, and writes the strip to standard output.
 //!
-//! It is called as `faxpack MODE FLAGS`, with a PBM picture (P4) on standard input, or as `faxpack -o MODE COLUMNS ROWS
-//! FLAGS`, with the rows that `faxrows -o` writes for the same arguments. The mode is `g4`, `1d` or `2d`, columns and rows
-//! are decimal numbers, 0 rows for all, and the flags are `-` or letters: `b` for EOFB or RTC after the last line, `l` for
-//! an EOL before each, `f` for fill before EOLs so that they end at whole bytes, `a` for aligned rows, `r` for the lowest
-//! bit of each byte first, `m` for lines of the fewest bits; `s`, with which `faxrows` reads strictly, has no
-//! effect. A last argument may be the K of
-//! two-dimensional lines, which is 4 without it.
+//! It is called as `faxpack MODE FLAGS`, with a PBM picture (P4) on standard input, or as `faxpack -o MODE COLUMNS ROWS FLAGS`,
+//! with the rows that `faxrows -o` writes for the same arguments. A last argument may be the K of two-dimensional lines, which is
+//! 4 without it. `--help` explains the arguments.
 #![tactic(auto)]
 
 ghost use Rattle.std.specs.Prelude.{◌≡◌, ◌⊎◌, IfOk};

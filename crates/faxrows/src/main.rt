@@ -1,10 +1,8 @@
 //! `faxrows`: decodes a fax image from standard input, and writes its rows as text to standard output.
 //!
-//! It is called as `faxrows MODE COLUMNS ROWS FLAGS`, with `-o` before these arguments to write the rows as a bitmap of one bit a
-//! pixel, with `-i` to write each row as it is read, with `-d` to write the damage, or with `-c` to write whether every decoder
-//! must read the data back as the same rows. The mode is `g4`, `1d` or `2d`, columns and rows are decimal numbers, and the flags
-//! are `-` or letters: `b` if EOFB or RTC may end the data, `l` if EOLs precede its lines, `a` for aligned rows, `s` for a strict
-//! reading, `r` for the lowest bit of each byte first.
+//! It is called as `faxrows MODE COLUMNS ROWS FLAGS`. Before these arguments `-o` writes the rows as a bitmap, `-i` each row as
+//! it is read, `-d` the damage, and `-c` whether every decoder must read the data back as the same rows. `--help` explains the
+//! arguments.
 #![tactic(auto)]
 
 ghost use Rattle.std.specs.Prelude.{◌≡◌, IfOk};

@@ -20,12 +20,15 @@ use hayro_ccitt::RowReader;
 use std::alloc::Global;
 use std::io::{Read, Write};
 
-/// Reads all that the reader has, decodes it row by row as the arguments mean, and writes the damage instead of the rows:
-/// for each row that was repaired a line of `damaged`, the row's index, the offset in bits at which its line begins, and
-/// the fault; for each row in which a run was cut a line of `cut`, the row's index, and the offset in bits at which its
-/// line begins; for each EOL that was missed a line of `missed`, the index of the row before it, and the offset in bits at
-/// which it is expected; and then `ok`, the rows, the number of them that were repaired, and the byte count, or `error`, the index of
-/// the row that can't be read, the offset in bits at which its line begins or its EOL is missing, and the error.
+/// Reads all that the reader has, decodes it row by row as the arguments mean, and writes the damage instead of the rows. Offsets
+/// are in bits.
+///
+/// - `damaged`, the row's index, the offset of its line, and the fault: for each row that was repaired.
+/// - `cut`, the row's index, and the offset of its line: for each row in which a run was cut.
+/// - `missed`, the index of the row before, and the offset at which the EOL is expected: for each EOL that was missed.
+///
+/// The last line is `ok`, the number of rows, how many of them were repaired, and the byte count; or `error`, the index of the
+/// row that can't be read, the offset at which its line begins or its EOL is missing, and the fault.
 ///
 /// # Errors
 ///

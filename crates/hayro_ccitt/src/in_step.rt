@@ -173,7 +173,7 @@ fn are_unlimited(settings: DecodeSettings) -> bool
 /// Returns from which bit on the rows of damaged data are the same again, if the damage lies before the EOL that begins at
 /// `to`: the offset after the next EOL (T.4, 4.1.2). It is `None`, and nothing is said, if no EOL begins at `to` or another
 /// follows it at once, and if the line between the two EOLs, with the context's `columns`, reaches into the last twelve bits
-/// of the latter. In two-dimensional data the modes of that line show where it ends, and a one-dimensional line, RTC with
+/// of the second. In two-dimensional data the modes of that line show where it ends, and a one-dimensional line, RTC with
 /// `end_of_block` or the end must come after it; else it is `None` too, and with other settings than those of lenient
 /// Group 3 data without a row limit.
 ///

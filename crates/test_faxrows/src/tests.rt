@@ -224,7 +224,7 @@ fn checks_each_rule(rt: HostRuntime) {
         g4 8 0 b: 31C0040040: Ok(Good) "ok\n"
         g4 8 0 br: 8C03200002: Ok(Good) "ok\n"
         g4 8 0 bs: 31C0040040: Ok(Good) "ok\n"
-        // What follows the last row or EOFB isn't looked at.
+        // What follows the last row or EOFB is ignored.
         g4 8 1 -: 31C0FF: Ok(Good) "ok\n"
         // Nothing closes the picture.
         g4 8 0 -: 31C0: Ok(Faulty) "violation 10 a mode is expected (T.4, 4.2.1.3)\n"
