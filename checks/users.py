@@ -66,14 +66,6 @@ def interpreter(*modules):
     return None
 
 
-def with_python_package(folder):
-    """The environment in which `python3` finds the package and the library in a copy of the repository, and pikepdf or pypdf if some
-    interpreter does."""
-    found = interpreter("pikepdf", "pypdf") or sys.executable
-    places = {"PYTHONPATH": f"{folder}/bindings/python", "HAYRO_CCITT_LIBRARY": f"{folder}/build/libhayro_ccitt.so"}
-    return {**os.environ, **places, "PATH": f"{os.path.dirname(found)}:{os.environ['PATH']}"}
-
-
 def commands(page):
     """Each command of a page's blocks, and the text below it."""
     with open(page, encoding="utf-8") as file:
@@ -123,7 +115,9 @@ def outcomes(page, folder):
             lost += absent
             yield command, text, None
             continue
-        environment = with_python_package(folder) if "-m hayro_ccitt" in command else dict(os.environ)
+        environment = dict(os.environ)
+        if "-m hayro_ccitt" in command:
+            environment["PATH"] = f"{os.path.dirname(interpreter('pikepdf', 'pypdf') or sys.executable)}:{environment['PATH']}"
         if "$HOME" in command:
             environment["HOME"] = f"{folder}/home"
         done = subprocess.run(

@@ -10,7 +10,7 @@ this project has formalized them.
     >>> hayro_ccitt.encode(picture.packed, 8, k=-1).hex()
     '31c0040040'
 """
-from .containers import from_pdf, from_tiff
+from .containers import decode_pdf, from_pdf, from_tiff
 from .decoding import Damage, Picture, Rows, decode, rows
 from .encoding import encode
 from .errors import (
@@ -45,6 +45,7 @@ __all__ = [
     "RowsFrom",
     "UnexpectedEof",
     "decode",
+    "decode_pdf",
     "encode",
     "from_pdf",
     "from_tiff",
