@@ -36,7 +36,7 @@ def encode(
         low_first: whether each byte's lowest bit comes first, as in TIFF files of FillOrder 2.
         eols_end_at_bytes: whether fill precedes EOLs, so that they end at whole bytes, as TIFF's T4Options bit 2 says.
         shortest: whether lines have the fewest bits that encode them, rather than those of T.4's make-up codes and T.6's
-            procedure. Every decoder reads either.
+            procedure. `decode` reads either as the same rows.
         stride: the bytes from the start of a row to the start of the next one; 0: those of a row, (`columns` + 7) // 8.
 
     Raises:

@@ -309,7 +309,7 @@ pub(crate) fn decode_packed(data: &[u8], settings: &Settings, bitmap: &mut [u8])
     (status, outcome)
 }
 
-/// Lists the rows in the room behind the numbers of `lists`, of each the number of its changes and then the changes; and returns the
+/// Lists the rows in the room after the numbers of `lists`, of each the number of its changes and then the changes; and returns the
 /// status and the outcome.
 pub(crate) fn decode_changes(
     data: &[u8],

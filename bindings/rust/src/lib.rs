@@ -441,7 +441,7 @@ impl DecoderContext {
         self.missed_eols
     }
 
-    /// Returns the number of rows of the last image in which a lenient reading cut a run at the row's end. If this,
+    /// Returns the number of rows of the last image, not repaired, in which a lenient reading cut a run at the row's end. If this,
     /// [`damaged_rows`](Self::damaged_rows) and [`missed_eols`](Self::missed_eols) are 0 after a decoding without an error, a strict
     /// reading ends without one too; and only then.
     pub fn cut_rows(&self) -> u64 {

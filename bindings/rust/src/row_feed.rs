@@ -58,7 +58,7 @@ impl From<DecodeError> for FeedError {
 
 /// Reads the rows of an image from data that comes in pieces, each as soon as no data that follows can change its line.
 ///
-/// The rows, and what is told of them, are those of a [`RowReader`](crate::RowReader) of all the data, however it is cut. Of the
+/// The rows, and what is reported of them, are those of a [`RowReader`](crate::RowReader) of all the data, however it is cut. Of the
 /// data the bytes that aren't read yet are kept; what isn't known yet is read again when more was fed, so few long pieces take less
 /// time than many short ones. A row is borrowed until the next call.
 ///
@@ -170,7 +170,7 @@ impl RowFeed {
     }
 
     /// Reads the next rows, as many as a bitmap has room for, and packs them into it from its front, each as
-    /// [`next_packed`](Self::next_packed) does. Returns how many: none only if there is no room for one. The bytes behind them
+    /// [`next_packed`](Self::next_packed) does. Returns how many: none only if there is no room for one. The bytes after them
     /// keep their values. A row costs less than by a call of its own.
     ///
     /// If there is no room for a row that is known, it was read too: it is the last row, and the next call returns it.
@@ -239,7 +239,7 @@ impl RowFeed {
         self.feed.unused(&mut [])
     }
 
-    /// Returns what the last call that read tells of the rows.
+    /// Returns what the last call that read reports of the rows.
     pub(crate) fn told(&self) -> &c::Row {
         &self.feed.row
     }

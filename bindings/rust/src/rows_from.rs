@@ -60,7 +60,7 @@ impl From<ReadError> for io::Error {
 /// Reads the rows of an image from a [`BufRead`] one at a time, each as soon as no data that follows can change its line. It
 /// needs the feature `std`.
 ///
-/// The rows, and what is told of them, are those of a [`RowReader`](crate::RowReader) of all that the reader gives. A row is
+/// The rows, and what is reported of them, are those of a [`RowReader`](crate::RowReader) of all that the reader gives. A row is
 /// borrowed until the next call. The data of a [`Read`] comes by a [`BufReader`](io::BufReader).
 ///
 /// # What is consumed
@@ -70,11 +70,11 @@ impl From<ReadError> for io::Error {
 /// `unused` is empty, what is consumed is the image to the byte, and what follows it can be read from the same reader. Else
 /// [`into_rest`](Self::into_rest) reads all that follows.
 ///
-/// `unused` isn't empty where bytes behind those read had to be looked at, the reader showed no more of them, and a `BufRead` shows
-/// more only if these are consumed. Bytes behind an image are looked at as far as they could belong to it:
+/// `unused` isn't empty where bytes after those read had to be looked at, the reader showed no more of them, and a `BufRead` shows
+/// more only if these are consumed. Bytes after an image are looked at as far as they could belong to it:
 ///
-/// - none behind EOFB, if `end_of_block` is set (T.6, 2.4.1.1);
-/// - else, behind the last row or RTC, zeros up to a one that isn't part of an EOL: all EOLs there are the image's, also that before the
+/// - none after EOFB, if `end_of_block` is set (T.6, 2.4.1.1);
+/// - else, after the last row or RTC, zeros up to a one that isn't part of an EOL: all EOLs there are the image's, also that before the
 ///   first line of another one (T.4, 4.1.2 and 4.1.4);
 /// - where an EOL is missing or a line is damaged in lenient Group 3 with EOLs, all bytes up to the next EOL, or to the end of the
 ///   data.
@@ -118,7 +118,7 @@ impl<R: BufRead> RowsFrom<R> {
         Self::with_feed(reader, RowFeed::new_low_first(settings))
     }
 
-    /// Creates a reader of the data that was fed, and of what the reader gives behind it. If the data is finished, nothing is read.
+    /// Creates a reader of the data that was fed, and of what the reader gives after it. If the data is finished, nothing is read.
     pub fn with_feed(reader: R, rows: RowFeed) -> Self {
         Self {
             reader,
@@ -210,7 +210,7 @@ impl<R: BufRead> RowsFrom<R> {
         bytes
     }
 
-    /// Returns the reader. What it gives next comes behind the bytes of [`unused`](Self::unused).
+    /// Returns the reader. What it gives next comes after the bytes of [`unused`](Self::unused).
     pub fn into_inner(self) -> R {
         self.reader
     }

@@ -1,4 +1,4 @@
-//! What is told of the rows that were read.
+//! What is reported of the rows that were read.
 
 /// The methods of every reader of rows, over the outcome of its last call, which C fills in.
 macro_rules! told_of_rows {
@@ -39,12 +39,12 @@ macro_rules! told_of_rows {
             }
         }
 
-        /// Returns the number of rows read so far in which a run was cut at the row's end, where a strict reading fails.
+        /// Returns the number of rows read so far, not repaired, in which a run was cut at the row's end, where a strict reading fails.
         pub fn cut_rows(&$this) -> u64 {
             $row.cut_rows
         }
 
-        /// Returns whether a run of the last row was cut at the row's end.
+        /// Returns whether a run of the last row was cut at the row's end, and the row was not repaired.
         pub fn is_cut(&$this) -> bool {
             $row.is_cut != 0
         }

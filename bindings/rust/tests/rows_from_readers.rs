@@ -118,8 +118,8 @@ fn read_all<T, R: BufRead>(
         match read(rows) {
             Ok(None) => assert_eq!(end, Ok(())),
             Err(ReadError::Data(error)) => assert_eq!(end, Err(error)),
-            Ok(Some(_)) => panic!("a row behind the end"),
-            Err(error) => panic!("{error} behind the end"),
+            Ok(Some(_)) => panic!("a row after the end"),
+            Err(error) => panic!("{error} after the end"),
         }
         return Reading {
             rows: found,
@@ -324,7 +324,7 @@ fn pages_that_rtc_closes_follow_one_another() {
 /// The first EOL of a page that follows RTC directly belongs to RTC, as in `decode`. Where EOLs end at whole bytes, the rows of both
 /// pages are there all the same.
 #[test]
-fn the_eol_behind_rtc_belongs_to_it() {
+fn the_eol_after_rtc_belongs_to_it() {
     let (data, settings) = page(EncodingMode::Group3_1D, true, 9);
     let two = data.repeat(2);
     assert_eq!(data[..2], [0x00, 0x01]);
@@ -339,7 +339,7 @@ fn the_eol_behind_rtc_belongs_to_it() {
     }
 }
 
-/// Zeros behind the last row are looked at, since an EOL could follow them: those of a buffer that shows no more are unused, if none does.
+/// Zeros after the last row are looked at, since an EOL could follow them: those of a buffer that shows no more are unused, if none does.
 #[test]
 fn what_was_looked_at_is_unused() {
     let settings = DecodeSettings {

@@ -194,7 +194,7 @@ fn no_row_is_packed_without_room() {
     assert_eq!(feed.next_rows_packed(&mut bitmap), Ok(Fed::End));
 }
 
-/// A row comes once its last byte was fed, unless its line was damaged or cut, or bits behind it say what it is.
+/// A row comes once its last byte was fed, unless its line was damaged or cut, or bits after it say what it is.
 #[test]
 fn rows_come_as_soon_as_they_are_known() {
     let mut rows = 0;
@@ -271,7 +271,7 @@ fn a_fault_stays() {
     assert_eq!(FeedError::from(DecodeError::InvalidCode), fault);
 }
 
-/// Rows may be passed to a sink. If it panics, the feed is behind the row that it got.
+/// Rows may be passed to a sink. If it panics, the feed stands after the row that it got.
 #[test]
 fn a_panic_of_a_sink_leaves_the_feed() {
     let mut feed = RowFeed::new(settings(0));

@@ -159,7 +159,7 @@ impl Decoder for Panicking {
     }
 }
 
-/// What is told of the rows that were read.
+/// What is reported of the rows that were read.
 #[derive(Clone, Debug, PartialEq)]
 pub struct Told {
     pub rows: u64,
@@ -171,7 +171,7 @@ pub struct Told {
     pub damage: Option<DecodeError>,
 }
 
-/// What a reader of rows tells.
+/// What a reader of rows reports.
 macro_rules! told {
     ($rows:expr) => {
         crate::common::Told {
@@ -186,7 +186,7 @@ macro_rules! told {
     };
 }
 
-/// The rows of some data, each with what is told of it, and how they end.
+/// The rows of some data, each with what is reported of it, and how they end.
 #[derive(Debug, PartialEq)]
 pub struct Reading<T> {
     pub rows: Vec<(Vec<T>, Told)>,
