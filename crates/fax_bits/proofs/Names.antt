@@ -9,7 +9,7 @@ pub use Rattle.fax_bits.specs.EndOfLine.{past_tag, tagged_eols}
 pub use Rattle.fax_bits.specs.Faults.{ByKind, ErrorKind, IsFault, is_memory, kind_of, misses_end, no_memory}
 pub use Rattle.fax_bits.specs.LookUps.{AreEntriesOf, lookup_bits}
 pub use Rattle.fax_bits.specs.LookUps.{AreEntries, ArePairs, ColorEntries, entries_of, entry_of, is_row, longest_agreement}
-pub use Rattle.fax_bits.specs.LookUps.{mode_told, padded, pair_entry, run_or_none, telling_bits, index_bits}
+pub use Rattle.fax_bits.specs.LookUps.{mode_in, padded, pair_entry, run_or_none, telling_bits, index_bits}
 pub use Rattle.fax_bits.specs.LookUps.{with_table_row, with_table_rows}
 pub use Rattle.fax_bits.specs.Ones.{holds_one}
 pub use Rattle.fax_bits.specs.Repetition.{Reaches, Turn, gathered, repeated}

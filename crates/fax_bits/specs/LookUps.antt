@@ -88,8 +88,8 @@ unfoldable pub seven_bits : ℕ → Bits
 seven_bits number = low_bits 7 number
 
 -- the mode whose word is here, `None` where there is none, and how many bits decide it (T.4, 4.2.1.2)
-abbrev pub mode_told : Bits → Option Mode × ℕ
-mode_told here = (option_map (λ found. found.0) (word_at mode_codes here), telling_bits mode_codes here)
+abbrev pub mode_in : Bits → Option Mode × ℕ
+mode_in here = (option_map (λ found. found.0) (word_at mode_codes here), telling_bits mode_codes here)
 
 -- ---- auxiliary: the entries while a table of triples (run, number of bits, word as a number) is filled
 

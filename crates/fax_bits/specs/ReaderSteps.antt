@@ -28,7 +28,7 @@ HasBitsFrom bits place word = (k : ℕ) → k < 64 → bit_of word (63 - k) ≡ 
 
 -- the bits in a window are bits of the data
 abbrev pub AreThere : AtHand → Type 0
-AreThere hand = hand.at.place + hand.left ≤ length hand.at.bits
+AreThere window = window.at.place + window.left ≤ length window.at.bits
 
 -- ---- ticks of EOLs
 

@@ -587,7 +587,7 @@ impl<'a> WordsAhead<'a> {
 /// The bits of some bytes and an offset among them, as the drawing of a line keeps them for itself: the next ones are
 /// in a window.
 #[derive(Drop)]
-pub struct BitsAtHand<'a> {
+pub struct Window<'a> {
     data: &'a [u8],
     /// The next bits, the first in the highest position.
     window: u64,
@@ -598,7 +598,7 @@ pub struct BitsAtHand<'a> {
     order: BitOrder,
 }
 
-impl<'a> Model for BitsAtHand<'a> {
+impl<'a> Model for Window<'a> {
     ghost use Rattle.fax_bits.specs.Window.{AtHand, IsAtHand};
     ghost use Rattle.fax_bits.specs.Bits.{bits_in};
     ghost use Rattle.std.specs.Prelude.{◌-◌};
@@ -612,10 +612,10 @@ impl<'a> Model for BitsAtHand<'a> {
 
 /// Returns the same bits at the same offset, none of them at hand yet.
 #[inline(always)]
-pub(crate) fn none_at_hand<'a>(reader: &BitReader<'a>) -> BitsAtHand<'a>
+pub(crate) fn none_at_hand<'a>(reader: &BitReader<'a>) -> Window<'a>
     ensures { result ≡ record { at = reader.now; left = 0 } }
 {
-    BitsAtHand {
+    Window {
         data: reader.data,
         window: 0,
         left: 0,
@@ -627,7 +627,7 @@ pub(crate) fn none_at_hand<'a>(reader: &BitReader<'a>) -> BitsAtHand<'a>
 /// Returns the same bits at the same offset with those of the reader's window at hand, 33 at least; or none of them near the end of
 /// the data.
 #[inline(always)]
-pub fn window_at_hand<'a>(reader: &BitReader<'a>) -> BitsAtHand<'a>
+pub fn window_at_hand<'a>(reader: &BitReader<'a>) -> Window<'a>
     ensures same { result.at ≡ reader.now }
     ensures few { result.left ≤ 64 }
 {
@@ -635,7 +635,7 @@ pub fn window_at_hand<'a>(reader: &BitReader<'a>) -> BitsAtHand<'a>
     if limit > reader.data.len() * 8 {
         return none_at_hand(reader);
     }
-    BitsAtHand {
+    Window {
         data: reader.data,
         window: reader.window,
         left: limit - reader.place,
@@ -646,11 +646,11 @@ pub fn window_at_hand<'a>(reader: &BitReader<'a>) -> BitsAtHand<'a>
 
 /// Returns the same bits at the same offset, with an empty window, or `None` if the bits are in another order.
 #[inline(always)]
-pub fn at_hand<'a>(reader: &BitReader<'a>, order: BitOrder) -> Option<BitsAtHand<'a>>
-    ensures same { IfSome result (λ hand. hand ≡ record { at = reader.now; left = 0 }) }
+pub fn at_hand<'a>(reader: &BitReader<'a>, order: BitOrder) -> Option<Window<'a>>
+    ensures same { IfSome result (λ window. window ≡ record { at = reader.now; left = 0 }) }
 {
     if reader.order == order {
-        Some(BitsAtHand {
+        Some(Window {
             data: reader.data,
             window: 0,
             left: 0,
@@ -726,11 +726,11 @@ pub fn pass_more_bits(reader: &mut BitReader<'_>, bits: u64, count: usize) -> bo
 
 /// Moves to where the same bits at hand are.
 #[inline(always)]
-pub fn go_to(reader: &mut BitReader<'_>, hand: &BitsAtHand<'_>)
-    requires { hand.now.at.bits ≡ reader.old.bits }
-    ensures { reader.new ≡ hand.now.at }
+pub fn go_to(reader: &mut BitReader<'_>, window: &Window<'_>)
+    requires { window.now.at.bits ≡ reader.old.bits }
+    ensures { reader.new ≡ window.now.at }
 {
-    let place = hand.bit_pos();
+    let place = window.bit_pos();
     if place >= reader.place && place - reader.place <= 32 {
         // The offset is within the data.
         let _ = reader.consume(place - reader.place);
@@ -742,25 +742,25 @@ pub fn go_to(reader: &mut BitReader<'_>, hand: &BitsAtHand<'_>)
 /// Moves to where the same bits at hand are, as `go_to` does, with their window, if it has 33 bits at least. The next line then begins
 /// with bits that are in a register, where `go_to` has it wait for a load at an offset that it just stored.
 #[inline(always)]
-pub fn go_on_with(reader: &mut BitReader<'_>, hand: &BitsAtHand<'_>)
-    requires { hand.now.at.bits ≡ reader.old.bits }
-    ensures { reader.new ≡ hand.now.at }
+pub fn go_on_with(reader: &mut BitReader<'_>, window: &Window<'_>)
+    requires { window.now.at.bits ≡ reader.old.bits }
+    ensures { reader.new ≡ window.now.at }
 {
-    if hand.left >= 33 && hand.limit >= 64 {
-        let edge = (hand.limit + 7) / 8 - 8;
+    if window.left >= 33 && window.limit >= 64 {
+        let edge = (window.limit + 7) / 8 - 8;
         if edge + 8 <= reader.data.len() {
             reader.ahead = whole_word(&reader.data[edge..], reader.order);
             reader.edge = edge;
-            reader.place = hand.bit_pos();
-            reader.limit = hand.limit - 33;
-            reader.window = hand.window;
+            reader.place = window.bit_pos();
+            reader.limit = window.limit - 33;
+            reader.window = window.window;
             return;
         }
     }
-    go_to(reader, hand);
+    go_to(reader, window);
 }
 
-impl<'a> BitsAtHand<'a> {
+impl<'a> Window<'a> {
     /// Fills the window if eight bytes are left; otherwise nothing changes.
     #[inline(always)]
     pub fn refill(&mut self) -> bool
@@ -806,7 +806,7 @@ impl<'a> BitsAtHand<'a> {
 
     /// Returns the twelve bits after the next `skip`, as a number.
     #[inline(always)]
-    pub fn twelve(&self, skip: usize) -> usize
+    pub fn peek_12(&self, skip: usize) -> usize
         requires within { skip + 12 ≤ self.now.left }
         ensures few { result < 4096 }
         ensures there { AreThere self.now }
@@ -817,7 +817,7 @@ impl<'a> BitsAtHand<'a> {
 
     /// Returns the next ten bits, as a number.
     #[inline(always)]
-    pub fn ten(&self) -> usize
+    pub fn peek_10(&self) -> usize
         requires within { 10 ≤ self.now.left }
         ensures few { result < 1024 }
         ensures there { AreThere self.now }
@@ -828,10 +828,10 @@ impl<'a> BitsAtHand<'a> {
 
     /// Returns a copy.
     #[inline(always)]
-    pub fn copy(&self) -> BitsAtHand<'a>
+    pub fn copy(&self) -> Window<'a>
         ensures { result ≡ self.now }
     {
-        BitsAtHand {
+        Window {
             data: self.data,
             window: self.window,
             left: self.left,
@@ -842,7 +842,7 @@ impl<'a> BitsAtHand<'a> {
 
     /// Returns the next seven bits, as a number.
     #[inline(always)]
-    pub fn seven(&self) -> u32
+    pub fn peek_7(&self) -> u32
         requires within { 7 ≤ self.now.left }
         ensures few { result < 128 }
         ensures there { AreThere self.now }
@@ -1025,7 +1025,7 @@ impl<'a> BitScanner<'a> {
 
     /// Returns the next seven bits, padded with zeros, as a number.
     #[inline(always)]
-    pub(crate) fn seven(&self) -> u32
+    pub(crate) fn peek_7(&self) -> u32
         ensures few { result < 128 }
         ensures bits { seven_bits result ≡ padded 7 (here self.now) }
     {

@@ -12,7 +12,7 @@ ghost use Rattle.fax_bits.specs.CodeReading.{read_code, leading_zeros};
 ghost use Rattle.fax_bits.specs.EndOfLine.{after_eol, eols, all_eols, next_eol, past_tag, eols_with_tags, pass_last_tag};
 ghost use Rattle.fax_bits.specs.EndOfLine.{tagged_eols};
 ghost use Rattle.fax_bits.specs.Ones.{holds_one};
-ghost use Rattle.fax_bits.specs.LookUps.{entry_of, lookup_bits, mode_told, padded, seven_bits};
+ghost use Rattle.fax_bits.specs.LookUps.{entry_of, lookup_bits, mode_in, padded, seven_bits};
 ghost use Rattle.fax_bits.specs.ReaderSteps.{CountsBits, CountsBitsAtLeast, CountsNoEol, Reads};
 ghost use Rattle.fax_bits.specs.Runs.{codes_of, opposite, read_run, run_from};
 ghost use Rattle.fax_bits.specs.WordsHere.{IsWordHere, RunGoesOn};
@@ -21,7 +21,7 @@ ghost use Rattle.fax_bits.specs.Ticks.{run_found, missed, looked, looked_at_tag}
 
 use crate::bit_reader::{BitReader, BitScanner, at_bit, copy, go_to, none_at_hand};
 use crate::tables::{LOOKUP_INVALID, Tables};
-use crate::words_at_hand::pass_makeup_words;
+use crate::window_words::pass_makeup_words;
 use crate::{DecodeError, Result};
 use std::marker::Model;
 
@@ -131,7 +131,7 @@ pub fn tick_times(ticks: &mut Ticks, n: usize)
 #[inline(always)]
 pub fn mode_of(bits: u32) -> (Option<Mode>, usize)
     requires { bits < 128 }
-    ensures told { result ≡ mode_told (seven_bits bits) }
+    ensures found { result ≡ mode_in (seven_bits bits) }
     ensures few { result.1 ≤ 7 }
     ensures v0 { result.0 ≡ Some (Mode.Vertical (pos 0)) → result.1 ≡ 1 }
     ensures horizontal { result.0 ≡ Some Mode.Horizontal → result.1 ≡ 3 }
@@ -220,9 +220,9 @@ impl<'a> BitReader<'a> {
         ensures on { RunGoesOn color start (here self.old) result (here self.new) ticks.old ticks.new }
         ensures same_bits { self.new.bits ≡ self.old.bits }
     {
-        let mut hand = none_at_hand(self);
-        let sum = pass_makeup_words(&mut hand, color, tables.lookup(color), start, ticks);
-        go_to(self, &hand);
+        let mut window = none_at_hand(self);
+        let sum = pass_makeup_words(&mut window, color, tables.lookup(color), start, ticks);
+        go_to(self, &window);
         sum
     }
 
@@ -805,7 +805,7 @@ impl<'a> BitScanner<'a> {
         ensures same_bits { self.new.bits ≡ self.old.bits }
         ensures unchanged { result ≡ false → self.new ≡ self.old }
     {
-        let (mode, _) = mode_of(self.seven());
+        let (mode, _) = mode_of(self.peek_7());
         if !is_v0(mode) {
             return false;
         }
@@ -827,7 +827,7 @@ impl<'a> BitScanner<'a> {
         ensures ticks { ticks.new ≡ ticks.old + 1 }
     {
         // Six zeros are separate, as mostly a word ends the data there: what follows is compiled for them alone.
-        if self.seven() < 2 {
+        if self.peek_7() < 2 {
             return self.mode_here(ticks);
         }
         self.mode_here(ticks)
@@ -841,7 +841,7 @@ impl<'a> BitScanner<'a> {
         ensures ticks { ticks.new ≡ ticks.old + 1 }
     {
         ticks.tick();
-        let (mode, bits) = mode_of(self.seven());
+        let (mode, bits) = mode_of(self.peek_7());
         // If the data ends inside a word these bits aren't there.
         self.consume(bits)?;
         match mode {

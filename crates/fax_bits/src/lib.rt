@@ -1,7 +1,7 @@
 //! The bits of CCITT fax data and the words among them: ITU-T T.4 (Group 3) and T.6 (Group 4).
 //!
 //! A [`bit_reader::BitReader`] is the bits of some bytes in either order and an offset among them. [`codes`] reads runs, modes and
-//! EOLs from it by the lists of [`tables`], each with its count of work, and [`words_at_hand`], [`pairs`] and [`mode_groups`]
+//! EOLs from it by the lists of [`tables`], each with its count of work, and [`window_words`], [`pairs`] and [`mode_groups`]
 //! read words that are in the window. The settings and the errors of decoding are here too. What of this a user calls,
 //! `hayro_ccitt` passes on.
 #![tactic(auto)]
@@ -17,7 +17,7 @@ pub mod mode_groups;
 pub mod pairs;
 mod settings;
 pub mod tables;
-pub mod words_at_hand;
+pub mod window_words;
 
 pub use error::{DecodeError, Result};
 pub use settings::{DecodeSettings, EncodingMode};

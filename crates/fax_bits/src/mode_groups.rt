@@ -8,7 +8,7 @@ ghost use Rattle.fax_bits.specs.CodeReading.{read_code};
 ghost use Rattle.fax_bits.specs.ModeGroups.{AreNextWords, AreRows, first_mode, group_row, offset_at, width_of, words_of};
 ghost use Rattle.fax_bits.specs.Window.{moved};
 
-use crate::bit_reader::BitsAtHand;
+use crate::bit_reader::Window;
 use crate::codes::Mode;
 use std::marker::Model;
 
@@ -33,16 +33,18 @@ impl Model for ModeGroup {
 
 /// Returns the modes that the next ten bits begin with.
 #[inline(always)]
-pub fn group_at_hand(hand: &BitsAtHand<'_>) -> ModeGroup
-    requires within { 10 ≤ hand.now.left }
-    ensures words { AreNextWords (words_of result) hand.now.at }
+pub fn group_at_hand(window: &Window<'_>) -> ModeGroup
+    requires within { 10 ≤ window.now.left }
+    ensures words { AreNextWords (words_of result) window.now.at }
     ensures horizontal { first_mode result ≡ Some Mode.Horizontal
-        → read_code mode_codes (here hand.now.at) ≡ Ok (Mode.Horizontal, here (moved 3 hand.now.at)) }
+        → read_code mode_codes (here window.now.at) ≡ Ok (Mode.Horizontal, here (moved 3 window.now.at)) }
     ensures pass { first_mode result ≡ Some Mode.Pass
-        → read_code mode_codes (here hand.now.at) ≡ Ok (Mode.Pass, here (moved 4 hand.now.at)) }
-    ensures there { hand.now.at.place + hand.now.left ≤ length hand.now.at.bits }
+        → read_code mode_codes (here window.now.at) ≡ Ok (Mode.Pass, here (moved 4 window.now.at)) }
+    ensures there { window.now.at.place + window.now.left ≤ length window.now.at.bits }
 {
-    ModeGroup { bits: hand.ten() }
+    ModeGroup {
+        bits: window.peek_10(),
+    }
 }
 
 /// Returns the rows of the look-up.

@@ -12,7 +12,7 @@ pub use Rattle.fax_lines.specs.DrawnModes.{CanDraw, Draws}
 pub use Rattle.fax_bits.specs.EndOfLine.{after_eol}
 pub use Rattle.fax_reading.specs.Lines.{Line, Pen, draw_2d, draw_mode, draw_run, drawn, found_1d, line_1d, line_2d, start}
 pub use Rattle.fax_reading.specs.Lines.{turn_following, words_after, words_drawn}
-pub use Rattle.fax_bits.specs.LookUps.{is_short, pair_entry, mode_told, padded}
+pub use Rattle.fax_bits.specs.LookUps.{is_short, pair_entry, mode_in, padded}
 pub use Rattle.fax_reading.specs.PlainReading.{line_here}
 pub use Rattle.fax_bits.specs.Repetition.{Turn}
 pub use Rattle.fax_reading.specs.Rows.{AreChanges, AscendFrom, Row, b1, b2, changes, is_black, opposite, paint, pixels, right_of}
@@ -33,7 +33,7 @@ pub use Rattle.fax_lines.specs.declared.modes.CodingLine.{CodingLine}
 pub use Rattle.fax_lines.specs.declared.modes.Stroke.{Stroke}
 pub use Rattle.fax_bits.specs.declared.settings.DecodeSettings.{DecodeSettings}
 pub use Rattle.fax_bits.specs.declared.settings.EncodingMode.TheVariants.{Group3_1D, Group3_2D, Group4}
-pub use Rattle.fax_lines.specs.declared.usual.TwoRuns.{TwoRuns}
+pub use Rattle.fax_lines.specs.declared.run_pairs.TwoRuns.{TwoRuns}
 pub use Rattle.std.proofs.Common.{Bool, Err, List, None, Ok, Option, Result, SFits, Some, [], ap, append-nil, append_assoc, arith}
 pub use Rattle.std.proofs.Common.{cond, drop, eqb, false, get_or, inl, inr, is_some, leb, length, length-append, length-drop, map}
 pub use Rattle.std.proofs.Common.{max, min, negsuc, pos, refl, replicate, rules, subst, suc, sym, take, to_z, true, w32, w8, zero}

@@ -3,7 +3,7 @@ use Rattle.std.specs.Prelude.{◌≡◌, ◌⊎◌, ◌+◌, ◌-◌, ◌^◌, �
 use Rattle.fax_bits.specs.declared.codes.Color.{Color}
 use Rattle.fax_bits.specs.declared.codes.Color.TheVariants.{White}
 use Rattle.fax_bits.specs.declared.settings.DecodeSettings.{DecodeSettings}
-use Rattle.fax_lines.specs.declared.usual.TwoRuns.{TwoRuns}
+use Rattle.fax_lines.specs.declared.run_pairs.TwoRuns.{TwoRuns}
 use Rattle.fax_bits.specs.Bits.{BitsAt}
 use Rattle.fax_reading.specs.Rows.{opposite}
 use Rattle.fax_reading.specs.UsualRuns.{IsRunHere, IsOpen, IsReached, GoesOn, pen_at}
@@ -31,14 +31,14 @@ pub record CanFollow (settings : DecodeSettings) (place : ℕ) (row : List ℕ) 
 
 module _ {A : Type 0} where
   -- Runs are drawn from a position on, white first: drawing goes on, and the row reaches another position.
-  pub record DrawsRuns (settings : DecodeSettings) (painted : ℕ) (hand : AtHand) (row : Vec ℕ A) (ticks : ℕ)
+  pub record DrawsRuns (settings : DecodeSettings) (painted : ℕ) (window : AtHand) (row : Vec ℕ A) (ticks : ℕ)
       (place : ℕ) (color : Color) (rest : AtHand) (longer : Vec ℕ A) (now : ℕ) : Type 0 where
-    pub drawn : GoesOn settings.strict settings.columns (pen_at painted row.items White hand.at)
+    pub drawn : GoesOn settings.strict settings.columns (pen_at painted row.items White window.at)
         (pen_at place longer.items color rest.at) ticks now
     pub reached : IsReached settings.columns place color longer.items
 
   -- no bit is after, and the bits and the row's room stay
-  pub record MovesOn (hand : AtHand) (row : Vec ℕ A) (rest : AtHand) (longer : Vec ℕ A) : Type 0 where
-    pub same_bits : rest.at.bits ≡ hand.at.bits
-    pub onward : hand.at.place ≤ rest.at.place
+  pub record MovesOn (window : AtHand) (row : Vec ℕ A) (rest : AtHand) (longer : Vec ℕ A) : Type 0 where
+    pub same_bits : rest.at.bits ≡ window.at.bits
+    pub onward : window.at.place ≤ rest.at.place
     pub capacity : vec_capacity longer ≡ vec_capacity row

@@ -91,7 +91,7 @@ pub(crate) fn make_room(changes: &mut Vec<u32>) -> bool
 ///
 /// `OutOfMemory` if the list is full and can't grow. Then nothing has changed.
 #[inline(always)]
-fn push_change(changes: &mut Vec<u32>, place: u32) -> Result<()>
+fn try_push_change(changes: &mut Vec<u32>, place: u32) -> Result<()>
     ensures items { OnOk result (changes.new.items ≡ changes.old.items ++ place ∷ []) }
     ensures full { OnErr result (StaysFull changes.old.items changes.new.items (vec_capacity changes.old)
         (vec_capacity changes.new)) }
@@ -130,7 +130,7 @@ pub fn append_pixels(changes: &mut Vec<u32>, painted: u32, color: Color, count: 
     // The colours of a row alternate, so after an odd number of changes its last pixel is black.
     let last_is_white = changes.len().is_multiple_of(2);
     if count > 0 && last_is_white != color.is_white() {
-        push_change(changes, painted)?;
+        try_push_change(changes, painted)?;
     }
     Ok(())
 }

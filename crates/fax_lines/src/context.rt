@@ -30,14 +30,16 @@ ghost use Rattle.fax_reading.specs.Space.{most_stored};
 use crate::Decoder;
 use crate::changes::{append_pixels, b1_index, change_or_end, vertical_place};
 use crate::modes::{
-    CodingLine, draw_modes, has_mode, has_no_room, has_room_for_window, is_sparse, is_white_row,
-    is_wide, lay_down_row, next_color, put_ends, repeat_changes, take_ends,
+    CodingLine, draw_modes, drop_open_change_in_row, ensure_bits_and_room, has_no_room,
+    has_room_for_window, is_sparse, is_white_row, is_wide, next_color, put_ends, repeat_changes,
+    take_ends,
 };
-use crate::usual::{RunsOfLine, draw_long_pairs, draw_runs, lay_down, take_up, turn_at};
+use crate::run_pairs::{
+    RunsOfLine, close_black_run, draw_long_pairs, draw_runs, drop_open_change, push_change,
+};
 use crate::white_lines::{WhiteLines, may_follow, none_known, white_lines};
 use fax_bits::bit_reader::{
-    BitOrder, BitReader, BitScanner, BitsAtHand, at_hand, go_on_with, go_to, pass_bits,
-    window_at_hand,
+    BitOrder, BitReader, BitScanner, Window, at_hand, go_on_with, go_to, pass_bits, window_at_hand,
 };
 use fax_bits::codes::{Color, Mode, Ticks, pass_v0, tick_times};
 use fax_bits::tables::Tables;
@@ -472,8 +474,8 @@ impl DecoderContext {
     /// Draws pairs of runs as long as they are usual, from a white one on. Two of one code word each are looked up together, or each
     /// by itself.
     #[inline(always)]
-    fn draw_by_twos(&mut self, hand: &mut BitsAtHand<'_>, by_pairs: bool)
-        ensures { DrawsUsualRuns self.old self.new hand.old.at hand.new.at }
+    fn draw_pairs_from_white(&mut self, window: &mut Window<'_>, by_pairs: bool)
+        ensures { DrawsUsualRuns self.old self.new window.old.at window.new.at }
     {
         if !self.color.is_white() {
             return;
@@ -481,7 +483,7 @@ impl DecoderContext {
         if self.pixels_decoded == self.settings.columns {
             return;
         }
-        if !take_up(&mut self.coding_changes, self.pixels_decoded) {
+        if !close_black_run(&mut self.coding_changes, self.pixels_decoded) {
             return;
         }
         let line = RunsOfLine {
@@ -491,13 +493,13 @@ impl DecoderContext {
         };
         let ticks = &mut self.ticks;
         let (place, color) = draw_runs(
-            hand,
+            window,
             &mut self.coding_changes,
             self.pixels_decoded,
             &line,
             ticks,
         );
-        lay_down(&mut self.coding_changes, place);
+        drop_open_change(&mut self.coding_changes, place);
         self.pixels_decoded = place;
         self.color = color;
     }
@@ -513,21 +515,21 @@ impl DecoderContext {
         if self.pixels_decoded == self.settings.columns {
             return;
         }
-        if let Some(mut hand) = at_hand(reader, BitOrder::HighestFirst) {
-            self.draw_by_twos(&mut hand, true);
-            go_to(reader, &hand);
+        if let Some(mut window) = at_hand(reader, BitOrder::HighestFirst) {
+            self.draw_pairs_from_white(&mut window, true);
+            go_to(reader, &window);
             return;
         }
-        if let Some(mut hand) = at_hand(reader, BitOrder::LowestFirst) {
-            self.draw_by_twos(&mut hand, true);
-            go_to(reader, &hand);
+        if let Some(mut window) = at_hand(reader, BitOrder::LowestFirst) {
+            self.draw_pairs_from_white(&mut window, true);
+            go_to(reader, &window);
         }
     }
 
     /// Draws pairs of runs of any number of code words as long as they are usual, from a white one on.
     #[inline(always)]
-    fn draw_long_by_twos(&mut self, hand: &mut BitsAtHand<'_>)
-        ensures { DrawsUsualRuns self.old self.new hand.old.at hand.new.at }
+    fn draw_long_runs(&mut self, window: &mut Window<'_>)
+        ensures { DrawsUsualRuns self.old self.new window.old.at window.new.at }
     {
         if !self.color.is_white() {
             return;
@@ -535,7 +537,7 @@ impl DecoderContext {
         if self.pixels_decoded == self.settings.columns {
             return;
         }
-        if !take_up(&mut self.coding_changes, self.pixels_decoded) {
+        if !close_black_run(&mut self.coding_changes, self.pixels_decoded) {
             return;
         }
         let line = RunsOfLine {
@@ -545,13 +547,13 @@ impl DecoderContext {
         };
         let ticks = &mut self.ticks;
         let (place, color) = draw_long_pairs(
-            hand,
+            window,
             &mut self.coding_changes,
             self.pixels_decoded,
             &line,
             ticks,
         );
-        lay_down(&mut self.coding_changes, place);
+        drop_open_change(&mut self.coding_changes, place);
         self.pixels_decoded = place;
         self.color = color;
     }
@@ -561,9 +563,9 @@ impl DecoderContext {
     fn draw_long_runs_of(&mut self, reader: &mut BitReader<'_>)
         ensures { DrawsUsualRuns self.old self.new reader.old reader.new }
     {
-        let mut hand = window_at_hand(reader);
-        self.draw_long_by_twos(&mut hand);
-        go_on_with(reader, &hand);
+        let mut window = window_at_hand(reader);
+        self.draw_long_runs(&mut window);
+        go_on_with(reader, &window);
     }
 
     /// Returns whether plain calls are likely to draw the next runs of a row at less cost: it has few more.
@@ -578,7 +580,7 @@ impl DecoderContext {
     /// Draws pairs of runs as long as they are usual, from a white one on, or none, if plain calls suit. No call is made where the row
     /// is full or black is next.
     #[inline(always)]
-    fn draw_usual_runs(&mut self, reader: &mut BitReader<'_>)
+    fn draw_runs_if_many(&mut self, reader: &mut BitReader<'_>)
         ensures { DrawsUsualRuns self.old self.new reader.old reader.new }
     {
         // After the first run of a line black is next, unless the row is full.
@@ -605,9 +607,9 @@ impl DecoderContext {
     fn draw_few_runs_of(&mut self, reader: &mut BitReader<'_>)
         ensures { DrawsUsualRuns self.old self.new reader.old reader.new }
     {
-        let mut hand = window_at_hand(reader);
-        self.draw_by_twos(&mut hand, false);
-        go_on_with(reader, &hand);
+        let mut window = window_at_hand(reader);
+        self.draw_pairs_from_white(&mut window, false);
+        go_on_with(reader, &window);
     }
 
     /// Draws the first runs of a wide line of few changes as long as they are usual; or none, if one or two are likely, since the row
@@ -638,17 +640,17 @@ impl DecoderContext {
 
     /// Draws modes from the start of a line as long as they are usual.
     #[inline(always)]
-    fn draw_modes_at_hand(&mut self, hand: &mut BitsAtHand<'_>)
-        requires few { hand.old.left ≤ 64 }
+    fn draw_modes_at_hand(&mut self, window: &mut Window<'_>)
+        requires few { window.old.left ≤ 64 }
         requires start { IsAtStart self.old }
-        ensures { DrawsUsualModes self.old self.new hand.old.at hand.new.at }
+        ensures { DrawsUsualModes self.old self.new window.old.at window.new.at }
     {
         let columns = self.settings.columns;
         // A place and three more fit a lane of 32 bits with a sign.
         if columns == 0 || columns > (1 << 31) - 4 {
             return;
         }
-        if !has_mode(hand, &mut self.coding_changes) {
+        if !ensure_bits_and_room(window, &mut self.coding_changes) {
             return;
         }
         if !put_ends(&mut self.ref_changes, columns) {
@@ -661,9 +663,9 @@ impl DecoderContext {
             tables: &self.tables,
             by_groups: self.suits_groups,
         };
-        let reached = draw_modes(hand, &mut self.coding_changes, &line, &mut self.ticks);
+        let reached = draw_modes(window, &mut self.coding_changes, &line, &mut self.ticks);
         take_ends(&mut self.ref_changes);
-        lay_down_row(&mut self.coding_changes, reached.painted, columns);
+        drop_open_change_in_row(&mut self.coding_changes, reached.painted, columns);
         self.pixels_decoded = reached.painted;
         self.color = reached.color;
         // The change before b1 may be right of a0.
@@ -680,10 +682,10 @@ impl DecoderContext {
         if !has_room_for_window(&self.coding_changes) {
             self.suits_groups = self.ref_changes.len() >= MANY_CHANGES;
         }
-        let mut hand = window_at_hand(reader);
-        self.draw_modes_at_hand(&mut hand);
+        let mut window = window_at_hand(reader);
+        self.draw_modes_at_hand(&mut window);
         let start = reader.bit_pos();
-        go_to(reader, &hand);
+        go_to(reader, &window);
         let changes = self.coding_changes.len();
         if changes >= MANY_CHANGES {
             self.suits_groups = reader.bit_pos().saturating_sub(start) / 4 < changes;
@@ -1126,7 +1128,7 @@ pub fn decode_1d_line(ctx: &mut DecoderContext, reader: &mut BitReader<'_>) -> R
     ctx.draw_first_runs(reader);
     'runs: while !ctx.is_full() {
         ctx.draw_run(reader)?;
-        ctx.draw_usual_runs(reader);
+        ctx.draw_runs_if_many(reader);
     }
     Ok(())
 }

@@ -13,7 +13,7 @@ pub mod changes;
 pub mod context;
 mod modes;
 mod regular_places;
-mod usual;
+mod run_pairs;
 pub mod white_lines;
 
 use fax_bits::{DecodeError, Result};

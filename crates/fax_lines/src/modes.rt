@@ -17,12 +17,12 @@ ghost use Rattle.fax_bits.specs.Window.{moved, AtHand};
 
 use crate::changes::{change_or_end, make_room};
 use crate::regular_places::regular_places;
-use crate::usual::{TwoRuns, is_next, lay_down, pair_at_hand, turn_at, turn_twice};
-use fax_bits::bit_reader::BitsAtHand;
+use crate::run_pairs::{TwoRuns, drop_open_change, is_next, pair_at_hand, push_change, push_two};
+use fax_bits::bit_reader::Window;
 use fax_bits::codes::{Color, Mode, Ticks, mode_of, tick_times};
 use fax_bits::mode_groups::{ModeGroup, group_at_hand};
 use fax_bits::tables::Tables;
-use fax_bits::words_at_hand::pass_run;
+use fax_bits::window_words::pass_run;
 use std::mem;
 
 /// What doesn't change while a line is drawn.
@@ -70,15 +70,15 @@ pub(crate) fn has_room_for_window(row: &Vec<u32>) -> bool
 /// Fills the window if it has fewer than 32 bits, and makes room for its changes; returns false if it can't be filled, or there is no
 /// room.
 #[inline(always)]
-pub(crate) fn has_mode(hand: &mut BitsAtHand<'_>, row: &mut Vec<u32>) -> bool
-    requires few { hand.old.left ≤ 64 }
-    ensures same { hand.new.at ≡ hand.old.at }
+pub(crate) fn ensure_bits_and_room(window: &mut Window<'_>, row: &mut Vec<u32>) -> bool
+    requires few { window.old.left ≤ 64 }
+    ensures same { window.new.at ≡ window.old.at }
     ensures same_row { row.new.items ≡ row.old.items }
-    ensures enough { result ≡ true → 32 ≤ hand.new.left }
-    ensures room { result ≡ true → vec_len row.new + hand.new.left ≤ vec_capacity row.new }
+    ensures enough { result ≡ true → 32 ≤ window.new.left }
+    ensures room { result ≡ true → vec_len row.new + window.new.left ≤ vec_capacity row.new }
     ensures space { GrowsFor (vec_len row.old) (vec_capacity row.old) (vec_capacity row.new) }
 {
-    if hand.left() < 32 && !hand.refill() {
+    if window.left() < 32 && !window.refill() {
         return false;
     }
     has_room_for_window(row) || make_room(row)
@@ -86,29 +86,29 @@ pub(crate) fn has_mode(hand: &mut BitsAtHand<'_>, row: &mut Vec<u32>) -> bool
 
 /// Fills the window if it has fewer than 16 bits; returns false if it can't be filled, or there is no room for its changes.
 #[inline(always)]
-fn has_next_mode(hand: &mut BitsAtHand<'_>, row: &Vec<u32>) -> bool
-    requires room { vec_len row.now + hand.old.left ≤ vec_capacity row.now }
-    ensures same { hand.new.at ≡ hand.old.at }
-    ensures enough { result ≡ true → 16 ≤ hand.new.left }
-    ensures room { vec_len row.now + hand.new.left ≤ vec_capacity row.now }
+fn refill_if_low(window: &mut Window<'_>, row: &Vec<u32>) -> bool
+    requires room { vec_len row.now + window.old.left ≤ vec_capacity row.now }
+    ensures same { window.new.at ≡ window.old.at }
+    ensures enough { result ≡ true → 16 ≤ window.new.left }
+    ensures room { vec_len row.now + window.new.left ≤ vec_capacity row.now }
 {
-    if hand.left() >= 16 {
+    if window.left() >= 16 {
         return true;
     }
-    has_room_for_window(row) && hand.refill()
+    has_room_for_window(row) && window.refill()
 }
 
 /// Returns the mode whose code word is here, if there is one, and the number of its bits.
 #[inline(always)]
-fn mode_at_hand(hand: &BitsAtHand<'_>) -> (Option<Mode>, usize)
-    requires within { 7 ≤ hand.now.left }
-    ensures mode { IfSome result.0 (λ mode. IsNextMode mode result.1 hand.now) }
+fn mode_at_hand(window: &Window<'_>) -> (Option<Mode>, usize)
+    requires within { 7 ≤ window.now.left }
+    ensures mode { IfSome result.0 (λ mode. IsNextMode mode result.1 window.now) }
     ensures v0 { result.0 ≡ Some (Mode.Vertical (pos 0)) → result.1 ≡ 1 }
     ensures horizontal { result.0 ≡ Some Mode.Horizontal → result.1 ≡ 3 }
     ensures pass { result.0 ≡ Some Mode.Pass → result.1 ≡ 4 }
-    ensures there { hand.now.at.place < length hand.now.at.bits }
+    ensures there { window.now.at.place < length window.now.at.bits }
 {
-    mode_of(hand.seven())
+    mode_of(window.peek_7())
 }
 
 /// Returns whether a list has no room even for its first change.
@@ -175,25 +175,25 @@ fn b1_after_left(line: &CodingLine<'_>, stroke: Stroke, place: u32) -> usize
 /// Draws V0 inside the row: a change below b1, which is at this place.
 #[inline(always)]
 fn draw_v0_below(
-    hand: &mut BitsAtHand<'_>,
+    window: &mut Window<'_>,
     row: &mut Vec<u32>,
     _line: &CodingLine<'_>,
     stroke: Stroke,
     place: u32,
     ticks: &mut Ticks,
 ) -> Stroke
-    requires mode { IsNextMode (Mode.Vertical (pos 0)) 1 hand.old }
-    requires can { CanDraw _line.now stroke hand.old row.old }
+    requires mode { IsNextMode (Mode.Vertical (pos 0)) 1 window.old }
+    requires can { CanDraw _line.now stroke window.old row.old }
     requires b1 { place ≡ get_or (changes_in _line.now.places.now) stroke.index _line.now.columns }
     requires inside { place < _line.now.columns }
-    ensures drawn { DrawsMode _line.now stroke hand.old row.old ticks.old result hand.new row.new ticks.new }
+    ensures drawn { DrawsMode _line.now stroke window.old row.old ticks.old result window.new row.new ticks.new }
     ensures below { (result.painted ≡ place) × (result.index ≡ stroke.index + 1) }
-    ensures passed { (hand.new.at ≡ moved 1 hand.old.at) × (hand.new.left + 1 ≡ hand.old.left) }
-    ensures kept { KeepsRoom hand.old row.old hand.new row.new }
+    ensures passed { (window.new.at ≡ moved 1 window.old.at) × (window.new.left + 1 ≡ window.old.left) }
+    ensures kept { KeepsRoom window.old row.old window.new row.new }
 {
-    hand.pass(1);
+    window.pass(1);
     tick_times(ticks, 2);
-    turn_at(row, place);
+    push_change(row, place);
     Stroke {
         painted: place,
         index: stroke.index + 1,
@@ -203,12 +203,12 @@ fn draw_v0_below(
 
 /// Returns whether the next two bits are ones: V0 twice.
 #[inline(always)]
-fn has_two_v0(hand: &BitsAtHand<'_>) -> bool
-    requires enough { 16 ≤ hand.now.left }
-    ensures two { result ≡ true → (next : AtHand) → next.at ≡ moved 1 hand.now.at → next.left + 1 ≡ hand.now.left
+fn has_two_v0(window: &Window<'_>) -> bool
+    requires enough { 16 ≤ window.now.left }
+    ensures two { result ≡ true → (next : AtHand) → next.at ≡ moved 1 window.now.at → next.left + 1 ≡ window.now.left
         → IsNextMode (Mode.Vertical (pos 0)) 1 next }
 {
-    let bits = hand.seven();
+    let bits = window.peek_7();
     if bits < 96 {
         return false;
     }
@@ -218,21 +218,21 @@ fn has_two_v0(hand: &BitsAtHand<'_>) -> bool
 /// Draws V0: a change below b1, or the rest of the row; and V0 once more if it is next, and inside the row.
 #[inline(always)]
 fn draw_v0(
-    hand: &mut BitsAtHand<'_>,
+    window: &mut Window<'_>,
     row: &mut Vec<u32>,
     line: &CodingLine<'_>,
     stroke: Stroke,
     ticks: &mut Ticks,
 ) -> Stroke
-    requires mode { IsNextMode (Mode.Vertical (pos 0)) 1 hand.old }
-    requires enough { 16 ≤ hand.old.left }
-    requires can { CanDraw line.now stroke hand.old row.old }
-    ensures drawn { DrawsMode line.now stroke hand.old row.old ticks.old result hand.new row.new ticks.new }
-    ensures kept { KeepsRoom hand.old row.old hand.new row.new }
+    requires mode { IsNextMode (Mode.Vertical (pos 0)) 1 window.old }
+    requires enough { 16 ≤ window.old.left }
+    requires can { CanDraw line.now stroke window.old row.old }
+    ensures drawn { DrawsMode line.now stroke window.old row.old ticks.old result window.new row.new ticks.new }
+    ensures kept { KeepsRoom window.old row.old window.new row.new }
 {
     let place = change_at(line, stroke.index);
     if place >= line.columns {
-        hand.pass(1);
+        window.pass(1);
         tick_times(ticks, 2);
         return Stroke {
             painted: line.columns,
@@ -240,37 +240,37 @@ fn draw_v0(
             ..stroke
         };
     }
-    if has_two_v0(hand) {
+    if has_two_v0(window) {
         let next = change_at(line, stroke.index + 1);
         if next < line.columns {
-            let first = draw_v0_below(hand, row, line, stroke, place, ticks);
-            return draw_v0_below(hand, row, line, first, next, ticks);
+            let first = draw_v0_below(window, row, line, stroke, place, ticks);
+            return draw_v0_below(window, row, line, first, next, ticks);
         }
     }
-    draw_v0_below(hand, row, line, stroke, place, ticks)
+    draw_v0_below(window, row, line, stroke, place, ticks)
 }
 
 /// Draws VR up to the row's end. Returns `None`, and draws nothing, if it doesn't end there.
 #[inline(always)]
 fn draw_to_end(
-    hand: &mut BitsAtHand<'_>,
+    window: &mut Window<'_>,
     row: &mut Vec<u32>,
     line: &CodingLine<'_>,
     stroke: Stroke,
     mode: VerticalMode,
     ticks: &mut Ticks,
 ) -> Option<Stroke>
-    requires mode { IsNextMode (Mode.Vertical (pos mode.distance)) mode.width hand.old }
+    requires mode { IsNextMode (Mode.Vertical (pos mode.distance)) mode.width window.old }
     requires some { 0 < mode.distance }
-    requires can { CanDraw line.now stroke hand.old row.old }
-    ensures drawn { DrawsSome line.now stroke hand.old row.old ticks.old result hand.new row.new ticks.new }
-    ensures kept { KeepsRoom hand.old row.old hand.new row.new }
+    requires can { CanDraw line.now stroke window.old row.old }
+    ensures drawn { DrawsSome line.now stroke window.old row.old ticks.old result window.new row.new ticks.new }
+    ensures kept { KeepsRoom window.old row.old window.new row.new }
 {
     let b1 = change_at(line, stroke.index);
     if line.columns - b1 != mode.distance {
         return None;
     }
-    hand.pass(mode.width);
+    window.pass(mode.width);
     tick_times(ticks, 2);
     Some(Stroke {
         painted: line.columns,
@@ -282,27 +282,27 @@ fn draw_to_end(
 /// Draws VR: a change right of b1, or the rest of the row. Returns `None`, and draws nothing, if that is after the row's end.
 #[inline(always)]
 fn draw_right(
-    hand: &mut BitsAtHand<'_>,
+    window: &mut Window<'_>,
     row: &mut Vec<u32>,
     line: &CodingLine<'_>,
     stroke: Stroke,
     mode: VerticalMode,
     ticks: &mut Ticks,
 ) -> Option<Stroke>
-    requires mode { IsNextMode (Mode.Vertical (pos mode.distance)) mode.width hand.old }
+    requires mode { IsNextMode (Mode.Vertical (pos mode.distance)) mode.width window.old }
     requires some { 0 < mode.distance }
-    requires can { CanDraw line.now stroke hand.old row.old }
-    ensures drawn { DrawsSome line.now stroke hand.old row.old ticks.old result hand.new row.new ticks.new }
-    ensures kept { KeepsRoom hand.old row.old hand.new row.new }
+    requires can { CanDraw line.now stroke window.old row.old }
+    ensures drawn { DrawsSome line.now stroke window.old row.old ticks.old result window.new row.new ticks.new }
+    ensures kept { KeepsRoom window.old row.old window.new row.new }
 {
     let b1 = change_at(line, stroke.index);
     if line.columns - b1 <= mode.distance {
-        return draw_to_end(hand, row, line, stroke, mode, ticks);
+        return draw_to_end(window, row, line, stroke, mode, ticks);
     }
     let place = b1 + mode.distance;
-    hand.pass(mode.width);
+    window.pass(mode.width);
     tick_times(ticks, 2);
-    turn_at(row, place);
+    push_change(row, place);
     let index = seek_b1(line, place, stroke.index + 1, ticks);
     Some(Stroke {
         painted: place,
@@ -315,18 +315,18 @@ fn draw_right(
 /// elsewhere.
 #[inline(always)]
 fn draw_to_edge(
-    hand: &mut BitsAtHand<'_>,
+    window: &mut Window<'_>,
     row: &mut Vec<u32>,
     line: &CodingLine<'_>,
     stroke: Stroke,
     mode: VerticalMode,
     ticks: &mut Ticks,
 ) -> Option<Stroke>
-    requires mode { IsNextMode (Mode.Vertical (negsuc (mode.distance - 1))) mode.width hand.old }
+    requires mode { IsNextMode (Mode.Vertical (negsuc (mode.distance - 1))) mode.width window.old }
     requires some { 0 < mode.distance }
-    requires can { CanDraw line.now stroke hand.old row.old }
-    ensures drawn { DrawsSome line.now stroke hand.old row.old ticks.old result hand.new row.new ticks.new }
-    ensures kept { KeepsRoom hand.old row.old hand.new row.new }
+    requires can { CanDraw line.now stroke window.old row.old }
+    ensures drawn { DrawsSome line.now stroke window.old row.old ticks.old result window.new row.new ticks.new }
+    ensures kept { KeepsRoom window.old row.old window.new row.new }
 {
     if stroke.painted > 0 {
         return None;
@@ -338,9 +338,9 @@ fn draw_to_edge(
     if b1 != mode.distance {
         return None;
     }
-    hand.pass(mode.width);
+    window.pass(mode.width);
     tick_times(ticks, 2);
-    turn_at(row, stroke.painted);
+    push_change(row, stroke.painted);
     Some(Stroke {
         painted: stroke.painted,
         index: stroke.index + 1,
@@ -351,27 +351,27 @@ fn draw_to_edge(
 /// Draws VL: a change left of b1. Returns `None`, and draws nothing, if that is neither right of a0 nor at the row's left edge.
 #[inline(always)]
 fn draw_left(
-    hand: &mut BitsAtHand<'_>,
+    window: &mut Window<'_>,
     row: &mut Vec<u32>,
     line: &CodingLine<'_>,
     stroke: Stroke,
     mode: VerticalMode,
     ticks: &mut Ticks,
 ) -> Option<Stroke>
-    requires mode { IsNextMode (Mode.Vertical (negsuc (mode.distance - 1))) mode.width hand.old }
+    requires mode { IsNextMode (Mode.Vertical (negsuc (mode.distance - 1))) mode.width window.old }
     requires some { 0 < mode.distance }
-    requires can { CanDraw line.now stroke hand.old row.old }
-    ensures drawn { DrawsSome line.now stroke hand.old row.old ticks.old result hand.new row.new ticks.new }
-    ensures kept { KeepsRoom hand.old row.old hand.new row.new }
+    requires can { CanDraw line.now stroke window.old row.old }
+    ensures drawn { DrawsSome line.now stroke window.old row.old ticks.old result window.new row.new ticks.new }
+    ensures kept { KeepsRoom window.old row.old window.new row.new }
 {
     let b1 = change_at(line, stroke.index);
     if b1 - stroke.painted <= mode.distance {
-        return draw_to_edge(hand, row, line, stroke, mode, ticks);
+        return draw_to_edge(window, row, line, stroke, mode, ticks);
     }
     let place = b1 - mode.distance;
-    hand.pass(mode.width);
+    window.pass(mode.width);
     tick_times(ticks, 3);
-    turn_at(row, place);
+    push_change(row, place);
     let index = b1_after_left(line, stroke, place);
     Some(Stroke {
         painted: place,
@@ -383,19 +383,19 @@ fn draw_left(
 /// Draws a pass: the colour continues to below b2.
 #[inline(always)]
 fn draw_pass(
-    hand: &mut BitsAtHand<'_>,
+    window: &mut Window<'_>,
     row: &mut Vec<u32>,
     line: &CodingLine<'_>,
     stroke: Stroke,
     ticks: &mut Ticks,
 ) -> Stroke
-    requires mode { IsNextMode Mode.Pass 4 hand.old }
-    requires can { CanDraw line.now stroke hand.old row.old }
-    ensures drawn { DrawsMode line.now stroke hand.old row.old ticks.old result hand.new row.new ticks.new }
-    ensures kept { KeepsRoom hand.old row.old hand.new row.new }
+    requires mode { IsNextMode Mode.Pass 4 window.old }
+    requires can { CanDraw line.now stroke window.old row.old }
+    ensures drawn { DrawsMode line.now stroke window.old row.old ticks.old result window.new row.new ticks.new }
+    ensures kept { KeepsRoom window.old row.old window.new row.new }
 {
     let b2 = change_or_end(line.places, stroke.index + 1, line.columns);
-    hand.pass(4);
+    window.pass(4);
     tick_times(ticks, 2);
     if b2 >= line.columns {
         return Stroke {
@@ -420,15 +420,15 @@ fn draw_runs_in_row(
     ticks: &mut Ticks,
 ) -> Stroke
     requires follow { CanFollowStroke line.now stroke row.old runs }
-    ensures drawn { (hand rest : AtHand) → IsNextMode Mode.Horizontal 3 hand → AreTwoRunsHere stroke.color (moved 3 hand.at) runs
-        → rest.at ≡ moved runs.width (moved 3 hand.at)
-        → Draws line.now stroke hand row.old ticks.old result rest row.new ticks.new }
+    ensures drawn { (window rest : AtHand) → IsNextMode Mode.Horizontal 3 window → AreTwoRunsHere stroke.color (moved 3 window.at) runs
+        → rest.at ≡ moved runs.width (moved 3 window.at)
+        → Draws line.now stroke window row.old ticks.old result rest row.new ticks.new }
     ensures count { (vec_len row.old ≤ vec_len row.new) × (vec_len row.new ≤ vec_len row.old + 2) }
     ensures space { vec_capacity row.new ≡ vec_capacity row.old }
 {
     ticks.tick();
     tick_times(ticks, runs.words);
-    match turn_twice(row, stroke.painted, line.columns, runs) {
+    match push_two(row, stroke.painted, line.columns, runs) {
         None => {
             Stroke {
                 painted: line.columns,
@@ -449,17 +449,17 @@ fn draw_runs_in_row(
 /// Passes horizontal mode and its two runs, of any number of code words. Returns `None` if they aren't all at hand; the offset is
 /// unspecified then.
 #[inline(always)]
-fn pass_both_runs(hand: &mut BitsAtHand<'_>, color: Color, tables: &Tables) -> Option<TwoRuns>
-    requires enough { 3 ≤ hand.old.left }
-    ensures runs { IfSome result (λ runs. AreTwoRunsHere color (moved 3 hand.old.at) runs) }
-    ensures moved { IfSome result (λ runs. hand.new.at ≡ moved runs.width (moved 3 hand.old.at)) }
+fn pass_two_runs(window: &mut Window<'_>, color: Color, tables: &Tables) -> Option<TwoRuns>
+    requires enough { 3 ≤ window.old.left }
+    ensures runs { IfSome result (λ runs. AreTwoRunsHere color (moved 3 window.old.at) runs) }
+    ensures moved { IfSome result (λ runs. window.new.at ≡ moved runs.width (moved 3 window.old.at)) }
     ensures below { IfSome result (λ runs. (runs.first < 2 ^ 31) × (runs.second < 2 ^ 31)) }
-    ensures same_bits { hand.new.at.bits ≡ hand.old.at.bits }
+    ensures same_bits { window.new.at.bits ≡ window.old.at.bits }
 {
-    hand.pass(3);
-    let first = pass_run(hand, color, tables.lookup(color))?;
+    window.pass(3);
+    let first = pass_run(window, color, tables.lookup(color))?;
     let other = color.opposite();
-    let second = pass_run(hand, other, tables.lookup(other))?;
+    let second = pass_run(window, other, tables.lookup(other))?;
     Some(TwoRuns {
         first: first.run,
         second: second.run,
@@ -473,27 +473,27 @@ fn pass_both_runs(hand: &mut BitsAtHand<'_>, color: Color, tables: &Tables) -> O
 /// the offset is unspecified then.
 #[inline(always)]
 fn pass_runs(
-    hand: &mut BitsAtHand<'_>,
+    window: &mut Window<'_>,
     row: &Vec<u32>,
     line: &CodingLine<'_>,
     color: Color,
 ) -> Option<(TwoRuns, bool)>
-    requires enough { 16 ≤ hand.old.left }
-    requires room { vec_len row.now + hand.old.left ≤ vec_capacity row.now }
-    ensures runs { IfSome result (λ read. AreTwoRunsHere color (moved 3 hand.old.at) read.0) }
-    ensures moved { IfSome result (λ read. hand.new.at ≡ moved read.0.width (moved 3 hand.old.at)) }
+    requires enough { 16 ≤ window.old.left }
+    requires room { vec_len row.now + window.old.left ≤ vec_capacity row.now }
+    ensures runs { IfSome result (λ read. AreTwoRunsHere color (moved 3 window.old.at) read.0) }
+    ensures moved { IfSome result (λ read. window.new.at ≡ moved read.0.width (moved 3 window.old.at)) }
     ensures below { IfSome result (λ read. (read.0.first < 2 ^ 31) × (read.0.second < 2 ^ 31)) }
     ensures some { IfSome result (λ read. read.1 ≡ true → (0 < read.0.first) × (0 < read.0.second)) }
-    ensures room { IfSome result (λ read. vec_len row.now + 2 + hand.new.left ≤ vec_capacity row.now) }
+    ensures room { IfSome result (λ read. vec_len row.now + 2 + window.new.left ≤ vec_capacity row.now) }
 {
-    if let Some(runs) = pair_at_hand(hand, 3, color) {
-        hand.pass(3);
-        hand.pass(runs.width);
+    if let Some(runs) = pair_at_hand(window, 3, color) {
+        window.pass(3);
+        window.pass(runs.width);
         return Some((runs, true));
     }
-    let runs = pass_both_runs(hand, color, line.tables)?;
+    let runs = pass_two_runs(window, color, line.tables)?;
     let room = row.capacity() - row.len();
-    if room < 2 || hand.left() > room - 2 {
+    if room < 2 || window.left() > room - 2 {
         return None;
     }
     Some((runs, false))
@@ -502,27 +502,27 @@ fn pass_runs(
 /// Draws two runs of any number of code words. Returns `None`, and draws nothing, if they aren't of the usual kind.
 #[inline(always)]
 fn draw_horizontal(
-    hand: &mut BitsAtHand<'_>,
+    window: &mut Window<'_>,
     row: &mut Vec<u32>,
     line: &CodingLine<'_>,
     stroke: Stroke,
     ticks: &mut Ticks,
 ) -> Option<Stroke>
-    requires mode { IsNextMode Mode.Horizontal 3 hand.old }
-    requires enough { 16 ≤ hand.old.left }
-    requires can { CanDraw line.now stroke hand.old row.old }
-    ensures drawn { DrawsSome line.now stroke hand.old row.old ticks.old result hand.new row.new ticks.new }
-    ensures kept { KeepsRoom hand.old row.old hand.new row.new }
+    requires mode { IsNextMode Mode.Horizontal 3 window.old }
+    requires enough { 16 ≤ window.old.left }
+    requires can { CanDraw line.now stroke window.old row.old }
+    ensures drawn { DrawsSome line.now stroke window.old row.old ticks.old result window.new row.new ticks.new }
+    ensures kept { KeepsRoom window.old row.old window.new row.new }
 {
-    let mut rest = hand.copy();
-    let (runs, are_some) = pass_runs(&mut rest, row, line, stroke.color)?;
+    let mut rest = window.copy();
+    let (runs, nonempty) = pass_runs(&mut rest, row, line, stroke.color)?;
     let room = line.columns - stroke.painted;
-    if !are_some {
+    if !nonempty {
         if runs.second == 0 {
             if runs.first != room {
                 return None;
             }
-            *hand = rest;
+            *window = rest;
             ticks.tick();
             tick_times(ticks, runs.words);
             return Some(Stroke {
@@ -538,7 +538,7 @@ fn draw_horizontal(
         return None;
     }
     let reached = draw_runs_in_row(row, line, stroke, runs, ticks);
-    *hand = rest;
+    *window = rest;
     Some(reached)
 }
 
@@ -546,25 +546,25 @@ fn draw_horizontal(
 /// usual kind, or no vertical mode.
 #[inline(always)]
 fn draw_vertical(
-    hand: &mut BitsAtHand<'_>,
+    window: &mut Window<'_>,
     row: &mut Vec<u32>,
     line: &CodingLine<'_>,
     stroke: Stroke,
     read: (Mode, usize),
     ticks: &mut Ticks,
 ) -> Option<Stroke>
-    requires mode { IsNextMode read.0 read.1 hand.old }
+    requires mode { IsNextMode read.0 read.1 window.old }
     requires v0 { read.0 ≡ Mode.Vertical (pos 0) → read.1 ≡ 1 }
-    requires enough { 16 ≤ hand.old.left }
-    requires can { CanDraw line.now stroke hand.old row.old }
-    ensures drawn { DrawsSome line.now stroke hand.old row.old ticks.old result hand.new row.new ticks.new }
-    ensures kept { KeepsRoom hand.old row.old hand.new row.new }
+    requires enough { 16 ≤ window.old.left }
+    requires can { CanDraw line.now stroke window.old row.old }
+    ensures drawn { DrawsSome line.now stroke window.old row.old ticks.old result window.new row.new ticks.new }
+    ensures kept { KeepsRoom window.old row.old window.new row.new }
 {
     let (mode, width) = read;
     match mode {
-        Mode::Vertical(0) => Some(draw_v0(hand, row, line, stroke, ticks)),
+        Mode::Vertical(0) => Some(draw_v0(window, row, line, stroke, ticks)),
         Mode::Vertical(1) => draw_right(
-            hand,
+            window,
             row,
             line,
             stroke,
@@ -572,7 +572,7 @@ fn draw_vertical(
             ticks,
         ),
         Mode::Vertical(2) => draw_right(
-            hand,
+            window,
             row,
             line,
             stroke,
@@ -580,7 +580,7 @@ fn draw_vertical(
             ticks,
         ),
         Mode::Vertical(3) => draw_right(
-            hand,
+            window,
             row,
             line,
             stroke,
@@ -588,7 +588,7 @@ fn draw_vertical(
             ticks,
         ),
         Mode::Vertical(-1) => draw_left(
-            hand,
+            window,
             row,
             line,
             stroke,
@@ -596,7 +596,7 @@ fn draw_vertical(
             ticks,
         ),
         Mode::Vertical(-2) => draw_left(
-            hand,
+            window,
             row,
             line,
             stroke,
@@ -604,7 +604,7 @@ fn draw_vertical(
             ticks,
         ),
         Mode::Vertical(-3) => draw_left(
-            hand,
+            window,
             row,
             line,
             stroke,
@@ -692,15 +692,15 @@ fn push_places(row: &mut Vec<u32>, places: [u32; 4])
     ensures count { vec_len row.new ≡ vec_len row.old + 4 }
     ensures room { vec_capacity row.new ≡ vec_capacity row.old }
 {
-    turn_at(row, places[0]);
-    turn_at(row, places[1]);
-    turn_at(row, places[2]);
-    turn_at(row, places[3]);
+    push_change(row, places[0]);
+    push_change(row, places[1]);
+    push_change(row, places[2]);
+    push_change(row, places[3]);
 }
 
 /// Stores the first of four places after a row's changes, as many as are counted.
 #[inline(always)]
-fn turn_at_places(row: &mut Vec<u32>, places: [u32; 4], count: usize)
+fn push_first_places(row: &mut Vec<u32>, places: [u32; 4], count: usize)
     requires few { count ≤ 4 }
     requires room { vec_len row.old + 4 ≤ vec_capacity row.old }
     ensures items { row.new.items ≡ row.old.items ++ take count places }
@@ -715,23 +715,23 @@ fn turn_at_places(row: &mut Vec<u32>, places: [u32; 4], count: usize)
 /// Draws the modes of a group, which are all regular.
 #[inline(always)]
 fn draw_regular(
-    hand: &mut BitsAtHand<'_>,
+    window: &mut Window<'_>,
     row: &mut Vec<u32>,
     _line: &CodingLine<'_>,
     stroke: Stroke,
     modes: &ModesHere,
     ticks: &mut Ticks,
 ) -> Stroke
-    requires can { CanDraw _line.now stroke hand.old row.old }
-    requires here { AreModesHere _line.now stroke hand.old modes.now }
+    requires can { CanDraw _line.now stroke window.old row.old }
+    requires here { AreModesHere _line.now stroke window.old modes.now }
     requires all { AreSet modes.now.regular (length (words_of modes.now.group)) }
-    ensures drawn { DrawsMode _line.now stroke hand.old row.old ticks.old result hand.new row.new ticks.new }
+    ensures drawn { DrawsMode _line.now stroke window.old row.old ticks.old result window.new row.new ticks.new }
     ensures inside { result.painted < _line.now.columns }
-    ensures kept { KeepsRoom hand.old row.old hand.new row.new }
+    ensures kept { KeepsRoom window.old row.old window.new row.new }
 {
     let count = ModeGroup::count(modes.group);
-    turn_at_places(row, modes.places, count);
-    hand.pass(modes.group.width());
+    push_first_places(row, modes.places, count);
+    window.pass(modes.group.width());
     tick_times(ticks, 2 * count);
     Stroke {
         painted: row[row.len() - 1],
@@ -760,20 +760,20 @@ fn b1_after(line: &CodingLine<'_>, stroke: Stroke, place: u32, ticks: &mut Ticks
 /// nothing, elsewhere.
 #[inline(always)]
 fn draw_first(
-    hand: &mut BitsAtHand<'_>,
+    window: &mut Window<'_>,
     row: &mut Vec<u32>,
     line: &CodingLine<'_>,
     stroke: Stroke,
     group: ModeGroup,
     ticks: &mut Ticks,
 ) -> Option<Stroke>
-    requires enough { 16 ≤ hand.old.left }
-    requires can { CanDraw line.now stroke hand.old row.old }
+    requires enough { 16 ≤ window.old.left }
+    requires can { CanDraw line.now stroke window.old row.old }
     requires some { 0 < length (words_of group) }
-    requires words { AreNextWords (words_of group) hand.old.at }
-    ensures drawn { IfSome result (λ next. DrawsMode line.now stroke hand.old row.old ticks.old next hand.new row.new ticks.new) }
-    ensures left { IfNone result ((hand.new ≡ hand.old) × (row.new ≡ row.old) × (ticks.new ≡ ticks.old)) }
-    ensures kept { KeepsRoom hand.old row.old hand.new row.new }
+    requires words { AreNextWords (words_of group) window.old.at }
+    ensures drawn { IfSome result (λ next. DrawsMode line.now stroke window.old row.old ticks.old next window.new row.new ticks.new) }
+    ensures left { IfNone result ((window.new ≡ window.old) × (row.new ≡ row.old) × (ticks.new ≡ ticks.old)) }
+    ensures kept { KeepsRoom window.old row.old window.new row.new }
 {
     let above = change_at(line, stroke.index) + u32::from(group.offsets()[0]);
     if above <= stroke.painted + 3 {
@@ -783,7 +783,7 @@ fn draw_first(
     if place > line.columns {
         return None;
     }
-    hand.pass(group.first_width(1));
+    window.pass(group.first_width(1));
     tick_times(ticks, 2);
     let color = stroke.color.opposite();
     if place == line.columns {
@@ -793,7 +793,7 @@ fn draw_first(
             color,
         });
     }
-    turn_at(row, place);
+    push_change(row, place);
     let index = b1_after(line, stroke, place, ticks);
     Some(Stroke {
         painted: place,
@@ -805,34 +805,34 @@ fn draw_first(
 /// Draws the mode that is here, whose group this is. Returns `None`, and draws nothing, if it isn't of the usual kind.
 #[inline(always)]
 fn draw_mode_of_group(
-    hand: &mut BitsAtHand<'_>,
+    window: &mut Window<'_>,
     row: &mut Vec<u32>,
     line: &CodingLine<'_>,
     stroke: Stroke,
     group: ModeGroup,
     ticks: &mut Ticks,
 ) -> Option<Stroke>
-    requires enough { 16 ≤ hand.old.left }
-    requires can { CanDraw line.now stroke hand.old row.old }
-    requires first { IsFirstMode group hand.old }
-    requires words { AreNextWords (words_of group) hand.old.at }
-    ensures drawn { DrawsSome line.now stroke hand.old row.old ticks.old result hand.new row.new ticks.new }
-    ensures kept { KeepsRoom hand.old row.old hand.new row.new }
+    requires enough { 16 ≤ window.old.left }
+    requires can { CanDraw line.now stroke window.old row.old }
+    requires first { IsFirstMode group window.old }
+    requires words { AreNextWords (words_of group) window.old.at }
+    ensures drawn { DrawsSome line.now stroke window.old row.old ticks.old result window.new row.new ticks.new }
+    ensures kept { KeepsRoom window.old row.old window.new row.new }
 {
     if group.is_horizontal() {
-        return draw_horizontal(hand, row, line, stroke, ticks);
+        return draw_horizontal(window, row, line, stroke, ticks);
     }
     if group.is_pass() {
-        return Some(draw_pass(hand, row, line, stroke, ticks));
+        return Some(draw_pass(window, row, line, stroke, ticks));
     }
     if ModeGroup::count(group) == 0 {
         return None;
     }
-    if let Some(reached) = draw_first(hand, row, line, stroke, group, ticks) {
+    if let Some(reached) = draw_first(window, row, line, stroke, group, ticks) {
         return Some(reached);
     }
-    let (mode, width) = mode_at_hand(hand);
-    draw_vertical(hand, row, line, stroke, (mode?, width), ticks)
+    let (mode, width) = mode_at_hand(window);
+    draw_vertical(window, row, line, stroke, (mode?, width), ticks)
 }
 
 /// Returns the last of some places that are stored in a row from an index on, or what was painted before if there is none.
@@ -851,21 +851,21 @@ fn painted_by(row: &Vec<u32>, start: usize, count: usize, painted: u32) -> u32
 /// to the row's end. Returns how far the row is drawn then, and whether it isn't full; or `None` if no mode is drawn.
 #[inline(always)]
 fn draw_first_modes(
-    hand: &mut BitsAtHand<'_>,
+    window: &mut Window<'_>,
     row: &mut Vec<u32>,
     line: &CodingLine<'_>,
     stroke: Stroke,
     modes: &ModesHere,
     ticks: &mut Ticks,
 ) -> Option<(Stroke, bool)>
-    requires can { CanDraw line.now stroke hand.old row.old }
-    requires here { AreModesHere line.now stroke hand.old modes.now }
+    requires can { CanDraw line.now stroke window.old row.old }
+    requires here { AreModesHere line.now stroke window.old modes.now }
     requires some { first_clear modes.now < length (words_of modes.now.group) }
     ensures drawn { IfSome result
-        (λ next. DrawsMode line.now stroke hand.old row.old ticks.old next.0 hand.new row.new ticks.new) }
+        (λ next. DrawsMode line.now stroke window.old row.old ticks.old next.0 window.new row.new ticks.new) }
     ensures open { IfSome result (λ next. IsTrue next.1 ↔ (next.0.painted < line.now.columns)) }
-    ensures left { IfNone result ((hand.new ≡ hand.old) × (row.new.items ≡ row.old.items) × (ticks.new ≡ ticks.old)) }
-    ensures kept { KeepsRoom hand.old row.old hand.new row.new }
+    ensures left { IfNone result ((window.new ≡ window.old) × (row.new.items ≡ row.old.items) × (ticks.new ≡ ticks.old)) }
+    ensures kept { KeepsRoom window.old row.old window.new row.new }
 {
     let count = (!modes.regular).trailing_zeros() as usize;
     let start = row.len();
@@ -874,7 +874,7 @@ fn draw_first_modes(
     let painted = painted_by(row, start, count, stroke.painted);
     if painted < place && place < line.columns {
         row.truncate(start + count + 1);
-        hand.pass(modes.group.first_width(count + 1));
+        window.pass(modes.group.first_width(count + 1));
         tick_times(ticks, 2 * count + 2);
         let before = Stroke {
             painted,
@@ -895,7 +895,7 @@ fn draw_first_modes(
     row.truncate(start + count);
     let index = stroke.index + count;
     if place == line.columns {
-        hand.pass(modes.group.first_width(count + 1));
+        window.pass(modes.group.first_width(count + 1));
         tick_times(ticks, 2 * count + 2);
         let color = next_color(row).opposite();
         return Some((
@@ -910,7 +910,7 @@ fn draw_first_modes(
     if count == 0 {
         return None;
     }
-    hand.pass(modes.group.first_width(count));
+    window.pass(modes.group.first_width(count));
     tick_times(ticks, 2 * count);
     let color = next_color(row);
     Some((
@@ -927,21 +927,21 @@ fn draw_first_modes(
 /// row is drawn then, and whether it isn't full; or `None`, drawing nothing, if there is no such mode.
 #[inline(always)]
 fn draw_group(
-    hand: &mut BitsAtHand<'_>,
+    window: &mut Window<'_>,
     row: &mut Vec<u32>,
     line: &CodingLine<'_>,
     stroke: Stroke,
     group: ModeGroup,
     ticks: &mut Ticks,
 ) -> Option<(Stroke, bool)>
-    requires enough { 16 ≤ hand.old.left }
-    requires can { CanDraw line.now stroke hand.old row.old }
-    requires words { AreNextWords (words_of group) hand.old.at }
+    requires enough { 16 ≤ window.old.left }
+    requires can { CanDraw line.now stroke window.old row.old }
+    requires words { AreNextWords (words_of group) window.old.at }
     ensures drawn { IfSome result
-        (λ next. DrawsMode line.now stroke hand.old row.old ticks.old next.0 hand.new row.new ticks.new) }
+        (λ next. DrawsMode line.now stroke window.old row.old ticks.old next.0 window.new row.new ticks.new) }
     ensures open { IfSome result (λ next. IsTrue next.1 ↔ (next.0.painted < line.now.columns)) }
-    ensures left { IfNone result ((hand.new ≡ hand.old) × (row.new.items ≡ row.old.items) × (ticks.new ≡ ticks.old)) }
-    ensures kept { KeepsRoom hand.old row.old hand.new row.new }
+    ensures left { IfNone result ((window.new ≡ window.old) × (row.new.items ≡ row.old.items) × (ticks.new ≡ ticks.old)) }
+    ensures kept { KeepsRoom window.old row.old window.new row.new }
 {
     if ModeGroup::count(group) == 0 {
         return None;
@@ -951,31 +951,31 @@ fn draw_group(
     }
     let modes = modes_here(line, stroke, group);
     if are_regular(&modes) {
-        let next = draw_regular(hand, row, line, stroke, &modes, ticks);
+        let next = draw_regular(window, row, line, stroke, &modes, ticks);
         return Some((next, true));
     }
-    draw_first_modes(hand, row, line, stroke, &modes, ticks)
+    draw_first_modes(window, row, line, stroke, &modes, ticks)
 }
 
 /// Draws modes while they are of the usual kind, and there is room. Returns the stroke that is reached then.
 #[inline(always)]
-fn draw_bits(
-    hand: &mut BitsAtHand<'_>,
+fn draw_by_groups(
+    window: &mut Window<'_>,
     row: &mut Vec<u32>,
     line: &CodingLine<'_>,
     stroke: Stroke,
     ticks: &mut Ticks,
 ) -> Stroke
-    requires can { CanDraw line.now stroke hand.old row.old }
-    ensures { DrawsOn line.now stroke hand.old row.old ticks.old result hand.new row.new ticks.new }
+    requires can { CanDraw line.now stroke window.old row.old }
+    ensures { DrawsOn line.now stroke window.old row.old ticks.old result window.new row.new ticks.new }
 {
     let mut now = stroke;
     'modes: loop {
-        if !has_next_mode(hand, row) {
+        if !refill_if_low(window, row) {
             return recolored(row, now);
         }
-        let group = group_at_hand(hand);
-        if let Some((next, is_open)) = draw_group(hand, row, line, now, group, ticks) {
+        let group = group_at_hand(window);
+        if let Some((next, is_open)) = draw_group(window, row, line, now, group, ticks) {
             if !is_open {
                 return next;
             }
@@ -983,7 +983,7 @@ fn draw_bits(
             continue;
         }
         let here = recolored(row, now);
-        match draw_mode_of_group(hand, row, line, here, group, ticks) {
+        match draw_mode_of_group(window, row, line, here, group, ticks) {
             None => return here,
             Some(next) => {
                 if next.painted == line.columns {
@@ -995,44 +995,44 @@ fn draw_bits(
     }
 }
 
-/// Draws modes by groups, as `draw_bits` does, with a copy of the window, so that its fields stay in registers.
+/// Draws modes by groups, as `draw_by_groups` does, with a copy of the window, so that its fields stay in registers.
 #[inline(always)]
 fn draw_groups(
-    hand: &mut BitsAtHand<'_>,
+    window: &mut Window<'_>,
     row: &mut Vec<u32>,
     line: &CodingLine<'_>,
     stroke: Stroke,
     ticks: &mut Ticks,
 ) -> Stroke
-    requires can { CanDraw line.now stroke hand.old row.old }
-    ensures { DrawsOn line.now stroke hand.old row.old ticks.old result hand.new row.new ticks.new }
+    requires can { CanDraw line.now stroke window.old row.old }
+    ensures { DrawsOn line.now stroke window.old row.old ticks.old result window.new row.new ticks.new }
 {
-    let mut bits = hand.copy();
-    let reached = draw_bits(&mut bits, row, line, stroke, ticks);
-    *hand = bits;
+    let mut bits = window.copy();
+    let reached = draw_by_groups(&mut bits, row, line, stroke, ticks);
+    *window = bits;
     reached
 }
 
 /// Draws the mode that is here, in a colour. Returns `None`, and draws nothing, if it isn't of the usual kind.
 #[inline(always)]
 fn draw_mode_at_hand(
-    hand: &mut BitsAtHand<'_>,
+    window: &mut Window<'_>,
     row: &mut Vec<u32>,
     line: &CodingLine<'_>,
     stroke: Stroke,
     ticks: &mut Ticks,
 ) -> Option<Stroke>
-    requires enough { 16 ≤ hand.old.left }
-    requires can { CanDraw line.now stroke hand.old row.old }
-    ensures drawn { DrawsSome line.now stroke hand.old row.old ticks.old result hand.new row.new ticks.new }
-    ensures there { IfSome result (λ reached. hand.old.at.place < length hand.old.at.bits) }
-    ensures kept { KeepsRoom hand.old row.old hand.new row.new }
+    requires enough { 16 ≤ window.old.left }
+    requires can { CanDraw line.now stroke window.old row.old }
+    ensures drawn { DrawsSome line.now stroke window.old row.old ticks.old result window.new row.new ticks.new }
+    ensures there { IfSome result (λ reached. window.old.at.place < length window.old.at.bits) }
+    ensures kept { KeepsRoom window.old row.old window.new row.new }
 {
-    let (mode, width) = mode_at_hand(hand);
+    let (mode, width) = mode_at_hand(window);
     match mode? {
-        Mode::Pass => Some(draw_pass(hand, row, line, stroke, ticks)),
-        Mode::Horizontal => draw_horizontal(hand, row, line, stroke, ticks),
-        vertical => draw_vertical(hand, row, line, stroke, (vertical, width), ticks),
+        Mode::Pass => Some(draw_pass(window, row, line, stroke, ticks)),
+        Mode::Horizontal => draw_horizontal(window, row, line, stroke, ticks),
+        vertical => draw_vertical(window, row, line, stroke, (vertical, width), ticks),
     }
 }
 
@@ -1057,25 +1057,25 @@ fn is_turned(color: Color, next: Color) -> bool
 /// Draws modes in one colour while they are of the usual kind, up to one that changes the colour. Returns the stroke that is
 /// reached then, and whether that is all.
 #[inline(always)]
-fn draw_in_color(
-    hand: &mut BitsAtHand<'_>,
+fn draw_run_of_modes(
+    window: &mut Window<'_>,
     row: &mut Vec<u32>,
     line: &CodingLine<'_>,
     stroke: Stroke,
     ticks: &mut Ticks,
 ) -> (Stroke, bool)
-    requires can { CanDraw line.now stroke hand.old row.old }
-    ensures on { DrawsOn line.now stroke hand.old row.old ticks.old result.0 hand.new row.new ticks.new }
-    ensures onward { hand.old.at.place ≤ hand.new.at.place }
-    ensures turned { result.1 ≡ false → (result.0.color ≡ opposite stroke.color) × (CanDraw line.now result.0 hand.new row.new)
-        × (hand.old.at.place < hand.new.at.place) × (hand.old.at.place < length hand.old.at.bits) }
+    requires can { CanDraw line.now stroke window.old row.old }
+    ensures on { DrawsOn line.now stroke window.old row.old ticks.old result.0 window.new row.new ticks.new }
+    ensures onward { window.old.at.place ≤ window.new.at.place }
+    ensures turned { result.1 ≡ false → (result.0.color ≡ opposite stroke.color) × (CanDraw line.now result.0 window.new row.new)
+        × (window.old.at.place < window.new.at.place) × (window.old.at.place < length window.old.at.bits) }
 {
     let mut now = stroke;
     'modes: loop {
-        if !has_next_mode(hand, row) {
+        if !refill_if_low(window, row) {
             return (now, true);
         }
-        match draw_mode_at_hand(hand, row, line, now, ticks) {
+        match draw_mode_at_hand(window, row, line, now, ticks) {
             None => return (now, true),
             Some(next) => {
                 if is_turned(stroke.color, next.color) {
@@ -1098,39 +1098,39 @@ fn draw_in_color(
 /// all.
 #[inline(always)]
 fn draw_to_white(
-    hand: &mut BitsAtHand<'_>,
+    window: &mut Window<'_>,
     row: &mut Vec<u32>,
     line: &CodingLine<'_>,
     stroke: Stroke,
     ticks: &mut Ticks,
 ) -> (Stroke, bool)
-    requires can { CanDraw line.now stroke hand.old row.old }
-    ensures on { DrawsOn line.now stroke hand.old row.old ticks.old result.0 hand.new row.new ticks.new }
-    ensures turned { result.1 ≡ false → (result.0.color ≡ Color.White) × (CanDraw line.now result.0 hand.new row.new) }
+    requires can { CanDraw line.now stroke window.old row.old }
+    ensures on { DrawsOn line.now stroke window.old row.old ticks.old result.0 window.new row.new ticks.new }
+    ensures turned { result.1 ≡ false → (result.0.color ≡ Color.White) × (CanDraw line.now result.0 window.new row.new) }
 {
     match stroke.color {
         Color::White => (stroke, false),
-        Color::Black => draw_in_color(hand, row, line, stroke, ticks),
+        Color::Black => draw_run_of_modes(window, row, line, stroke, ticks),
     }
 }
 
 /// Draws modes while they are of the usual kind, and there is room. Returns the stroke that is reached then.
 #[inline(always)]
-fn draw_turns(
-    hand: &mut BitsAtHand<'_>,
+fn draw_by_colors(
+    window: &mut Window<'_>,
     row: &mut Vec<u32>,
     line: &CodingLine<'_>,
     stroke: Stroke,
     ticks: &mut Ticks,
 ) -> Stroke
-    requires can { CanDraw line.now stroke hand.old row.old }
-    ensures { DrawsOn line.now stroke hand.old row.old ticks.old result hand.new row.new ticks.new }
+    requires can { CanDraw line.now stroke window.old row.old }
+    ensures { DrawsOn line.now stroke window.old row.old ticks.old result window.new row.new ticks.new }
 {
     // A copy of the window, so that its fields stay in registers.
-    let mut bits = hand.copy();
+    let mut bits = window.copy();
     let (first, is_done) = draw_to_white(&mut bits, row, line, stroke, ticks);
     if is_done {
-        *hand = bits;
+        *window = bits;
         return first;
     }
     let mut white = Stroke {
@@ -1138,18 +1138,18 @@ fn draw_turns(
         ..first
     };
     'turns: loop {
-        let (next, is_over) = draw_in_color(&mut bits, row, line, white, ticks);
+        let (next, is_over) = draw_run_of_modes(&mut bits, row, line, white, ticks);
         if is_over {
-            *hand = bits;
+            *window = bits;
             return next;
         }
         let black = Stroke {
             color: Color::Black,
             ..next
         };
-        let (next, is_over) = draw_in_color(&mut bits, row, line, black, ticks);
+        let (next, is_over) = draw_run_of_modes(&mut bits, row, line, black, ticks);
         if is_over {
-            *hand = bits;
+            *window = bits;
             return next;
         }
         white = Stroke {
@@ -1162,22 +1162,22 @@ fn draw_turns(
 /// Draws modes by groups or in turns, as the line's settings say. It moves the list into a local, so that its length stays in a
 /// register.
 #[inline(always)]
-fn draw_own_row(
-    hand: &mut BitsAtHand<'_>,
+fn draw_with_own_list(
+    window: &mut Window<'_>,
     row: &mut Vec<u32>,
     line: &CodingLine<'_>,
     stroke: Stroke,
     ticks: &mut Ticks,
 ) -> Stroke
-    requires can { CanDraw line.now stroke hand.old row.old }
-    ensures { DrawsOn line.now stroke hand.old row.old ticks.old result hand.new row.new ticks.new }
+    requires can { CanDraw line.now stroke window.old row.old }
+    ensures { DrawsOn line.now stroke window.old row.old ticks.old result window.new row.new ticks.new }
 {
     let empty = Vec::new(*row.allocator());
     let mut own = mem::replace(row, empty);
     let reached = if line.by_groups {
-        draw_groups(hand, &mut own, line, stroke, ticks)
+        draw_groups(window, &mut own, line, stroke, ticks)
     } else {
-        draw_turns(hand, &mut own, line, stroke, ticks)
+        draw_by_colors(window, &mut own, line, stroke, ticks)
     };
     // What is left there is empty.
     mem::forget(mem::replace(row, own));
@@ -1200,14 +1200,14 @@ pub(crate) fn is_sparse(columns: u32, changes: usize) -> bool {
 /// that is reached then.
 #[inline(always)]
 pub(crate) fn draw_modes(
-    hand: &mut BitsAtHand<'_>,
+    window: &mut Window<'_>,
     row: &mut Vec<u32>,
     line: &CodingLine<'_>,
     ticks: &mut Ticks,
 ) -> Stroke
-    requires can { CanDraw line.now line_start hand.old row.old }
-    ensures drawn { Draws line.now line_start hand.old row.old ticks.old result hand.new row.new ticks.new }
-    ensures same_bits { hand.new.at.bits ≡ hand.old.at.bits }
+    requires can { CanDraw line.now line_start window.old row.old }
+    ensures drawn { Draws line.now line_start window.old row.old ticks.old result window.new row.new ticks.new }
+    ensures same_bits { window.new.at.bits ≡ window.old.at.bits }
     ensures space { GrowsFor (vec_len row.new) (vec_capacity row.old) (vec_capacity row.new) }
 {
     let mut now = Stroke {
@@ -1217,12 +1217,12 @@ pub(crate) fn draw_modes(
     };
     // Each time the room doubles.
     'rooms: for _ in 0..32 {
-        let reached = draw_own_row(hand, row, line, now, ticks);
+        let reached = draw_with_own_list(window, row, line, now, ticks);
         if reached.painted == line.columns {
             return reached;
         }
         // A window has at most 64 bits.
-        if hand.left() > 64 {
+        if window.left() > 64 {
             return reached;
         }
         if has_room_for_window(row) {
@@ -1238,7 +1238,7 @@ pub(crate) fn draw_modes(
 
 /// Prepares a front for `context`: a change at the front's end is removed, unless the row is full.
 #[inline(always)]
-pub(crate) fn lay_down_row(changes: &mut Vec<u32>, painted: u32, columns: u32)
+pub(crate) fn drop_open_change_in_row(changes: &mut Vec<u32>, painted: u32, columns: u32)
     requires lawful { AreChanges (painted + 1) changes.old.items }
     requires whole { columns ≤ painted → AreChanges painted changes.old.items }
     ensures lawful { AreChanges painted changes.new.items }
@@ -1247,7 +1247,7 @@ pub(crate) fn lay_down_row(changes: &mut Vec<u32>, painted: u32, columns: u32)
     ensures space { vec_capacity changes.new ≡ vec_capacity changes.old }
 {
     if painted < columns {
-        lay_down(changes, painted);
+        drop_open_change(changes, painted);
     }
 }
 
@@ -1273,12 +1273,12 @@ pub(crate) fn put_ends(changes: &mut Vec<u32>, columns: u32) -> bool
     // The list is moved into a local, so that its length stays in a register.
     let empty = Vec::new(*changes.allocator());
     let mut own = mem::replace(changes, empty);
-    turn_at(&mut own, columns);
-    turn_at(&mut own, columns);
-    turn_at(&mut own, columns);
-    turn_at(&mut own, columns);
-    turn_at(&mut own, columns);
-    turn_at(&mut own, columns);
+    push_change(&mut own, columns);
+    push_change(&mut own, columns);
+    push_change(&mut own, columns);
+    push_change(&mut own, columns);
+    push_change(&mut own, columns);
+    push_change(&mut own, columns);
     mem::forget(mem::replace(changes, own));
     true
 }
@@ -1307,7 +1307,7 @@ pub(crate) fn repeat_changes(changes: &[u32], row: &mut Vec<u32>)
 {
     let mut done = 0;
     'changes: while done < changes.len() {
-        turn_at(row, changes[done]);
+        push_change(row, changes[done]);
         done += 1;
     }
 }

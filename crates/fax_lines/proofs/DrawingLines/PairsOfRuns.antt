@@ -8,19 +8,19 @@ use Rattle.fax_lines.proofs.DrawingLines.UsualStrokes.{goes_on_twice, open_reach
 
 module _ {A : Type 0} where
   -- pairs of runs are drawn up to a position inside the row
-  pub record ArePairsDrawn (settings : DecodeSettings) (painted : ℕ) (hand : AtHand) (row : Vec ℕ A) (ticks : ℕ)
+  pub record ArePairsDrawn (settings : DecodeSettings) (painted : ℕ) (window : AtHand) (row : Vec ℕ A) (ticks : ℕ)
       (place : ℕ) (rest : AtHand) (longer : Vec ℕ A) (now : ℕ) : Type 0 where
-    pub drawn : GoesOn settings.strict settings.columns (pen_at painted row.items White hand.at)
+    pub drawn : GoesOn settings.strict settings.columns (pen_at painted row.items White window.at)
         (pen_at place longer.items White rest.at) ticks now
     pub row_is_open : IsOpen settings.columns place longer.items
     pub forward : painted ≤ place
-    pub moves : MovesOn hand row rest longer
+    pub moves : MovesOn window row rest longer
 
-  module _ {settings : DecodeSettings} {painted ticks place now : ℕ} {hand rest : AtHand} {row longer : Vec ℕ A}
-      (pairs : ArePairsDrawn settings painted hand row ticks place rest longer now) where
+  module _ {settings : DecodeSettings} {painted ticks place now : ℕ} {window rest : AtHand} {row longer : Vec ℕ A}
+      (pairs : ArePairsDrawn settings painted window row ticks place rest longer now) where
     -- the window and the list's room change, but nothing is drawn
     pub pairs_stay : {last : AtHand} {same : Vec ℕ A} {then : ℕ} → DrawsNothing rest longer now last same then
-        → MovesOn rest longer last same → ArePairsDrawn settings painted hand row ticks place last same then
+        → MovesOn rest longer last same → ArePairsDrawn settings painted window row ticks place last same then
     pairs_stay none moves = record {
       drawn = rw (none.at, none.items, none.count) pairs.drawn;
       row_is_open = rw none.items pairs.row_is_open;
@@ -33,7 +33,7 @@ module _ {A : Type 0} where
     }
 
     -- nothing more is of the usual kind
-    pub pairs_end : DrawsRuns settings painted hand row ticks place White rest longer now
+    pub pairs_end : DrawsRuns settings painted window row ticks place White rest longer now
     pairs_end = record {
       drawn = pairs.drawn;
       reached = open_reached settings.columns place longer.items pairs.row_is_open;
@@ -42,7 +42,7 @@ module _ {A : Type 0} where
     module _ {next then : ℕ} {color : Color} {last : AtHand} {whole : Vec ℕ A}
         (runs : DrawsRuns settings place rest longer now next color last whole then) where
       -- two more runs
-      pub pairs_reach : DrawsRuns settings painted hand row ticks next color last whole then
+      pub pairs_reach : DrawsRuns settings painted window row ticks next color last whole then
       pairs_reach = record {
         drawn = goes_on_twice settings.strict settings.columns _ _ _ _ _ _ pairs.drawn runs.drawn;
         reached = runs.reached;
@@ -50,7 +50,7 @@ module _ {A : Type 0} where
 
       -- and the row isn't full
       pub pairs_on : next ≢ settings.columns → place < next → MovesOn rest longer last whole
-          → ArePairsDrawn settings painted hand row ticks next last whole then
+          → ArePairsDrawn settings painted window row ticks next last whole then
       pairs_on inside forward moves =
           let opened = reached_open settings.columns next color whole.items runs.reached inside in
           record {

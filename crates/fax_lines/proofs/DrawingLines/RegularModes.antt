@@ -202,14 +202,13 @@ next_word (word ∷ words) (suc n) at next few =
     (on.0, on.1, omega (arith, sum), rw (sym (moved_on word.width (width_of (take n words)) at)) on.3)
 
 -- the first of them is next
-pub first_word : (words : List VerticalWord) {hand : AtHand} {width : ℕ} → AreNextWords words hand.at → 0 < length words → 16 ≤
-    hand.left
-    → width ≡ width_of (take 1 words) → IsNextMode (Vertical (distance_of (offset_at words 0))) width hand
+pub first_word : (words : List VerticalWord) {window : AtHand} {width : ℕ} → AreNextWords words window.at → 0 < length words
+    → 16 ≤ window.left → width ≡ width_of (take 1 words) → IsNextMode (Vertical (distance_of (offset_at words 0))) width window
 first_word [] next some enough is = absurd (omega (arith, some))
-first_word (word ∷ words) {hand} {width} next some enough is = grind (arith, common_steps)
+first_word (word ∷ words) {window} {width} next some enough is = grind (arith, common_steps)
 
-module _ {A : Type 0} {line : CodingLine} {stroke : Stroke} {hand : AtHand} {row : Vec ℕ A} {modes : ModesHere}
-    (can : CanDraw line stroke hand row) (here : AreModesHere line stroke hand modes) (n : ℕ)
+module _ {A : Type 0} {line : CodingLine} {stroke : Stroke} {window : AtHand} {row : Vec ℕ A} {modes : ModesHere}
+    (can : CanDraw line stroke window row) (here : AreModesHere line stroke window modes) (n : ℕ)
     (within : n ≤ length (words_of modes.group)) (set : AreSet modes.regular n) where
   count : length (take n modes.places) ≡ n
   count = length-take-le n modes.places (omega (arith, within, here.few, here.lead.four))
@@ -253,16 +252,18 @@ module _ {A : Type 0} {line : CodingLine} {stroke : Stroke} {hand : AtHand} {row
 
   -- and the line
   pub first_drawn : (ticks : ℕ) (color : Color) → TurnsFrom (length (row.items ++ take n modes.places)) color
-      → GoesOn2d line.strict line.columns (row_in line.columns line.places.now) (pen_here stroke hand row)
+      → GoesOn2d line.strict line.columns (row_in line.columns line.places.now) (pen_here stroke window row)
       (pen_at (get_or (stroke.painted ∷ modes.places) n 0) (row.items ++ take n modes.places) color
-      (moved (width_of (take n (words_of modes.group))) hand.at)) ticks (ticks + 2 * n) (stroke.index - 1) (stroke.index + n - 1)
+      (moved (width_of (take n (words_of modes.group))) window.at)) ticks (ticks + 2 * n) (stroke.index - 1)
+      (stroke.index + n - 1)
   first_drawn ticks color turns =
       let on = group_stroke can.ended.lawful (take n modes.places) stroke.painted stroke.index stroke.color row.items
       can.inside can.reached regular in
       let same = one_color (length (row.items ++ take n modes.places)) _ color (on.colored is_open) turns in
       rw (first_last, count, same) at (group_on can.ended.lawful {strict = line.strict} (take n modes.places) (words_of
       modes.group) stroke.painted
-      stroke.index stroke.color row.items hand.at ticks (omega (arith, can.fits)) can.inside can.reached here.next named regular)
+      stroke.index stroke.color row.items window.at ticks (omega (arith, can.fits)) can.inside can.reached here.next named
+      regular)
 
   -- the line with the mode after them, which leads to a place that isn't left of them
   next_drawn : {place ticks now : ℕ} (later : ℕ) (color : Color) → n < length (words_of modes.group) → place ≡ get_or
@@ -270,21 +271,21 @@ module _ {A : Type 0} {line : CodingLine} {stroke : Stroke} {hand : AtHand} {row
       → get_or (stroke.painted ∷ modes.places) n 0 ≤ place → place ≤ line.columns
       → TurnsFrom (length (row.items ++ take n modes.places)) color → ticks + 2 * n + 1 ≤ now
       → now + (stroke.index + n - 1) ≤ ticks + 2 * n + 4 + (later - 1)
-      → GoesOn2d line.strict line.columns (row_in line.columns line.places.now) (pen_here stroke hand row)
+      → GoesOn2d line.strict line.columns (row_in line.columns line.places.now) (pen_here stroke window row)
       (pen_at place (row.items ++ take n modes.places) (opposite color)
-      (moved (width_of (take (suc n) (words_of modes.group))) hand.at)) ticks now (stroke.index - 1) (later - 1)
+      (moved (width_of (take (suc n) (words_of modes.group))) window.at)) ticks now (stroke.index - 1) (later - 1)
   next_drawn {place} {ticks} {now} later color more is right within_row colored least most =
       let width : ℕ = width_of (take n (words_of modes.group)) in
-      let word = next_word (words_of modes.group) n hand.at here.next more in
+      let word = next_word (words_of modes.group) n window.at here.next more in
       let named = here.lead.named n (omega (arith, more, here.few)) (omega (arith, is, within_row)) in
       let step = vertical_on can.ended.lawful first_inside (first_reached color colored) {strict = line.strict}
-      (moved width hand.at) later word.0.width {ticks = ticks + 2 * n} {now = now} (omega (arith, can.fits, within_row))
+      (moved width window.at) later word.0.width {ticks = ticks + 2 * n} {now = now} (omega (arith, can.fits, within_row))
       word.3.read
       (named_by (get_or (changes_in line.places.now) (stroke.index + n) line.columns) word.0.offset place
       (omega (arith, named, word.1, is))) right within_row least most in
-      subst (λ (at : BitsAt). GoesOn2d line.strict line.columns (row_in line.columns line.places.now) (pen_here stroke hand row)
+      subst (λ (at : BitsAt). GoesOn2d line.strict line.columns (row_in line.columns line.places.now) (pen_here stroke window row)
       (pen_at place (row.items ++ take n modes.places) (opposite color) at) ticks now (stroke.index - 1) (later - 1))
-      (moved_on width word.0.width hand.at ∙ ap (λ (w : ℕ). moved w hand.at) word.2)
+      (moved_on width word.0.width window.at ∙ ap (λ (w : ℕ). moved w window.at) word.2)
       (twice_2d (first_drawn ticks color colored) step)
 
   -- ---- What is drawn, by a window, a row and a stroke.
@@ -293,29 +294,29 @@ module _ {A : Type 0} {line : CodingLine} {stroke : Stroke} {hand : AtHand} {row
     -- the regular modes
     pub draws_first : 0 < n → next.painted ≡ get_or (stroke.painted ∷ modes.places) n 0 → next.index ≡ stroke.index + n
         → TurnsFrom (vec_len longer) next.color → longer.items ≡ row.items ++ take n modes.places
-        → rest.at ≡ moved (width_of (take n (words_of modes.group))) hand.at → now ≡ ticks + 2 * n
-        → DrawsMode line stroke hand row ticks next rest longer now
+        → rest.at ≡ moved (width_of (take n (words_of modes.group))) window.at → now ≡ ticks + 2 * n
+        → DrawsMode line stroke window row ticks next rest longer now
     draws_first some painted index colored items at counted =
         let turns : TurnsFrom (length (row.items ++ take n modes.places)) next.color = rw (longer.ok.0, items) at colored in
         draws_mode (rw (painted, index, items, at, counted) (first_drawn ticks next.color turns))
         (rw (painted, index, items) (first_reached next.color turns))
-        (rw at (omega (arith, some, bits_at_least (words_of modes.group) n hand.at here.next within))) room
+        (rw at (omega (arith, some, bits_at_least (words_of modes.group) n window.at here.next within))) room
 
     module _ (color : Color) (more : n < length (words_of modes.group))
         (colored : TurnsFrom (length (row.items ++ take n modes.places)) color) (turned : next.color ≡ opposite color)
-        (at : rest.at ≡ moved (width_of (take (suc n) (words_of modes.group))) hand.at) (least : ticks + 2 * n + 1 ≤ now)
+        (at : rest.at ≡ moved (width_of (take (suc n) (words_of modes.group))) window.at) (least : ticks + 2 * n + 1 ≤ now)
         (most : now + (stroke.index + n - 1) ≤ ticks + 2 * n + 4 + (next.index - 1)) where
       -- the next mode, at another place of the row, right of them
       pub draws_next : next.painted ≡ get_or modes.places n 0 → get_or (stroke.painted ∷ modes.places) n 0 < next.painted
           → next.painted < line.columns → IsB1 line.columns (changes_in line.places.now) next.painted next.index (opposite color)
-          → longer.items ≡ row.items ++ take (suc n) modes.places → DrawsMode line stroke hand row ticks next rest longer now
+          → longer.items ≡ row.items ++ take (suc n) modes.places → DrawsMode line stroke window row ticks next rest longer now
       draws_next is right inside b1 items =
           let one : take (suc n) modes.places ≡ take n modes.places ++ next.painted ∷ [] =
           rw is (take-suc modes.places n 0 (omega (arith, here.lead.four, more, here.few))) in
           let longer_is : longer.items ≡ (row.items ++ take n modes.places) ++ next.painted ∷ [] =
           items ∙ ap (λ xs. row.items ++ xs) one ∙ sym (append_assoc row.items (take n modes.places) (next.painted ∷ [])) in
-          let some : hand.at.place < hand.at.place + width_of (take (suc n) (words_of modes.group)) =
-          omega (arith, bits_at_least (words_of modes.group) (suc n) hand.at here.next more) in
+          let some : window.at.place < window.at.place + width_of (take (suc n) (words_of modes.group)) =
+          omega (arith, bits_at_least (words_of modes.group) (suc n) window.at here.next more) in
           draws_mode (rw (at, turned, longer_is, pixels-pending)
           (next_drawn next.index color more is (omega (arith, right)) (omega (arith, inside)) colored least most))
           (left_stroke can.ended.lawful first_inside (first_reached color colored) right inside longer_is turned b1) (rw at
@@ -323,10 +324,10 @@ module _ {A : Type 0} {line : CodingLine} {stroke : Stroke} {hand : AtHand} {row
 
       -- the next mode, at the row's end
       pub draws_full : get_or modes.places n 0 ≡ line.columns → next.painted ≡ line.columns → next.index ≡ stroke.index + n
-          → longer.items ≡ row.items ++ take n modes.places → DrawsMode line stroke hand row ticks next rest longer now
+          → longer.items ≡ row.items ++ take n modes.places → DrawsMode line stroke window row ticks next rest longer now
       draws_full is painted index items =
-          let some : hand.at.place < hand.at.place + width_of (take (suc n) (words_of modes.group)) =
-          omega (arith, bits_at_least (words_of modes.group) (suc n) hand.at here.next more) in
+          let some : window.at.place < window.at.place + width_of (take (suc n) (words_of modes.group)) =
+          omega (arith, bits_at_least (words_of modes.group) (suc n) window.at here.next more) in
           draws_mode (rw (at, turned, painted, items)
           (next_drawn next.index color more (sym is) (omega (arith, first_inside)) (omega arith) colored least most))
           (rw (painted, index, items) (full_stroke can.ended.lawful first_inside (first_reached color colored))) (rw at some) room

@@ -37,15 +37,16 @@ twice_2d first second = record {
 }
 
 -- from one stroke to another, and on from there
-pub draws_on : {A : Type 0} {line : CodingLine} {a b c : Stroke} {hand hand2 same rest : AtHand} {row row2 even longer : Vec ℕ A}
-    {m n o : ℕ} → Draws line a hand row m b hand2 row2 n → same.at ≡ hand2.at → even.items ≡ row2.items
-    → Draws line b same even n c rest longer o → Draws line a hand row m c rest longer o
+pub draws_on : {A : Type 0} {line : CodingLine} {a b c : Stroke} {window window2 same rest : AtHand}
+    {row row2 even longer : Vec ℕ A}
+    {m n o : ℕ} → Draws line a window row m b window2 row2 n → same.at ≡ window2.at → even.items ≡ row2.items
+    → Draws line b same even n c rest longer o → Draws line a window row m c rest longer o
 draws_on first at items second =
     record { drawn = twice_2d first.drawn (rw (at, items) at second.drawn); reached = second.reached }
 
 -- the room stays, and stays from there on
-pub keeps_on : {A : Type 0} {hand mid same rest : AtHand} {row more longer : Vec ℕ A} → KeepsRoom hand row mid more
-    → same.at ≡ mid.at → KeepsRoom same more rest longer → KeepsRoom hand row rest longer
+pub keeps_on : {A : Type 0} {window mid same rest : AtHand} {row more longer : Vec ℕ A} → KeepsRoom window row mid more
+    → same.at ≡ mid.at → KeepsRoom same more rest longer → KeepsRoom window row rest longer
 keeps_on first at second = record {
   same_bits = second.same_bits ∙ ap (λ (b : BitsAt). b.bits) at ∙ first.same_bits;
   capacity = second.capacity ∙ first.capacity;
@@ -53,25 +54,26 @@ keeps_on first at second = record {
 }
 
 -- and in the row's room
-pub goes_on : {A : Type 0} {line : CodingLine} {a b c : Stroke} {hand hand2 same rest : AtHand} {row row2 even longer : Vec ℕ A}
-    {m n o : ℕ} → DrawsOn line a hand row m b hand2 row2 n → same.at ≡ hand2.at → even.items ≡ row2.items
-    → Draws line b same even n c rest longer o → KeepsRoom same row2 rest longer → DrawsOn line a hand row m c rest longer o
+pub goes_on : {A : Type 0} {line : CodingLine} {a b c : Stroke} {window window2 same rest : AtHand}
+    {row row2 even longer : Vec ℕ A}
+    {m n o : ℕ} → DrawsOn line a window row m b window2 row2 n → same.at ≡ window2.at → even.items ≡ row2.items
+    → Draws line b same even n c rest longer o → KeepsRoom same row2 rest longer → DrawsOn line a window row m c rest longer o
 goes_on first at items second kept = record {
   drawn = draws_on first.drawn at items second;
   kept = keeps_on first.kept at kept;
 }
 
 -- what is drawn is of the changes alone, and not of their room
-pub same_row_drawn : {A : Type 0} {line : CodingLine} {a b : Stroke} {hand rest : AtHand} {row longer even : Vec ℕ A} {m n : ℕ}
-    → Draws line a hand row m b rest longer n → even.items ≡ longer.items → Draws line a hand row m b rest even n
+pub same_row_drawn : {A : Type 0} {line : CodingLine} {a b : Stroke} {window rest : AtHand} {row longer even : Vec ℕ A} {m n : ℕ}
+    → Draws line a window row m b rest longer n → even.items ≡ longer.items → Draws line a window row m b rest even n
 same_row_drawn drawn items = record { drawn = rw items drawn.drawn; reached = rw items drawn.reached }
 
 -- what a mode draws, from its parts
-pub draws_mode : {A : Type 0} {line : CodingLine} {stroke next : Stroke} {hand rest : AtHand} {row longer : Vec ℕ A}
-    {ticks now : ℕ} → GoesOn2d line.strict line.columns (row_in line.columns line.places.now) (pen_here stroke hand row)
+pub draws_mode : {A : Type 0} {line : CodingLine} {stroke next : Stroke} {window rest : AtHand} {row longer : Vec ℕ A}
+    {ticks now : ℕ} → GoesOn2d line.strict line.columns (row_in line.columns line.places.now) (pen_here stroke window row)
     (pen_here next rest longer) ticks now (stroke.index - 1) (next.index - 1) → IsAtStroke line next longer
-    → hand.at.place < rest.at.place → vec_len longer + rest.left ≤ vec_capacity longer
-    → DrawsMode line stroke hand row ticks next rest longer now
+    → window.at.place < rest.at.place → vec_len longer + rest.left ≤ vec_capacity longer
+    → DrawsMode line stroke window row ticks next rest longer now
 draws_mode drawn reached onward room =
     record { drawn = record { drawn = drawn; reached = reached }; onward = onward; room = room }
 
@@ -391,15 +393,16 @@ module _ {columns : ℕ} {places : List ℕ} {painted index : ℕ} {color : Colo
       })
 
 -- a vertical mode of a line
-pub draws_vertical : {A : Type 0} {line : CodingLine} {stroke next : Stroke} {hand rest : AtHand} {row longer : Vec ℕ A} {k : ℤ}
-    {width ticks now : ℕ} → CanDraw line stroke hand row → next.painted ≤ 4294967295 → IsNextMode (Vertical k) width hand
-    → rest.at ≡ moved width hand.at → next.color ≡ opposite stroke.color → pixels next.painted longer.items
+pub draws_vertical : {A : Type 0} {line : CodingLine} {stroke next : Stroke} {window rest : AtHand} {row longer : Vec ℕ A} {k : ℤ}
+    {width ticks now : ℕ} → CanDraw line stroke window row → next.painted ≤ 4294967295 → IsNextMode (Vertical k) width window
+    → rest.at ≡ moved width window.at → next.color ≡ opposite stroke.color → pixels next.painted longer.items
     ≡ pixels next.painted row.items → pos (get_or (changes_in line.places.now) stroke.index line.columns) +ℤ k ≡ pos next.painted
     → stroke.painted ≤ next.painted → ticks + 1 ≤ now → now + (stroke.index - 1) ≤ ticks + 4 + (next.index - 1)
     → IsAtStroke line next longer → vec_len longer + rest.left ≤ vec_capacity longer
-    → DrawsMode line stroke hand row ticks next rest longer now
-draws_vertical {next = next} {hand = hand} {width = width} can fits mode moved turned same named forward least most reached room =
-    draws_mode (rw (moved, turned, same) (vertical_on can.ended.lawful can.inside can.reached hand.at next.index width fits
+    → DrawsMode line stroke window row ticks next rest longer now
+draws_vertical {next = next} {window = window} {width = width} can fits mode moved turned same named forward least most
+    reached room =
+    draws_mode (rw (moved, turned, same) (vertical_on can.ended.lawful can.inside can.reached window.at next.index width fits
     mode.read named forward reached.within least most)) reached (rw moved (omega (arith, mode.some))) room
 
 pub named_right : (b1 place more : ℕ) → place ≡ b1 + more → pos b1 +ℤ pos more ≡ pos place

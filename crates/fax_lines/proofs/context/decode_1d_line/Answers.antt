@@ -32,8 +32,9 @@ runs-smaller c =
     let shorter = drawn_run_shorter now.settings.strict now.settings.columns (pen_of now (here c.runs.reader))
     (pen_of c.draw_run.new.self.held (here c.draw_run.new.reader)) c.in_ok-draw_run.ensures.step in
     let from : BitsAt = c.draw_run.new.reader in
-    let to : BitsAt = c.draw_usual_runs.new.reader in
-    not_longer from to (length (here c.runs.reader)) shorter c.draw_usual_runs.ensures.same_bits c.draw_usual_runs.ensures.onward
+    let to : BitsAt = c.draw_runs_if_many.new.reader in
+    not_longer from to (length (here c.runs.reader)) shorter c.draw_runs_if_many.ensures.same_bits
+    c.draw_runs_if_many.ensures.onward
 
 pub runs-preserved : goal.runs-preserved
 runs-preserved c =
@@ -54,7 +55,7 @@ runs-preserved c =
       drawn_by,
       step_1d,
     ) in
-    let twos = c.draw_usual_runs in
+    let twos = c.draw_runs_if_many in
     let on = drawn_on by_run twos.ensures in
     let few = drawn_so_far_1d c.args.ctx.now c.runs.ctx c.args.reader.now c.runs.reader so_far in
     let whole : Line = line_1d true before.settings.columns (here c.args.reader.now) in

@@ -30,7 +30,7 @@ returns-clause-drawn c =
     let can = c.requires.can in
     let place : ℕ = c.change_at.result + c.from.result - 3 in
     let offset = c.offsets.ensures.each 0 0 (omega arith) in
-    let turned = c.turn_at.ensures in
+    let turned = c.push_change.ensures in
     let word = first_word (words_of c.args.group) c.requires.words c.requires.some c.requires.enough
     c.first_width.ensures.value in
     draws_vertical can (omega (arith, can.fits, c.if-place-line.false)) word c.pass.ensures.moved c.opposite-color.ensures

@@ -53,15 +53,15 @@ module _ (c : After-painted_by-painted) where
   kept k {m} is e = grind (arith, common_steps, take-append-add, row, places, begin)
 
   room : (n < 4) × (vec_len c.push_places.new.row ≡ c.len-start.result + 4)
-      × (c.len-start.result + c.args.hand.now.left ≤ vec_capacity c.push_places.new.row)
+      × (c.len-start.result + c.args.window.now.left ≤ vec_capacity c.push_places.new.row)
   room = grind (arith, common_steps, few)
 
   -- the bits of one mode more are passed
-  passed : {width : ℕ} {to : BitsAt} → width ≡ width_of (take (n + 1) words) → to ≡ moved width c.args.hand.now.at
-      → to ≡ moved (width_of (take (suc n) words)) c.args.hand.now.at
+  passed : {width : ℕ} {to : BitsAt} → width ≡ width_of (take (n + 1) words) → to ≡ moved width c.args.window.now.at
+      → to ≡ moved (width_of (take (suc n) words)) c.args.window.now.at
   passed is to =
       let one : n + 1 ≡ suc n = omega arith in
-      to ∙ ap (λ (w : ℕ). moved w c.args.hand.now.at) (is ∙ ap (λ (k : ℕ). width_of (take k words)) one)
+      to ∙ ap (λ (w : ℕ). moved w c.args.window.now.at) (is ∙ ap (λ (k : ℕ). width_of (take k words)) one)
 
   -- the colour before one of the places that is turned at
   colored_before : {count : ℕ} (color : Color) → count ≡ c.len-start.result + n + 1 → TurnsFrom count color
@@ -120,7 +120,7 @@ returns-clause-drawn c =
     draws_first c.requires.can c.requires.here (n at) (within at) (set at)
     (omega (arith, room at, c.truncate-2.ensures.len, c.truncate-2.ensures.capacity, c.pass-2.ensures.left, width.some))
     (omega (arith, c.if-count-eq0.false)) (painted_is at) refl c.next_color-color-2.ensures.turns items
-    (c.pass-2.ensures.moved ∙ ap (λ (w : ℕ). moved w c.args.hand.now.at) width.value) (omega (arith, c.tick_times-2.ensures))
+    (c.pass-2.ensures.moved ∙ ap (λ (w : ℕ). moved w c.args.window.now.at) width.value) (omega (arith, c.tick_times-2.ensures))
 
 pub returns-clause-open : goal.returns-clause-open
 returns-clause-open c =

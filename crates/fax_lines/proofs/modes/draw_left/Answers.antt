@@ -8,7 +8,7 @@ returns-clause-drawn c =
     let can = c.requires.can in
     let b1 = c.change_at-b1.ensures in
     let right = c.if-b1-stroke.false in
-    let turned = c.turn_at.ensures in
+    let turned = c.push_change.ensures in
     let next = c.b1_after_left-index.ensures in
     draws_vertical can (omega (arith, c.change_at-b1.type_inv)) c.requires.mode c.pass.ensures.moved c.opposite.ensures
     (rw (turned.items, pixels-pending) refl)

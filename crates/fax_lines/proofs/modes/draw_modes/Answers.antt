@@ -6,7 +6,7 @@ use Rattle.fax_lines.proofs.modes.draw_modes.Goals as goal
 
 pub rooms-preserved : goal.rooms-preserved
 rooms-preserved c =
-    let own = c.draw_own_row-reached in
+    let own = c.draw_with_own_list-reached in
     let made = c.make_room.ensures in
     let on = same_row_drawn (draws_on c.rooms.invariant.drawn refl refl own.ensures.drawn) made.same in
     let len : vec_len c.make_room.new.changes ≡ vec_len own.new.row =
@@ -19,14 +19,16 @@ rooms-preserved c =
     }
 
 pub returns-then-reached-line-clause-drawn : goal.returns-then-reached-line-clause-drawn
-returns-then-reached-line-clause-drawn c = draws_on c.rooms.invariant.drawn refl refl c.draw_own_row-reached.ensures.drawn
+returns-then-reached-line-clause-drawn c = draws_on c.rooms.invariant.drawn refl refl c.draw_with_own_list-reached.ensures.drawn
 
 pub returns-then-left-gt64-clause-drawn : goal.returns-then-left-gt64-clause-drawn
-returns-then-left-gt64-clause-drawn c = draws_on c.rooms.invariant.drawn refl refl c.draw_own_row-reached.ensures.drawn
+returns-then-left-gt64-clause-drawn c = draws_on c.rooms.invariant.drawn refl refl c.draw_with_own_list-reached.ensures.drawn
 
 pub returns-then-has_room_for_window-clause-drawn : goal.returns-then-has_room_for_window-clause-drawn
-returns-then-has_room_for_window-clause-drawn c = draws_on c.rooms.invariant.drawn refl refl c.draw_own_row-reached.ensures.drawn
+returns-then-has_room_for_window-clause-drawn c = draws_on c.rooms.invariant.drawn refl refl
+    c.draw_with_own_list-reached.ensures.drawn
 
 pub returns-then-not-make_room-clause-drawn : goal.returns-then-not-make_room-clause-drawn
 returns-then-not-make_room-clause-drawn c =
-    same_row_drawn (draws_on c.rooms.invariant.drawn refl refl c.draw_own_row-reached.ensures.drawn) c.make_room.ensures.same
+    same_row_drawn (draws_on c.rooms.invariant.drawn refl refl c.draw_with_own_list-reached.ensures.drawn)
+    c.make_room.ensures.same

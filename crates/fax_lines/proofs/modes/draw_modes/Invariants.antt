@@ -7,8 +7,8 @@ use Rattle.fax_lines.proofs.modes.draw_modes.Given as goal
 -- what is drawn so far, and that the row isn't full
 abbrev pub invariant-rooms : goal.invariant-rooms
 invariant-rooms l = record {
-  drawn : Draws l.line line_start l.fn.hand l.fn.row l.fn.ticks l.now l.hand l.row l.ticks;
-  can : CanDraw l.line l.now l.hand l.row;
-  same_bits : l.hand.at.bits ≡ l.fn.hand.at.bits;
+  drawn : Draws l.line line_start l.fn.window l.fn.row l.fn.ticks l.now l.window l.row l.ticks;
+  can : CanDraw l.line l.now l.window l.row;
+  same_bits : l.window.at.bits ≡ l.fn.window.at.bits;
   space : vec_capacity l.row ≤ max (vec_capacity l.fn.row) (room_for (vec_len l.row));
 }

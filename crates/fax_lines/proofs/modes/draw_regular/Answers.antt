@@ -8,9 +8,9 @@ use Rattle.fax_bits.specs.ModeGroups.{width_of, words_of}
 use Rattle.fax_lines.proofs.modes.draw_regular.Goals as goal
 
 -- what is stored
-stored : (c : goal.After-next_color) → c.turn_at_places.new.row.items ≡ c.args.row.now.items ++ take c.count-count.result
+stored : (c : goal.After-next_color) → c.push_first_places.new.row.items ≡ c.args.row.now.items ++ take c.count-count.result
     c.args.modes.now.places
-stored c = c.turn_at_places.ensures.items
+stored c = c.push_first_places.ensures.items
 
 -- the last place that is stored
 last : (c : goal.After-next_color) → c.index.result.now ≡ get_or (c.args.stroke.painted ∷ c.args.modes.now.places)
@@ -25,7 +25,7 @@ returns-clause-drawn c =
     let all : n ≡ length words = c.count-count.ensures.value in
     let set = rw (← all) at c.requires.all in
     let width : c.width.result ≡ width_of (take n words) = grind (arith, common_steps, take-length) in
-    let turned = c.turn_at_places.ensures in
+    let turned = c.push_first_places.ensures in
     draws_first c.requires.can c.requires.here n (omega (arith, all)) set
     (omega (
       arith,

@@ -16,7 +16,7 @@ returns-clause-drawn c =
     let can = c.requires.can in
     let more = c.args.mode.distance in
     let b1 = c.change_at-b1.ensures in
-    let turned = c.turn_at.ensures in
+    let turned = c.push_change.ensures in
     let next = c.seek_b1-index.ensures in
     draws_vertical can (omega (arith, c.type_inv.line.0, c.if-line-b1.false)) c.requires.mode c.pass.ensures.moved
     c.opposite.ensures (rw (turned.items, pixels-pending) refl) (named_right _ _ more (omega (arith, b1)))

@@ -6,7 +6,7 @@ use Rattle.fax_lines.proofs.modes.draw_to_edge.Goals as goal
 pub returns-clause-drawn : goal.returns-clause-drawn
 returns-clause-drawn c =
     let can = c.requires.can in
-    let turned = c.turn_at.ensures in
+    let turned = c.push_change.ensures in
     let none : c.args.stroke.painted ≡ 0 = omega (arith, c.if-stroke-gt0.false) in
     let white : c.args.stroke.color ≡ White = c.is_white.ensures.0 c.if-not-is_white.false in
     draws_vertical can (omega (arith, none)) c.requires.mode c.pass.ensures.moved c.opposite.ensures

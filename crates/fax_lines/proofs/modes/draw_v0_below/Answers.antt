@@ -7,7 +7,7 @@ pub returns-clause-drawn : goal.returns-clause-drawn
 returns-clause-drawn c =
     let can = c.requires.can in
     let b1 = c.requires.b1 in
-    let turned = c.turn_at.ensures in
+    let turned = c.push_change.ensures in
     draws_vertical can (omega (arith, c.requires.inside, can.ended)) c.requires.mode c.pass.ensures.moved c.opposite.ensures
     (rw (turned.items, pixels-pending) refl) (named_right _ _ 0 (omega (arith, b1)))
     (omega (arith, b1, b1_onward can.ended.lawful can.inside can.reached))

@@ -1,4 +1,4 @@
 use Rattle.fax_lines.proofs.context.DecoderContext.draw_long_runs_of.Goals as goal
 
 pub returns : goal.returns
-returns c = rw (c.go_on_with.ensures, ← c.window_at_hand-hand.ensures.same) c.draw_long_by_twos.ensures
+returns c = rw (c.go_on_with.ensures, ← c.window_at_hand-window.ensures.same) c.draw_long_runs.ensures

@@ -4,7 +4,7 @@ use Rattle.fax_lines.proofs.Names.{◌≡◌, ◌<◌, arith}
 use Rattle.fax_lines.proofs.DrawingLines.UsualModes.{empty_row, none_painted_yet, are_passed, start_stroke}
 use Rattle.fax_reading.proofs.PixelRows.ChangesAndPixels.{changes-pixels}
 use Rattle.fax_reading.proofs.PixelRows.EndedPlaces.{ends_taken, with_ends}
-use Rattle.fax_lines.proofs.context.DecoderContext.draw_modes_at_hand.Goals.{After-has_mode}
+use Rattle.fax_lines.proofs.context.DecoderContext.draw_modes_at_hand.Goals.{After-ensure_bits_and_room}
 use Rattle.fax_lines.proofs.context.DecoderContext.draw_modes_at_hand.Goals as goal
 
 pub draw_modes-reached-requires : goal.draw_modes-reached-requires
@@ -25,26 +25,32 @@ invariant_of-self-2 c =
     let some : 0 < s.settings.columns = omega (arith, c.if-columns-eq0.false) in
     record {
       reference = rw (c.take_ends.ensures.items, same) c.self.invariant.reference;
-      front = c.lay_down_row.ensures.lawful;
+      front = c.drop_open_change_in_row.ensures.lawful;
       within = stroke.within;
       passed = rw (c.take_ends.ensures.items, same, c.saturating_sub-self-inside.ensures)
           (are_passed some c.self.invariant.reference stroke);
     }
 
 -- nothing is drawn yet
-none_stored : (c : After-has_mode) → vec_len c.self.inside.coding_changes ≡ 0
+none_stored : (c : After-ensure_bits_and_room) → vec_len c.self.inside.coding_changes ≡ 0
 none_stored c = grind (arith, common_steps, empty_row)
 
-pub returns-then-not-has_mode : goal.returns-then-not-has_mode
-returns-then-not-has_mode c =
-    grind (arith, common_steps, changes-pixels, none_stored (goal.at.returns-then-not-has_mode c).After-has_mode)
+pub returns-then-not-ensure_bits_and_room : goal.returns-then-not-ensure_bits_and_room
+returns-then-not-ensure_bits_and_room c =
+    grind (
+      arith,
+      common_steps,
+      changes-pixels,
+      none_stored
+          (goal.at.returns-then-not-ensure_bits_and_room c).After-ensure_bits_and_room,
+    )
 
 pub returns-then-not-put_ends : goal.returns-then-not-put_ends
 returns-then-not-put_ends c =
-    grind (arith, common_steps, changes-pixels, none_stored (goal.at.returns-then-not-put_ends c).After-has_mode)
+    grind (arith, common_steps, changes-pixels, none_stored (goal.at.returns-then-not-put_ends c).After-ensure_bits_and_room)
 
 pub returns : goal.returns
 returns c =
-    let none = none_stored (goal.at.returns c).After-has_mode in
+    let none = none_stored (goal.at.returns c).After-ensure_bits_and_room in
     let ended = c.put_ends.ensures.ended c.if-not-put_ends.false in
     grind (arith, common_steps, ends_taken, none_painted_yet, changes-pixels, are_passed)

@@ -35,9 +35,9 @@ returns-clause-cut c =
     e.painted ∙ ap {B = Result Row DecodeError} (λ (x : Context). Ok x.held.front) (sym turned) in
     let color : c.turn_color.new.self.held.color ≡ opposite left.held.color =
     ap (λ (x : Context). x.held.color) turned ∙ ap (λ (x : Context). opposite x.held.color) e.frame in
-    let told : c.turn_color.new.self.cut ≡ (left.cut || exceeds left.held c.in_ok-run.run') =
+    let found : c.turn_color.new.self.cut ≡ (left.cut || exceeds left.held c.in_ok-run.run') =
     ap (λ (x : Context). x.cut) turned ∙ ap (λ (x : Context). x.cut) e.frame in
     subst (λ (x : Context). TellsCut (strict_step_of_run x.held (here c.args.reader.now))
     (pen_of c.turn_color.new.self.held (here c.decode_run.new.self)) x.cut c.turn_color.new.self.cut) c.self.view_is
     (run_cuts left.held c.turn_color.new.self.held c.in_ok-run.run' (here c.args.reader.now) (here c.decode_run.new.self) left.cut
-    c.turn_color.new.self.cut c.in_ok-run.ensures.run painted color told)
+    c.turn_color.new.self.cut c.in_ok-run.ensures.run painted color found)

@@ -1,0 +1,15 @@
+use Rattle.fax_lines.specs.DrawnModes.{CanDraw, DrawsOn}
+use Rattle.fax_lines.proofs.Names.{◌≡◌, ◌-◌, ◌≤◌, length}
+use Rattle.fax_lines.proofs.modes.draw_run_of_modes.Given as goal
+
+-- what is drawn so far, in one colour, and that the row isn't full
+abbrev pub invariant-modes : goal.invariant-modes
+invariant-modes l = record {
+  on : DrawsOn l.line l.stroke l.fn.window l.fn.row l.fn.ticks l.now l.window l.row l.ticks;
+  can : CanDraw l.line l.now l.window l.row;
+  color : l.now.color ≡ l.stroke.color;
+  onward : l.fn.window.at.place ≤ l.window.at.place;
+}
+
+abbrev pub decreases-modes : goal.decreases-modes
+decreases-modes l = length l.window.at.bits - l.window.at.place
