@@ -1,6 +1,7 @@
 """Objects of PDF files, as pikepdf and pypdf have them, and the images of a file. Neither is imported before it is needed."""
 from __future__ import annotations
 
+import contextlib
 import importlib
 from decimal import Decimal
 from typing import Any, Iterator, Union
@@ -73,9 +74,12 @@ def whole_number(dictionary: Dictionary, default: int, *names: str) -> int:
     value = entry(dictionary, *names)
     if value is None:
         return default
-    if isinstance(value, bool) or not isinstance(value, (int, float, Decimal)) or value != value // 1:
-        raise NotFax(f"{names[0][1:]} isn't a whole number")
-    return int(value)
+    try:
+        if isinstance(value, (int, float, Decimal)) and not isinstance(value, bool) and int(value) == value:
+            return int(value)
+    except (OverflowError, ValueError):  # it is infinite, or no number
+        pass
+    raise NotFax(f"{names[0][1:]} isn't a whole number")
 
 
 def is_true(dictionary: Dictionary, default: bool, *names: str) -> bool:
@@ -111,6 +115,8 @@ def decoded_by_reader(image: Dictionary, filters: list[str], parameters: list[An
     name, decode = ("pikepdf", by_pikepdf) if is_pikepdf(image) else ("pypdf", by_pypdf)
     try:
         return decode(data, filters, parameters)
+    except MemoryError:
+        raise
     except Exception as error:  # whatever the reader raises where it can't decode
         raise NotFax(f"{name} can't decode {' '.join(filters)}: {error or type(error).__name__}") from error
 
@@ -145,7 +151,8 @@ class ByPikepdf:
 
     def pages(self) -> Iterator[Dictionary]:
         for page in self.file.pages:
-            page.obj["/Resources"] = page.resources  # they may be inherited
+            with contextlib.suppress(KeyError):  # it may have none
+                page.obj["/Resources"] = page.resources  # they may be inherited
             yield page.obj
 
     def drawn(self, content: Dictionary) -> Iterator[Drawn]:
@@ -225,6 +232,8 @@ class Images:
                 if named is not None:
                     self.file.set_space(drawn, named)
                 yield drawn
+        except MemoryError:
+            raise
         except Exception as error:  # what pikepdf and pypdf raise for damaged content is theirs
             yield NotFax(f"what is drawn isn't readable: {error or type(error).__name__}")
             yield from self.of_streams(objects)

@@ -125,7 +125,8 @@ def encoded(image: Dictionary) -> tuple[bytes, dict[str, Any]]:
     if width != arguments["columns"]:
         raise NotFax(f"Width is {width}, but Columns is {arguments['columns']}")
     parameters = items_of(entry(image, "/DecodeParms", "/DP"))
-    return decoded_by_reader(image, filters[:-1], parameters[: len(filters) - 1]), arguments
+    before = parameters[:-1] if len(parameters) == len(filters) else [None] * (len(filters) - 1)
+    return decoded_by_reader(image, filters[:-1], before), arguments
 
 
 def filters_of(image: Dictionary) -> list[str]:

@@ -118,8 +118,8 @@ class Writer:
     def stream(self, words, data):
         return self.add(f"<< {words} /Length {len(data)} >>\nstream\n".encode() + data + b"\nendstream")
 
-    def save(self, path, pages):
-        """Saves a file of these pages, each of resources, content, and other keys."""
+    def save(self, path, pages, inherited=""):
+        """Saves a file of these pages, each of resources, content, and other keys; and of keys that the pages inherit."""
         tree = f"{len(self.objects) + 1} 0 R"
         self.objects.append(b"")
         kids = []
@@ -127,7 +127,7 @@ class Writer:
             contents = self.stream("", content)
             words = f"/Type /Page /Parent {tree} /MediaBox [0 0 595 842] {resources} /Contents {contents} {more}"
             kids.append(self.add(f"<< {words} >>"))
-        self.objects[int(tree.split()[0]) - 1] = f"<< /Type /Pages /Kids [{' '.join(kids)}] /Count {len(kids)} >>".encode()
+        self.objects[int(tree.split()[0]) - 1] = f"<< /Type /Pages /Kids [{' '.join(kids)}] /Count {len(kids)} {inherited} >>".encode()
         root = self.add(f"<< /Type /Catalog /Pages {tree} >>")
         file, places = b"%PDF-1.7\n%\xe2\xe3\xcf\xd3\n", []
         for number, item in enumerate(self.objects, 1):
@@ -238,9 +238,9 @@ def pdfs_of_pages(folder, data, g4):
     inline = f"q 100 0 0 100 0 0 cm\nBI /W 33 /H {NARROW.rows} /BPC 1".encode()
     short = b" /CS /G /F /CCF /DP << /K -1 /Columns 33 >> ID "
 
-    def paged(name, pages, *shown):
+    def paged(name, pages, *shown, inherited=lambda to: ""):
         to = Writer()
-        to.save(folder / f"{name}.pdf", pages(to))
+        to.save(folder / f"{name}.pdf", pages(to), inherited(to))
         return folder / f"{name}.pdf", list(shown)
 
     def form(to, inner, content=DRAWN):
@@ -262,6 +262,12 @@ def pdfs_of_pages(folder, data, g4):
     yield paged("forms", nested, NARROW)
     yield paged("pages", lambda to: [(space.format(image(to)), DRAWN, "/Rotate 90") for _ in range(3)], NARROW, NARROW, NARROW)
     yield paged("shared", lambda to: [(space.format(it), DRAWN * 2, "") for it in [image(to)] * 3], NARROW, NARROW, NARROW)
+
+    yield paged("inherited", lambda to: [("", DRAWN, "")], NARROW, inherited=lambda to: space.format(image(to)))
+    yield paged("blank", lambda to: [("", b"", ""), (space.format(image(to)), DRAWN, ""), ("", b"0 0 9 9 re f", "")], NARROW)
+    one = f"/ColorSpace /DeviceGray /Filter [/FlateDecode /CCITTFaxDecode] /DecodeParms << {g4} >>"
+    flate = lambda to: to.stream(image_of(NARROW, one), zlib.compress(data))  # noqa: E731
+    yield paged("one-parms", lambda to: [(space.format(flate(to)), DRAWN, "")], NARROW)
 
     def shared(to):
         names = " ".join(f"/Im{at} {image(to)}" for at in range(3))

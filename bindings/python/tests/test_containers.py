@@ -90,10 +90,10 @@ def test_pillow(compression, tmp_path):
 
 
 def first_images(folder):
-    """Files of one picture, which is the image Im0 of the page's resources."""
+    """Files of one picture, which is the image Im0 of the first page's resources."""
     for path, pictures in [*made.pdfs_of_settings(folder), *made.pdfs_by_hand(folder)]:
         file = path.read_bytes()
-        if len(pictures) == 1 and b"/Im0" in file and b"/Form" not in file and b"/Pattern" not in file:
+        if len(pictures) == 1 and b"/Im0" in file and b"/Form" not in file and path.stem not in ("pattern", "blank"):
             yield path, pictures[0]
 
 
