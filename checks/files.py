@@ -5,6 +5,7 @@ import os
 import re
 import shutil
 import subprocess
+import sys
 import tempfile
 
 import users
@@ -65,12 +66,13 @@ def pictures_of(folder, name, picture):
     """What fax2pbm and the Python package write for a file, and what they print."""
     done = ran(folder, os.path.abspath("build/fax2pbm"), name)
     found = [(done.returncode, done.stdout, done.stderr)]
-    interpreter = users.interpreter(*(("pikepdf", "pypdf") if name.endswith(".pdf") else ()))
+    interpreter = users.interpreter("pikepdf", "pypdf") if name.endswith(".pdf") else sys.executable
     if not interpreter:
         leave_out("PDF files by the Python package", "pikepdf or pypdf")
         return found
+    package = {"PYTHONPATH": os.path.abspath("bindings/python"), "HAYRO_CCITT_LIBRARY": os.path.abspath("build/libhayro_ccitt.so")}
     words = [interpreter, "-m", "hayro_ccitt", name, picture]
-    done = subprocess.run(words, cwd=folder, env=users.python_package(), capture_output=True, check=False, timeout=120)
+    done = subprocess.run(words, cwd=folder, env={**os.environ, **package}, capture_output=True, check=False, timeout=120)
     data = b""
     if os.path.exists(f"{folder}/{picture}-0.pbm"):
         with open(f"{folder}/{picture}-0.pbm", "rb") as file:
