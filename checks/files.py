@@ -70,9 +70,10 @@ def pictures_of(folder, name, picture):
     if not interpreter:
         leave_out("PDF files by the Python package", "pikepdf or pypdf")
         return found
-    package = {"PYTHONPATH": os.path.abspath("bindings/python"), "HAYRO_CCITT_LIBRARY": os.path.abspath("build/libhayro_ccitt.so")}
+    library = os.path.abspath("build/libhayro_ccitt.so")
+    environment = {**os.environ, "PYTHONPATH": os.path.abspath("bindings/python"), "HAYRO_CCITT_LIBRARY": library}
     words = [interpreter, "-m", "hayro_ccitt", name, picture]
-    done = subprocess.run(words, cwd=folder, env={**os.environ, **package}, capture_output=True, check=False, timeout=120)
+    done = subprocess.run(words, cwd=folder, env=environment, capture_output=True, check=False, timeout=120)
     data = b""
     if os.path.exists(f"{folder}/{picture}-0.pbm"):
         with open(f"{folder}/{picture}-0.pbm", "rb") as file:

@@ -3,7 +3,7 @@ from __future__ import annotations
 
 import argparse
 import sys
-from typing import Iterator, Union
+from typing import Iterator, TextIO, Union
 
 from . import NotFax
 from ._pages import Page, Part, shown
@@ -51,6 +51,11 @@ def write(name: str, columns: int, rows: int, bits: bytes) -> None:
         out.write(bits)
 
 
+def say(text: str, to: TextIO) -> None:
+    """Prints a line, with escapes for characters that aren't printable: names of a file's objects may have any."""
+    print("".join(it if it.isprintable() else repr(it)[1:-1] for it in text), file=to)
+
+
 def main(path: str, name: str | None = None) -> int:
     """Decodes a file. Returns the exit status."""
     number, status = -1, 0
@@ -60,15 +65,15 @@ def main(path: str, name: str | None = None) -> int:
                 raise page
             picture = shown(page)
         except NotFax as why:
-            print(f"image {number}: not decoded: {why}")
+            say(f"image {number}: not decoded: {why}", sys.stdout)
             status = 1
             continue
-        print(f"image {number}: {picture.columns} x {picture.rows}: {picture.result}")
+        say(f"image {number}: {picture.columns} x {picture.rows}: {picture.result}", sys.stdout)
         status = status if picture.result == "ok" else 1
         if name is not None:
             write(f"{name}-{number}.pbm", picture.columns, picture.rows, picture.bits)
     if number < 0:
-        print("no images")
+        say("no images", sys.stdout)
         return 1
     return status
 
@@ -86,5 +91,5 @@ if __name__ == "__main__":
         text = "out of memory"
     except (OSError, NotFax) as error:
         text = str(error)
-    print(f"hayro_ccitt: {arguments.file}: {text}", file=sys.stderr)
+    say(f"hayro_ccitt: {arguments.file}: {text}", sys.stderr)
     sys.exit(2)

@@ -156,16 +156,16 @@ class ByPikepdf:
             yield page.obj
 
     def drawn(self, content: Dictionary) -> Iterator[Drawn]:
-        for instruction in self.library.parse_content_stream(content):
-            if isinstance(instruction, self.library.ContentStreamInlineImage):
-                image = instruction.iimage
+        for operands, operator in self.library.parse_content_stream(content):
+            if str(operator) == "INLINE IMAGE":
+                (image,) = operands
                 _, data = image.unparse().split(b"\nID\n", 1)
                 stream = self.library.Stream(self.file, data[: -len(b"EI")])
                 for name, value in image.obj.items():
                     stream[name] = value
                 yield stream
-            elif str(instruction.operator) == "Do":
-                yield str(instruction.operands[0])
+            elif str(operator) == "Do":
+                yield str(operands[0])
 
     def set_space(self, image: Dictionary, space: Any) -> None:
         image["/ColorSpace"] = space

@@ -127,7 +127,8 @@ class Writer:
             contents = self.stream("", content)
             words = f"/Type /Page /Parent {tree} /MediaBox [0 0 595 842] {resources} /Contents {contents} {more}"
             kids.append(self.add(f"<< {words} >>"))
-        self.objects[int(tree.split()[0]) - 1] = f"<< /Type /Pages /Kids [{' '.join(kids)}] /Count {len(kids)} {inherited} >>".encode()
+        words = f"/Type /Pages /Kids [{' '.join(kids)}] /Count {len(kids)} {inherited}"
+        self.objects[int(tree.split()[0]) - 1] = f"<< {words} >>".encode()
         root = self.add(f"<< /Type /Catalog /Pages {tree} >>")
         file, places = b"%PDF-1.7\n%\xe2\xe3\xcf\xd3\n", []
         for number, item in enumerate(self.objects, 1):

@@ -1,5 +1,6 @@
 """The program `python3 -m hayro_ccitt` on files that other programs made of known pictures, on files as the standards let them be
 written, and on wrong ones."""
+import importlib.util
 import os
 import struct
 import subprocess
@@ -222,6 +223,17 @@ def without(folder, *modules):
 def test_pdf_needs_pikepdf_or_pypdf(tmp_path):
     path = made.saved(tmp_path, "plain", lambda to: to.stream(made.image_of(NARROW, GRAY), DATA))
     assert_refused(path, "where pikepdf or pypdf is installed; neither is", without(tmp_path, *READERS))
+
+
+def test_names_are_printed_without_control_characters(tmp_path):
+    if not any(map(importlib.util.find_spec, READERS)):
+        pytest.skip("no pikepdf or pypdf")
+    path = made.saved(tmp_path, "two\nlines", lambda to: to.stream(made.image_of(NARROW, "/Filter /A#1B#5B31m"), DATA))
+    done = ran(path)
+    assert done.stdout == "image 0: not decoded: the filter is /A\\x1b[31m, not CCITTFaxDecode\n"
+    path.write_bytes(b"")
+    done = ran(path)
+    assert done.stderr.endswith("two\\nlines.pdf: neither TIFF nor PDF\n") and done.stderr.count("\n") == 1
 
 
 def test_damage_is_reported_and_written(tmp_path):
