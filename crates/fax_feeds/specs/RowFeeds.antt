@@ -340,7 +340,7 @@ pub record TriesLine (is_last : Bool) (line_start : ℕ) (rows kept : RowState) 
   pub same_bits : after.bits ≡ before.bits
   pub within : after.place ≤ length after.bits
   pub left : IsLeft answer → (kept ≡ rows) × (after ≡ before)
-  pub after : answer ≡ Ok true → kept.stand ≡ AfterRow
+  pub stand : answer ≡ Ok true → kept.stand ≡ AfterRow
   pub reads : (from : ℕ) (whole : Bits) (dropped : ℕ) → (IsLeft answer → ⊥) → LieIn whole dropped is_last before.bits
       → line_start ≡ dropped + before.place → IsStandingAtLine from rows old (record { bits = whole; place = line_start })
       → ReadsNext (seen rows old (record { bits = whole; place = line_start }))

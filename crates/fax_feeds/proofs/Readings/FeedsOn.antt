@@ -317,7 +317,7 @@ module _ (old new : Feeding) (before after : BitsAt) (before_is : before ≡ rec
       looked = same_look;
       done = λ e. none_new;
       tried = inl same_tried;
-      after = tries.after;
+      after = tries.stand;
       within = grind (arith, common_steps);
       paid = omega (arith, none_paid new.part new.line_read none_new);
       row_is = λ whole tried e feed. line_row feed e;

@@ -18,7 +18,7 @@ returns-then-is_left-clause-tries c =
       same_bits = row.same_bits;
       within = omega (arith, c.bit_pos-end.ensures.place, c.bit_pos-end.ensures.within);
       left = λ is. (refl, row.put_back (none_read c.try_row-row.result left));
-      after = λ e. absurd (none_read c.try_row-row.result left e);
+      stand = λ e. absurd (none_read c.try_row-row.result left e);
       reads = λ from whole dropped read lie starts at. absurd (read left);
       stands = λ from whole dropped read lie starts at. absurd (read left);
     }
@@ -49,7 +49,7 @@ returns-clause-tries c =
       same_bits = row.same_bits;
       within = omega (arith, c.bit_pos-end.ensures.place, c.bit_pos-end.ensures.within);
       left = λ is. absurd (left_not answer other is);
-      after = λ e. grind (
+      stand = λ e. grind (
         arith,
         common_steps,
         kept_after_try c,
