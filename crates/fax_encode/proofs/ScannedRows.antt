@@ -48,7 +48,8 @@ module _ (start n before word ones : ℕ) (rest : List ℕ) (some : 64 ≤ n)
   word_scanned =
       let e : n ≡ length here + (n - 64) = omega (arith, long) in
       let row : take n (bits_of rest) ≡ here ++ take (n - 64) following
-      = ap (take n) (bits_of-parts 8 rest) ∙ ap (λ (m : ℕ). take m (here ++ following)) e ∙ take-append-add here following (n - 64) in
+      = ap (take n) (bits_of-parts 8 rest) ∙ ap (λ (m : ℕ). take m (here ++ following)) e
+      ∙ take-append-add here following (n - 64) in
       let whole : take 64 (low_bits 64 ones) ≡ low_bits 64 ones =
       take_all 64 (low_bits 64 ones) (omega (arith, length-low_bits 64 ones)) in
       let first : changes_from start (bit_of before 0) here ≡ ones_from start (take 64 (low_bits 64 ones)) =
@@ -56,11 +57,14 @@ module _ (start n before word ones : ℕ) (rest : List ℕ) (some : 64 ≤ n)
       (sym word_here) ∙ ap (ones_from start) (sym ones-are ∙ sym whole) in
       let last : last_pixel (bit_of before 0) here ≡ bit_of word 0 =
       ap (last_pixel (bit_of before 0)) (sym word_here) ∙ last_of_word 63 word (bit_of before 0) in
-      ap (changes_from start (bit_of before 0)) row ∙ changes_from-append start (bit_of before 0) here (take (n - 64) following) ∙ ap
-      (λ (l : List ℕ). l ++ changes_from (start + length here) (last_pixel (bit_of before 0) here) (take (n - 64) following)) first
+      ap (changes_from start (bit_of before 0)) row
+      ∙ changes_from-append start (bit_of before 0) here (take (n - 64) following)
+      ∙ ap (λ (l : List ℕ). l
+      ++ changes_from (start + length here) (last_pixel (bit_of before 0) here) (take (n - 64) following)) first
       ∙ ap (λ (m : ℕ). ones_from start (take 64 (low_bits 64 ones))
       ++ changes_from (start + m) (last_pixel (bit_of before 0) here) (take (n - 64) following)) long
-      ∙ ap (λ (b : Bool). ones_from start (take 64 (low_bits 64 ones)) ++ changes_from (start + 64) b (take (n - 64) following)) last
+      ∙ ap (λ (b : Bool). ones_from start (take 64 (low_bits 64 ones))
+      ++ changes_from (start + 64) b (take (n - 64) following)) last
 
 -- words of one colour, and one more
 pub plain_more : (count word : ℕ) (color : Bool) (bytes following : List ℕ) → 8 * count + 8 ≤ length bytes
@@ -85,8 +89,9 @@ plain_more count word color bytes following room is word-is plain before =
     ∙ replicate-append-replicate (64 * count) 64 color ∙ ap (λ (m : ℕ). replicate m color) more
 
 -- bytes of one colour after bytes of that colour
-pub plain_both : (m n k : ℕ) (color : Bool) (bytes following : List ℕ) → k ≡ m + n → following ≡ drop m bytes → bits_of (take m bytes) ≡
-    replicate (8 * m) color → bits_of (take n following) ≡ replicate (8 * n) color → bits_of (take k bytes) ≡ replicate (8 * k) color
+pub plain_both : (m n k : ℕ) (color : Bool) (bytes following : List ℕ) → k ≡ m + n → following ≡ drop m bytes
+    → bits_of (take m bytes) ≡ replicate (8 * m) color → bits_of (take n following) ≡ replicate (8 * n) color
+    → bits_of (take k bytes) ≡ replicate (8 * k) color
 plain_both m n k color bytes following sum is front back =
     let more : 8 * m + 8 * n ≡ 8 * k = omega arith in
     ap (λ (j : ℕ). bits_of (take j bytes)) sum ∙ ap bits_of (take-add m n bytes) ∙ flat_map-append (bits_of_byte HighestFirst)

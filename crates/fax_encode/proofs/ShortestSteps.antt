@@ -359,8 +359,8 @@ pub record Adds (columns : ℕ) (reference changes : List ℕ) (n k : ℕ) (at :
   pub to_is : to ≡ get_or changes n columns
   pub second_is : second ≡ get_or changes (n + 1) columns
   pub after_is : after ≡ bits_right_of columns reference changes (n + 1)
-  pub following_is : following ≡ length (shortest_run (opposite color) (second - to)) + 3 + bits_right_of columns reference changes
-      (n + 2)
+  pub following_is : following ≡ length (shortest_run (opposite color) (second - to)) + 3
+      + bits_right_of columns reference changes (n + 2)
   pub passes : way.passes ≡ k
   pub vertical : way.is_vertical ≡ (is_near start to && leb (bits_of_vertical start to + after)
       (length (shortest_run color (to - (from - 1))) + following))

@@ -28,7 +28,8 @@ pub use Rattle.fax_reading.specs.Laws.{ReadsPictureT6, RowLimit, StrictIsUndamag
 pub use Rattle.fax_reading.specs.Laws.{add_row_alone, each_word, for_t6, gap_and_row, joined, row_after}
 pub use Rattle.fax_reading.specs.Lines.{Drawing, Line, Pen, draw_1d, draw_2d, draw_mode, draw_run, drawn, finds, found_1d}
 pub use Rattle.fax_reading.specs.Lines.{found_2d, go_on, line_1d, line_2d, line_found, mode_here, painted, painted_to, place_by}
-pub use Rattle.fax_reading.specs.Lines.{place_from, run_here, start, tag_at, turn_following, unless_fault, unless_full, words_after}
+pub use Rattle.fax_reading.specs.Lines.{place_from, run_here, start, tag_at, turn_following, unless_fault, unless_full}
+pub use Rattle.fax_reading.specs.Lines.{words_after}
 pub use Rattle.fax_reading.specs.Lines.{words_drawn, ◌>>=◌}
 pub use Rattle.fax_reading.specs.LinesGoOn.{GoesOnFrom, LacksWord, LinePart, LinesGoOn, OpenRun, begin_line, begin_step}
 pub use Rattle.fax_reading.specs.LinesGoOn.{after_run, draw_step, finish_run, finish_step, left_of, line_after_turn}
@@ -43,7 +44,8 @@ pub use Rattle.fax_reading.specs.LocalityByK.{RowsDiffer, after_first_run, after
 pub use Rattle.fax_reading.specs.LocalityByK.{after_word}
 pub use Rattle.fax_reading.specs.Pictures.{Allows, IsClosedPicture, IsLimitedPicture}
 pub use Rattle.fax_reading.specs.PlainReading.{Ending, Gap, Move, Progress, Reading, add_row, after_line, aligned, at_end}
-pub use Rattle.fax_reading.specs.PlainReading.{at_front, at_gap, after_eols, aligned_after_row, bytes_before, end_of, ending_after}
+pub use Rattle.fax_reading.specs.PlainReading.{at_front, at_gap, after_eols, aligned_after_row, bytes_before, end_of}
+pub use Rattle.fax_reading.specs.PlainReading.{ending_after}
 pub use Rattle.fax_reading.specs.PlainReading.{ending_from, ends_with, eols_by, eols_here, failed_at, is_end_of_block, first_gap}
 pub use Rattle.fax_reading.specs.PlainReading.{first_line, from_next_eol, gap_after_row, is_over, limit_met, line_by, line_here}
 pub use Rattle.fax_reading.specs.PlainReading.{line_of_turn, lines_of, misses_eol, missing_eol, move_on, nothing_read, pass_gap}

@@ -224,7 +224,8 @@ stand_where_laid layout columns (row ∷ rows) before after reaches have same fi
     ∙ take_at line (bits_of (take gap following) ++ rest) (8 * width) long in
     let there : bits_of following' ≡ bits_of (take gap following) ++ rest = bits_of-drop width after ∙ ap (drop (8 * width)) parts
     ∙ drop_at line (bits_of (take gap following) ++ rest) (8 * width) long in
-    let same_following : length following' ≡ length following = omega (arith, same, length-drop width before, length-drop width after) in
+    let same_following : length following' ≡ length following
+    = omega (arith, same, length-drop width before, length-drop width after) in
     let gaps : take gap following' ≡ take gap following = same_bytes HighestFirst (take gap following') (take gap following)
     (All-take (λ byte. byte < 256) gap following' (All-drop (λ byte. byte < 256) width after fit))
     (All-take (λ byte. byte < 256) gap following (All-drop (λ byte. byte < 256) width before fits))

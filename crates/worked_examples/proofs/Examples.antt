@@ -12,8 +12,10 @@ use Rattle.hayro_ccitt.specs.Encodings.{Spells, EncodesLine1D, EncodesLine2D, Is
 use Rattle.hayro_ccitt.specs.LocalityByK.{IsTaggedBody}
 use Rattle.hayro_ccitt.proofs.DamagedLines.DamageByK.{encoded_follows}
 use Rattle.hayro_ccitt.proofs.DamagedLines.EncodedBodies.{encoded_lines_are_bodies}
-use Rattle.worked_examples.specs.Examples.{hex, EncodesTwoLines, EncodesTaggedRows, with_eols, three_rows, bits_changed, bits_added}
-use Rattle.worked_examples.specs.Examples.{words_added, group3_1d, HaveLocalBodies, ReadsDamage, LimitAfterTheBody, OneLineFollows}
+use Rattle.worked_examples.specs.Examples.{hex, EncodesTwoLines, EncodesTaggedRows, with_eols, three_rows, bits_changed}
+use Rattle.worked_examples.specs.Examples.{bits_added}
+use Rattle.worked_examples.specs.Examples.{words_added, group3_1d, HaveLocalBodies, ReadsDamage, LimitAfterTheBody}
+use Rattle.worked_examples.specs.Examples.{OneLineFollows}
 use Rattle.worked_examples.specs.Examples.{reading_of}
 use Rattle.worked_examples.specs.Examples.{OneLineDiffers, ReadsDamageByK, with_tags, four_rows}
 use Rattle.hayro_ccitt.specs.EndOfLine.{after_eol, next_eol}

@@ -5,7 +5,8 @@
 #![tactic(auto)]
 
 ghost use Rattle.std.specs.Prelude.{◌≡◌, [], ◌∷◌, Ok, Err};
-ghost use Rattle.worked_examples.specs.Examples.{damage_in, repairs_in, cuts_in, misses_in, reading_of, low_first_reading_of, group4};
+ghost use Rattle.worked_examples.specs.Examples.{damage_in, repairs_in, cuts_in, misses_in, reading_of, low_first_reading_of};
+ghost use Rattle.worked_examples.specs.Examples.{group4};
 ghost use Rattle.worked_examples.specs.Examples.{group3_1d, group3_2d};
 ghost use Rattle.worked_examples.specs.Examples.{EncodesTwoLines, EncodesTaggedRows, HaveLocalBodies, ReadsDamage};
 ghost use Rattle.worked_examples.specs.Examples.{LimitAfterTheBody};

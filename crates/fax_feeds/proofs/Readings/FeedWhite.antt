@@ -154,7 +154,8 @@ module _ {f : Inside} {before after : BitsAt} {rows : RowState} {ctx : Context} 
                 missed = None;
                 stand = AfterRow;
               }) x next_whole) (sym takes.new_is)
-              (white_stands tried f.rows f.ctx at_whole white_stood following lines follow takes.unmet next_whole whole_passes))));
+              (white_stands tried f.rows f.ctx at_whole white_stood following lines follow takes.unmet
+              next_whole whole_passes))));
         }
 
     not_at_line : (begun : Bool) → (begun && is_at_line f.rows.stand) ≡ true → ⊥

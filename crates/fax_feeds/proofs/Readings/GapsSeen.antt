@@ -431,7 +431,8 @@ zeros_after-zeros : (seen n : ℕ) → zeros_after seen (replicate n false) ≡ 
 zeros_after-zeros seen zero = omega arith
 zeros_after-zeros seen (suc n) = omega (arith, zeros_after-zeros (suc seen) n)
 
-stage_following-zeros : (by : GapRules) (stage : GapStage) (seen n : ℕ) → stage_following by stage seen (replicate n false) ≡ stage
+stage_following-zeros : (by : GapRules) (stage : GapStage) (seen n : ℕ)
+    → stage_following by stage seen (replicate n false) ≡ stage
 stage_following-zeros by stage seen zero = refl
 stage_following-zeros by stage seen (suc n) = stage_following-zeros by stage (suc seen) n
 

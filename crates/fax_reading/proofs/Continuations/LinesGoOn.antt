@@ -4,7 +4,8 @@ use Rattle.fax_reading.proofs.Names.{ℕ, suc, ◌+◌, ◌*◌, ◌<◌, ◌≤
 use Rattle.fax_reading.proofs.Names.{zero, Bool, true, cond, List, ◌++◌, refl, Mode, Pass, Bits, Code, Turn, Line, go_on, ◌>>=◌}
 use Rattle.fax_reading.proofs.Names.{false, leb-true, read_code, mode_here, line_here, draw_step, word_here, LacksWord, LinesGoOn}
 use Rattle.fax_reading.proofs.Names.{[], Vertical, Overflow, codes_of, run_turn, run_from, opposite, draw_run, is_short, LinePart}
-use Rattle.fax_reading.proofs.Names.{length, false≢true, append-nil, Horizontal, mode_codes, word_found, turn_following, part_before}
+use Rattle.fax_reading.proofs.Names.{length, false≢true, append-nil, Horizontal, mode_codes, word_found, turn_following}
+use Rattle.fax_reading.proofs.Names.{part_before}
 use Rattle.fax_reading.proofs.Names.{length-append, append_assoc, DecodeSettings, is_prefix_free, line_after_turn, line_from_part}
 use Rattle.fax_reading.proofs.Names.{and_parts, DecodeError, EncodingMode, UnexpectedEof, run_of_word, unless_fault, common_steps}
 use Rattle.fax_reading.proofs.Names.{Group3_1D, Group3_2D, after_run, word_added, mode_added, begin_step, begin_line, GoesOnFrom}

@@ -3,7 +3,8 @@ use Rattle.fax_reading.proofs.Names.{Group3_2D, draw_mode, Vertical, repeated, o
 use Rattle.fax_reading.proofs.Names.{line_by, line_1d, line_2d, draw_1d, Drawing, length, Group4, arith, false, Color, paint, ◌≡◌}
 use Rattle.fax_reading.proofs.Names.{start, go_on, ◌>>=◌, zero, Bool, true, refl, Mode, Pass, Bits, Turn, Line, suc, ◌∷◌, ◌⊎◌, []}
 use Rattle.fax_reading.proofs.Names.{too_many_pixels, DecodeSettings, UnexpectedEof, LineIsSettled, common_steps, EncodingMode, ℕ}
-use Rattle.fax_reading.proofs.Names.{unless_fault, unless_full, turn_following, Horizontal, mode_here, line_here, Group3_1D, draw_2d}
+use Rattle.fax_reading.proofs.Names.{unless_fault, unless_full, turn_following, Horizontal, mode_here, line_here, Group3_1D}
+use Rattle.fax_reading.proofs.Names.{draw_2d}
 use Rattle.fax_reading.proofs.{Continuations.LinesContinued.line_settled, Names.inl, Names.inr, Names.Row, Names.Pen}
 use Rattle.fax_reading.specs.Laws.{strictly}
 

@@ -289,7 +289,8 @@ module _ (settings : DecodeSettings) (one two : Bits) (from : ℕ) (after : Bits
           on : (t : Bool) → Both (cond t (ends_with (sought (before ++ these) u) (Ok z)) (Turn.next (sought (before ++ these) z)))
               (cond t (ends_with (sought (before ++ those) v) (Ok z)) (Turn.next (sought (before ++ those) z)))
           on true = EndsAlike.later z short refl refl alike
-          on false = RunsAlike.among before these those z n begins same most (next, shorter, one, following, further) short refl refl
+          on false = RunsAlike.among before these those z n begins same most
+              (next, shorter, one, following, further) short refl refl
 
       in_each_case : (limit_met settings (length (before ++ these)) ≡ true) ⊎ (limit_met settings (length (before ++ these))
           ≡ false) → Both (after_row settings (sought (before ++ these) u)) (after_row settings (sought (before ++ those) v))

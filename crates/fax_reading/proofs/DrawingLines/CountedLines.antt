@@ -3,7 +3,8 @@ use Rattle.fax_reading.proofs.Names.{DecodeSettings, length-append, words_of_mod
 use Rattle.fax_reading.proofs.Names.{mode_codes, word_found, false≢true, draw_mode, DrawsStep, read_code, run_found, OnAnswer, []}
 use Rattle.fax_reading.proofs.Names.{pen_of, false, subst, arith, cond, List, ◌++◌, Mode, Bits, Line, Step, Held, Turn, ◌+◌, ◌*◌}
 use Rattle.fax_reading.proofs.Names.{run_from, draw_run, painted, draw_1d, draw_2d, IsFault, redrawn, length, Result, lt-leb, ◌≡◌}
-use Rattle.fax_reading.proofs.Names.{step_of_mode, words_of_run, DecodeError, turn_following, words_drawn, step_of_run, append-nil}
+use Rattle.fax_reading.proofs.Names.{step_of_mode, words_of_run, DecodeError, turn_following, words_drawn, step_of_run}
+use Rattle.fax_reading.proofs.Names.{append-nil}
 use Rattle.fax_reading.proofs.Names.{◌<◌, ◌≤◌, Err, ◌∙◌, Pen, Row, Ok, ap, ℕ}
 use Rattle.fax_bits.proofs.{Repetition.Gathered.gathered_turn, CodeWords.RunWords.one_word}
 use Rattle.fax_reading.proofs.DrawingLines.Drawings.{step_1d, step_2d}

@@ -3,7 +3,8 @@ use Rattle.fax_reading.proofs.Names.{arith, Bool, true, false, ◌||◌, subst, 
 use Rattle.fax_reading.proofs.Names.{common_steps, DecodeError, is_broken, painted_front, strict_step_of_run, strict_step_of_mode}
 use Rattle.fax_reading.proofs.Names.{◌≡◌, length, Result, BitsAt, Context, redrawn, exceeds, line_1d, line_2d, right_of, GoesOn2d}
 use Rattle.fax_reading.proofs.Names.{◌<◌, ◌≤◌, ◌-◌, ℕ, ltb, Ok, Err, sym, ap, here, Held, Mode, Pass, Row, Line, Pen, Turn, b2}
-use Rattle.fax_reading.proofs.Names.{[], false≢true, Horizontal, turn_following, TellsCut, read_code, mode_codes, run_from, opposite}
+use Rattle.fax_reading.proofs.Names.{[], false≢true, Horizontal, turn_following, TellsCut, read_code, mode_codes, run_from}
+use Rattle.fax_reading.proofs.Names.{opposite}
 use Rattle.fax_bits.proofs.Repetition.Repeated.{after_turn}
 use Rattle.fax_reading.proofs.DrawingLines.Drawings.{try, drawn_by, step_1d, step_2d}
 use Rattle.fax_reading.proofs.DrawingLines.DrawnLines.{run_open, line_mode}

@@ -1,7 +1,8 @@
 -- The turns of drawing, one after another.
 use Rattle.fax_reading.proofs.Names.{arith, common_steps, ◌≡◌, ℕ, suc, Bool, cond, leb, [], length, Result, Mode, Horizontal}
 use Rattle.fax_reading.proofs.Names.{DecodeError, UnexpectedEof, Step, Bits, mode_codes, read_code, Turn, repeated, Row, opposite}
-use Rattle.fax_reading.proofs.Names.{paint, run_from, Line, Pen, turn_following, unless_fault, draw_run, draw_mode, draw_1d, draw_2d}
+use Rattle.fax_reading.proofs.Names.{paint, run_from, Line, Pen, turn_following, unless_fault, draw_run, draw_mode, draw_1d}
+use Rattle.fax_reading.proofs.Names.{draw_2d}
 
 -- what comes of a value, or the line that a fault ends
 abbrev pub try : {A : Type 0} → Row → Result A DecodeError → (A → Step) → Step

@@ -2,7 +2,8 @@
 use Rattle.fax_reading.proofs.Names.{Contains-append_right, Contains-append_left, RepairStoresChange, too_many_pixels, Horizontal}
 use Rattle.fax_reading.proofs.Names.{DecodeSettings, StopsAtChange, length-append, not_from_true, FitsUnsigned, IsRepairable, Err}
 use Rattle.fax_reading.proofs.Names.{StoresChange, append_assoc, common_steps, step_of_mode, DecodeError, OutOfMemory, false≢true}
-use Rattle.fax_reading.proofs.Names.{TakesOneRow, front_after, row_of_line, step_of_run, turn_following, last_pixel, mode_codes, Pen}
+use Rattle.fax_reading.proofs.Names.{TakesOneRow, front_after, row_of_line, step_of_run, turn_following, last_pixel, mode_codes}
+use Rattle.fax_reading.proofs.Names.{Pen}
 use Rattle.fax_reading.proofs.Names.{place_from, DrawsLine, DrawsStep, cond-true, not-false, read_code, replicate, HasBlack, Bits}
 use Rattle.fax_reading.proofs.Names.{Vertical, cases_lt, front_of, is_black, opposite, or_parts, right_of, run_from, Context, Row}
 use Rattle.fax_reading.proofs.Names.{IsFault, SomeIff, kind_of, nat_abs, or_from, redrawn, BitsAt, IsTrue, Option, Result, le-leb}

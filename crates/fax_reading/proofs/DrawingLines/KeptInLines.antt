@@ -1,6 +1,7 @@
 -- What reading and painting keep, of a front and of the bits that are left, steps and lines keep.
 use Rattle.fax_reading.proofs.Names.{Err, ◌≡◌, suc, [], Ok, ℕ, ℤ}
-use Rattle.fax_reading.proofs.Names.{UnexpectedEof, unless_fault, turn_following, unless_full, DecodeError, Horizontal, painted_to}
+use Rattle.fax_reading.proofs.Names.{UnexpectedEof, unless_fault, turn_following, unless_full, DecodeError, Horizontal}
+use Rattle.fax_reading.proofs.Names.{painted_to}
 use Rattle.fax_reading.proofs.Names.{drawn, go_on, ◌>>=◌, paint, subst, arith, Bool, Mode, Pass, Bits, Turn, Line, refl, Row, Pen}
 use Rattle.fax_reading.proofs.Names.{place_from, mode_codes, mode_here, draw_mode, read_code, draw_run, opposite, Color}
 use Rattle.fax_reading.proofs.Names.{run_from, Vertical, Overflow, run_here, Drawing, painted, draw_1d, draw_2d, length, Result}

@@ -174,7 +174,8 @@ tagged_past-more more (suc most) here one = by_after_eol (λ rest. tagged_past-m
 
 -- where no one is, an EOL more may come
 tagged_past_may_come : (most : ℕ) (here : Bits) → (tagged_past most here).0 < most → holds_one
-    (following_one (tagged_past most here).1) ≡ false → tagged_past most (here ++ bytes_of_eol) ≡ (suc (tagged_past most here).0, [])
+    (following_one (tagged_past most here).1) ≡ false
+    → tagged_past most (here ++ bytes_of_eol) ≡ (suc (tagged_past most here).0, [])
 tagged_past_may_come zero here few none = absurd (omega arith)
 tagged_past_may_come (suc most) here few none = by_after_eol (λ rest. tagged_past_may_come most rest)
     (after_eol 0 (past_tag here)) refl

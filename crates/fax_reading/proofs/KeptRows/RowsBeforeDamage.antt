@@ -1,6 +1,7 @@
 -- Data that begin with the same bits have the same rows before the first line that may differ.
 use Rattle.fax_reading.proofs.Names.{append_cancel_right, append_cancel_left, take-append-drop, DecodeSettings, UnexpectedEof, []}
-use Rattle.fax_reading.proofs.Names.{cases_Bool, cond-false, false≢true, misses_eol, row_before, aligned_after_row, after_line, all_eols}
+use Rattle.fax_reading.proofs.Names.{cases_Bool, cond-false, false≢true, misses_eol, row_before, aligned_after_row, after_line}
+use Rattle.fax_reading.proofs.Names.{all_eols}
 use Rattle.fax_reading.proofs.Names.{ending_after, length-append, append_assoc, EncodingMode, common_steps, DecodeError, move_on}
 use Rattle.fax_reading.proofs.Names.{first_line, RowsBefore, eols_here, limit_met, line_here, first_gap, replicate, ap}
 use Rattle.fax_reading.proofs.Names.{not-false, Group3_1D, Group3_2D, at_front, Progress, or_parts, IsPrefix, repeated}
@@ -135,8 +136,10 @@ module _ (settings : DecodeSettings) (x y : Bits) where
   -- what follows a row is as much in both, where the data is whole bytes
   module _ (bytes : length x % 8 ≡ length y % 8) (wide : 0 < settings.columns) where
     -- the bits after a row, aligned or not
-    after_front : (has_eols : Bool) (bits : Bits) → length x ≤ length (aligned_after_row settings has_eols (bits ++ x)) → (left : Bits)
-        × (aligned_after_row settings has_eols (bits ++ x) ≡ left ++ x) × (aligned_after_row settings has_eols (bits ++ y) ≡ left ++ y)
+    after_front : (has_eols : Bool) (bits : Bits) → length x ≤ length (aligned_after_row settings has_eols (bits ++ x))
+        → (left : Bits)
+        × (aligned_after_row settings has_eols (bits ++ x) ≡ left ++ x)
+        × (aligned_after_row settings has_eols (bits ++ y) ≡ left ++ y)
     after_front has_eols bits le = let al : Bool = settings.rows_are_byte_aligned && not has_eols in
         let after : Bits = aligned_after_row settings has_eols (bits ++ x) in
         let split = aligned_split al (bits ++ x) in
@@ -160,7 +163,8 @@ module _ (settings : DecodeSettings) (x y : Bits) where
     -- a turn over a whole line
     whole_turn : (rows : List Row) (has_eols : Bool) (here rest : Bits)
         (row : Row) → line_here settings (row_before settings.columns rows) here ≡ Line.whole row rest → move_on settings
-        (run_at rows has_eols here) ≡ after_row settings (run_at (rows ++ row ∷ []) has_eols (aligned_after_row settings has_eols rest))
+        (run_at rows has_eols here) ≡ after_row settings
+        (run_at (rows ++ row ∷ []) has_eols (aligned_after_row settings has_eols rest))
     whole_turn rows has_eols here rest row is =
         ap (after_line settings (run_at rows has_eols here)) is ∙ after_whole-is settings (run_at rows has_eols here) row rest
 

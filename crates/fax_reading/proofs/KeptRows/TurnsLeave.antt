@@ -1,6 +1,7 @@
 -- A turn leaves a suffix of the bits that it begins with, and seeks EOLs as before or has given them up.
 use Rattle.fax_reading.proofs.Names.{Reaches, eols_by, aligned, move_on, length, Option, Group4, arith, false, subst, zero, Bool}
-use Rattle.fax_reading.proofs.Names.{common_steps, row_before, aligned_after_row, misses_eol, after_line, Group3_2D, after_eol, next_eol}
+use Rattle.fax_reading.proofs.Names.{common_steps, row_before, aligned_after_row, misses_eol, after_line, Group3_2D, after_eol}
+use Rattle.fax_reading.proofs.Names.{next_eol}
 use Rattle.fax_reading.proofs.Names.{eols_here, line_here, replicate, Group3_1D, past_tag, one_more, Progress, with_row, repaired}
 use Rattle.fax_reading.proofs.Names.{take-append-drop, DecodeSettings, eols_with_tags, pass_last_tag, append_assoc, EncodingMode}
 use Rattle.fax_reading.proofs.Names.{true, cond, ◌&&◌, ◌||◌, ◌++◌, take, Some, None, refl, Bits, Turn, Line, leb, ◌∷◌, sym, ◌∙◌}

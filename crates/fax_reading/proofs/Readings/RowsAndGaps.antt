@@ -59,7 +59,8 @@ pass_gap-is settings so_far = grind (arith, common_steps, at_gap-cond, cond-same
 -- a whole line adds its row
 pub after_whole-is : (settings : DecodeSettings) (so_far : Progress) (row : Row) (rest : Bits)
     → after_line settings so_far (Line.whole row rest) ≡ row_added settings so_far row rest
-after_whole-is settings so_far row rest = pass_gap-is settings (with_row so_far row (aligned_after_row settings so_far.has_eols rest))
+after_whole-is settings so_far row rest = pass_gap-is settings
+    (with_row so_far row (aligned_after_row settings so_far.has_eols rest))
 
 -- a damaged line ends the reading, or adds its repaired row
 pub after_damage-is : (settings : DecodeSettings) (so_far : Progress) (front : Row) (fault : DecodeError)

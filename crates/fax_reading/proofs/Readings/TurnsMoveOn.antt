@@ -1,6 +1,7 @@
 -- Each line of a run moves the offset on; a run only adds rows, and each row has the width of its columns.
 use Rattle.fax_reading.proofs.Names.{length-replicate, is_end_of_block, DecodeSettings, UnexpectedEof, ending_after, length-drop}
-use Rattle.fax_reading.proofs.Names.{length-append, EncodingMode, append_assoc, common_steps, after_line, append-nil, aligned_after_row}
+use Rattle.fax_reading.proofs.Names.{length-append, EncodingMode, append_assoc, common_steps, after_line, append-nil}
+use Rattle.fax_reading.proofs.Names.{aligned_after_row}
 use Rattle.fax_reading.proofs.Names.{misses_eol, row_before, Group3_1D, Group3_2D, HaveWidth, after_eol, ends_with, eols_here, []}
 use Rattle.fax_reading.proofs.Names.{eqb-false, first_gap, limit_met, line_here, not-false, replicate, IsPrefix, Progress, Ending}
 use Rattle.fax_reading.proofs.Names.{front_of, next_eol, or_parts, repeated, with_row, All-nil, aligned, eols_by, Group4}
@@ -200,7 +201,8 @@ module _ (settings : DecodeSettings) where
   row_added_width : (so_far : Progress) (row : Row) (rest : Bits) → HaveWidth settings.columns so_far.rows
       → length row ≡ settings.columns → LeavesWidth settings.columns (row_added settings so_far row rest)
   row_added_width so_far row rest have width = keeps_width settings.columns (so_far.rows ++ row ∷ [])
-      _ (after_row_keeps settings (with_row so_far row (aligned_after_row settings so_far.has_eols rest))) (grind (arith, common_steps))
+      _ (after_row_keeps settings (with_row so_far row (aligned_after_row settings so_far.has_eols rest)))
+      (grind (arith, common_steps))
 
   after_line_width : (so_far : Progress) (line : Line) → HaveWidth settings.columns so_far.rows → length (front_of line)
       ≤ settings.columns → IsFull settings.columns line → LeavesWidth settings.columns (after_line settings so_far line)

@@ -2,7 +2,8 @@
 use Rattle.fax_reading.proofs.Names.{common_steps, ◌≡◌, ℕ, zero, suc, ◌+◌, ◌<◌, ◌≤◌, Bool, false, cond, leb, List, []}
 use Rattle.fax_reading.proofs.Names.{◌++◌, length, replicate, Result, Ok, Err, refl, ap, ◌∙◌, arith, append-nil, Color}
 use Rattle.fax_reading.proofs.Names.{length-append, Mode, Pass, Horizontal, Vertical, DecodeError, UnexpectedEof, EncodingMode}
-use Rattle.fax_reading.proofs.Names.{Step, front_of, Bits, mode_codes, read_code, Line, Pen, Drawing, start, turn_following, draw_1d}
+use Rattle.fax_reading.proofs.Names.{Step, front_of, Bits, mode_codes, read_code, Line, Pen, Drawing, start, turn_following}
+use Rattle.fax_reading.proofs.Names.{draw_1d}
 use Rattle.fax_reading.proofs.Names.{words_after, unless_fault, mode_here, draw_run, draw_mode, draw_2d, line_1d}
 use Rattle.fax_reading.proofs.Names.{line_2d, found_1d, found_2d, line_found, ◌>>=◌, line_by, Turn, repeated, gathered, Row}
 use Rattle.fax_reading.proofs.Names.{changes, opposite, paint, repaired, white_row, run_from, word_found, run_found}

@@ -59,8 +59,9 @@ over_no_line : (outcome : Result Bits DecodeError) (h : Bool) (rest : Bits)
 over_no_line outcome h rest e = cc
 
 -- a line follows EOLs neither at the limit nor at the end
-following_line : (settings : DecodeSettings) (taken : ℕ) (h k : Bool) (found : ℕ × Bits) (rest : Bits) → after_eols settings taken h
-    found ≡ Gap.line_at k rest → (h ≡ k) × (found.1 ≡ rest) × (limit_met settings taken ≡ false) × (at_end found.1 ≡ false)
+following_line : (settings : DecodeSettings) (taken : ℕ) (h k : Bool) (found : ℕ × Bits) (rest : Bits)
+    → after_eols settings taken h found ≡ Gap.line_at k rest
+    → (h ≡ k) × (found.1 ≡ rest) × (limit_met settings taken ≡ false) × (at_end found.1 ≡ false)
 following_line settings taken h k (count, here) rest e = grind (arith, common_steps, chosen, over_no_line, lines_same, or_parts)
 
 -- The line follows the EOLs here.

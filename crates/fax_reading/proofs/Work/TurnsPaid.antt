@@ -39,7 +39,8 @@ abbrev rest_of_row : Result (Row × Bits) DecodeError → Bits
 rest_of_row (Ok x) = x.1
 rest_of_row (Err fault) = []
 
-pub after_shorter : (settings : DecodeSettings) (h : Bool) (rest : Bits) → length (aligned_after_row settings h rest) ≤ length rest
+pub after_shorter : (settings : DecodeSettings) (h : Bool) (rest : Bits)
+    → length (aligned_after_row settings h rest) ≤ length rest
 after_shorter settings h rest = grind (arith, length-drop)
 
 -- a broken line is repaired only in lenient data with EOLs, and the reader is then at its start
@@ -70,7 +71,8 @@ turn_pays settings h taken reference here rest next row wide is gap = by_line_he
 
     by_line_here : (line : Line) → line_here settings reference here ≡ line → row_of_line settings h here line ≡ Ok (row, rest)
         → PaysLine settings.encoding here next found
-    by_line_here (Line.whole whole following) e given = let same : aligned_after_row settings h following ≡ rest = ap rest_of_row given in
+    by_line_here (Line.whole whole following) e given = let same : aligned_after_row settings h following ≡ rest
+        = ap rest_of_row given in
         further_pays settings.encoding here following next found
         (whole_pays settings.encoding settings.strict settings.columns reference here whole following wide e)
         (omega (arith, ap length same, after_shorter settings h following, line_after_shorter settings taken h h rest next gap))

@@ -336,7 +336,8 @@ module _ (from : ℕ) (rows : RowState) (ctx : Context) (at : BitsAt) (stands : 
   pub white_reads : ReadsNext (seen rows ctx at) (seen rows_then ctx_then next) (Ok true)
   white_reads =
       subst (λ (n : BitsAt). ReadsNext (seen rows ctx at) (seen rows_then ctx_then n) (Ok true)) (sym passes.moved_on)
-      (reads_again from rows ctx at stands aligned_after_row place ctx.ticks within_place gap_said kept_repairs (omega arith) gap_work
+      (reads_again from rows ctx at stands aligned_after_row place ctx.ticks within_place gap_said kept_repairs (omega arith)
+      gap_work
       one_row_more (at.place + passes.word.count) (ctx.ticks + 2) passes.within takes_white refl found_least (omega arith)
       found_stored found_short)
 
@@ -344,14 +345,15 @@ module _ (from : ℕ) (rows : RowState) (ctx : Context) (at : BitsAt) (stands : 
   pub white_stands : IsStanding from rows_then ctx_then next
   white_stands =
       subst (λ (n : BitsAt). IsStanding from rows_then ctx_then n) (sym passes.moved_on)
-      (stands_again from rows ctx at stands aligned_after_row place ctx.ticks within_place gap_said kept_repairs (omega arith) gap_work
+      (stands_again from rows ctx at stands aligned_after_row place ctx.ticks within_place gap_said kept_repairs (omega arith)
+      gap_work
       one_row_more (at.place + passes.word.count) (ctx.ticks + 2) passes.within takes_white refl found_least (omega arith)
       found_stored found_short)
 
   -- its line begins after the EOL
   pub white_starts : length at.bits - length (drop place at.bits) ≡ failed_at settings_now at.bits ctx.held.taken
-  white_starts = again_starts from rows ctx at stands aligned_after_row place ctx.ticks within_place gap_said kept_repairs (omega arith)
-      gap_work
+  white_starts = again_starts from rows ctx at stands aligned_after_row place ctx.ticks within_place gap_said kept_repairs
+      (omega arith) gap_work
 
 -- ---- A white row that is taken
 

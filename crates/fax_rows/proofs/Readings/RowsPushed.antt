@@ -191,12 +191,13 @@ module _ {M : Type 0} {step : M → List ℕ → M} {before after : SinkState M}
       → after.meaning ≡ meaning_after step before.meaning (take ctx.held.taken (plain old.held.settings bits).rows)
       → after.refused ≡ true → after.refuses (changes new.held.reference) → error ≡ Refused
       → DecodesRows bits step before after old last (Err error)
-  rows_refused rows read ctx {last} {reader} {following} same are stands still is reads frame damaged cut means refused row error =
+  rows_refused rows read ctx {last} {reader} {following} same are stands still is reads frame damaged cut means refused
+      row error =
       let held = rw (damaged, cut) at (ap (λ (x : Context). x.held) frame) in
       let meant = of_same (λ s b. after.meaning ≡ meaning_after step before.meaning (take ctx.held.taken (plain s b).rows))
       (sym same) (sym are) means in
-      let run = run_refused {step = step} {before = before} {after = after} rows read ctx new reader following stands still is reads
-      last.held held meant refused row in
+      let run = run_refused {step = step} {before = before} {after = after} rows read ctx new reader following stands still is
+      reads last.held held meant refused row in
       subst (λ (e : DecodeError). DecodesRows bits step before after old last (Err e)) (sym error) (decodes_rows bits step before
       after old last (Err Refused) wide (ap (λ (x : Context). x.held.settings) frame ∙ reads.settings ∙ same)
       (subst (λ (n : ℕ). HasRun old.held.settings bits old.ticks step before after last.held n (Err Refused))

@@ -85,7 +85,8 @@ module _ {M : Type 0} {step : M → List ℕ → M} {from : ℕ} {settings : Dec
       let came = white_comes following reads in
       let rows = (plain settings bits).rows in
       let within : new.ctx.held.taken ≤ length rows =
-      of_same (λ s b. new.ctx.held.taken ≤ length (plain s b).rows) following.settings_are following.bits_are (came.more refl).2 in
+      of_same (λ s b. new.ctx.held.taken ≤ length (plain s b).rows) following.settings_are following.bits_are
+      (came.more refl).2 in
       record {
         stands = white_following following reads;
         aligned_after_row = ap (λ (r : RowState). r.stand) takes.kept_is;
@@ -143,7 +144,8 @@ module _ {M : Type 0} {step : M → List ℕ → M} {lines : WhiteLines} {before
   white_refused damaged_is cut_is means =
       let takes = refuses.reads.takes in
       rows_refused wide mid.rows new.rows mid.ctx following.settings_are following.bits_are following.stands
-      (white_following following refuses.reads) (ap (λ (r : RowState). r.stand) takes.kept_is) (white_comes following refuses.reads) frame
+      (white_following following refuses.reads) (ap (λ (r : RowState). r.stand) takes.kept_is)
+      (white_comes following refuses.reads) frame
       (damaged_is ∙ ap (λ (x : Context). x.held.repairs.rows) takes.new_is)
       (cut_is ∙ ap (λ (x : Context). x.held.repairs.cut) takes.new_is) (means ∙ refuses.meaning ∙ following.means) refuses.flag
       (subst after.refuses (white_empty following refuses.reads) refuses.row) refuses.is

@@ -7,12 +7,20 @@ returns-clause-words c = grind (arith, length-drop, group_next)
 
 pub returns-clause-horizontal : goal.returns-clause-horizontal
 returns-clause-horizontal c = λ first. let at : BitsAt = c.args.window.now.at in
-    let enough : 10 ≤ length (here at) = omega (arith, length-drop at.place at.bits, c.peek_10.ensures.there,
-        c.requires.within) in
+    let enough : 10 ≤ length (here at) = omega (
+      arith,
+      length-drop at.place at.bits,
+      c.peek_10.ensures.there,
+      c.requires.within,
+    ) in
     first_next at c.peek_10.result c.peek_10.ensures.bits enough Horizontal 3 horizontal_wide first
 
 pub returns-clause-pass : goal.returns-clause-pass
 returns-clause-pass c = λ first. let at : BitsAt = c.args.window.now.at in
-    let enough : 10 ≤ length (here at) = omega (arith, length-drop at.place at.bits, c.peek_10.ensures.there,
-        c.requires.within) in
+    let enough : 10 ≤ length (here at) = omega (
+      arith,
+      length-drop at.place at.bits,
+      c.peek_10.ensures.there,
+      c.requires.within,
+    ) in
     first_next at c.peek_10.result c.peek_10.ensures.bits enough Pass 4 pass_wide first

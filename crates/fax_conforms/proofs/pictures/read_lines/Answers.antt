@@ -34,7 +34,8 @@ returns-in_err-draw_line_following_eol-clause-none c =
     rw (p.1, p.2) (λ broken stands. lines_fail c.args.settings c.rows.taken
     (pixels c.args.settings.columns c.rows.reference.items) (here c.rows.reader) (c.limit_met.ensures.unmet c.if-limit_met.false)
     (λ rtc. absurd (false≢true (sym c.if-is_rtc.false ∙ c.is_rtc.ensures.1 rtc)))
-    (rw c.as_slice.ensures.value at (c.in_err-draw_line_following_eol.ensures.reads.none broken)) (c.rows.invariant.stands.0 stands))
+    (rw c.as_slice.ensures.value at (c.in_err-draw_line_following_eol.ensures.reads.none broken))
+    (c.rows.invariant.stands.0 stands))
 
 pub returns-in_err-draw_line_following_eol-clause-at : goal.returns-in_err-draw_line_following_eol-clause-at
 returns-in_err-draw_line_following_eol-clause-at c =
