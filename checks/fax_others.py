@@ -219,7 +219,8 @@ def raw_by_others():
 
 
 def encrypted():
-    """A file that qpdf encrypts is refused by name, whatever the key's length."""
+    """A file that qpdf encrypts is read with libqpdf if it opens without a password, whatever the key's length; else it is refused as
+    encrypted, as it always is without libqpdf."""
     fax.encoder()
     if not has("qpdf"):
         return
@@ -229,11 +230,14 @@ def encrypted():
         with open(f"{folder}/plain.pdf", "wb") as out:
             out.write(source)
         for words in (["40"], ["128", "--use-aes=n"], ["128", "--use-aes=y"], ["256"]):
-            for streams in ("generate", "disable"):
-                assert done("qpdf", "--warning-exit-0", "--allow-weak-crypto", f"--object-streams={streams}", "--encrypt", "", "owner", *words, "--", f"{folder}/plain.pdf", f"{folder}/made.pdf")
+            for streams, user in itertools.product(("generate", "disable"), ("", "user")):
+                assert done("qpdf", "--warning-exit-0", "--allow-weak-crypto", f"--object-streams={streams}", "--encrypt", user, "owner", *words, "--", f"{folder}/plain.pdf", f"{folder}/made.pdf")
                 for tool in tools:
-                    status, pictures, told = fax.run(f"{folder}/made.pdf", tool=tool)
-                    assert (status, pictures) == (1, b"") and told.endswith(": it is encrypted\n"), (tool, words, status, told)
+                    answer = fax.run(f"{folder}/made.pdf", tool=tool)
+                    if tool == fax.FAX and fax.has_qpdf() and not user:
+                        assert answer == (0, fax.PICTURE.pbm(), ""), (words, streams, answer)
+                    else:
+                        assert answer[:2] == (1, b"") and answer[2].endswith(": it is encrypted\n"), (tool, words, user, answer)
 
 
 CHECKS = [tiffs_by_others, pdfs_by_others, raw_by_others, encrypted]

@@ -24,7 +24,9 @@ import damage_by_k  # noqa: E402
 import devices  # noqa: E402
 import encoder  # noqa: E402
 import fax  # noqa: E402
+import fax_limits  # noqa: E402
 import fax_others  # noqa: E402
+import fax_output  # noqa: E402
 import feed  # noqa: E402
 import files  # noqa: E402
 import hostile  # noqa: E402
@@ -45,7 +47,7 @@ from left_out import LEFT_OUT  # noqa: E402
 
 
 FILES = [
-    repository, program, premises, built_tests, packing, c_library, row_by_row, feed, encoder, refusals, devices, cuts, damage_by_k, hostile, memory, large, installed, users, files, fax, fax_others, inline_images, released, clients, cost,
+    repository, program, premises, built_tests, packing, c_library, row_by_row, feed, encoder, refusals, devices, cuts, damage_by_k, hostile, memory, large, installed, users, files, fax, fax_output, fax_limits, fax_others, inline_images, released, clients, cost,
 ]
 # those that run beside the build of the library for C
 WITHOUT_LIBRARY = [repository, program, premises, built_tests, packing, devices]

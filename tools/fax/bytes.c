@@ -1,4 +1,5 @@
 #include "bytes.h"
+#include "memory.h"
 #include <stdarg.h>
 #include <stdlib.h>
 #include <string.h>
@@ -30,7 +31,9 @@ uint8_t *room_for(buffer *into, size_t length)
         size_t room = into->room > SIZE_MAX / 2 ? 0 : 2 * into->room;
         if (length <= SIZE_MAX - into->length && room < into->length + length)
             room = into->length + length;
-        uint8_t *more = length <= SIZE_MAX - into->length ? realloc(into->at, room) : NULL;
+        if (length > SIZE_MAX - into->length)
+            note_out_of_memory();
+        uint8_t *more = length <= SIZE_MAX - into->length ? reallocate(into->at, room) : NULL;
         into->has_failed = !more;
         if (more) {
             into->at = more;

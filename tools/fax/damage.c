@@ -39,7 +39,7 @@ const char *meaning(uint32_t status)
 
 static void add_list(buffer *text, const char *separator, const row_list *rows, const char *one, const char *more)
 {
-    uint64_t told = 0;
+    uint64_t listed = 0;
     if (!rows->count)
         return;
     add_text(text, "%s%s ", separator, rows->count == 1 ? one : more);
@@ -48,10 +48,10 @@ static void add_list(buffer *text, const char *separator, const row_list *rows, 
         add_text(text, "%s%" PRIu64, i ? ", " : "", first);
         if (last > first)
             add_text(text, "-%" PRIu64, last);
-        told += last - first + 1;
+        listed += last - first + 1;
     }
-    if (told < rows->count)
-        add_text(text, " and %" PRIu64 " more", rows->count - told);
+    if (listed < rows->count)
+        add_text(text, " and %" PRIu64 " more", rows->count - listed);
 }
 
 void add_damage(buffer *text, const damage *it)
@@ -62,6 +62,6 @@ void add_damage(buffer *text, const damage *it)
     add_list(text, text->length > start ? "; " : "", &it->cut, "cut row", "cut rows");
     add_list(text, text->length > start ? "; " : "", &it->missed, "no EOL after row", "no EOL after rows");
     if (!it->is_strict)
-        add_text(text, "%sstrict reading ends at row %" PRIu64 ", bit %" PRIu64 " of %s %" PRIu64 ": %s",
+        add_text(text, "%sthe first rule is broken in row %" PRIu64 " (bit %" PRIu64 " of %s %" PRIu64 "): %s",
                  text->length > start ? "; " : "", it->row, it->bit, it->kind, it->part, meaning(it->why));
 }

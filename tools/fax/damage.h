@@ -1,4 +1,4 @@
-/* What is damaged in a page, and how it is told in one line. */
+/* What is damaged in a page, and how it is reported in one line. */
 #ifndef FAX_DAMAGE_H
 #define FAX_DAMAGE_H
 
@@ -30,7 +30,6 @@ typedef struct {
     uint32_t why;        /* the status there, or HAYRO_CCITT_OK where the data ends */
     uint64_t unread;     /* the bytes after the rows of parts that are whole */
     const char *kind;    /* what a part is called */
-    int is_out_of_memory;
 } damage;
 
 void add_rows(row_list *to, uint64_t first, uint64_t count);

@@ -7,7 +7,7 @@
 typedef struct {
     buffer bytes;
     buffer offsets;   /* of PDF's objects, of eight bytes each */
-    size_t link;      /* where TIFF's next directory is told */
+    size_t link;      /* where the offset of TIFF's next directory stands */
     unsigned pages;
 } document;
 

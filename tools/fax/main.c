@@ -1,12 +1,14 @@
 #define _POSIX_C_SOURCE 200809L
-/* faxconv: reads fax pages, and writes them as pictures or documents. `faxconv --help` says how it is called. */
+/* faxconv: reads fax pages, and writes them as pictures or documents: see `faxconv --help`. */
 #include "damage.h"
+#include "memory.h"
 #include "options.h"
 #include "piped_in.h"
 #include "rows_out.h"
 #include "source.h"
 #include "tell.h"
 #include <errno.h>
+#include <fcntl.h>
 #include <stdlib.h>
 #include <string.h>
 #include <unistd.h>
@@ -31,7 +33,13 @@ static void add_place(buffer *text, const run *of, const page *it)
         add_text(text, "page %u: ", it->number - before);
 }
 
-/* Tells the damage of a page in one line; of a page that is whole there is none, except in a check. Returns the page's status. */
+/* Writes the line of a page in a check. Returns 0 if that failed. */
+static int put_line(const char *name, const char *text)
+{
+    return put_visible(stdout, name) && printf(": %s\n", text) > 0;
+}
+
+/* Reports the damage of a page in one line; a page that is whole has none, except in a check. Returns the page's status. */
 static int tell_page(const run *of, const page *it, const damage *found)
 {
     buffer text = {NULL, 0, 0, 0};
@@ -51,9 +59,7 @@ static int tell_page(const run *of, const page *it, const damage *found)
     if (of->wanted->is_check && found->unread)
         add_text(&text, "; %lu bytes after them", (unsigned long)found->unread);
     add(&text, "", 1);
-    if (!text.at)
-        status = CANNOT_GO_ON;
-    else if (of->wanted->is_check && printf("%s: %s\n", of->name, (const char *)text.at) < 0)
+    if (text.has_failed || (of->wanted->is_check && !put_line(of->name, (const char *)text.at)))
         status = CANNOT_GO_ON;
     else if (!of->wanted->is_check && !is_ok)
         tell(of->name, "%s", (const char *)text.at);
@@ -65,18 +71,14 @@ static int tell_page(const run *of, const page *it, const damage *found)
 static int write_drawn(run *of, page *it, picture *drawn, int is_only)
 {
     strips encoded;
-    if (!finish_picture(it, drawn)) {
-        tell(of->name, "out of memory");
+    if (!finish_picture(it, drawn))
         return 0;
-    }
     if (!takes_strips(&of->out)) {
         unsigned number = of->pictures + it->image - (unsigned)of->wanted->is_fax2pbm;
         return put_picture(&of->out, it, drawn, number, is_only && !of->wanted->is_fax2pbm);
     }
-    if (!encode_strip(it, drawn, of->wanted->how, &encoded)) {
-        tell(of->name, "out of memory");
+    if (!encode_strip(it, drawn, of->wanted->how, &encoded))
         return 0;
-    }
     put_strips(&of->out, &encoded);
     release_strips(&encoded);
     return 1;
@@ -91,28 +93,33 @@ static int is_taken(run *of, const page *it, strips *into)
         && take_strips(it, target, wanted->is_copy, &of->from.left, into);
 }
 
-/* Reads a page and writes it. Returns its status. */
-static int do_page(run *of, page *it, int is_only)
+/* Decodes a page and writes it. Returns its status. */
+static int draw_page(run *of, page *it, int is_only)
 {
-    damage found = {.is_strict = 1};
+    damage found;
     picture drawn = {0, 0, 0, NULL};
-    strips taken;
-    show_progress(of->name, it->number);
-    if (it->refused[0])
-        return tell_page(of, it, &found);
-    if (is_taken(of, it, &taken)) {
-        put_strips(&of->out, &taken);
-        release_strips(&taken);
-        return tell_page(of, it, &found);
-    }
     int is_drawn = decode_page(it, &of->from.left, &drawn, &found);
-    int status = tell_page(of, it, &found);
-    if (found.is_out_of_memory)
-        status = CANNOT_GO_ON;
-    else if (is_drawn && !of->wanted->is_check && !write_drawn(of, it, &drawn, is_only))
+    int status = is_out_of_memory() ? CANNOT_GO_ON : tell_page(of, it, &found);
+    if (is_drawn && status != CANNOT_GO_ON && !of->wanted->is_check && !write_drawn(of, it, &drawn, is_only))
         status = CANNOT_GO_ON;
     free(drawn.bytes);
     return status;
+}
+
+/* Reads a page and writes it. Returns its status. */
+static int do_page(run *of, page *it, int is_only)
+{
+    static const damage none = {.is_strict = 1};
+    strips taken;
+    show_progress(of->name, it->number);
+    if (it->refused[0])
+        return tell_page(of, it, &none);
+    if (is_taken(of, it, &taken)) {
+        put_strips(&of->out, &taken);
+        release_strips(&taken);
+        return tell_page(of, it, &none);
+    }
+    return is_out_of_memory() ? CANNOT_GO_ON : draw_page(of, it, is_only);
 }
 
 /* Finds the next page that is wanted. Returns 0 if there is none. */
@@ -126,7 +133,7 @@ static int next_wanted(run *of, page *into)
     return 0;
 }
 
-/* Tells what of a file isn't among the pages that were done. Returns the file's status. */
+/* Reports what of a file isn't among the pages that were done. Returns the file's status. */
 static int tell_what_is_left(const run *of, int done)
 {
     const pdf_pages *images = of->from.kind == PDF_FILE ? &of->from.images : NULL;
@@ -147,15 +154,15 @@ static int do_pages(run *of)
     page now, next;
     int status = WHOLE, done = 0, is_there = next_wanted(of, &now);
     for (; is_there && status != CANNOT_GO_ON; done++) {
-        int is_another = next_wanted(of, &next);
-        status = worse(status, do_page(of, &now, !done && !is_another && of->wanted->count <= 1));
+        int is_another = next_wanted(of, &next), is_only = !done && !is_another && of->wanted->count <= 1;
+        status = worse(status, is_out_of_memory() ? CANNOT_GO_ON : do_page(of, &now, is_only));
         release_page(&now);
         now = next;
         is_there = is_another;
     }
     if (is_there)
         release_page(&now);
-    return worse(status, tell_what_is_left(of, done));
+    return is_out_of_memory() ? CANNOT_GO_ON : worse(status, tell_what_is_left(of, done));
 }
 
 /* Reads a piece of standard input, which may be short. Returns 0 at its end, and after an error, which is noted. */
@@ -181,7 +188,7 @@ static int read_rows(piped *from, span first, rows_out *to, int *error)
     return is_taken && !to->has_failed && !*error;
 }
 
-/* Writes the picture of rows that were read, and tells their damage. Returns the page's status. */
+/* Writes the picture of rows that were read, and reports their damage. Returns the page's status. */
 static int do_rows(run *of, piped *from, rows_out *to)
 {
     page it = {.number = 1, .image = 1};
@@ -192,7 +199,7 @@ static int do_rows(run *of, piped *from, rows_out *to)
     if (!end_rows(to, from->lenient.row.rows))
         status = CANNOT_GO_ON;
     picture drawn = {it.columns, it.rows, from->width, to->kept.at};
-    if (!it.refused[0] && !to->height && !write_drawn(of, &it, &drawn, to->is_only))
+    if (!it.refused[0] && !to->height && !is_out_of_memory() && !write_drawn(of, &it, &drawn, to->is_only))
         status = CANNOT_GO_ON;
     return status;
 }
@@ -211,8 +218,8 @@ static int do_piped(run *of, span first)
     if (open_piped(&from, form, taker) && read_rows(&from, behind_digifax(first), &to, &error)) {
         status = do_rows(of, &from, &to);
     } else {
-        if (error || !to.has_failed)
-            tell(of->name, "%s", error ? strerror(error) : "out of memory");
+        if (error)
+            tell(of->name, "%s", strerror(error));
         end_rows(&to, to.height);
         status = CANNOT_GO_ON;
     }
@@ -258,8 +265,8 @@ static int do_file(run *of, const char *path)
         return status;
     }
     was_read = was_read && read_all(in, &file);
-    if (!was_read)
-        tell(of->name, "%s", file.has_failed ? "out of memory" : errno ? strerror(errno) : "can't be read");
+    if (!was_read && !file.has_failed)
+        tell(of->name, "%s", errno ? strerror(errno) : "can't be read");
     if (in && !is_standard)
         fclose(in);
     if (!was_read) {
@@ -267,7 +274,8 @@ static int do_file(run *of, const char *path)
         return CANNOT_GO_ON;
     }
     if (!open_source(&of->from, file, of->wanted->is_raw, &of->wanted->raw)) {
-        tell(of->name, "%s", of->from.why);
+        if (!is_out_of_memory())
+            tell(of->name, "%s", of->from.why);
         return NOT_WHOLE;
     }
     int status = do_pages(of);
@@ -276,22 +284,33 @@ static int do_file(run *of, const char *path)
     return status;
 }
 
-int main(int count, char **words)
+/* Opens those of the standard streams that are closed, so that no file gets their numbers. Reading from them and writing to them fails.
+ * Returns 0 if that can't be done. */
+static int open_standard_streams(void)
+{
+    int is_open = 1;
+    for (int stream = STDIN_FILENO; is_open && stream <= STDERR_FILENO; stream++)
+        is_open = fcntl(stream, F_GETFD) >= 0 || open("/dev/null", stream == STDIN_FILENO ? O_WRONLY : O_RDONLY) == stream;
+    return is_open;
+}
+
+int main(int count, char **arguments)
 {
     options wanted;
-    int status = WHOLE;
-    if (!read_options(count, words, &wanted, &status))
+    int status = CANNOT_GO_ON;
+    if (!open_standard_streams() || !read_options(count, arguments, &wanted, &status))
         return status;
     run all = {.wanted = &wanted};
-    begin_telling(wanted.program);
     open_sink(&all.out, &wanted);
     status = wanted.count ? WHOLE : do_file(&all, NULL);
-    for (int i = 0; i < wanted.count; i++)
+    for (int i = 0; i < wanted.count && !is_out_of_memory(); i++)
         status = worse(status, do_file(&all, wanted.names[i]));
-    if (!wanted.is_check && !close_sink(&all.out))
+    if (!close_sink(&all.out) || fflush(stdout))
         status = CANNOT_GO_ON;
-    if (wanted.is_check && fflush(stdout))
+    if (is_out_of_memory()) {
+        tell(all.name, "out of memory");
         status = CANNOT_GO_ON;
+    }
     end_progress();
     return status;
 }

@@ -1,4 +1,4 @@
-/* The words of a call. */
+/* The arguments of a run. */
 #ifndef FAX_OPTIONS_H
 #define FAX_OPTIONS_H
 
@@ -26,8 +26,9 @@ typedef struct {
     int count;
 } options;
 
-/* Reads the words of a call. Returns 1; else help, the version or what isn't understood was printed, and the run ends with `status`. */
-int read_options(int count, char **words, options *into, int *status);
+/* Reads the arguments, and begins to report by the program's name. Returns 1; else help, the version or an error was printed, and the run
+ * ends with `status`. */
+int read_options(int count, char **arguments, options *into, int *status);
 
 int is_wanted(const options *of, unsigned page);
 

@@ -1,4 +1,5 @@
 #include "page.h"
+#include "memory.h"
 #include <stdarg.h>
 #include <stdlib.h>
 #include <string.h>
@@ -37,10 +38,10 @@ void release_page(page *it)
 
 part *new_parts(page *it, uint64_t count)
 {
-    it->parts = count <= SIZE_MAX / sizeof *it->parts ? calloc((size_t)count + 1, sizeof *it->parts) : NULL;
+    if (count >= SIZE_MAX / sizeof *it->parts)
+        note_out_of_memory();
+    it->parts = count < SIZE_MAX / sizeof *it->parts ? allocate_zeros((size_t)count + 1, sizeof *it->parts) : NULL;
     it->count = it->parts ? (size_t)count : 0;
-    if (!it->parts)
-        refuse(it, "out of memory");
     return it->parts;
 }
 
@@ -55,10 +56,10 @@ static uint32_t decode_words(span data, hayro_ccitt_settings settings, uint8_t *
     while (outcome->rows < wanted && at < data.length && status == HAYRO_CCITT_OK) {
         hayro_ccitt_reader reader = {NULL, NULL, 0};
         hayro_ccitt_row row;
-        status = hayro_ccitt_open(data.at + at, data.length - at, &settings, &reader);
+        status = noted(hayro_ccitt_open(data.at + at, data.length - at, &settings, &reader));
         if (status == HAYRO_CCITT_OK)
-            status = hayro_ccitt_next_packed(data.at + at, data.length - at, &reader, rows + outcome->rows * width,
-                                             length - outcome->rows * width, &row);
+            status = noted(hayro_ccitt_next_packed(data.at + at, data.length - at, &reader, rows + outcome->rows * width,
+                                                   length - outcome->rows * width, &row));
         hayro_ccitt_close(&reader);
         outcome->fault_start = 8 * (uint64_t)at;
         if (status == HAYRO_CCITT_OK) {
@@ -78,7 +79,7 @@ static uint32_t decode_rows(const page *it, const part *from, uint32_t flags, ui
     settings.flags = flags;
     if (it->rows_are_words)
         return decode_words(from->data, settings, rows, length, outcome);
-    return hayro_ccitt_decode_packed(from->data.at, from->data.length, &settings, rows, length, outcome);
+    return noted(hayro_ccitt_decode_packed(from->data.at, from->data.length, &settings, rows, length, outcome));
 }
 
 /* Lists the rows of a part that are repaired, in which a run was cut, or after which an EOL is missing. */
@@ -88,12 +89,12 @@ static void list_damage(const part *from, uint32_t flags, damage *found)
     hayro_ccitt_settings settings = from->settings;
     hayro_ccitt_row row;
     size_t width = bytes_of_row(settings.columns);
-    uint8_t *packed = malloc(width + 1);
+    uint8_t *packed = allocate(width + 1);
     uint64_t missed = 0;
     settings.flags = flags;
-    uint32_t status = hayro_ccitt_open(from->data.at, from->data.length, &settings, &reader);
+    uint32_t status = noted(hayro_ccitt_open(from->data.at, from->data.length, &settings, &reader));
     while (packed && status == HAYRO_CCITT_OK) {
-        status = hayro_ccitt_next_packed(from->data.at, from->data.length, &reader, packed, width, &row);
+        status = noted(hayro_ccitt_next_packed(from->data.at, from->data.length, &reader, packed, width, &row));
         if (row.missed_eols > missed) /* of the row before this one, or of the last one */
             add_rows(&found->missed, from->top + row.rows - (status == HAYRO_CCITT_OK ? 2 : 1), 1);
         missed = row.missed_eols;
@@ -135,7 +136,6 @@ static uint64_t decode_part(const page *it, const part *from, uint8_t *rows, siz
                 list_damage(from, flags, found);
         }
     }
-    found->is_out_of_memory |= status == HAYRO_CCITT_OUT_OF_MEMORY;
     return outcome.rows;
 }
 
@@ -148,8 +148,7 @@ static uint64_t decode_apart(const page *it, const part *from, picture *into, al
     if (is_too_large(from->settings.columns, from->settings.rows) || outside >= left->left)
         return 0;
     spend(left, outside);
-    uint8_t *rows = malloc((size_t)size + 1);
-    found->is_out_of_memory |= !rows;
+    uint8_t *rows = allocate((size_t)size + 1);
     uint64_t count = rows ? decode_part(it, from, rows, (size_t)size, left, found) : 0;
     for (uint64_t row = 0; row < count; row++)
         memcpy(into->bytes + (from->top + row) * into->width + from->left / 8, rows + row * width, wide);
@@ -172,7 +171,7 @@ static uint64_t rows_by(const page *it, uint32_t flags)
     hayro_ccitt_settings settings = it->parts[0].settings;
     hayro_ccitt_outcome outcome;
     settings.flags = flags;
-    hayro_ccitt_measure(it->parts[0].data.at, it->parts[0].data.length, &settings, &outcome);
+    noted(hayro_ccitt_measure(it->parts[0].data.at, it->parts[0].data.length, &settings, &outcome));
     return outcome.rows;
 }
 
@@ -242,11 +241,9 @@ static uint64_t decode_parts(page *it, allowance *left, picture *into, damage *f
 }
 
 /* Refuses a page of which there is no picture. */
-static void refuse_lost(page *it, int has_memory, uint64_t rows, const allowance *left, const damage *found)
+static void refuse_lost(page *it, uint64_t rows, const allowance *left, const damage *found)
 {
-    if (!has_memory)
-        refuse(it, "out of memory");
-    else if (!left->left)
+    if (!left->left)
         refuse(it, "its %ss lie over each other", it->kind);
     else if (!found->is_strict && it->columns > WIDEST)
         refuse(it, "its rows don't have %lu columns: %s in row %lu", (unsigned long)it->columns, meaning(found->why),
@@ -272,20 +269,20 @@ int decode_page(page *it, allowance *left, picture *into, damage *found)
     }
     *into = white_picture(it->columns, rows);
     uint64_t end = into->bytes ? decode_parts(it, left, into, found) : 0;
-    if (into->bytes && it->others && !found->is_strict && !found->is_out_of_memory && choose_flags(it)) {
+    if (into->bytes && it->others && !found->is_strict && !is_out_of_memory() && choose_flags(it)) {
         memset(into->bytes, 0, into->width * rows);
         *found = start;
         end = decode_parts(it, left, into, found);
     }
-    refuse_lost(it, into->bytes && !found->is_out_of_memory, end, left, found);
+    refuse_lost(it, end, left, found);
     int has_false_height = !it->has_height && (rows < it->rows || (found->missing.count && into->width * rows > LARGE));
     if (has_false_height) /* the picture has only the rows that were decoded */
         into->rows = (uint32_t)end;
-    if (it->refused[0]) {
+    if (it->refused[0] || is_out_of_memory()) {
         free(into->bytes);
         into->bytes = NULL;
     }
-    return !it->refused[0];
+    return into->bytes != NULL;
 }
 
 int finish_picture(const page *it, picture *made)

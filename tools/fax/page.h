@@ -32,8 +32,8 @@ typedef struct {
     unsigned image;  /* of the picture in its file; the first one is 1 */
     const char *kind;    /* "strip", "tile" or "stream" */
     char refused[160];   /* why the page can't be decoded, or empty */
-    char note[160];      /* what else is to be told, or empty */
-    int note_status;     /* DAMAGED or NOT_WHOLE if it tells of a fault */
+    char note[160];      /* what else is to be reported, or empty */
+    int note_status;     /* DAMAGED or NOT_WHOLE if it reports a fault */
     uint32_t columns, rows;
     int has_height;      /* whether the picture has so many rows, whatever the data */
     part *parts;
@@ -51,11 +51,11 @@ typedef struct {
 void refuse(page *it, const char *format, ...) __attribute__((format(printf, 2, 3)));
 void release_page(page *it);
 
-/* Returns room for so many parts, all zeros; null, and refuses the page, if there is none. */
+/* Returns room for so many parts, all zeros; null if an allocation failed. */
 part *new_parts(page *it, uint64_t count);
 
-/* Decodes the rows of a page. Returns 0 and refuses the page if there is no picture: it is too large, no row could be decoded, or
- * an allocation failed, which `is_out_of_memory` of the damage says. The picture isn't turned or inverted yet. */
+/* Decodes the rows of a page. Returns 0 if there is no picture: an allocation failed, or the page is refused, as it is too large or no
+ * row could be decoded. The picture isn't turned or inverted yet. */
 int decode_page(page *it, allowance *left, picture *into, damage *found);
 
 /* Turns and inverts the picture of a page. Returns 0 if an allocation failed. */

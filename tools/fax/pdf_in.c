@@ -1,4 +1,5 @@
 #include "pdf_in.h"
+#include "memory.h"
 #include <stdlib.h>
 #include <string.h>
 
@@ -36,7 +37,7 @@ static void add_image(pdf_pages *to, pdf_value dictionary, pdf_value resources, 
 {
     if (to->count == to->room) {
         size_t room = 2 * to->room + 16;
-        pdf_image *more = realloc(to->images, room * sizeof *more);
+        pdf_image *more = reallocate(to->images, room * sizeof *more);
         if (!more)
             return;
         to->images = more;
@@ -110,45 +111,61 @@ static int is_end_of_image(const uint8_t *at, const uint8_t *start, const uint8_
     return is_text(at + 2, end - at > 16 ? at + 16 : end) && (is_apart || !is_text(at - start > 16 ? at - 16 : start, at));
 }
 
+/* Keeps the bytes of a page's content, in which images lie. Returns 0, and releases them, if an allocation failed. */
+static int keep_content(pdf_pages *to, buffer content)
+{
+    if (to->content_count == to->content_room && !content.has_failed) {
+        size_t room = 2 * to->content_room + 16;
+        buffer *more = reallocate(to->contents, room * sizeof *more);
+        if (more) {
+            to->contents = more;
+            to->content_room = room;
+        }
+    }
+    if (content.has_failed || to->content_count == to->content_room) {
+        release(&content);
+        return 0;
+    }
+    to->contents[to->content_count++] = content;
+    return 1;
+}
+
 /* Reads an image in a page's content, after `BI`. Returns what follows it. */
 static const uint8_t *read_inline_image(pdf_pages *to, pdf_value resources, const uint8_t *at, const uint8_t *end, unsigned page)
 {
     buffer text = {NULL, 0, 0, 0};
     const uint8_t *start = at;
-    for (at = pdf_past_space(at, end); at < end && *at == '/';)
-        at = pdf_past_space(pdf_past_value(pdf_past_token(at, end), end), end);
+    for (at = pdf_past_space(to->left, at, end); at < end && *at == '/';)
+        at = pdf_past_space(to->left, pdf_past_value(to->left, pdf_past_token(to->left, at, end), end), end);
     if (end - at < 3 || memcmp(at, "ID", 2))
         return at;
     add(&text, "<<", 2);
     add(&text, start, (size_t)(at - start));
     add(&text, " >>", 3);
-    buffer *more = text.has_failed ? NULL : realloc(to->contents, (to->content_count + 1) * sizeof *more);
     const uint8_t *data = at + 3, *last = data;
     while (last < end && !is_end_of_image(last, data, end))
         last++;
-    if (!more || !spend(to->left, (uint64_t)(last - start))) {
+    if (text.has_failed || !spend(to->left, (uint64_t)(last - start))) {
         release(&text);
         return last;
     }
-    to->contents = more;
     pdf_value dictionary = {text.at, text.at + text.length, NO_OBJECT};
-    if (is_fax(to->objects, dictionary)) {
-        span bytes = {data, (size_t)(last - data)};
-        to->contents[to->content_count++] = text;
-        add_image(to, dictionary, resources, bytes, page);
-    } else {
+    if (!is_fax(to->objects, dictionary)) {
         release(&text);
         to->others++;
+    } else if (keep_content(to, text)) {
+        span bytes = {data, (size_t)(last - data)};
+        add_image(to, dictionary, resources, bytes, page);
     }
     return last + 2 < end ? last + 2 : end;
 }
 
 static void read_content(pdf_pages *to, pdf_value resources, span content, unsigned page, int depth)
 {
-    const uint8_t *at = pdf_past_space(content.at, content.at + content.length), *end = content.at + content.length;
+    const uint8_t *end = content.at + content.length, *at = pdf_past_space(to->left, content.at, end);
     pdf_value named = nothing;
     while (at < end && spend(to->left, 1)) {
-        const uint8_t *next = pdf_past_token(at, end);
+        const uint8_t *next = pdf_past_token(to->left, at, end);
         size_t length = (size_t)(next - at);
         if (*at == '/') {
             pdf_value name = {at, end, NO_OBJECT};
@@ -160,7 +177,7 @@ static void read_content(pdf_pages *to, pdf_value resources, span content, unsig
         } else if (length == 2 && !memcmp(at, "BI", 2)) {
             next = read_inline_image(to, resources, next, end, page);
         }
-        at = pdf_past_space(next, end);
+        at = pdf_past_space(to->left, next, end);
     }
 }
 
@@ -184,19 +201,13 @@ static void add_content(pdf_pages *to, pdf_value stream, unsigned page, buffer *
 static void read_contents(pdf_pages *to, pdf_value from, pdf_value resources, unsigned page, int depth)
 {
     buffer content = {NULL, 0, 0, 0};
-    pdf_value rest = pdf_items(from), stream;
+    pdf_value rest = pdf_items(to->objects, from), stream;
     if (!pdf_is_array(from))
         add_content(to, from, page, &content);
     while (pdf_next_item(to->objects, &rest, &stream))
         add_content(to, stream, page, &content);
-    buffer *more = content.has_failed ? NULL : realloc(to->contents, (to->content_count + 1) * sizeof *more);
-    if (!more) {
-        release(&content);
-        return;
-    }
-    to->contents = more;
-    to->contents[to->content_count++] = content;
-    read_content(to, resources, bytes_in(&content), page, depth);
+    if (keep_content(to, content))
+        read_content(to, resources, bytes_in(&content), page, depth);
 }
 
 enum { ROOM_FOR_NAME = 128 };
@@ -212,13 +223,13 @@ static int compare_names(const void *one, const void *other)
 static buffer sorted_names(pdf_pages *of, pdf_value dictionary)
 {
     buffer names = {NULL, 0, 0, 0};
-    const uint8_t *at = pdf_past_space(dictionary.at + 2, dictionary.end), *end = dictionary.end;
+    const uint8_t *end = dictionary.end, *at = pdf_past_space(of->left, dictionary.at + 2, end);
     while (at < end && *at == '/' && spend(of->left, ROOM_FOR_NAME)) {
         char name[ROOM_FOR_NAME] = "";
         pdf_value key = {at, end, NO_OBJECT};
         pdf_name(key, name, sizeof name);
         add(&names, name, sizeof name);
-        at = pdf_past_space(pdf_past_value(pdf_past_token(at, end), end), end);
+        at = pdf_past_space(of->left, pdf_past_value(of->left, pdf_past_token(of->left, at, end), end), end);
     }
     if (names.length)
         qsort(names.at, names.length / ROOM_FOR_NAME, ROOM_FOR_NAME, compare_names);
@@ -240,7 +251,7 @@ static void read_resources(pdf_pages *to, pdf_value resources, const char *kind,
 /* Adds the images that a page's annotations show, in their state if they have several. */
 static void read_annotations(pdf_pages *to, pdf_value it, unsigned page)
 {
-    pdf_value rest = pdf_items(pdf_key(to->objects, it, "Annots")), annotation;
+    pdf_value rest = pdf_items(to->objects, pdf_key(to->objects, it, "Annots")), annotation;
     while (pdf_next_item(to->objects, &rest, &annotation)) {
         char state[128];
         pdf_value normal = pdf_key(to->objects, pdf_key(to->objects, annotation, "AP"), "N");
@@ -272,7 +283,7 @@ static void read_node(pdf_pages *to, pdf_value node, pdf_value resources, int de
         read_page(to, node, own.at ? own : resources);
         return;
     }
-    pdf_value rest = pdf_items(kids), kid;
+    pdf_value rest = pdf_items(to->objects, kids), kid;
     while (pdf_next_item(to->objects, &rest, &kid))
         read_node(to, kid, own.at ? own : resources, depth + 1);
 }
@@ -284,10 +295,9 @@ int open_pdf(pdf_pages *it, span file, allowance *left, const char **why)
     it->objects = pdf_open(file, left, why);
     if (!it->objects)
         return 0;
-    it->seen = calloc(pdf_count(it->objects) + 1, sizeof *it->seen);
+    it->seen = allocate_zeros(pdf_count(it->objects) + 1, sizeof *it->seen);
     if (!it->seen) {
         close_pdf(it);
-        *why = "out of memory";
         return 0;
     }
     read_node(it, pdf_key(it->objects, pdf_root(it->objects), "Pages"), nothing, 0);
@@ -363,7 +373,7 @@ static int is_white_first(pdf *in, pdf_value space, pdf_value resources)
     const char *why;
     span data;
     if (!pdf_stream(in, table, &data) || !pdf_decoded(in, table, data, NULL, &colours, &why))
-        pdf_string(table, &colours);
+        pdf_string(in, table, &colours);
     size_t half = colours.length / 2;
     double first = colours.at ? brightness(&colours, 0, half) : 0, second = colours.at ? brightness(&colours, half, half) : 0;
     release(&colours);
@@ -439,16 +449,14 @@ static uint32_t columns_of(pdf *in, pdf_value image, uint32_t decoded)
     return width && width < decoded && bytes_of_row(width) == bytes_of_row(decoded) ? width : decoded;
 }
 
-int next_pdf_page(pdf_pages *from, page *into)
+/* Lays out an image. */
+static void lay_out(pdf_pages *from, const pdf_image *image, page *into)
 {
-    if (from->next == from->count)
-        return 0;
     pdf *in = from->objects;
-    pdf_image *image = &from->images[from->next++];
     into->number = image->page;
     into->kind = "stream";
     if (!new_parts(into, 1) || !set_data(from, image, into))
-        return 1;
+        return;
     pdf_value parameters = parameters_of(in, image->dictionary), decode = either(in, image->dictionary, "Decode", "D");
     int is_mask = pdf_is_true(either(in, image->dictionary, "ImageMask", "IM"));
     hayro_ccitt_settings settings = settings_of(in, image->dictionary, parameters);
@@ -465,5 +473,14 @@ int next_pdf_page(pdf_pages *from, page *into)
         into->is_inverted = !into->is_inverted;
     if (!into->refused[0])
         set_other_flags(into, settings.flags);
+}
+
+int next_pdf_page(pdf_pages *from, page *into)
+{
+    if (from->next == from->count)
+        return 0;
+    lay_out(from, &from->images[from->next++], into);
+    if (!from->left->left)
+        refuse(into, "reading it takes more work than the file's size allows");
     return 1;
 }

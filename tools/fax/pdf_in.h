@@ -19,7 +19,7 @@ typedef struct {
     size_t count, room, next;
     unsigned *seen;      /* of each object, the page that it was last seen on */
     buffer *contents;    /* of the pages that have images in their contents */
-    size_t content_count;
+    size_t content_count, content_room;
     unsigned pages;
     unsigned others;     /* images that aren't fax */
     char unread[160];    /* why objects, or a page's content, can't be read, or empty */

@@ -245,13 +245,16 @@ static int rewrite(span file, FILE *to)
     call.qpdf_set_suppress_warnings(it.file, QPDF_TRUE);
     int status = call.qpdf_read_memory(it.file, "", (const char *)file.at, file.length, NULL);
     qpdf_error fault = status & QPDF_ERRORS ? call.qpdf_get_error(it.file) : NULL;
-    if (fault ? call.qpdf_get_error_code(it.file, fault) == qpdf_e_password : call.qpdf_is_encrypted(it.file))
-        put_text(&it, "trailer\n<< /Encrypt true >>\n");
-    else if (fault)
+    int needs_password = fault && call.qpdf_get_error_code(it.file, fault) == qpdf_e_password;
+    if (fault && !needs_password)
         return UNREADABLE;
+    if (needs_password)
+        put_text(&it, "trailer\n<< /Encrypt true >>\n");
     else
         put_objects(&it, file.length);
-    return fflush(to) ? UNREADABLE : call.qpdf_more_warnings(it.file) || call.qpdf_has_error(it.file) ? REPAIRED : SOUND;
+    int is_plain = !needs_password && !call.qpdf_is_encrypted(it.file);
+    int is_repaired = is_plain && (call.qpdf_more_warnings(it.file) || call.qpdf_has_error(it.file));
+    return fflush(to) ? UNREADABLE : is_repaired ? REPAIRED : SOUND;
 }
 
 /* Part 2: this process. */

@@ -6,8 +6,9 @@
 
 /* Writes the objects of a file plainly, one after the other, and a trailer: as libqpdf finds them by the file's tables; each with its
  * number, none in a stream, each stream with its length and the bytes that the file has. Before those of a damaged file come the file's
- * own bytes, since libqpdf leaves out what it can't repair: of an object that occurs twice the later one counts. Of an encrypted file
- * there is only a trailer that says so. Returns 0, and nothing, if libqpdf can't read the file, or isn't there. */
+ * own bytes, since libqpdf leaves out what it can't repair: of an object that occurs twice the later one counts. An encrypted file that
+ * opens without a password is decrypted; of one that needs a password there is only a trailer that says so. Returns 0, and nothing, if
+ * libqpdf can't read the file, or isn't there. */
 int plain_pdf(span file, buffer *into);
 
 #endif

@@ -36,14 +36,13 @@ int pdf_is_array(pdf_value it);
 size_t pdf_length(pdf *in, pdf_value array);
 
 /* The items of an array one after the other: the rest of them, at first all, of which each call takes one. Returns 0 after the last. */
-pdf_value pdf_items(pdf_value array);
+pdf_value pdf_items(pdf *in, pdf_value array);
 int pdf_next_item(pdf *in, pdf_value *rest, pdf_value *item);
-
 
 int pdf_is_name(pdf_value it, const char *name);
 int pdf_is_true(pdf_value it);
 double pdf_number(pdf_value it, double otherwise);
-void pdf_string(pdf_value it, buffer *into);
+void pdf_string(pdf *in, pdf_value it, buffer *into);
 void pdf_name(pdf_value it, char *into, size_t room); /* empty if it is none */
 
 /* The bytes of a stream as they are in the file. Returns 0 if the value is no stream. */
@@ -53,10 +52,10 @@ int pdf_stream(pdf *in, pdf_value it, span *data);
  * known here or fails. */
 int pdf_decoded(pdf *in, pdf_value dictionary, span data, const char *const last[2], buffer *into, const char **why);
 
-/* Reading text: past space and comments, and past a value. */
-const uint8_t *pdf_past_space(const uint8_t *at, const uint8_t *end);
-const uint8_t *pdf_past_token(const uint8_t *at, const uint8_t *end);
-const uint8_t *pdf_past_value(const uint8_t *at, const uint8_t *end);
+/* Reading text: past space and comments, and past a value. What is long is paid for, since it may be read many times. */
+const uint8_t *pdf_past_space(allowance *left, const uint8_t *at, const uint8_t *end);
+const uint8_t *pdf_past_token(allowance *left, const uint8_t *at, const uint8_t *end);
+const uint8_t *pdf_past_value(allowance *left, const uint8_t *at, const uint8_t *end);
 const uint8_t *pdf_find(const uint8_t *at, const uint8_t *end, const char *text);
 int pdf_is_space(uint8_t byte);
 int pdf_is_delimiter(uint8_t byte);

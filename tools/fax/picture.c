@@ -1,4 +1,5 @@
 #include "picture.h"
+#include "memory.h"
 #include <stdlib.h>
 
 size_t bytes_of_row(uint32_t columns)
@@ -15,7 +16,7 @@ picture white_picture(uint32_t columns, uint32_t rows)
 {
     picture made = {columns, rows, bytes_of_row(columns), NULL};
     if (!is_too_large(columns, rows))
-        made.bytes = calloc(made.width * rows + 1, 1);
+        made.bytes = allocate_zeros(made.width * rows + 1, 1);
     return made;
 }
 

@@ -1,4 +1,5 @@
 #include "piped_in.h"
+#include "memory.h"
 #include <stdlib.h>
 #include <string.h>
 
@@ -10,16 +11,11 @@ static int has_ended(const reading *it)
     return it->status != HAYRO_CCITT_OK && it->status != HAYRO_CCITT_NEEDS_MORE;
 }
 
-static int has_memory(const piped *it)
-{
-    return it->lenient.status != HAYRO_CCITT_OUT_OF_MEMORY && it->strict.status != HAYRO_CCITT_OUT_OF_MEMORY;
-}
-
 static int open_reading(reading *it, const raw_form *form, uint32_t more_flags)
 {
     hayro_ccitt_settings settings = form->settings;
     settings.flags |= more_flags;
-    uint32_t status = hayro_ccitt_feed_open(&settings, &it->feed);
+    uint32_t status = noted(hayro_ccitt_feed_open(&settings, &it->feed));
     it->status = status == HAYRO_CCITT_OK ? HAYRO_CCITT_NEEDS_MORE : status;
     return status == HAYRO_CCITT_OK;
 }
@@ -32,21 +28,21 @@ int open_piped(piped *it, const raw_form *form, row_taker to)
     it->to = to;
     it->found = none;
     it->width = bytes_of_row(form->settings.columns);
-    it->packed = malloc(it->width + 1);
-    it->lists = malloc(LISTED * sizeof *it->lists);
+    it->packed = allocate(it->width + 1);
+    it->lists = allocate(LISTED * sizeof *it->lists);
     return it->packed && it->lists && open_reading(&it->lenient, form, 0) && open_reading(&it->strict, form, HAYRO_CCITT_STRICT);
 }
 
 static void feed_reading(reading *it, span bytes)
 {
-    uint32_t status = has_ended(it) ? HAYRO_CCITT_OK : hayro_ccitt_feed(&it->feed, bytes.at, bytes.length);
+    uint32_t status = has_ended(it) ? HAYRO_CCITT_OK : noted(hayro_ccitt_feed(&it->feed, bytes.at, bytes.length));
     if (status != HAYRO_CCITT_OK)
         it->status = status;
 }
 
 static void pack_row(piped *it, reading *from)
 {
-    from->status = hayro_ccitt_feed_next_packed(&from->feed, it->packed, it->width, &from->row);
+    from->status = noted(hayro_ccitt_feed_next_packed(&from->feed, it->packed, it->width, &from->row));
 }
 
 /* Reads the next row, if it is known. Returns 0 if it isn't, or there is none. */
@@ -62,7 +58,7 @@ static void pass_rows(piped *it, reading *from)
 {
     size_t count;
     while (!has_ended(from)) {
-        from->status = hayro_ccitt_feed_rows_changes(&from->feed, it->lists, LISTED, &count, &from->row);
+        from->status = noted(hayro_ccitt_feed_rows_changes(&from->feed, it->lists, LISTED, &count, &from->row));
         if (from->status == HAYRO_CCITT_REFUSED)
             pack_row(it, from);
         if (from->status == HAYRO_CCITT_NEEDS_MORE)
@@ -91,10 +87,10 @@ static int take_rows(piped *it)
         missed = it->lenient.row.missed_eols;
         is_taken = it->to.take(it->to.context, it->packed, it->width);
     }
-    /* Without a height no row is sought behind the last one. */
+    /* Without a height no row is sought after the last one. */
     if (has_ended(&it->lenient) && it->form.has_height && it->lenient.row.missed_eols > missed)
         add_rows(&it->found.missed, it->lenient.row.rows - 1, 1);
-    return is_taken && has_memory(it);
+    return is_taken && !is_out_of_memory();
 }
 
 int feed_piped(piped *it, span bytes)
@@ -102,7 +98,7 @@ int feed_piped(piped *it, span bytes)
     feed_reading(&it->lenient, bytes);
     feed_reading(&it->strict, bytes);
     it->bytes += bytes.length;
-    return has_memory(it) && take_rows(it);
+    return !is_out_of_memory() && take_rows(it);
 }
 
 int finish_piped(piped *it)

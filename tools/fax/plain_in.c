@@ -1,4 +1,5 @@
 #include "plain_in.h"
+#include "memory.h"
 #include <stdlib.h>
 #include <string.h>
 
@@ -39,7 +40,7 @@ void lay_out_raw(span file, const raw_form *form, page *into)
     if (!only)
         return;
     only->data = behind_digifax(file);
-    uint32_t status = hayro_ccitt_measure(only->data.at, only->data.length, &form->settings, &outcome);
+    uint32_t status = noted(hayro_ccitt_measure(only->data.at, only->data.length, &form->settings, &outcome));
     describe_raw(form, status, outcome.rows, into);
     only->settings = form->settings;
     only->settings.rows = into->rows;
@@ -82,11 +83,9 @@ int next_pbm_page(span *rest, page *into)
     }
     into->columns = columns;
     into->rows = rows;
-    into->drawn = malloc((size_t)size + 1);
+    into->drawn = allocate((size_t)size + 1);
     if (into->drawn)
         memcpy(into->drawn, rest->at + 1, (size_t)size);
-    else
-        refuse(into, "out of memory");
     *rest = part_of_span(*rest, size + 1, rest->length);
     return 1;
 }

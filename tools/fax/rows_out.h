@@ -23,7 +23,7 @@ int put_row(void *rows, const uint8_t *packed, size_t width);
 /* Writes what was taken. Returns 0 if it can't be written. */
 int flush_rows(rows_out *it);
 
-/* Adds white rows up to the height, after so many, and closes the file. Returns 0 after telling that it can't be written. */
+/* Adds white rows up to the height, after so many, and closes the file. Returns 0 after reporting that it can't be written. */
 int end_rows(rows_out *it, uint64_t rows);
 
 #endif

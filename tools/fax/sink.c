@@ -1,4 +1,5 @@
 #include "sink.h"
+#include "memory.h"
 #include "pictures_out.h"
 #include "tell.h"
 #include <errno.h>
@@ -36,7 +37,7 @@ static FILE *opened(const char *name)
     return out;
 }
 
-/* Closes what was written, and tells it if that failed. */
+/* Closes what was written, and reports it if that failed. */
 static int is_closed(FILE *out, const char *name, int is_written)
 {
     is_written = fflush(out) == 0 && is_written;
@@ -78,26 +79,26 @@ int close_picture(picture_file *it, int is_written)
 int put_picture(sink *to, const page *from, const picture *drawn, unsigned number, int is_only)
 {
     picture_file file;
-    int is_turned = from->orientation > 4 && from->orientation <= 8;
-    if (!open_picture(to, number, is_only, &file))
-        return 0;
+    int is_png = to->wanted->format == PNG, is_turned = from->orientation > 4 && from->orientation <= 8;
+    png *how = is_png ? open_png(drawn) : NULL;
+    int is_open = (how || !is_png) && open_picture(to, number, is_only, &file);
     double across = is_turned ? from->down_inch : from->across_inch, down = is_turned ? from->across_inch : from->down_inch;
-    return close_picture(&file, to->wanted->format == PNG ? write_png(file.out, drawn, across, down) : write_pbm(file.out, drawn));
+    if (is_open)
+        is_open = close_picture(&file, is_png ? write_png(file.out, how, across, down) : write_pbm(file.out, drawn));
+    close_png(how);
+    return is_open;
 }
 
 int close_sink(sink *it)
 {
     int is_written = 1;
     if (takes_strips(it) && it->all.pages) {
-        is_written = it->wanted->format == TIFF ? finish_tiff(&it->all) : finish_pdf(&it->all);
-        if (!is_written || it->all.bytes.has_failed) {
-            tell(NULL, it->all.bytes.has_failed ? "out of memory" : "the document is too large");
-            is_written = 0;
-        } else {
-            FILE *out = opened(it->wanted->output);
-            size_t size = it->all.bytes.length;
-            is_written = out && is_closed(out, it->wanted->output, fwrite(it->all.bytes.at, 1, size, out) == size);
-        }
+        is_written = (it->wanted->format == TIFF ? finish_tiff(&it->all) : finish_pdf(&it->all)) && !is_out_of_memory();
+        if (!is_written && !is_out_of_memory())
+            tell(NULL, "the document is too large");
+        FILE *out = is_written ? opened(it->wanted->output) : NULL;
+        size_t size = it->all.bytes.length;
+        is_written = out && is_closed(out, it->wanted->output, fwrite(it->all.bytes.at, 1, size, out) == size);
     }
     release_document(&it->all);
     return is_written;

@@ -25,16 +25,16 @@ typedef struct {
     char name[4096]; /* of its file, or empty for standard output */
 } picture_file;
 
-/* Opens a picture under its number, which the name has if it isn't the only one. Returns 0 after telling why it can't. */
+/* Opens a picture under its number, which the name has if it isn't the only one. Returns 0 after reporting why it can't. */
 int open_picture(sink *to, unsigned number, int is_only, picture_file *it);
 
-/* Closes a picture. Returns 0 after telling that it can't be written. */
+/* Closes a picture. Returns 0 after reporting that it can't be written. */
 int close_picture(picture_file *it, int is_written);
 
-/* Writes a picture. Returns 0 after telling why it can't. */
+/* Writes a picture. Returns 0 after reporting why it can't. */
 int put_picture(sink *to, const page *from, const picture *drawn, unsigned number, int is_only);
 
-/* Writes the document, if it has pages. Returns 0 after telling why it can't. */
+/* Writes the document, if it has pages. Returns 0 after reporting why it can't. */
 int close_sink(sink *it);
 
 #endif

@@ -1,4 +1,5 @@
 #include "source.h"
+#include "memory.h"
 #include <string.h>
 
 /* What isn't read, by its first bytes. */
@@ -52,7 +53,7 @@ int kind_of(span first, int is_raw, enum kind *kind)
 int open_source(source *it, buffer file, int is_raw, const raw_form *raw)
 {
     span all = bytes_in(&file);
-    const char *why = NULL;
+    const char *why = "out of memory";
     memset(it, 0, sizeof *it);
     it->file = file;
     it->raw = *raw;
@@ -62,14 +63,12 @@ int open_source(source *it, buffer file, int is_raw, const raw_form *raw)
     if (!kind_of(all, is_raw, &it->kind)) {
         snprintf(it->why, sizeof it->why, "it is %s; -m says how raw fax data is encoded", name_of(all));
     } else if (it->kind == TIFF_FILE) {
-        why = open_tiff(&it->directories, all) ? NULL : "out of memory";
+        open_tiff(&it->directories, all);
     } else if (it->kind == PDF_FILE) {
         allow(&it->left, 4 * (uint64_t)file.length); /* its text may be compressed well */
-        if (open_pdf(&it->images, all, &it->left, &why))
-            why = NULL;
+        if (!open_pdf(&it->images, all, &it->left, &why))
+            snprintf(it->why, sizeof it->why, "%s", why);
     }
-    if (why)
-        snprintf(it->why, sizeof it->why, "%s", why);
     if (it->why[0])
         release(&it->file);
     return !it->why[0];

@@ -1,5 +1,6 @@
 #include "strip.h"
 #include "fax_encode.h"
+#include "memory.h"
 #include <stdlib.h>
 #include <string.h>
 
@@ -56,17 +57,17 @@ static int ends_with_eofb(const strip *it)
 }
 
 /* Whether a strict reading takes all of the data, and nothing is left. */
-static int is_lawful(const strip *it)
+static int is_valid(const strip *it)
 {
     hayro_ccitt_settings settings = it->settings;
     hayro_ccitt_outcome outcome;
     settings.flags |= HAYRO_CCITT_STRICT;
-    return hayro_ccitt_measure(it->data.at, it->data.length, &settings, &outcome) == HAYRO_CCITT_OK
+    return noted(hayro_ccitt_measure(it->data.at, it->data.length, &settings, &outcome)) == HAYRO_CCITT_OK
         && outcome.rows == settings.rows && outcome.bytes_read == it->data.length;
 }
 
-/* Whether the target has strips that are so encoded. TIFF's Group 3 has either EOLs or aligned rows, and its Group 4 no aligned
- * rows; PDF has all, but only the highest bit first. */
+/* Whether the target has strips that are so encoded. TIFF's Group 3 has either EOLs or aligned rows, so that all strips of a page are of
+ * one kind, and its Group 4 no aligned rows; PDF has all, but only the highest bit first. */
 static int has_way(enum target target, const strip *it)
 {
     int is_aligned = (it->settings.flags & HAYRO_CCITT_ALIGNED_ROWS) != 0;
@@ -120,7 +121,7 @@ static void describe(const page *it, size_t count, strips *into)
     into->rows = it->rows;
     into->across_inch = it->across_inch;
     into->down_inch = it->down_inch;
-    into->strips = calloc(count, sizeof *into->strips);
+    into->strips = allocate_zeros(count, sizeof *into->strips);
     into->count = into->strips ? count : 0;
 }
 
@@ -149,8 +150,7 @@ int take_strips(const page *it, enum target target, int is_trusted, allowance *l
         strip *one = &into->strips[i];
         *one = strip_of(&it->parts[i]);
         int is_unread = is_trusted && one->data.length && !it->parts[i].is_cut;
-        is_taken = spend(left, one->data.length) && has_way(target, one) && one->has_eols == into->strips[0].has_eols
-            && (is_unread || is_lawful(one));
+        is_taken = spend(left, one->data.length) && has_way(target, one) && (is_unread || is_valid(one));
         allow(left, is_unread ? 0 : one->settings.rows * bytes_of_row(it->columns));
     }
     if (is_taken && target == FOR_PDF && into->strips[0].settings.flags & HAYRO_CCITT_LOW_FIRST)
@@ -173,9 +173,9 @@ int encode_strip(const page *it, const picture *drawn, const way *how, strips *i
         into->down_inch = it->across_inch;
     }
     uint8_t *data = room_for(&into->owned, room);
-    uint32_t status = data ? fax_encode_bitmap(drawn->bytes, size, &settings, data, room, &outcome) : FAX_ENCODE_OUT_OF_MEMORY;
+    uint32_t status = data ? noted(fax_encode_bitmap(drawn->bytes, size, &settings, data, room, &outcome)) : FAX_ENCODE_OUT_OF_MEMORY;
     if (status == FAX_ENCODE_REFUSED && room_for(&into->owned, (size_t)outcome.bytes))
-        status = fax_encode_bitmap(drawn->bytes, size, &settings, into->owned.at, (size_t)outcome.bytes, &outcome);
+        status = noted(fax_encode_bitmap(drawn->bytes, size, &settings, into->owned.at, (size_t)outcome.bytes, &outcome));
     if (status != FAX_ENCODE_OK || !into->count) {
         release_strips(into);
         return 0;

@@ -1,4 +1,4 @@
-/* Pages as strips for TIFF and PDF: their own data where it is lawful as it is, else the picture encoded. */
+/* Pages as strips for TIFF and PDF: their own data where that is valid as it is, else the picture encoded. */
 #ifndef FAX_STRIP_H
 #define FAX_STRIP_H
 
@@ -35,8 +35,8 @@ typedef struct {
 
 enum target { FOR_TIFF, FOR_PDF };
 
-/* Takes the strips of a page as they are. Returns 0 if that can't be done: one isn't lawful, or the target has no such strips. That a
- * strip is lawful, a strict reading shows; if they are trusted, that all of it is in the file. */
+/* Takes the strips of a page as they are. Returns 0 if that can't be done: one isn't valid, or the target has no such strips. That a
+ * strip is valid, a strict reading shows; if they are trusted, that all of it is in the file. */
 int take_strips(const page *it, enum target target, int is_trusted, allowance *left, strips *into);
 
 /* Encodes the picture of a page, which is turned and inverted already, as one strip. Returns 0 if an allocation failed. */

@@ -1,4 +1,5 @@
 #include "tiff_in.h"
+#include "memory.h"
 #include <stdlib.h>
 #include <string.h>
 
@@ -42,13 +43,12 @@ static uint64_t number_at(const tiff *from, uint64_t offset, unsigned bytes)
     return number;
 }
 
-int open_tiff(tiff *it, span file)
+void open_tiff(tiff *it, span file)
 {
-    tiff opened = {file, file.at[0] == 'M', 0, 0, calloc(file.length / 8 + 1, 1), 0};
+    tiff opened = {file, file.at[0] == 'M', 0, 0, allocate_zeros(file.length / 8 + 1, 1), 0};
     opened.is_big_tiff = file.at[opened.is_big_endian ? 3 : 2] == '+';
     opened.next = opened.is_big_tiff ? number_at(&opened, 8, 8) : number_at(&opened, 4, 4);
     *it = opened;
-    return opened.seen != NULL;
 }
 
 void close_tiff(tiff *it)
@@ -136,7 +136,7 @@ static uint64_t length_to_next(const directory *in, unsigned tag, uint64_t offse
 {
     uint64_t count = all->offsets ? all->count : tag_of(in, tag)->count, low = 0, high;
     if (!all->offsets) {
-        all->offsets = malloc((size_t)(count + 1) * sizeof *all->offsets);
+        all->offsets = allocate((size_t)(count + 1) * sizeof *all->offsets);
         if (!all->offsets)
             return 0;
         for (uint64_t i = 0; i < count; i++)
@@ -259,7 +259,7 @@ int next_tiff_page(tiff *from, allowance *left, page *into)
 {
     directory in;
     uint64_t at = from->next;
-    if (!at && from->pages)
+    if (!from->seen || (!at && from->pages))
         return 0;
     from->pages++;
     into->kind = "strip";

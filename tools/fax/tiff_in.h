@@ -13,7 +13,7 @@ typedef struct {
 } tiff;
 
 int is_tiff(span file);
-int open_tiff(tiff *it, span file); /* 0 if an allocation failed */
+void open_tiff(tiff *it, span file);
 void close_tiff(tiff *it);
 
 /* Lays out the next page. Returns 0 if there is none. */
