@@ -71,6 +71,7 @@ programs: prove-programs $(BUILD)/faxrows $(BUILD)/faxpack $(BUILD)/fax2pbm $(EX
 
 # rt itself rebuilds what has changed, and what depends on it.
 prove-library:
+	@$(call need,$(firstword $(RT)) $(firstword $(CC)) $(OBJCOPY))
 	cd crates/hayro_ccitt_c && $(RT) lib $(RT_JOBS)
 prove-programs:
 	cd crates/faxrows && printf '\061\300' | $(RT) run $(RT_JOBS) -- g4 8 1 - > /dev/null
@@ -116,10 +117,15 @@ $(BUILD)/%: examples/%.c $(HEADERS) $(BUILD)/libhayro_ccitt.a
 
 # What `rt` says comes out only if it fails.
 first:
-	@$(call need,rt)mkdir -p $(BUILD); cd crates/faxrows && printf '\061\300' | rt try -- g4 8 1 - 2>$(abspath $(BUILD))/first.log || { cat $(abspath $(BUILD))/first.log; exit 1; }
+	@$(call need,rt)
+	@mkdir -p $(BUILD)
+	@cd crates/faxrows && printf '\061\300' | rt try -- g4 8 1 - 2>$(abspath $(BUILD))/first.log || \
+		{ cat $(abspath $(BUILD))/first.log; exit 1; }
 
 test:
-	@$(call need,rt git python3 $(CC) $(OBJCOPY))lacking=$$(for it in $(TESTED_WITH); do dpkg -s $$it >/dev/null 2>&1 || command -v $$it >/dev/null || printf ' %s' $$it; done); \
+	@$(call need,rt git python3 $(firstword $(CC)) $(OBJCOPY))
+	@lacking=$$(for it in $(TESTED_WITH); do \
+		dpkg -s $$it >/dev/null 2>&1 || command -v $$it >/dev/null || printf ' %s' $$it; done); \
 		test -z "$$lacking" || echo "some checks will be left out, unless: apt-get install$$lacking"
 	bash test.sh
 
