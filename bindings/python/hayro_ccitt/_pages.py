@@ -69,6 +69,9 @@ def shown(page: Page) -> Shown:
             faults.append(f"part {number}: {fault}" if len(page.parts) > 1 else fault)
         seen += min(part.arguments["columns"], page.columns - part.left) * (expected or picture.rows)
     rows = height if page.rows else len(bits) // max(width, 1)
+    if page.columns % 8:  # a tile may have pixels after a row's last one
+        last = 0xFF << (-page.columns % 8) & 0xFF
+        bits[width - 1 :: width] = bits[width - 1 :: width].translate(bytes(byte & last for byte in range(256)))
     if seen < page.columns * page.rows:
         faults.append("strips or tiles are missing")
     columns, rows, turned = turn(page.columns, rows, bytes(bits), page.orientation)

@@ -69,6 +69,14 @@ def test_tiff_files_hold_their_picture(pages, tmp_path):
         assert decoded(folder / f"{name}.tif", tmp_path) == (0, {0: PAGE.pbm()}), name
 
 
+def test_tiles_reach_over_the_edges(tmp_path):
+    (tmp_path / "page.pbm").write_bytes(NARROW.pbm())
+    tiles = "ppm2tiff -c none page.pbm none.tif && tiffcp -c g4 -t -w 16 -l 16 none.tif it.tif"
+    if not made.run(tmp_path, tiles) or not made.run(tmp_path, "tiffset -s 262 1 it.tif"):
+        pytest.skip("no libtiff-tools")
+    assert decoded(tmp_path / "it.tif", tmp_path) == (0, {0: NARROW.negative().pbm()})
+
+
 @pytest.mark.parametrize("orientation", range(1, 9))
 def test_pages_are_turned_as_their_orientation_says(orientation, pages, tmp_path):
     images, operations = pytest.importorskip("PIL.Image"), pytest.importorskip("PIL.ImageOps")
