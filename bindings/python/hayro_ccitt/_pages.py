@@ -50,32 +50,30 @@ def shown(page: Page) -> Shown:
         NotFax: the picture is too large.
         MemoryError: an allocation failed.
     """
-    width = (page.columns + 7) // 8
-    height = 0
+    width, height = (page.columns + 7) // 8, height_of(page)
+    bits, faults, pixels = bytearray(height * width), [], 0
+    for number, part in enumerate(page.parts):
+        picture, fault = decoded(part)
+        place(bits, width, picture, part)
+        if fault:
+            faults.append(f"part {number}: {fault}" if len(page.parts) > 1 else fault)
+        pixels += min(part.arguments["columns"], page.columns - part.left) * (part.arguments["rows"] or picture.rows)
+    if pixels < page.columns * page.rows:
+        faults.append("strips or tiles are missing")
+    clear_after(bits, page.columns)
+    columns, rows, turned = turn(page.columns, len(bits) // max(width, 1), bytes(bits), page.orientation)
+    return Shown(columns, rows, turned, "; ".join(faults[:3]) + (" .." if len(faults) > 3 else "") or "ok")
+
+
+def height_of(page: Page) -> int:
+    """The rows of a page's picture, as far as the data can have as many; 0 if the data says how many there are."""
+    height, width = 0, (page.columns + 7) // 8
     for part in page.parts:
         rows = most_rows(part)
         height = max(height, part.top + rows)
         if (part.arguments["columns"] + 7) // 8 * rows > MOST_BYTES or height * width > MOST_BYTES:
             raise NotFax(f"{page.columns} columns and {page.rows or height} rows are too large")
-    height = min(height, page.rows)
-    bits, faults, seen = bytearray(height * width), [], 0
-    for number, part in enumerate(page.parts):
-        picture, fault = decoded(part)
-        place(bits, width, picture, part)
-        expected = part.arguments["rows"]
-        if expected and picture.rows < expected:
-            fault = f"{fault + ', ' if fault else ''}{picture.rows} of {expected} rows"
-        if fault:
-            faults.append(f"part {number}: {fault}" if len(page.parts) > 1 else fault)
-        seen += min(part.arguments["columns"], page.columns - part.left) * (expected or picture.rows)
-    rows = height if page.rows else len(bits) // max(width, 1)
-    if page.columns % 8:  # a tile may have pixels after a row's last one
-        last = 0xFF << (-page.columns % 8) & 0xFF
-        bits[width - 1 :: width] = bits[width - 1 :: width].translate(bytes(byte & last for byte in range(256)))
-    if seen < page.columns * page.rows:
-        faults.append("strips or tiles are missing")
-    columns, rows, turned = turn(page.columns, rows, bytes(bits), page.orientation)
-    return Shown(columns, rows, turned, "; ".join(faults[:3]) + (" .." if len(faults) > 3 else "") or "ok")
+    return min(height, page.rows)
 
 
 def most_rows(part: Part) -> int:
@@ -85,16 +83,19 @@ def most_rows(part: Part) -> int:
 
 
 def decoded(part: Part) -> tuple[Picture, str]:
-    """The rows of a strip, as far as they could be decoded, and the fault or what was repaired, if any."""
+    """The rows of a strip, as far as they could be decoded, and what is missing or was repaired, if anything."""
+    fault = ""
     try:
         picture = decode(part.data, **part.arguments)
-    except DecodeError as fault:
-        assert fault.picture is not None
-        return fault.picture, str(fault)
+    except DecodeError as error:
+        assert error.picture is not None
+        picture, fault = error.picture, str(error)
     damage = picture.damage
-    if damage:
-        return picture, f"{damage.damaged_rows} rows repaired, {damage.cut_rows} cut, {damage.missed_eols} EOLs missed"
-    return picture, ""
+    if damage and not fault:
+        fault = f"{damage.damaged_rows} rows repaired, {damage.cut_rows} cut, {damage.missed_eols} EOLs missed"
+    if picture.rows < part.arguments["rows"]:
+        fault = f"{fault + ', ' if fault else ''}{picture.rows} of {part.arguments['rows']} rows"
+    return picture, fault
 
 
 def place(bits: bytearray, width: int, picture: Picture, part: Part) -> None:
@@ -107,6 +108,14 @@ def place(bits: bytearray, width: int, picture: Picture, part: Part) -> None:
     for row in range(min(picture.rows, len(bits) // width - part.top)):
         start = (part.top + row) * width + part.left // 8
         bits[start : start + wide] = rows[row * size : row * size + wide]
+
+
+def clear_after(bits: bytearray, columns: int) -> None:
+    """Clears the bits after each row's last pixel: a tile may have pixels there."""
+    width = (columns + 7) // 8
+    if columns % 8:
+        last = 0xFF << (-columns % 8) & 0xFF
+        bits[width - 1 :: width] = bits[width - 1 :: width].translate(bytes(byte & last for byte in range(256)))
 
 
 def turn(columns: int, rows: int, bits: bytes, orientation: int) -> tuple[int, int, bytes]:

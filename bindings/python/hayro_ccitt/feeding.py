@@ -45,15 +45,17 @@ class Feeding(Reading):
             c.LIBRARY.hayro_ccitt_feed_unused(self._reader, copy, count.value, count)
         return copy.raw
 
-    def _feed(self, data: Data) -> None:
+    def _feed(self, data: Data) -> bool:
+        """Feeds bytes. Returns whether they were fed: they aren't if the data is finished or the reader is closed."""
         fed = bytes_of(data)
         with self._lock:
             status = c.LIBRARY.hayro_ccitt_feed(self._reader, fed, len(fed))
         if status == c.NOT_TAKEN:
-            raise ValueError("the data is finished, or the reader is closed")
+            return False
         check(status)
         if status != c.OK:
             raise fault_of(status, self.line_start, None)
+        return True
 
     def _finish(self) -> None:
         with self._lock:
@@ -123,7 +125,8 @@ class RowFeed(Feeding):
             ValueError: the data is finished, or the reader is closed.
             MemoryError: an allocation failed. Nothing is fed, and the call can be made again.
         """
-        self._feed(data)
+        if not self._feed(data):
+            raise ValueError("the data is finished, or the reader is closed")
 
     def finish(self) -> None:
         """Finishes the data: no bytes follow those that were fed."""
@@ -236,5 +239,5 @@ class RowsFrom(Feeding, Iterator[memoryview]):
             self._finish()
             return
         self._piece = piece
-        self._feed(piece)
-        self._piece = b""
+        if self._feed(piece):  # another thread may have closed the reader
+            self._piece = b""

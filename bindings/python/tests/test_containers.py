@@ -14,7 +14,7 @@ STRIP = (ROOT / "corpus/strips/page/gs-g4").read_bytes()
 NEGATIVE = bytes(255 - byte for byte in range(256))
 
 
-def test_tags():
+def test_tags_give_the_arguments_of_a_strip():
     tags = {256: (1240,), 257: 1754, 259: [4], 278: 600}
     found = [from_tiff(tags, strip)["rows"] for strip in range(3)]
     assert found == [600, 600, 554]
@@ -37,7 +37,7 @@ def test_tags():
             from_tiff(other)
 
 
-def test_keys():
+def test_keys_give_the_arguments_of_an_image():
     image = {"/Filter": "/CCITTFaxDecode", "/Height": 1754, "/DecodeParms": {"/K": -1, "/Columns": 1240}}
     keys = from_pdf(image)
     assert (keys["rows"], keys["columns"], keys["k"], keys["end_of_block"], keys["black_is_1"]) == (1754, 1240, -1, True, False)
@@ -73,7 +73,7 @@ def test_filters_before_are_named():
 
 
 @pytest.mark.parametrize("compression", ["group3", "group4", "tiff_ccitt"])
-def test_pillow(compression, tmp_path):
+def test_strips_that_pillow_writes_are_its_picture(compression, tmp_path):
     images = pytest.importorskip("PIL.Image")
     path = tmp_path / "page.tif"
     picture = images.frombytes("1", (1240, 1754), PAGE.translate(NEGATIVE))
@@ -97,7 +97,7 @@ def first_images(folder):
             yield path, pictures[0]
 
 
-def test_streams_of_pypdf(tmp_path):
+def test_streams_of_pypdf_are_their_pictures(tmp_path):
     pypdf = pytest.importorskip("pypdf")
     theirs = ours = 0
     for path, shown in first_images(tmp_path):
@@ -131,7 +131,7 @@ def images_of_pypdf(image):
         return opened.convert("1")
 
 
-def test_streams_of_pikepdf(tmp_path):
+def test_streams_of_pikepdf_are_their_pictures(tmp_path):
     pikepdf = pytest.importorskip("pikepdf")
     theirs = ours = 0
     for path, shown in first_images(tmp_path):
@@ -152,7 +152,7 @@ def is_theirs(call, shown):
         return False
 
 
-def test_inline_images_of_pikepdf_and_pypdf(tmp_path):
+def test_inline_images_of_pikepdf_and_pypdf_have_the_same_arguments(tmp_path):
     pikepdf, pypdf = pytest.importorskip("pikepdf"), pytest.importorskip("pypdf")
     from pypdf.generic import ContentStream
 
@@ -168,7 +168,7 @@ def test_inline_images_of_pikepdf_and_pypdf(tmp_path):
 
 
 @pytest.mark.parametrize("reader", ["pypdf", "pikepdf"])
-def test_the_lines_of_the_readme(reader, tmp_path, monkeypatch):
+def test_the_lines_of_the_readme_decode_an_image(reader, tmp_path, monkeypatch):
     pytest.importorskip(reader)
     blocks = (ROOT / "README.md").read_text(encoding="utf-8").split("```python\n")[1:]
     lines = next(block.split("```")[0] for block in blocks if f"{reader}." in block)

@@ -57,7 +57,7 @@ def test_rows_lie_at_their_stride():
             hayro_ccitt.decode(b"", 9, k=-1, stride=stride)
 
 
-def test_whole_as_in_c(answers):
+def test_pictures_are_those_of_c(answers):
     results = set()
     for words, data, lines in answers:
         picture, fault = decoded(data, keys_of(words))
@@ -68,7 +68,7 @@ def test_whole_as_in_c(answers):
     assert len(results) == 4
 
 
-def test_rows_as_in_c(answers):
+def test_rows_are_those_of_c(answers):
     kinds = set()
     for words, data, (_, _, *lines, end) in answers[::3]:
         rows = hayro_ccitt.rows(data, **keys_of(words))
@@ -95,14 +95,14 @@ def test_a_fault_has_the_rows_before_it():
     assert str(caught.value) == "invalid CCITT code sequence"
 
 
-def test_damage():
+def test_damage_counts_what_was_repaired():
     data = bytes.fromhex("0019800C400033")
     picture = hayro_ccitt.decode(data, 8, end_of_line=True, end_of_block=False)
     assert picture.damage == Damage(1, 0, 0) and picture.damage
     assert not hayro_ccitt.decode(b"\x31\xc0", 8, 1, k=-1).damage
 
 
-def test_any_bytes_are_data():
+def test_data_may_be_any_bytes():
     expected = hayro_ccitt.decode(b"\x31\xc0", 8, 1, k=-1)
     for data in (bytearray(b"\x31\xc0"), memoryview(b"\x31\xc0"), memoryview(b"\x31-\xc0-")[::2]):
         assert hayro_ccitt.decode(data, 8, 1, k=-1) == expected
@@ -123,7 +123,7 @@ def test_wrong_types_are_type_errors():
 
 
 @pytest.mark.parametrize("columns, rows", [(-1, 0), (1 << 32, 0), (8, -1), (8, 1 << 32)])
-def test_numbers_out_of_range(columns, rows):
+def test_numbers_out_of_range_are_value_errors(columns, rows):
     for call in (hayro_ccitt.decode, hayro_ccitt.rows):
         with pytest.raises(ValueError):
             call(b"", columns, rows)
@@ -136,7 +136,7 @@ def test_no_memory_for_rows_that_do_not_come():
     assert hayro_ccitt.decode(b"\x31\xc0", 0).rows == 0
 
 
-def test_a_reader_is_closed():
+def test_a_closed_reader_has_no_rows():
     rows = hayro_ccitt.rows(b"\x31\xf8", 8, 2, k=-1)
     assert bytes(next(rows)) == b"\xe7"
     rows.close()

@@ -34,7 +34,7 @@ def test_every_setting_decodes_to_the_bitmap():
     assert (encoded, refused) == (4 * (4 + 3 * (4 + 2)), 4 * 64 - 4 * 22)
 
 
-def test_k_says_how_many_lines_are_two_dimensional():
+def test_k_limits_the_two_dimensional_lines():
     rows = len(SMALL) // 5
     found = []
     for k in (1, 2, 4):
@@ -51,7 +51,7 @@ def test_a_page_is_as_small_as_by_other_encoders():
     assert len(hayro_ccitt.encode(PAGE, 1240, k=-1, black_is_1=True, end_of_block=False)) <= len(strip)
 
 
-def test_rows_may_stand_a_stride_apart():
+def test_rows_are_read_a_stride_apart():
     rows = [SMALL[at : at + 5] for at in range(0, len(SMALL), 5)]
     for black_is_1 in (False, True):
         whole = hayro_ccitt.encode(SMALL, 33, k=-1, black_is_1=black_is_1)
@@ -66,7 +66,7 @@ def test_rows_may_stand_a_stride_apart():
             hayro_ccitt.encode(SMALL, 33, k=-1, stride=stride)
 
 
-def test_what_has_no_encoding():
+def test_bitmaps_and_settings_without_an_encoding_are_errors():
     assert hayro_ccitt.encode(b"", 8, k=-1).hex() == "001001"
     with pytest.raises(NoRows):
         hayro_ccitt.encode(b"", 8, k=0, end_of_block=False)

@@ -198,7 +198,7 @@ def test_what_a_file_raises_is_passed_on():
             rows_from(io.BytesIO(), columns, most)
 
 
-def test_a_fault_stays():
+def test_a_fault_is_raised_again():
     feed = RowFeed(8, k=-1)
     feed.feed(memoryview(b"\x31-\xc0-\x00-")[::2])
     assert [bytes(row) for row in feed] == [b"\xe7"] and not feed.ended
@@ -260,7 +260,7 @@ def test_more_rows_are_read_at_once_than_there_is_room_for():
     assert feed.read_rows(150) == row * 150 and feed.read_rows(1 << 62) == row * 50 and feed.ended
 
 
-def test_no_rows_are_read_at_once():
+def test_reading_no_rows_at_once_is_a_value_error():
     feed = RowFeed(8, k=-1)
     feed.feed(b"\x31\xc0\x04\x00\x40")
     for most in (0, -1):
@@ -275,7 +275,7 @@ def test_no_rows_are_read_at_once():
     assert feed.read_rows(7) == b""
 
 
-def test_a_feed_is_finished_and_closed():
+def test_a_finished_or_closed_feed_takes_no_data():
     feed = RowFeed(8, 1, k=-1)
     feed.feed(b"\x31\xf8")
     feed.finish()
@@ -308,7 +308,7 @@ def test_wrong_types_are_type_errors():
                 call(columns, rows, k=k)
 
 
-def test_no_bytes_may_be_fed():
+def test_feeding_no_bytes_changes_nothing():
     for empty in (b"", bytearray(), memoryview(b"")):
         feed = RowFeed(8, k=-1)
         for piece in (empty, b"\x31", empty, b"\xc0\x04", empty, b"\x00\x40", empty):
@@ -334,10 +334,10 @@ class OneAtATime:
         return status
 
 
-def use_fed(feed, data):
+def use_fed(feed):
     """Feeds and reads in each way."""
     try:
-        feed.feed(data)
+        feed.feed(b"\xff" * 9)  # each bit is a white row
     except ValueError:
         assert not feed._reader.is_open  # another thread has closed it
     for _ in feed:
@@ -359,13 +359,23 @@ def test_calls_for_one_reader_take_turns(kind, monkeypatch):
         uses = [lambda: list(reader)] * 4
     elif kind == "feed":
         reader = RowFeed(**PAGE)
-        uses = [lambda: use_fed(reader, data[:9])] * 4
+        uses = [lambda: use_fed(reader)] * 4
     else:
         reader = rows_from(Trickle(data, 3), **PAGE)
         uses = [lambda: list(reader)] * 3 + [lambda: [reader.unused for _ in range(20)]]
     in_threads([*uses, lambda: time.sleep(0.005) or reader.close()])
     assert not OneAtATime.met
     reader.close()
+
+
+def test_a_reader_may_be_closed_while_its_file_is_read():
+    class Closing(io.RawIOBase):
+        def read(self, size=-1):
+            rows.close()
+            return b"\xff"
+
+    rows = rows_from(Closing(), 8, k=-1)
+    assert list(rows) == [] and rows.unused == b"\xff"
 
 
 def in_threads(uses):
