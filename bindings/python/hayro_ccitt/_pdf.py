@@ -100,6 +100,22 @@ def string_of(value: Any) -> bytes:
     return bytes(value)
 
 
+def unwrapped(image: Any) -> Dictionary:
+    """The stream of an image that pikepdf has wrapped, a PdfImage or PdfInlineImage; any other image as it is."""
+    if not hasattr(type(image), "as_pil_image"):
+        return image
+    return image.obj if is_stream(image.obj) else inline_stream(image, importlib.import_module("pikepdf").new())
+
+
+def inline_stream(image: Any, file: Any) -> Dictionary:
+    """An inline image of pikepdf as a stream of a file."""
+    _, data = image.unparse().split(b"\nID\n", 1)
+    stream = importlib.import_module("pikepdf").Stream(file, data[: -len(b"EI")])
+    for name, value in image.obj.items():
+        stream[name] = value
+    return stream
+
+
 def raw_data(image: Dictionary) -> bytes:
     """The bytes of a stream as they are in the file, without its encryption."""
     if not is_stream(image):
@@ -158,12 +174,7 @@ class ByPikepdf:
     def drawn(self, content: Dictionary) -> Iterator[Drawn]:
         for operands, operator in self.library.parse_content_stream(content):
             if str(operator) == "INLINE IMAGE":
-                (image,) = operands
-                _, data = image.unparse().split(b"\nID\n", 1)
-                stream = self.library.Stream(self.file, data[: -len(b"EI")])
-                for name, value in image.obj.items():
-                    stream[name] = value
-                yield stream
+                yield inline_stream(operands[0], self.file)
             elif str(operator) == "Do":
                 yield str(operands[0])
 

@@ -4,7 +4,7 @@ from __future__ import annotations
 from typing import Any, Mapping
 
 from ._pdf import FAX_FILTERS, Dictionary, decoded_by_reader, entry, is_dictionary, is_true, items_of, string_of, text_of
-from ._pdf import whole_number
+from ._pdf import unwrapped, whole_number
 from .decoding import Picture, decode, number
 from .errors import NotFax
 
@@ -87,7 +87,7 @@ def from_pdf(image: Any) -> dict[str, Any]:
 
     Args:
         image: the dictionary of the image's stream, as pypdf and pikepdf have it, or a mapping with such keys; that of an inline
-            image too, whose keys may be abbreviated.
+            image too, whose keys may be abbreviated; or a PdfImage or PdfInlineImage of pikepdf.
 
     The picture's samples of 0 are black, or painted by a mask: `black_is_1` is `BlackIs1`, exchanged by `Decode [1 0]`, and by a
     colour space in which 0 is the lighter one. `rows` is `Height`, or `Rows` if `Height` is missing, or if `Rows` is less and
@@ -98,6 +98,7 @@ def from_pdf(image: Any) -> dict[str, Any]:
             space is another one, or a value has a wrong type or is out of range.
         TypeError: `image` is no dictionary.
     """
+    image = unwrapped(image)
     filters = filters_of(image)
     if len(filters) > 1:
         raise NotFax(f"{' '.join(filters[:-1])} comes before CCITTFaxDecode; decode_pdf decodes both")
@@ -105,15 +106,16 @@ def from_pdf(image: Any) -> dict[str, Any]:
 
 
 def decode_pdf(image: Any) -> Picture:
-    """Decodes an image of a PDF file, given as the stream that pikepdf or pypdf has: its data, by the arguments of `from_pdf`.
-    Filters before CCITTFaxDecode are decoded by pikepdf or pypdf. The image may have fewer rows than its `Height`.
+    """Decodes an image of a PDF file, given as the stream of pikepdf or pypdf, or as a PdfImage or PdfInlineImage: its data, by
+    the arguments of `from_pdf`. Filters before CCITTFaxDecode are decoded by pikepdf or pypdf. The image may have fewer rows than
+    its `Height`.
 
     Raises:
         UnexpectedEof, InvalidCode, Overflow, MemoryError: as `decode`.
         NotFax: as `from_pdf`; or a filter before CCITTFaxDecode can't be decoded, or `Width` isn't `Columns`.
         TypeError: `image` is no stream.
     """
-    data, arguments = encoded(image)
+    data, arguments = encoded(unwrapped(image))
     return decode(data, **arguments)
 
 

@@ -138,6 +138,7 @@ def test_streams_of_pikepdf_are_their_pictures(tmp_path):
         with pikepdf.open(path) as opened:
             image = opened.pages[0].resources.XObject["/Im0"]  # its `images` have no masks
             assert is_right(image, image.read_raw_bytes, shown)
+            assert decode_pdf(pikepdf.PdfImage(image)).pbm() == shown.pbm()
             ours += 1
             theirs += is_theirs(lambda: pikepdf.PdfImage(image).as_pil_image().convert("1"), shown)
     assert ours > 40 and theirs > 0
@@ -159,7 +160,9 @@ def test_inline_images_of_pikepdf_and_pypdf_have_the_same_arguments(tmp_path):
     path, (shown,) = next(it for it in made.pdfs_by_hand(tmp_path) if it[0].stem == "inline")
     with pikepdf.open(path) as opened:
         found = pikepdf.parse_content_stream(opened.pages[0])
-        keys = from_pdf(next(it.iimage.obj for it in found if isinstance(it, pikepdf.ContentStreamInlineImage)))
+        image = next(operands[0] for operands, operator in found if str(operator) == "INLINE IMAGE")
+        keys = from_pdf(image)
+        assert from_pdf(image.obj) == keys and decode_pdf(image).pbm() == shown.pbm()
     file = pypdf.PdfReader(path)
     found = ContentStream(file.pages[0]["/Contents"], file).operations
     settings, data = next((words["settings"], words["data"]) for words, operator in found if operator == b"INLINE IMAGE")
