@@ -6,6 +6,7 @@
 #   make check                runs what was built on the first program of hayro_ccitt.h and on a picture
 #   make install PREFIX=DIR   headers, libraries, hayro_ccitt.pc, manual pages and programs; DESTDIR is respected
 #   make uninstall PREFIX=DIR
+#   make erased               the Cargo package hayro-ccitt, in build/hayro-ccitt: the proved sources without contracts
 #   make dist                 the packages of a release, in build/dist
 #   make clean                removes build/; the results of proofs in crates/*/out stay
 #

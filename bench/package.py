@@ -19,7 +19,7 @@ edition = "2024"
 name = "package"
 path = "{source}"
 [dependencies]
-hayro-ccitt = {{ path = "{package}" }}
+hayro-ccitt-proved = {{ path = "{package}" }}
 """
 
 

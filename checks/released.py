@@ -26,7 +26,7 @@ import assembly  # noqa: E402
 
 # What the kit proves and compiles: it is copied, and not proved again.
 PROVED = ["hayro_ccitt_c/out/libhayro_ccitt_c.a", "faxrows/out/faxrows", "faxpack/out/faxpack"]
-TOOLS = ["make", "cc", "objcopy", "objdump", "strip", "dpkg-deb", "tar", "lintian"]
+TOOLS = ["make", "cc", "objcopy", "objdump", "strip", "dpkg-deb", "tar", "rustfmt", "lintian"]
 # A path without `rt`.
 PATH = "/usr/sbin:/usr/bin:/sbin:/bin"
 # Debian's other programs for fax data.
@@ -43,10 +43,11 @@ DEB = ("apt-get install ./hayro-ccitt_*.deb", DECODE)
 SOURCE = ("tar xzf hayro_ccitt-*-src.tar.gz && make -C hayro_ccitt-*-src install PREFIX=$HOME/.local", f"$HOME/.local/bin/{DECODE}")
 WHEEL = ("python3 -m pip install hayro_ccitt-*.whl", IN_PYTHON)
 CRATE = (
-    "tar xzf hayro-ccitt-*.crate",
-    "cd hayro-ccitt-*/ && cargo run -q --offline --release --example strip_to_pbm -- g4 1240 1754 b < ../strip > ../page.pbm",
+    "tar xzf hayro-ccitt-0.5.0.crate",
+    "cd hayro-ccitt-0.5.0/ && cargo run -q --offline --release --example strip_to_pbm -- g4 1240 1754 b < ../strip > ../page.pbm",
 )
-PACKAGES = {"tarball": TARBALL, "deb": DEB, "source": SOURCE, "wheel": WHEEL, "crate": CRATE}
+PROVED_CRATE = tuple(command.replace("hayro-ccitt-", "hayro-ccitt-proved-") for command in CRATE)
+PACKAGES = {"tarball": TARBALL, "deb": DEB, "source": SOURCE, "wheel": WHEEL, "crate": CRATE, "proved-crate": PROVED_CRATE}
 # Here nothing is installed into the system.
 INSTEAD = {
     "deb": ("dpkg-deb -x hayro-ccitt_*.deb root", f"LD_LIBRARY_PATH=root/usr/lib/x86_64-linux-gnu root/usr/bin/{DECODE}"),
@@ -166,12 +167,15 @@ def beside_other_packages(package, folder):
 
 
 def package_of_cargo(folder, environment):
-    """`cargo check`, `doc`, `clippy` and `package` work in the unpacked package, without a network."""
+    """`cargo check`, `doc`, `clippy` and `package` work in the unpacked packages, without a network. That of the erased sources has at
+    most 400 KB."""
     clippy = ["clippy", "--all-features", "--all-targets", "--", "-D", "warnings"]
     words = [["check"], ["doc", "--all-features"], clippy, ["package", "--allow-dirty"]]
-    for word, *more in words:
-        if word != "clippy" or shutil.which("cargo-clippy"):
-            run(["cargo", word, "-q", "--offline", *more], cwd=f"{folder}/crate/hayro-ccitt-0.5.0", env=environment)
+    for at in ("crate/hayro-ccitt-0.5.0", "proved-crate/hayro-ccitt-proved-0.5.0"):
+        for word, *more in words:
+            if word != "clippy" or shutil.which("cargo-clippy"):
+                run(["cargo", word, "-q", "--offline", *more], cwd=f"{folder}/{at}", env=environment)
+    assert os.path.getsize(f"{folder}/crate/hayro-ccitt-0.5.0.crate") <= 400_000
 
 
 def packages_where_the_kit_is_not():
@@ -186,8 +190,8 @@ def packages_where_the_kit_is_not():
     if toolchain():
         environment["PATH"] += f":{toolchain()}/bin"
     else:
-        del chosen["crate"]
-        leave_out("the Cargo package of a release", "cargo")
+        del chosen["crate"], chosen["proved-crate"]
+        leave_out("the Cargo packages of a release", "cargo")
     if subprocess.run("python3 -m pip --version", shell=True, env=environment, capture_output=True, check=False).returncode != 0:
         del chosen["wheel"]
         leave_out("the wheel", "pip")
@@ -235,7 +239,7 @@ def in_a_bare_debian():
         os.mkdir(f"{folder}/root")
         run(["tar", "xf", root, "-C", f"{folder}/root"])
         assert not shutil.which("rt", path=":".join(f"{folder}/root{at}" for at in PATH.split(":")))
-        chosen = [name for name in PACKAGES if name != "crate" or toolchain()]
+        chosen = [name for name in PACKAGES if not name.endswith("crate") or toolchain()]
         mounts = f"mount -t proc proc {folder}/root/proc && mkdir -p {folder}/root/toolchain && "
         mounts += f"mount --bind {toolchain() or '/mnt'} {folder}/root/toolchain && "
         for name in chosen:

@@ -149,16 +149,21 @@ def one_line_is_unsafe():
     assert found == ["crates/hayro_ccitt_c/src/handle.rt: unsafe { Box::from_raw(alloc, at) }"], found
 
 
-def rust_is_unsafe_in_one_file_only():
-    """The Cargo package calls C from one file, and says above each such block why it is sound."""
-    name = "bindings/rust/src/c.rs"
+# The files of Rust that have unsafe code, and how many places of it: each says above it why it is sound.
+UNSAFE = {"bindings/rust/src/c.rs": 19, "release/erased/c/src/heap.rs": 5, "release/erased/c/src/lib.rs": 4}
+
+
+def rust_is_unsafe_in_few_files():
+    """The package of proved machine code calls C from one file; the library for C of the erased sources has two, apart from the safe
+    package. Each says above such a place why it is sound."""
     found = [place for place, line in lines_of_code(".rs", "//") if re.search(r"\bunsafe\s*(\{|extern|fn|impl)", line)]
-    others = [place for place in found if not place.startswith(("bench/", f"{name}:"))]
+    others = [place for place in found if not place.startswith(("bench/", "checks/erased/", *(f"{name}:" for name in UNSAFE)))]
     assert not others, others
-    with open(name, encoding="utf-8") as file:
-        text = file.read()
-    blocks = len(re.findall(r"\bunsafe\b", re.sub(r"//.*", "", text)))
-    assert blocks == text.count("// SAFETY: ") == 19, blocks
+    for name, count in UNSAFE.items():
+        with open(name, encoding="utf-8") as file:
+            text = file.read()
+        places = len(re.findall(r"\bunsafe\s*(?:\{ |\{$|impl|extern \"C\" \{)", re.sub(r"//.*", "", text), re.MULTILINE))
+        assert places == text.count("// SAFETY: ") == count, (name, places)
 
 
 # Public functions with a contract that no edit of a body can break.
@@ -451,7 +456,7 @@ CHECKS = [
     each_lemma_is_cited,
     no_name_stands_twice,
     one_line_is_unsafe,
-    rust_is_unsafe_in_one_file_only,
+    rust_is_unsafe_in_few_files,
     only_what_users_call_is_passed_on,
     each_public_function_has_an_edit,
     each_edit_can_be_applied,

@@ -23,6 +23,7 @@ import cuts  # noqa: E402
 import damage_by_k  # noqa: E402
 import devices  # noqa: E402
 import encoder  # noqa: E402
+import erased  # noqa: E402
 import fax  # noqa: E402
 import fax_limits  # noqa: E402
 import fax_others  # noqa: E402
@@ -47,13 +48,15 @@ from left_out import LEFT_OUT  # noqa: E402
 
 
 FILES = [
-    repository, program, premises, built_tests, packing, c_library, row_by_row, feed, encoder, refusals, devices, cuts, damage_by_k, hostile, memory, large, installed, users, files, fax, fax_output, fax_limits, fax_others, inline_images, released, clients, cost,
+    repository, program, premises, built_tests, packing, c_library, row_by_row, feed, encoder, refusals, devices, cuts, damage_by_k, hostile, memory, large, installed, users, files, fax, fax_output, fax_limits, fax_others, inline_images, released, erased, clients, cost,
 ]
 # those that run beside the build of the library for C
 WITHOUT_LIBRARY = [repository, program, premises, built_tests, packing, devices]
 # those that call `make`, which run in turn, and those that take longest
 MAKE = [installed, users, files]
 LONG = [cost, large, memory, hostile, released]
+# those that build by cargo, in one folder, in turn
+ERASED = [erased]
 
 
 def names_of(file):
@@ -100,9 +103,10 @@ def run_in_parallel(chosen):
         def run_in_turn(names, library):
             outputs.update({name: run_beside(name, library) for name in names})
 
-        others = [it for it in chosen if it not in WITHOUT_LIBRARY and it not in MAKE]
+        others = [it for it in chosen if it not in [*WITHOUT_LIBRARY, *MAKE, *ERASED]]
         turns = [([name], None) for it in chosen if it in WITHOUT_LIBRARY for name in names_of(it)]
-        turns.append(([name for it in chosen if it in MAKE for name in names_of(it)], library))
+        for together in (ERASED, MAKE):
+            turns.append(([name for it in chosen if it in together for name in names_of(it)], library))
         turns += [([name], library) for it in sorted(others, key=lambda it: it not in LONG) for name in names_of(it)]
         for running in [pool.submit(run_in_turn, *turn) for turn in turns]:
             running.result()

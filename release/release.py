@@ -2,7 +2,7 @@
 
     python3 release/release.py BUILD VERSION
 
-BUILD/dist gets the binary tarball, the Debian package, the Cargo package, the Python wheel, the source tarball and SHA256SUMS. The
+BUILD/dist gets the binary tarball, the Debian package, the two Cargo packages, the Python wheel, the source tarball and SHA256SUMS. The
 same files give the same bytes in any folder. A version that CHANGELOG.md doesn't have is refused."""
 import base64
 import email.utils
@@ -19,6 +19,7 @@ import tempfile
 import zipfile
 
 CRATE = "hayro-ccitt-0.5.0"
+PROVED_CRATE = "hayro-ccitt-proved-0.5.0"
 TRIPLET = "x86_64-linux-gnu"
 PROVED = ["hayro_ccitt_c", "faxrows", "faxpack"]
 DESCRIPTION = "decoder and encoder for CCITT fax images, with proofs"
@@ -110,6 +111,9 @@ def provenance(build, version):
             "",
             "What the kit compiled them to: the object of the library, its calls renamed to proved_*, and two programs.",
             *(f"{sha256(read(name))}  {os.path.basename(name)}" for name in built),
+            "",
+            f"{CRATE}.crate has none of these. It is the proved sources, compiled by Rust: release/erased erased their contracts.",
+            f"Laid out by: {said('rustfmt', '--version') or 'unknown'}",
             "",
             "The same bytes again, with this kit, compiler and linker: `make && make dist` in a clone of this commit, in any folder.",
             "",
@@ -258,10 +262,26 @@ def debian_package(build, version, told, epoch, work):
     return package, read(f"{work}/{package}")
 
 
-def cargo_package(build, told, epoch):
+def erased_sources(work):
+    """The files of the package that release/erased makes of the proved sources, without its tests, which read the repository's corpus."""
+    done = subprocess.run([sys.executable, "release/erased/erase.py", f"{work}/erased"], capture_output=True, text=True, check=False)
+    if done.returncode != 0:
+        fail(f"release/erased/erase.py: {done.stdout}{done.stderr}")
+    return {name: read(f"{work}/erased/{name}") for name in files_in(f"{work}/erased") if not name.startswith("tests/")}
+
+
+def crate(name, files, epoch):
+    return f"{name}.crate", packed_tar([(f"{name}/{file}", 0o644, data) for file, data in files.items()], epoch)
+
+
+def cargo_package(erased, told, epoch):
+    """The proved sources with their contracts erased."""
+    return crate(CRATE, {**erased, "PROVENANCE": told.encode()}, epoch)
+
+
+def proved_cargo_package(build, told, epoch):
     """The package of bindings/rust, with the library as the kit made it, its functions placed by the Makefile."""
     files = {name.removeprefix("bindings/rust/"): read(name) for name in tracked() if name.startswith("bindings/rust/")}
-    # The tests read the repository's corpus.
     files = {name: data for name, data in files.items() if not name.startswith("tests/") and name != ".gitignore"}
     files |= {
         "proved/libhayro_ccitt_c.a": read(f"{build}/libhayro_ccitt_c.a"),
@@ -269,7 +289,7 @@ def cargo_package(build, told, epoch):
         "proved/hayro_ccitt_heap.h": read("c/hayro_ccitt_heap.h"),
         "PROVENANCE": told.encode(),
     }
-    return f"{CRATE}.crate", packed_tar([(f"{CRATE}/{name}", 0o644, data) for name, data in files.items()], epoch)
+    return crate(PROVED_CRATE, files, epoch)
 
 
 def wheel(build, version, told, epoch):
@@ -304,8 +324,8 @@ def wheel(build, version, told, epoch):
     return f"hayro_ccitt-{version}-{tag}.whl", packed.getvalue()
 
 
-def source_tarball(build, version, told, epoch, work):
-    """What a C compiler builds: the proved object as assembly, and the C files."""
+def source_tarball(build, version, erased, told, epoch, work):
+    """What a C compiler builds: the proved object as assembly, and the C files. And what Rust builds for other targets."""
     top = f"hayro_ccitt-{version}-src"
     root = f"{work}/source"
     assembly = subprocess.run([sys.executable, "release/assembly.py", f"{build}/proved.o"], capture_output=True, check=False)
@@ -317,6 +337,8 @@ def source_tarball(build, version, told, epoch, work):
         write(f"{root}/{name}", read(name))
     for name in [it for it in tracked() if re.match(r"examples/[^/]*\.[ch]$", it)]:
         write(f"{root}/{name}", read(name))
+    for name, data in erased.items():
+        write(f"{root}/rust/{name}", data)
     write(f"{root}/Makefile", read("release/source.mk"))
     write(f"{root}/README", read("release/source.txt"))
     write(f"{root}/PROVENANCE", told)
@@ -329,17 +351,19 @@ def main(build, version):
     needed = ["libhayro_ccitt_c.a", "proved.o", "libhayro_ccitt.a", f"libhayro_ccitt.so.{version}", "faxrows", "faxpack"]
     if missing := [name for name in needed if not os.path.exists(f"{build}/{name}")]:
         fail(f"{build} has no {missing[0]}: run `make` first")
-    if lacking := [tool for tool in ("dpkg-deb", "objdump", "strip") if not shutil.which(tool)]:
+    if lacking := [tool for tool in ("dpkg-deb", "objdump", "strip", "rustfmt") if not shutil.which(tool)]:
         fail(f"it takes {', '.join(lacking)}")
     epoch = int(os.environ.get("SOURCE_DATE_EPOCH") or said("git", "log", "-1", "--format=%ct") or 315532800)
     told = provenance(build, version)
     with tempfile.TemporaryDirectory() as work:
+        erased = erased_sources(work)
         packages = [
             binary_tarball(build, version, told, epoch, work),
             debian_package(build, version, told, epoch, work),
-            cargo_package(build, told, epoch),
+            cargo_package(erased, told, epoch),
+            proved_cargo_package(build, told, epoch),
             wheel(build, version, told, epoch),
-            source_tarball(build, version, told, epoch, work),
+            source_tarball(build, version, erased, told, epoch, work),
         ]
     shutil.rmtree(f"{build}/dist", ignore_errors=True)
     for name, data in packages:

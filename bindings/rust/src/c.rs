@@ -1,6 +1,6 @@
 //! The calls of `c/hayro_ccitt.h` and `c/fax_encode.h`. All unsafe code is here.
 
-use crate::{DecodeSettings, EncodingMode, PackedLayout};
+use crate::zeros;
 use alloc::vec::Vec;
 use core::ffi::c_void;
 
@@ -14,85 +14,15 @@ pub(crate) const NOT_TAKEN: u32 = 6;
 pub(crate) const NO_ROW: u32 = 7;
 pub(crate) const NEEDS_MORE: u32 = 8;
 
-const LOW_FIRST: u32 = 16;
-const BLACK_IS_0: u32 = 32;
-/// The flag of encoding that stands for the same as [`BLACK_IS_0`].
-const ENCODED_BLACK_IS_0: u32 = 128;
-
 /// `hayro_ccitt_settings`.
 #[repr(C)]
 #[derive(Copy, Clone)]
 pub(crate) struct Settings {
-    columns: u32,
-    rows: u32,
-    encoding: u32,
-    flags: u32,
-    stride: u32,
-}
-
-impl From<&DecodeSettings> for Settings {
-    fn from(settings: &DecodeSettings) -> Self {
-        let flags = [
-            settings.end_of_block,
-            settings.end_of_line,
-            settings.rows_are_byte_aligned,
-            settings.strict,
-        ];
-        Self {
-            columns: settings.columns,
-            rows: settings.rows,
-            encoding: number_of(settings.encoding),
-            flags: sum_of(&flags),
-            stride: 0,
-        }
-    }
-}
-
-fn number_of(encoding: EncodingMode) -> u32 {
-    match encoding {
-        EncodingMode::Group4 => 0,
-        EncodingMode::Group3_1D => 1,
-        EncodingMode::Group3_2D => 2,
-    }
-}
-
-/// Returns the sum of flags: 1, 2, 4 and so on.
-fn sum_of(flags: &[bool]) -> u32 {
-    flags
-        .iter()
-        .rev()
-        .fold(0, |sum, flag| sum * 2 + u32::from(*flag))
-}
-
-impl Settings {
-    /// Returns the same settings, with each byte's lowest bit first.
-    pub(crate) fn low_first(self) -> Self {
-        Self {
-            flags: self.flags | LOW_FIRST,
-            ..self
-        }
-    }
-
-    /// Returns the same settings, with 0 for black in packed rows.
-    pub(crate) fn black_is_0(self) -> Self {
-        Self {
-            flags: self.flags | BLACK_IS_0,
-            ..self
-        }
-    }
-
-    /// Returns the same settings with this layout of packed rows.
-    pub(crate) fn laid_out(self, layout: PackedLayout) -> Self {
-        let settings = if layout.black_is_0 {
-            self.black_is_0()
-        } else {
-            self
-        };
-        Self {
-            stride: layout.stride,
-            ..settings
-        }
-    }
+    pub(crate) columns: u32,
+    pub(crate) rows: u32,
+    pub(crate) encoding: u32,
+    pub(crate) flags: u32,
+    pub(crate) stride: u32,
 }
 
 /// `hayro_ccitt_outcome`.
@@ -151,49 +81,11 @@ impl Reader {
 /// `fax_encode_settings`.
 #[repr(C)]
 pub(crate) struct EncodeSettings {
-    columns: u32,
-    encoding: u32,
-    flags: u32,
-    k: u32,
-    stride: u32,
-}
-
-impl From<&crate::EncodeSettings> for EncodeSettings {
-    fn from(settings: &crate::EncodeSettings) -> Self {
-        // The flag of a strict reading, between those of alignment and of the order of bits, isn't one of encoding.
-        let flags = [
-            settings.end_of_block,
-            settings.end_of_line,
-            settings.rows_are_byte_aligned,
-            false,
-            settings.low_first,
-            settings.eols_end_at_bytes,
-            settings.shortest,
-        ];
-        Self {
-            columns: settings.columns,
-            encoding: number_of(settings.encoding),
-            flags: sum_of(&flags),
-            k: settings.k,
-            stride: 0,
-        }
-    }
-}
-
-impl EncodeSettings {
-    /// Returns the same settings with this layout of packed rows.
-    pub(crate) fn laid_out(self, layout: PackedLayout) -> Self {
-        let black = if layout.black_is_0 {
-            ENCODED_BLACK_IS_0
-        } else {
-            0
-        };
-        Self {
-            flags: self.flags | black,
-            stride: layout.stride,
-            ..self
-        }
-    }
+    pub(crate) columns: u32,
+    pub(crate) encoding: u32,
+    pub(crate) flags: u32,
+    pub(crate) k: u32,
+    pub(crate) stride: u32,
 }
 
 /// `fax_encode_outcome`.
@@ -337,12 +229,8 @@ pub(crate) fn decode_changes(
     (status, outcome)
 }
 
-/// Encodes a bitmap, and returns the status and the number of bytes.
-pub(crate) fn encode_bitmap(
-    bitmap: &[u8],
-    settings: &EncodeSettings,
-    data: &mut [u8],
-) -> (u32, EncodeOutcome) {
+/// Encodes a bitmap into `data`, and returns the status and the number of bytes.
+fn encode_into(bitmap: &[u8], settings: &EncodeSettings, data: &mut [u8]) -> (u32, EncodeOutcome) {
     let mut outcome = EncodeOutcome::default();
     // SAFETY: as above; and nothing else refers to `data`, since it is borrowed mutably.
     let status = unsafe {
@@ -356,6 +244,20 @@ pub(crate) fn encode_bitmap(
         )
     };
     (status, outcome)
+}
+
+/// Encodes a bitmap, or returns the status. If there is no memory for the bytes, the program ends.
+pub(crate) fn encode_bitmap(bitmap: &[u8], settings: &EncodeSettings) -> Result<Vec<u8>, u32> {
+    // A first call, without room, returns the number of bytes.
+    let (status, outcome) = encode_into(bitmap, settings, &mut []);
+    if status != OK && status != REFUSED {
+        return Err(status);
+    }
+    let mut data = zeros(outcome.bytes as usize);
+    match encode_into(bitmap, settings, &mut data) {
+        (OK, _) => Ok(data),
+        (status, _) => Err(status),
+    }
 }
 
 /// An open reader of the rows of some data. It is closed when it is dropped.

@@ -1,6 +1,6 @@
 //! The encoder.
 
-use crate::{EncodingMode, PackedLayout, c, out_of_memory, zeros};
+use crate::{EncodingMode, PackedLayout, c, out_of_memory};
 use alloc::vec::Vec;
 use core::fmt;
 
@@ -136,17 +136,10 @@ pub fn encode_bitmap_from(
         return Err(EncodeError::NotWholeRows);
     }
     let settings = c::EncodeSettings::from(&settings).laid_out(layout);
-    // A first call, without room, returns the number of bytes.
-    let (status, outcome) = c::encode_bitmap(bitmap, &settings, &mut []);
-    match status {
-        c::NOT_TAKEN if bitmap.is_empty() => return Err(EncodeError::NoRows),
-        c::NOT_TAKEN => return Err(EncodeError::NoEncoding),
-        c::OUT_OF_MEMORY => out_of_memory::<u8>(0),
-        _ => {}
-    }
-    let mut data = zeros(outcome.bytes as usize);
-    match c::encode_bitmap(bitmap, &settings, &mut data) {
-        (c::OK, _) => Ok(data),
-        _ => out_of_memory::<u8>(0),
+    match c::encode_bitmap(bitmap, &settings) {
+        Ok(data) => Ok(data),
+        Err(c::NOT_TAKEN) if bitmap.is_empty() => Err(EncodeError::NoRows),
+        Err(c::NOT_TAKEN) => Err(EncodeError::NoEncoding),
+        Err(_) => out_of_memory::<u8>(0),
     }
 }

@@ -1,0 +1,358 @@
+"""Writes the Cargo package `hayro-ccitt`: the proved sources with their contracts erased, which is Rust.
+
+    python3 release/erased/erase.py FOLDER
+
+FOLDER gets the package, laid out by rustfmt. Contracts, ghost items and models go, and what is left is kept token by token, except as
+the lines of REWRITTEN say. The bodies in BY_HAND are replaced. What isn't understood is refused: a word of a contract that is left, an attribute
+that isn't known, a body that isn't there, a character that Rust doesn't have."""
+import os
+import re
+import shutil
+import subprocess
+import sys
+import tempfile
+
+HERE = os.path.dirname(os.path.abspath(__file__))
+API = "bindings/rust"
+# The crate of the calls, and modules that nothing runs: what they declare is named by contracts alone, or tests data.
+CALLS = "hayro_ccitt_c"
+LEFT_OUT = {"fax_reading": None, "hayro_ccitt": ["in_step", "laws", "locality", "reach"], "fax_encode": ["laws"]}
+# Its modules that are by hand here, and the files of the API that are: the others are those of bindings/rust.
+HANDLE = "handle"
+API_BY_HAND = ["c.rs", "pushed.rs"]
+
+# The functions whose bodies are by hand, by their files, since Rust has no stable form of them, or another one that is faster.
+BY_HAND = {
+    # vectors of 16 bytes
+    ("fax_bits", "bit_reader", "bytes_turned"): "word.swap_bytes().reverse_bits()",
+    # vectors of four numbers: no place is found at once, which the contract allows
+    ("fax_lines", "regular_places", "regular_places"): "([u32::MAX; 4], 0)",
+}
+# Other lines by hand: each is there once.
+LINES_BY_HAND = {
+    # so that it isn't tried
+    ("fax_lines", "context"): ("by_groups: self.suits_groups", "by_groups: false"),
+}
+# What is written otherwise, in each file that has it.
+REWRITTEN = [
+    (r"\bfmt<W: fmt::Write>", "fmt"),
+    (r"\bfmt::Formatter<W>", "fmt::Formatter<'_>"),
+    (r"\bimpl<T: Drop>", "impl<T>"),
+    (r"\bpub extern \"C\" fn\b", "pub fn"),
+    # pointers that nothing is read by
+    (r"\*mut u8\b", "usize"),
+    # what Rust 1.85 doesn't have
+    (r"(?<=(?:if| =) )([\w.()]+)\.is_multiple_of\(2\)(?= \{|;)", r"\1 % 2 == 0"),
+    (r"([\w.()]+)\.is_multiple_of\(2\)", r"(\1 % 2 == 0)"),
+    (r"\.to_vec\(alloc\)", ".copied_to(alloc)"),
+    (r"\bvec!\[in alloc; value; count\]", "Vec::filled(alloc, value, count)"),
+]
+# What `lists.rs` has in place of Rattle's std.
+FROM_LISTS = ["AllocError", "AllocFailed", "Box", "CopiedTo", "Global", "Vec"]
+DROPPED_USES = r"use std::(alloc::[^;]*|marker::Model|simd::prelude::\*)"
+KEPT_ATTRIBUTES = r"#!?\[(inline(\((always|never)\))?|cold|derive\([\w, ]*\)|repr\(C\)|rattlefmt::skip)\]"
+DROPPED_ATTRIBUTES = r"#!?\[(tactic\(.*\)|unsafe\(no_mangle\))\]"
+REFUSED_WORDS = {"ghost", "requires", "ensures", "invariant", "decreases", "tactic", "rattlefmt", "Rattle", "Model", "unsafe", "by", "mut_ghost", "assert_by"}
+
+TOKEN = re.compile(
+    r"""(?P<comment>//[^\n]*)|(?P<string>b?"(?:\\.|[^"\\])*")|(?P<char>b?'(?:\\[^'\n]+|[^'\\\n])')|(?P<label>'[a-z_]\w*)
+    |(?P<word>[A-Za-z_][A-Za-z0-9_]*)|(?P<number>[0-9][A-Za-z0-9_]*)|(?P<space>\s+)|(?P<mark>.)""",
+    re.VERBOSE | re.DOTALL,
+)
+
+
+class Refused(Exception):
+    pass
+
+
+def read(path):
+    with open(path, encoding="utf-8") as file:
+        return file.read()
+
+
+def write(path, text):
+    os.makedirs(os.path.dirname(path), exist_ok=True)
+    with open(path, "w", encoding="utf-8") as file:
+        file.write(text)
+
+
+def after_braces(text, at):
+    """The place after the braces that begin here, after spaces."""
+    start = re.compile(r"\s*").match(text, at).end()
+    if text[start : start + 1] != "{":
+        raise Refused(f"no braces: {text[at : at + 60]!r}")
+    depth = 0
+    for mark in re.compile(r"[{}]").finditer(text, start):
+        depth += 1 if mark[0] == "{" else -1
+        if depth == 0:
+            return mark.end()
+    raise Refused(f"braces that don't end: {text[at : at + 60]!r}")
+
+
+def matched(pattern, text, at):
+    return re.compile(pattern, re.DOTALL).match(text, at)
+
+
+def after_clause(text, at):
+    """The place after a clause whose first word ends here."""
+    return after_braces(text, matched(r"\*?(\s+\w+)?", text, at).end())
+
+
+def after_ghost(text, at):
+    """The place after a ghost item whose first word ends here."""
+    if found := matched(r"\s+use\s[^;]*;", text, at):
+        return found.end()
+    if found := matched(r"\s+\w+\s*=", text, at):
+        end, mark = after_braces(text, found.end()), ";"
+    elif found := matched(r"\s+\w+\s*:", text, at):
+        end, mark = after_braces(text, found.end()), "[,;]"
+        if proof := matched(r"\s*(by\b|=)", text, end):
+            end = after_braces(text, proof.end())
+    else:
+        raise Refused(f"a ghost item that isn't known: {text[at : at + 60]!r}")
+    last = matched(rf"\s*{mark}", text, end)
+    if not last:
+        raise Refused(f"a ghost item that doesn't end: {text[at : at + 60]!r}")
+    return last.end()
+
+
+def attribute(text, at):
+    """An attribute that begins here, and what it becomes."""
+    depth, end = 0, at
+    for mark in re.compile(r"[\[\]]").finditer(text, at):
+        depth += 1 if mark[0] == "[" else -1
+        if depth == 0:
+            end = mark.end()
+            break
+    whole = text[at:end]
+    if re.fullmatch(DROPPED_ATTRIBUTES, whole, re.DOTALL):
+        return whole, ""
+    if not re.fullmatch(KEPT_ATTRIBUTES, whole):
+        raise Refused(f"an attribute that isn't known: {whole}")
+    kept = re.sub(r"\bDrop(, )?|, Drop\b", "", whole).replace(", )", ")").replace("rattlefmt", "rustfmt")
+    return whole, "" if kept == "#[derive()]" else kept
+
+
+def erase(text):
+    """The text without contracts, ghost items and models, and how many of each there were."""
+    kept, counts, at = [], {"clauses": 0, "ghost items": 0, "models": 0}, 0
+    while at < len(text):
+        token = TOKEN.match(text, at)
+        piece = token[0]
+        if piece in ("requires", "ensures"):
+            counts["clauses"] += 1
+            at = after_clause(text, token.end())
+        elif piece == "ghost":
+            counts["ghost items"] += 1
+            # The comment and the visibility of a ghost item go with it.
+            whole = "".join(kept)
+            kept = [whole[: re.search(r"(///[^\n]*\n\s*)*(\bpub(\([a-z]+\))?\s+)?$", whole).start()]]
+            at = after_ghost(text, token.end())
+        elif piece == "impl" and (model := matched(r"impl[^{;]*?\bModel for\b[^{]*", text, at)):
+            counts["models"] += 1
+            at = after_braces(text, model.end())
+        elif piece == "#":
+            whole, by = attribute(text, at)
+            at += len(whole)
+            kept.append(by)
+            if not by:
+                at = matched(r"\s*", text, at).end()
+        elif piece == "use" and (use := matched(DROPPED_USES + ";", text, at)):
+            at = use.end()
+        else:
+            kept.append(piece)
+            at = token.end()
+    return "".join(kept), counts
+
+
+def without_unused_labels(text):
+    """Labels are for contracts of loops: what no `break` or `continue` names goes."""
+    named = {*re.findall(r"\b(?:break|continue) ('\w+)", text)}
+    return re.sub(r"('\w+): (?=while|loop|for)", lambda label: label[0] if label[1] in named else "", text)
+
+
+def renamed(text, crate, crates):
+    """The paths of crates as those of modules."""
+    kept, at, before = [], 0, ""
+    while at < len(text):
+        token = TOKEN.match(text, at)
+        piece, at = token[0], token.end()
+        is_front = text.startswith("::", at) and not before.endswith("::")
+        if token["comment"]:
+            piece = re.sub(r"(?<=\]\()crate::", f"crate::proved::{crate}::", piece)
+        elif is_front and piece == "std":
+            piece = "core"
+        elif is_front and piece == "crate":
+            piece = f"crate::proved::{crate}"
+        elif is_front and token["word"] and piece in crates:
+            piece = f"crate::proved::{piece}"
+        kept.append(piece)
+        before = (before + piece)[-2:]
+    return "".join(kept)
+
+
+def with_body(text, name, body):
+    """The text with this body of the function of this name, once."""
+    found = list(re.finditer(rf"\bfn {name}\b[^{{]*", text))
+    if len(found) != 1:
+        raise Refused(f"{len(found)} functions {name}")
+    end = after_braces(text, found[0].end())
+    return f"{text[: found[0].end()]}{{ {body} }}{text[end:]}"
+
+
+def without_constants_of(text, body):
+    """The text without private constants that nothing names but a body that was replaced."""
+    for name in set(re.findall(r"\b[A-Z][A-Z_]+\b", body)):
+        declared = re.search(rf"(///[^\n]*\n)*const {name}\b[^;]*;[^;]*;\n", text)
+        if declared and len(re.findall(rf"\b{name}\b", text)) == 1:
+            text = text[: declared.start()] + text[declared.end() :]
+    return text
+
+
+def code_of(text):
+    """The text without comments, strings and characters."""
+    return "".join(token[0] for token in TOKEN.finditer(text) if token["space"] or token["word"] or token["number"] or token["mark"] or token["label"])
+
+
+def refuse_leftovers(text):
+    code = code_of(text)
+    if left := {*re.findall(r"\w+", code)} & REFUSED_WORDS:
+        raise Refused(f"words of contracts are left: {sorted(left)}")
+    if other := [mark for mark in code if not mark.isascii()]:
+        raise Refused(f"characters of contracts are left: {other[:9]}")
+    if found := re.search(r"\bstd::|\bvec!|\bu\d+x\d+\b|\bdyn\b|\bextern\b|/\*", code):
+        raise Refused(f"not erased: {found[0]}")
+
+
+def import_of(text):
+    """The line that takes what the text names from `lists.rs`."""
+    code = code_of(text)
+    names = [name for name in FROM_LISTS if re.search(rf"\b{name}\b", code)]
+    names += ["CopiedTo"] if ".copied_to(" in code else []
+    return f"use crate::lists::{{{', '.join(names)}}};\n" if names else ""
+
+
+def module(crate, name, crates, used):
+    """A source of a crate as a module of the package."""
+    path = f"crates/{crate}/src/{name}.rt"
+    text, counts = erase(read(path))
+    for pattern, by in REWRITTEN:
+        text = re.sub(pattern, by, text)
+    if name == "lib":
+        if crate == CALLS:
+            text = re.sub(r"^mod ", "pub(crate) mod ", text, flags=re.MULTILINE)
+        for gone in LEFT_OUT.get(crate) or []:
+            text, count = re.subn(rf"^(pub )?mod {gone};\n|^(pub )?use {gone}::[^;]*;\n", "", text, flags=re.MULTILINE)
+            if not count:
+                raise Refused(f"{path} has no module {gone}")
+    text = renamed(without_unused_labels(text), crate, crates)
+    text = re.sub(r"\n{3,}", "\n\n", re.sub(r"[ \t]+$", "", text, flags=re.MULTILINE))
+    if line := LINES_BY_HAND.get((crate, name)):
+        text = once(text, *line)
+        used.add((crate, name))
+    by_hand = [function for of, file, function in BY_HAND if (of, file) == (crate, name)]
+    for function in by_hand:
+        before = text
+        text = without_constants_of(with_body(text, function, BY_HAND[crate, name, function]), before)
+        used.add((crate, name, function))
+    refuse_leftovers(text)
+    by_hand = [f"the body of `{function}`" for function in by_hand] + ([f"`{line[1]}`"] if line else [])
+    front = re.match(r"(\s|//![^\n]*\n)*", text).end()
+    erased = ", ".join(f"{count} {what}" for what, count in counts.items() if count) or "nothing"
+    said = f"// {path} without contracts. Erased: {erased}." + "".join(f" By hand: {what}." for what in by_hand)
+    return f"{said}\n\n{text[:front].strip()}\n\n{import_of(text)}{text[front:]}"
+
+
+def crates_below():
+    """The crates of the calls, those below first."""
+    named = dict((line.split(":")[0].split()[0], line.split(":")[1].split()) for line in read("crates.txt").splitlines() if not line.startswith("#"))
+    found = [CALLS]
+    for name in found:
+        found += [it for it in named[name] if it in named and it not in found]
+    return [name for name in sorted(found, key=list(named).index) if LEFT_OUT.get(name, []) is not None]
+
+
+def write_proved(folder):
+    crates, used = crates_below(), set()
+    for crate in crates:
+        files = sorted(name.removesuffix(".rt") for name in os.listdir(f"crates/{crate}/src") if name.endswith(".rt"))
+        for name in files:
+            if name in (LEFT_OUT.get(crate) or []) or (crate, name) == (CALLS, HANDLE):
+                continue
+            try:
+                text = module(crate, name, crates, used)
+            except Refused as why:
+                sys.exit(f"crates/{crate}/src/{name}.rt: {why}")
+            write(f"{folder}/src/proved/{crate}/{'mod' if name == 'lib' else name}.rs", text)
+    if unused := {*BY_HAND, *LINES_BY_HAND} - used:
+        sys.exit(f"no such sources: {sorted(unused)}")
+    write(f"{folder}/src/proved/{CALLS}/{HANDLE}.rs", said_by_hand(f"{HERE}/src/{HANDLE}.rs"))
+    modules = "".join(f"pub mod {crate};\n" for crate in crates)
+    write(f"{folder}/src/proved/mod.rs", said_by_hand(f"{HERE}/src/proved.rs") + modules)
+
+
+def once(text, old, new):
+    if text.count(old) != 1:
+        raise Refused(f"{text.count(old)} times: {old!r}")
+    return text.replace(old, new)
+
+
+def said_by_hand(path):
+    return f"// {os.path.relpath(path)}, by hand.\n\n{read(path)}"
+
+
+def write_api(folder):
+    """The modules of bindings/rust, except those that call C."""
+    for name in sorted(os.listdir(f"{API}/src")):
+        if name in API_BY_HAND:
+            write(f"{folder}/src/{name}", said_by_hand(f"{HERE}/src/{name}"))
+            continue
+        text = read(f"{API}/src/{name}")
+        if name == "lib.rs":
+            text = once(text, "#![deny(unsafe_op_in_unsafe_fn)]", "#![forbid(unsafe_code)]")
+            text = once(text, "mod encoding;\n", "mod encoding;\nmod lists;\n")
+            text = once(text, "mod pushed;\n", "#[doc(hidden)]\npub mod proved;\nmod pushed;\n")
+            text = re.sub(r"(?<=\n)//! What runs is a C.*?\n(?=//!\n)", read(f"{HERE}/src/what_runs.txt"), text, count=1, flags=re.DOTALL)
+            text = once(text, ", and needs an allocator and a C compiler.", ", and needs an allocator.")
+        write(f"{folder}/src/{name}", f"// {API}/src/{name}, as it is{' but for what runs' if name == 'lib.rs' else ''}.\n\n{text}")
+    write(f"{folder}/src/lists.rs", said_by_hand(f"{HERE}/src/lists.rs"))
+    for of in ("examples", "tests"):
+        shutil.copytree(f"{API}/{of}", f"{folder}/{of}", ignore=shutil.ignore_patterns("__pycache__"))
+
+
+def write_package(folder):
+    write_proved(folder)
+    write_api(folder)
+    for name in ("Cargo.toml", "README.md", "c/Cargo.toml"):
+        write(f"{folder}/{name}", read(f"{HERE}/{name}"))
+    for name in ("hayro_ccitt.h", "fax_encode.h", "hayro_ccitt_heap.h"):
+        write(f"{folder}/c/include/{name}", read(f"c/{name}"))
+    for name in os.listdir(f"{HERE}/c/src"):
+        write(f"{folder}/c/src/{name}", said_by_hand(f"{HERE}/c/src/{name}"))
+    roots = [f"{folder}/src/lib.rs", f"{folder}/c/src/lib.rs"]
+    done = subprocess.run(["rustfmt", "--edition", "2024", *roots], capture_output=True, text=True, check=False)
+    if done.returncode != 0:
+        sys.exit(f"rustfmt: {done.stderr[-3000:]}")
+
+
+def files_in(folder):
+    return {os.path.relpath(f"{at}/{name}", folder) for at, _, names in os.walk(folder) for name in names}
+
+
+def main(folder):
+    """Writes the package. Files that are there and don't change stay as they are, so that cargo builds nothing again."""
+    os.chdir(f"{HERE}/../..")
+    with tempfile.TemporaryDirectory() as work:
+        write_package(work)
+        for name in files_in(work):
+            text = read(f"{work}/{name}")
+            if not os.path.exists(f"{folder}/{name}") or read(f"{folder}/{name}") != text:
+                write(f"{folder}/{name}.part", text)
+                os.replace(f"{folder}/{name}.part", f"{folder}/{name}")
+        for name in files_in(folder) - files_in(work):
+            if name.startswith(("src/", "examples/", "tests/", "c/src/", "c/include/")):
+                os.remove(f"{folder}/{name}")
+
+
+if __name__ == "__main__":
+    main(os.path.abspath(sys.argv[1]))

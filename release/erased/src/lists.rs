@@ -1,0 +1,167 @@
+//! What Rattle's std has and Rust's hasn't, in safe Rust: lists and boxes that report where an allocation fails.
+
+use alloc::{boxed, vec};
+use core::ops::{Deref, DerefMut};
+
+/// The allocator of the program.
+#[derive(Copy, Clone)]
+pub struct Global;
+
+/// An allocation failed.
+#[derive(Debug)]
+pub struct AllocError;
+
+/// An allocation for this value failed.
+pub struct AllocFailed<T>(pub T);
+
+/// A list that grows only where a call says so.
+pub struct Vec<T>(vec::Vec<T>);
+
+impl<T> Vec<T> {
+    #[inline(always)]
+    pub fn new(_alloc: Global) -> Self {
+        Self(vec::Vec::new())
+    }
+
+    #[inline(always)]
+    pub fn allocator(&self) -> &Global {
+        &Global
+    }
+
+    #[inline(always)]
+    pub fn capacity(&self) -> usize {
+        self.0.capacity()
+    }
+
+    pub fn push(&mut self, item: T) -> Result<(), AllocError> {
+        self.reserve(1)?;
+        self.0.push(item);
+        Ok(())
+    }
+
+    /// Adds an item. It is proved of each call that there is room for it, so that this allocates nothing.
+    #[inline(always)]
+    pub fn push_reserved(&mut self, item: T) {
+        assert!(self.0.len() < self.0.capacity(), "no room for an item");
+        self.0.push(item);
+    }
+
+    /// Removes the last item. It is proved of each call that there is one.
+    #[inline(always)]
+    pub fn take_last(&mut self) -> T {
+        match self.0.pop() {
+            Some(last) => last,
+            None => unreachable!("the last item of no items"),
+        }
+    }
+
+    pub fn reserve(&mut self, more: usize) -> Result<(), AllocError> {
+        self.0.try_reserve(more).map_err(|_| AllocError)
+    }
+
+    pub fn reserve_exact(&mut self, more: usize) -> Result<(), AllocError> {
+        self.0.try_reserve_exact(more).map_err(|_| AllocError)
+    }
+
+    #[inline(always)]
+    pub fn clear(&mut self) {
+        self.0.clear();
+    }
+
+    #[inline(always)]
+    pub fn truncate(&mut self, length: usize) {
+        self.0.truncate(length);
+    }
+
+    #[inline(always)]
+    pub fn as_slice(&self) -> &[T] {
+        &self.0
+    }
+
+    /// Returns the items as a vector of the standard library.
+    pub fn into_inner(self) -> vec::Vec<T> {
+        self.0
+    }
+}
+
+impl<T: Copy> Vec<T> {
+    /// Creates a list of as many copies of an item.
+    pub fn filled(alloc: Global, item: T, count: usize) -> Result<Self, AllocError> {
+        let mut items = Self::new(alloc);
+        items.resize(count, item)?;
+        Ok(items)
+    }
+
+    pub fn extend_from_slice(&mut self, items: &[T]) -> Result<(), AllocError> {
+        self.reserve(items.len())?;
+        self.0.extend_from_slice(items);
+        Ok(())
+    }
+
+    pub fn resize(&mut self, length: usize, item: T) -> Result<(), AllocError> {
+        self.reserve(length.saturating_sub(self.0.len()))?;
+        self.0.resize(length, item);
+        Ok(())
+    }
+}
+
+impl<T> Deref for Vec<T> {
+    type Target = [T];
+
+    #[inline(always)]
+    fn deref(&self) -> &[T] {
+        &self.0
+    }
+}
+
+impl<T> DerefMut for Vec<T> {
+    #[inline(always)]
+    fn deref_mut(&mut self) -> &mut [T] {
+        &mut self.0
+    }
+}
+
+/// A slice that is copied to a list.
+pub trait CopiedTo<T> {
+    fn copied_to(&self, alloc: Global) -> Result<Vec<T>, AllocError>;
+}
+
+impl<T: Copy> CopiedTo<T> for [T] {
+    fn copied_to(&self, alloc: Global) -> Result<Vec<T>, AllocError> {
+        let mut items = Vec::new(alloc);
+        items.extend_from_slice(self)?;
+        Ok(items)
+    }
+}
+
+/// A value on the heap: a slice of one, which can be allocated by a call that reports a failure.
+#[repr(transparent)]
+pub struct Box<T>(boxed::Box<[T; 1]>);
+
+impl<T> Box<T> {
+    pub fn new(_alloc: Global, value: T) -> Result<Self, AllocFailed<T>> {
+        let mut items = vec::Vec::new();
+        if items.try_reserve_exact(1).is_err() {
+            return Err(AllocFailed(value));
+        }
+        items.push(value);
+        match items.into_boxed_slice().try_into() {
+            Ok(one) => Ok(Self(one)),
+            Err(_) => unreachable!("one value"),
+        }
+    }
+}
+
+impl<T> Deref for Box<T> {
+    type Target = T;
+
+    fn deref(&self) -> &T {
+        &self.0[0]
+    }
+}
+
+impl<T> DerefMut for Box<T> {
+    fn deref_mut(&mut self) -> &mut T {
+        &mut self.0[0]
+    }
+}
