@@ -54,7 +54,7 @@ FILES = [
 WITHOUT_LIBRARY = [repository, program, premises, built_tests, packing, devices]
 # those that call `make`, which run in turn, and those that take longest
 MAKE = [installed, users, files]
-LONG = [cost, large, memory, hostile, released]
+LONG = [cost, large, memory, hostile, released, fax_limits]
 # those that build by cargo, in one folder, in turn
 ERASED = [erased]
 
