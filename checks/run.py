@@ -21,6 +21,7 @@ import clients  # noqa: E402
 import cost  # noqa: E402
 import cuts  # noqa: E402
 import damage_by_k  # noqa: E402
+import definitions  # noqa: E402
 import devices  # noqa: E402
 import encoder  # noqa: E402
 import erased  # noqa: E402
@@ -48,10 +49,10 @@ from left_out import LEFT_OUT  # noqa: E402
 
 
 FILES = [
-    repository, program, premises, built_tests, packing, c_library, row_by_row, feed, encoder, refusals, devices, cuts, damage_by_k, hostile, memory, large, installed, users, files, fax, fax_output, fax_limits, fax_others, inline_images, released, erased, clients, cost,
+    repository, definitions, program, premises, built_tests, packing, c_library, row_by_row, feed, encoder, refusals, devices, cuts, damage_by_k, hostile, memory, large, installed, users, files, fax, fax_output, fax_limits, fax_others, inline_images, released, erased, clients, cost,
 ]
 # those that run beside the build of the library for C
-WITHOUT_LIBRARY = [repository, program, premises, built_tests, packing, devices]
+WITHOUT_LIBRARY = [repository, definitions, program, premises, built_tests, packing, devices]
 # those that call `make`, which run in turn, and those that take longest
 MAKE = [installed, users, files]
 LONG = [cost, large, memory, hostile, released, fax_limits]
@@ -119,7 +120,7 @@ def main():
         passed = run_one(words[0])
         summary(int(passed), int(not passed), LEFT_OUT)
     chosen = [it for it in FILES if not words or (it.__name__ in words) != (words[0] == "--without")]
-    if {*chosen} - {repository, built_tests}:
+    if {*chosen} - {repository, definitions, built_tests}:
         kept.have("faxrows")
         kept.have("faxpack")
     passed, failed, left_out = 0, 0, []

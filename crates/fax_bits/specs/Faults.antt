@@ -1,5 +1,5 @@
--- The errors of decoding by their kind: faults of the data, allocation failures, and refusals. Only here and for their texts are
--- they listed.
+-- The errors of decoding by their kind (auxiliary): faults of the data, allocation failures, and refusals. Only here and for
+-- their texts are they listed.
 use Rattle.std.specs.Prelude.{ℕ, Bool, true, false}
 use Rattle.fax_bits.specs.declared.error.DecodeError.{DecodeError}
 use Rattle.fax_bits.specs.declared.error.DecodeError.TheVariants.{UnexpectedEof, InvalidCode, Overflow, OutOfMemory, Refused}

@@ -1,4 +1,4 @@
--- The words of white runs as numbers. This is not part of the trusted specification: no contract of a public call cites it.
+-- The words of white runs as numbers (auxiliary).
 use Rattle.std.specs.Prelude.{◌<◌, ◌≤◌, ◌^◌, ℕ}
 use Rattle.fax_bits.specs.Bits.{low_bits}
 use Rattle.fax_bits.specs.CodeLists.{white_codes}

@@ -293,6 +293,38 @@ pub record FeedsNext (whole : Bits) (tried : ℕ) (old new : Feeding) (answer : 
   pub line_work : LineWork old new answer line_extra
   pub goes_on : CallGoesOn old new answer gap extra
 
+-- what no call changes that reads a row: the order and the bits kept, how many came before them, for how many bytes there is
+-- room, and whether the data is finished
+pub record KeepsBits (old new : Feeding) : Type 0 where
+  pub order : new.order ≡ old.order
+  pub finished : new.finished ≡ old.finished
+  pub kept : new.kept ≡ old.kept
+  pub dropped : new.dropped ≡ old.dropped
+  pub room : new.room ≡ old.room
+
+-- What a call that reads the next row leaves, whatever the data is: the settings; and of a row that it is counted, has as many
+-- pixels as there are columns, and a gap is next.
+pub record CountsRow (old new : Feeding) (answer : Result Fed DecodeError) : Type 0 where
+  pub settings : new.ctx.held.settings ≡ old.ctx.held.settings
+  pub taken : answer ≡ Ok Fed.Row → (new.ctx.held.taken ≡ old.ctx.held.taken + 1) × (new.ctx.held.taken < 2 ^ 64)
+  pub width : answer ≡ Ok Fed.Row → length new.ctx.held.reference ≡ old.ctx.held.settings.columns
+  pub stands : answer ≡ Ok Fed.Row → (new.begun ≡ true) × (new.rows.stand ≡ AfterRow) × (new.part ≡ None)
+
+-- a short line is read on: nothing changes but the count of work, and what is kept of the line
+pub record Scans (old new : Feeding) : Type 0 where
+  pub frame : new ≡ record old {
+    ctx = record old.ctx { ticks = new.ctx.ticks };
+    part = new.part;
+    line_read = new.line_read;
+    tried_at = new.tried_at;
+  }
+  pub counts : old.ctx.ticks ≤ new.ctx.ticks
+
+-- what a call answers once the reading has ended
+abbrev pub fed_end : Result (Unit {0}) DecodeError → Result Fed DecodeError
+fed_end (Ok x) = Ok Fed.End
+fed_end (Err error) = Err error
+
 -- ---- The steps of a call: not part of the trusted specification
 
 -- the answer of a step that passes a gap, if it was passed
@@ -362,23 +394,6 @@ is_left (Err error) = no_memory error
 abbrev pub line_answer : Result Bool DecodeError → Result (Unit {0}) DecodeError
 line_answer (Ok read) = Ok tt
 line_answer (Err error) = Err error
-
--- what no step changes: the order and the bits kept, how many came before them, for how many bytes there is room, and whether
--- the data is finished
-pub record KeepsBits (old new : Feeding) : Type 0 where
-  pub order : new.order ≡ old.order
-  pub finished : new.finished ≡ old.finished
-  pub kept : new.kept ≡ old.kept
-  pub dropped : new.dropped ≡ old.dropped
-  pub room : new.room ≡ old.room
-
--- What a call that reads the next row leaves, whatever the data is: the settings; and of a row that it is counted, has as many
--- pixels as there are columns, and a gap is next.
-pub record CountsRow (old new : Feeding) (answer : Result Fed DecodeError) : Type 0 where
-  pub settings : new.ctx.held.settings ≡ old.ctx.held.settings
-  pub taken : answer ≡ Ok Fed.Row → (new.ctx.held.taken ≡ old.ctx.held.taken + 1) × (new.ctx.held.taken < 2 ^ 64)
-  pub width : answer ≡ Ok Fed.Row → length new.ctx.held.reference ≡ old.ctx.held.settings.columns
-  pub stands : answer ≡ Ok Fed.Row → (new.begun ≡ true) × (new.rows.stand ≡ AfterRow) × (new.part ≡ None)
 
 -- how a reading goes on after what is before its first line
 abbrev pub line_first : Stand → Result Bool DecodeError
@@ -487,16 +502,6 @@ pub record ReadsInFeed (old new : Feeding) (answer : Result Bool DecodeError) : 
   pub settings : new.ctx.held.settings ≡ old.ctx.held.settings
   pub taken : answer ≡ Ok true → new.ctx.held.taken ≡ old.ctx.held.taken + 1
 
--- a short line is read on: nothing changes but the count of work, and what is kept of the line
-pub record Scans (old new : Feeding) : Type 0 where
-  pub frame : new ≡ record old {
-    ctx = record old.ctx { ticks = new.ctx.ticks };
-    part = new.part;
-    line_read = new.line_read;
-    tried_at = new.tried_at;
-  }
-  pub counts : old.ctx.ticks ≤ new.ctx.ticks
-
 -- from a part with so many changes passed and bits read on
 pub record ScansLine (passed read : ℕ) (old new : Feeding) (short : Bool) : Type 0 where
   pub scans : Scans old new
@@ -548,11 +553,6 @@ abbrev pub fed_none : Result (Option Bool) DecodeError → Result Fed DecodeErro
 fed_none (Ok None) = Ok Fed.NeedsMore
 fed_none (Ok (Some line)) = Ok Fed.End
 fed_none (Err error) = Err error
-
--- what a call answers once the reading has ended
-abbrev pub fed_end : Result (Unit {0}) DecodeError → Result Fed DecodeError
-fed_end (Ok x) = Ok Fed.End
-fed_end (Err error) = Err error
 
 -- ---- Rows that are passed to a sink
 

@@ -1,5 +1,4 @@
--- The tick count of a context, borrowed. This is not part of the trusted specification: it states what a borrow of the
--- count leaves.
+-- The tick count of a context, borrowed: what a borrow of the count leaves (auxiliary).
 use Rattle.std.specs.Prelude.{ℕ}
 use Rattle.std.specs.Borrow.{Lends, MutBor, Fml}
 use Rattle.fax_reading.specs.Context.{Context}

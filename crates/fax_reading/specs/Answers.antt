@@ -28,7 +28,7 @@ HasBlack row = Contains row true
 abbrev pub StopsAtChange : Row → Row → Type 0
 StopsAtChange row front = (pixel : Bool) × (after : Row) × (row ≡ front ++ pixel ∷ after) × (pixel ≢ last_pixel false front)
 
--- ---- One line, and one step of it, as calls draw them: not part of the trusted specification of `decode`.
+-- ---- One line, and one step of it, as calls draw them (auxiliary)
 
 -- What a call that draws a line returns, given the definition's line, and leaves in the front and of the bits: the
 -- whole line; or the broken one and its fault; or an allocation failure, where a changing element is to be stored (T.4,

@@ -75,7 +75,7 @@ pub record DecodesRows {M : Type 0} (bits : Bits) (step : M → List ℕ → M) 
 abbrev pub FailsHere : DecodeSettings → Bits → ℕ → Bits → Type 0
 FailsHere settings bits taken rest = length bits - length rest ≡ failed_at settings bits taken
 
--- ---- One turn: the contracts of private calls, not part of the trusted specification
+-- ---- One turn: what calls that read a line or pass a gap leave (auxiliary)
 
 -- a call that returns no value, and leaves these bits
 abbrev pub leaving : Result (Unit {0}) DecodeError → Bits → Result Bits DecodeError
@@ -150,7 +150,7 @@ cut_since repairs before = not (repairs.cut == before)
 abbrev pub missed_since : Repairs → ℕ → ℕ → Option ℕ
 missed_since repairs before place = if repairs.missed == before then None else Some place
 
--- the context between two rows of the reading, with this number of repaired rows; no contract of a public call cites it
+-- the context between two rows of the reading, with this number of repaired rows
 abbrev pub context_at : DecodeSettings → Progress → Repairs → Held
 context_at settings so_far repairs = record {
   reference = row_before settings.columns so_far.rows;

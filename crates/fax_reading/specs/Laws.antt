@@ -211,7 +211,7 @@ row_after settings (Turn.next so_far) =
     add_row_alone so_far (row_of_line settings so_far.has_eols so_far.rest (line_of_turn settings so_far))
 row_after settings (Turn.done end) = Turn.done end
 
--- a gap, and the row after it: from one position between lines to the next
+-- auxiliary: a gap, and the row after it: from one position between lines to the next
 abbrev pub gap_and_row : DecodeSettings → Progress → Move
 gap_and_row settings so_far = row_after settings (pass_gap settings so_far)
 

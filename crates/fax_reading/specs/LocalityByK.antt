@@ -129,7 +129,7 @@ pub record DifferInOneLine (settings : DecodeSettings) (one two : Bits) (from to
   pub sought : (settings.end_of_line ≡ true) ⊎ ((end : ℕ) × (end ≤ from) × IsEol one 0 end)
   pub follow : ComeBefore1D settings lines (drop to one)
 
--- as many rows, which are equal before an index and from this number of rows after it on
+-- auxiliary: as many rows, which are equal before an index and from this number of rows after it on
 abbrev pub SameBut : ℕ → ℕ → List Row → List Row → Type 0
 SameBut index count rows others =
     (length others ≡ length rows) × (take index others ≡ take index rows)

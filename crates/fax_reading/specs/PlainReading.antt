@@ -149,7 +149,7 @@ abbrev pub at_gap : Progress → Gap → Move
 at_gap so_far (Gap.over outcome) = ends_with so_far outcome
 at_gap so_far (Gap.line_at has_eols here) = Turn.next (record so_far { has_eols = has_eols; rest = here })
 
--- the gap after the rows so far
+-- auxiliary: the gap after the rows so far
 abbrev pub pass_gap : DecodeSettings → Progress → Move
 pass_gap settings so_far = at_gap so_far (gap_after_row settings (length so_far.rows) so_far.has_eols so_far.rest)
 
@@ -254,10 +254,12 @@ lines_of settings bits = map (line_of_turn settings) (turns_of settings bits)
 abbrev pub start_of_turn : Bits → Progress → ℕ
 start_of_turn bits so_far = length bits - length so_far.rest
 
+-- auxiliary: the offset of the bits after a row; without one, of those from the turn on
 abbrev pub end_of_row : Bits → Progress → Result (Row × Bits) DecodeError → ℕ
 end_of_row bits so_far (Ok (row, rest)) = length bits - length rest
 end_of_row bits so_far (Err fault) = start_of_turn bits so_far
 
+-- auxiliary: the same of the row of a turn
 abbrev pub end_of_turn : DecodeSettings → Bits → Progress → ℕ
 end_of_turn settings bits so_far =
     end_of_row bits so_far (row_of_line settings so_far.has_eols so_far.rest (line_of_turn settings so_far))

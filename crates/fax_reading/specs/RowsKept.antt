@@ -80,7 +80,7 @@ pub record AreAlikeAfter (settings : DecodeSettings) (one two : Bits) (to to2 : 
   pub no_rtc : MakesNoRtc settings one line
   pub no_rtc_too : MakesNoRtc settings two line
 
--- the reading of some data comes to a line after this number of rows, with these bits from there on; or it ends there
+-- auxiliary: the reading of some data comes to a line after this number of rows, with these bits from there on; or it ends there
 abbrev pub ComesTo : DecodeSettings → Bits → Bits → ℕ → Type 0
 ComesTo settings bits following index = ((last : Progress) × Reaches (move_on settings) (first_line settings bits) last
     × (last.rest ≡ following) × (length last.rows ≡ index))

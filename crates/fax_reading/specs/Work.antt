@@ -86,7 +86,7 @@ mode_found color here = word_found mode_codes here ++ runs_found_after color (re
 abbrev pub most_for_lines : ℕ → ℕ
 most_for_lines bits = 6 * bits + 3
 
--- ---- The account between two rows: not part of the trusted specification
+-- ---- auxiliary: the account between two rows
 
 -- Of data of this many bits: what was counted, and the changes of the reference row, are paid by the bits that were
 -- consumed, by the zeros ahead, and if EOLs aren't sought by what ceasing to seek them may have cost.

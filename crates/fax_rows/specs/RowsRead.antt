@@ -173,7 +173,7 @@ abbrev pub at_end_of_rows : Result (Unit {0}) DecodeError → Result Bool Decode
 at_end_of_rows (Ok x) = Ok false
 at_end_of_rows (Err error) = Err error
 
--- ---- The invariant: not part of the trusted specification
+-- ---- What is so between two calls (auxiliary): a reading begins with it, and each call keeps it
 
 -- the reading reaches a line here
 pub record StandsAtLine (settings : DecodeSettings) (bits : Bits) (held : Held) (rest : Bits) : Type 0 where
