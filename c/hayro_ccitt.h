@@ -114,7 +114,7 @@ uint32_t hayro_ccitt_decode_changes(const uint8_t *data, size_t data_length, con
                                     uint32_t *lists, size_t lists_length, hayro_ccitt_outcome *outcome);
 
 /* Rows one at a time, in memory for two rows, however long the data is: open a reader, read rows until the status isn't
- * HAYRO_CCITT_OK, and close the reader. The rows, the last status and bytes_read are those of
+ * HAYRO_CCITT_OK, and close the reader. The rows, the last status and, at the end of the image, bytes_read are those of
  * hayro_ccitt_decode_changes, except that HAYRO_CCITT_NO_ROW says what HAYRO_CCITT_OK says there. examples/rows_to_pbm.c is a
  * program that does so.
  *
@@ -132,8 +132,10 @@ typedef struct {
 typedef struct {
     uint64_t rows;         /* the number of rows read so far */
     uint64_t changes;      /* the number of changes of the last one */
-    uint64_t line_start;   /* the offset in bits at which its line begins, after its EOL */
-    uint64_t bytes_read;   /* the bytes consumed so far; after HAYRO_CCITT_NO_ROW, those of the image */
+    uint64_t line_start;   /* the offset in bits at which its line begins, after its EOL; after a fault, that of the line that
+                            * couldn't be read, or the offset at which an EOL is missing */
+    uint64_t bytes_read;   /* the bytes consumed so far, the last one rounded up; after HAYRO_CCITT_NO_ROW, those of the image;
+                            * after a fault, those up to line_start */
     uint64_t damaged_rows; /* the number of rows read so far whose line was damaged and repaired */
     uint64_t damage;       /* the status of the fault of the last row if its line was damaged and repaired; else 0 */
     uint64_t missed_eols;  /* the number of rows read so far, not repaired, after which other bits were passed up to the next EOL, or

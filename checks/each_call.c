@@ -156,7 +156,8 @@ static void fed_is(const uint8_t *data, size_t length, const hayro_ccitt_setting
     for (int again = 0; again < 2 && stop > listed->rows; again++) {
         must(listed_of(&it, NULL, 0, &row) == (status ? status : HAYRO_CCITT_NO_ROW), "the end of a feed");
         must(row.rows == listed->rows && row.damaged_rows == listed->damaged_rows && row.missed_eols == listed->missed_eols
-             && row.cut_rows == listed->cut_rows && (status || row.bytes_read == listed->bytes_read), "what is told at the end of a feed");
+             && row.cut_rows == listed->cut_rows, "what is told at the end of a feed");
+        must(row.bytes_read == (status ? (listed->fault_start + 7) / 8 : listed->bytes_read), "the bytes up to the end, or to the fault");
         unused_are(&it, row.bytes_read);
     }
     if (it.is_finished) must(hayro_ccitt_feed(&it.feed, data, length) == HAYRO_CCITT_NOT_TAKEN, "finished data");

@@ -71,7 +71,8 @@ static void each_case(const uint8_t *data, size_t length, const hayro_ccitt_sett
         must(last == (status ? status : HAYRO_CCITT_NO_ROW), "the end");
         must(row.rows == listed.rows && row.damaged_rows == listed.damaged_rows && row.missed_eols == listed.missed_eols
              && row.cut_rows == listed.cut_rows, "what is told at the end");
-        must(status ? row.line_start == listed.fault_start : row.bytes_read == listed.bytes_read, "the bytes, or the fault");
+        must(!status || row.line_start == listed.fault_start, "the fault");
+        must(row.bytes_read == (status ? (listed.fault_start + 7) / 8 : listed.bytes_read), "the bytes up to the end, or to the fault");
     }
     must(live > held && hayro_ccitt_close(&first) == HAYRO_CCITT_OK && hayro_ccitt_close(&second) == HAYRO_CCITT_OK, "close");
     must(hayro_ccitt_close(&second) == HAYRO_CCITT_NOT_TAKEN && is_freed(), "all is freed");

@@ -185,12 +185,14 @@ class Reading:
 
     @property
     def line_start(self) -> int:
-        """The offset in bits at which the last row's line begins, after its EOL."""
+        """The offset in bits at which the last row's line begins, after its EOL. After a fault, that of the line that couldn't be
+        read, or the offset at which an EOL is missing."""
         return int(self._row.line_start)
 
     @property
     def bytes_read(self) -> int:
-        """The number of bytes consumed; at the end, those of the image."""
+        """The number of bytes consumed, the last one rounded up; after the last row, those of the image; after a fault, those up to
+        `line_start`."""
         return int(self._row.bytes_read)
 
     @property

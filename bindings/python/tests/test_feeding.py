@@ -160,6 +160,19 @@ def test_rows_come_as_soon_as_they_are_known():
         assert list(rows) == [] and rows.ended and rows.unused == b"\x07"
 
 
+def test_bytes_read_after_a_fault():
+    # A line with a black run that has no word, at bit 29; and bits where the EOL after the first row should be, at bit 17.
+    for data, place in (("0019800C400033", 29), ("0019F800CC", 17)):
+        settings = dict(columns=8, rows=2, k=0, end_of_line=True, strict=True)
+        rows, feed = hayro_ccitt.rows(bytes.fromhex(data), **settings), RowFeed(**settings)
+        feed.feed(bytes.fromhex(data))
+        feed.finish()
+        for reader in (rows, feed):
+            with pytest.raises(hayro_ccitt.InvalidCode):
+                list(reader)
+            assert (reader.rows_read, reader.line_start, reader.bytes_read) == (1, place, (place + 7) // 8)
+
+
 def test_a_file_may_have_no_bytes_yet():
     data = pages()[0]
     rows, found, waited = rows_from(Trickle(data, 4, waits=True), **PAGE), [], 0

@@ -14,7 +14,8 @@ macro_rules! told_of_rows {
             crate::usize_of($row.line_start)
         }
 
-        /// Returns the number of bytes consumed so far; at the end of the image, what [`decode`](crate::decode) returns.
+        /// Returns the number of bytes consumed so far, the last one rounded up; at the end of the image, what
+        /// [`decode`](crate::decode) returns. After a fault of the data, returns those up to [`line_start`](Self::line_start).
         pub fn bytes_read(&$this) -> usize {
             crate::usize_of($row.bytes_read)
         }

@@ -292,3 +292,31 @@ fn a_panic_of_a_sink_leaves_the_feed() {
     assert_eq!(feed.next_row(), Ok(Fed::End));
     assert_eq!((feed.bytes_read(), feed.unused()), (5, vec![]));
 }
+
+/// A line with a black run that has no word, at bit 29; and bits where the EOL after the first row should be, at bit 17.
+#[test]
+fn bytes_read_after_a_fault() {
+    let damaged = [0x00, 0x19, 0x80, 0x0C, 0x40, 0x00, 0x33];
+    let without_eol = [0x00, 0x19, 0xF8, 0x00, 0xCC];
+    for (data, place) in [(&damaged[..], 29_usize), (&without_eol[..], 17)] {
+        let mut feed = RowFeed::new(DecodeSettings {
+            encoding: EncodingMode::Group3_1D,
+            end_of_line: true,
+            strict: true,
+            ..settings(0)
+        });
+        feed.feed(data).unwrap();
+        feed.finish();
+        assert!(matches!(feed.next_row(), Ok(Fed::Row(_))));
+        for _ in 0..2 {
+            assert_eq!(
+                feed.next_row(),
+                Err(FeedError::Data(DecodeError::InvalidCode))
+            );
+            assert_eq!(
+                (feed.line_start(), feed.bytes_read()),
+                (place, place.div_ceil(8))
+            );
+        }
+    }
+}
