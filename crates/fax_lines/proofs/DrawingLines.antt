@@ -4,7 +4,6 @@ pub mod PairsOfRuns
 pub mod RegularLanes
 pub mod RegularModes
 pub mod SameLines
-pub mod ShortLines
 pub mod TwoOnes
 pub mod UsualModes
 pub mod UsualStrokes

@@ -28,12 +28,6 @@ pub record IsAtStart (ctx : Context) : Type 0 where
   pub color : ctx.held.color ≡ White
   pub passed : ctx.passed ≡ 0
 
--- the number of bits of a vertical mode that is so far from b1 (T.4, table 4)
-pub record IsWidth (distance width : ℕ) : Type 0 where
-  pub one : distance ≡ 1 → width ≡ 3
-  pub two : distance ≡ 2 → width ≡ 6
-  pub three : distance ≡ 3 → width ≡ 7
-
 -- What a call leaves that looks for b1: the changes that aren't right of a0 are passed, each with a tick, and there is one tick
 -- more (T.4, 4.2.1.1).
 pub record SeeksB1 (old new : Context) : Type 0 where

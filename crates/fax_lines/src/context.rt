@@ -13,7 +13,7 @@ ghost use Rattle.fax_bits.specs.Bits.{here};
 ghost use Rattle.fax_reading.specs.Context.{redrawn, taken_row, after_repair, after_taking, fresh, with_missed};
 ghost use Rattle.fax_bits.specs.CodeReading.{read_code};
 ghost use Rattle.fax_lines.specs.ContextSteps.{CountsWords, DrawsAtOnce, DrawsOneMode, DrawsUsualModes, DrawsUsualRuns};
-ghost use Rattle.fax_lines.specs.ContextSteps.{GrowsFor, IsAtStart, IsWidth, OnlyDraws, PassesChanges, SeeksB1};
+ghost use Rattle.fax_lines.specs.ContextSteps.{GrowsFor, IsAtStart, OnlyDraws, PassesChanges, SeeksB1};
 ghost use Rattle.fax_lines.specs.ContextSteps.{PushesPixels};
 ghost use Rattle.fax_lines.specs.PassedRows.{PassesRow};
 ghost use Rattle.fax_lines.specs.SinkStates.{state_of};

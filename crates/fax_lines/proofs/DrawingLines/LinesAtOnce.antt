@@ -1,6 +1,6 @@
 -- Lines that are drawn at once: nothing is painted before them.
 use Rattle.fax_lines.proofs.Names.{common_steps}
-use Rattle.fax_lines.proofs.Names.{◌≡◌, ◌≤◌, ◌<◌, ◌++◌, ◌∷◌, ℕ, List, true, [], arith, length, Color, White, pixels, BitsAt}
+use Rattle.fax_lines.proofs.Names.{◌≡◌, ◌≤◌, ℕ, true, [], arith, length, Color, White, pixels, BitsAt}
 use Rattle.fax_lines.proofs.Names.{Context, context_of, GoesOn2d, pen_at}
 use Rattle.fax_lines.proofs.DrawingLines.UsualModes.{empty_row, none_painted_yet}
 use Rattle.fax_reading.proofs.PixelRows.ChangesAndPixels.{changes-pixels}
@@ -51,20 +51,10 @@ module _ (c : Inside) {ctx : Context} (view : context_of c ≡ ctx) (lawful : Is
   none : HasPaintedNothing c
   none = nothing_painted c view lawful start
 
-  -- The context stays valid once its line is white,
+  -- The context stays valid once its line is white.
   pub white_lawful : (color : Color) (ticks : ℕ) → IsLawful (with_line c c.coding_changes color c.passed ticks)
   white_lawful color ticks = grind (arith, common_steps, none)
-
-  -- or has one change.
-  pub one_lawful : (row : Vec ℕ Global) (place ticks : ℕ) → row.items ≡ c.coding_changes.items ++ place ∷ []
-      → place < c.settings.columns → IsLawful (with_line c row c.color c.passed ticks)
-  one_lawful row place ticks items inside = grind (arith, common_steps, none)
 
   -- No room is used yet.
   pub room_for_one : vec_len c.coding_changes ≡ 0
   room_for_one = grind (arith, common_steps, none)
-
--- the first change
-pub turned : {c : Inside} → HasPaintedNothing c → {row : List ℕ} {place : ℕ} → row ≡ c.coding_changes.items ++ place ∷ []
-    → row ≡ place ∷ []
-turned begun items = rw begun.row at items

@@ -69,11 +69,6 @@ module _ (columns : ℕ) (places : List ℕ) (ascend : AreChanges columns places
   pub near_within : (painted index : ℕ) → painted < columns → IsNear columns places painted index → index ≤ length places + 1
   near_within painted index inside near = grind (arith, common_steps, cases_lt, in_list_if_below)
 
-  -- it stays one when a0 goes right
-  pub near_later : (painted later index : ℕ) → painted ≤ later → IsNear columns places painted index
-      → IsNear columns places later index
-  near_later painted later index le near = grind (arith, common_steps)
-
   -- where its change is not right of a0, the second next index is one
   pub near_up : (painted index : ℕ) → 0 < painted → get_or places index columns ≤ painted
       → IsNear columns places painted (index + 2)
