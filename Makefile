@@ -8,6 +8,9 @@
 #   make uninstall PREFIX=DIR
 #   make erased               the Cargo package hayro-ccitt, in build/hayro-ccitt: the proved sources without contracts
 #   make dist                 the packages of a release, in build/dist
+#   make library TARGET=aarch64-unknown-linux-gnu
+#                             the library for ARM64, into build/aarch64-unknown-linux-gnu, by a cross compiler (Debian's
+#                             gcc-aarch64-linux-gnu); install-library takes TARGET too
 #   make clean                removes build/; the results of proofs in crates/*/out stay
 #
 # `rt`, of the Rattle kit, proves and compiles the crates first. JOBS=1 runs it with one job at a time.
@@ -15,6 +18,14 @@
 VERSION := $(shell sed -n 's/^\#define HAYRO_CCITT_VERSION_TEXT "\(.*\)"/\1/p' c/hayro_ccitt.h)
 INTERFACE := $(shell echo $(VERSION) | cut -d. -f1,2)
 
+# The kit's name of another machine that the library is for, and what the names of its compilers begin with.
+TARGET ?=
+CROSS = $(if $(TARGET),$(subst -unknown-,-,$(TARGET))-)
+ifneq ($(TARGET),)
+CC = $(CROSS)gcc
+AR = $(CROSS)ar
+OBJCOPY = $(CROSS)objcopy
+endif
 CC ?= cc
 AR ?= ar
 OBJCOPY ?= objcopy
@@ -31,8 +42,8 @@ LIBDIR ?= $(PREFIX)/lib
 INCLUDEDIR ?= $(PREFIX)/include
 MANDIR ?= $(PREFIX)/share/man
 
-BUILD = build
-PROVED = crates/hayro_ccitt_c/out/libhayro_ccitt_c.a
+BUILD = build$(TARGET:%=/%)
+PROVED = crates/hayro_ccitt_c/out/libhayro_ccitt_c$(TARGET:%=-%).a
 FAXROWS = crates/faxrows/out/faxrows
 FAXPACK = crates/faxpack/out/faxpack
 HEADERS = c/hayro_ccitt.h c/fax_encode.h c/hayro_ccitt_heap.h
@@ -57,7 +68,7 @@ SHARED = libhayro_ccitt.so.$(VERSION)
 SONAME = libhayro_ccitt.so.$(INTERFACE)
 OBJECTS = $(BUILD)/proved.o $(BUILD)/calls.o $(BUILD)/heap.o
 
-.PHONY: all library programs first test check install uninstall clean prove-library prove-programs
+.PHONY: all library programs first test check install install-library uninstall clean prove-library prove-programs
 
 # Ends with a line that names the programs that are missing.
 missing = $(strip $(foreach program,$(1),$(if $(shell command -v $(program)),,$(program))))
@@ -70,10 +81,19 @@ all: library programs
 library: $(BUILD)/libhayro_ccitt.a $(BUILD)/libhayro_ccitt.so $(BUILD)/hayro_ccitt.pc
 programs: prove-programs $(BUILD)/faxrows $(BUILD)/faxpack $(BUILD)/fax2pbm $(EXAMPLES:%=$(BUILD)/%)
 
-# rt itself rebuilds what has changed, and what depends on it.
+# rt itself rebuilds what has changed, and what depends on it. It makes the library for every machine under one name: that for this
+# machine is set aside meanwhile.
+MADE = crates/hayro_ccitt_c/out/libhayro_ccitt_c.a
 prove-library:
 	@$(call need,$(firstword $(RT)) $(firstword $(CC)) $(OBJCOPY))
+ifeq ($(TARGET),)
 	cd crates/hayro_ccitt_c && $(RT) lib $(RT_JOBS)
+else
+	if test -f $(MADE); then mv $(MADE) $(MADE).kept; fi
+	cd crates/hayro_ccitt_c && $(RT) lib $(RT_JOBS) --target $(TARGET)
+	mv $(MADE) $(PROVED)
+	if test -f $(MADE).kept; then mv $(MADE).kept $(MADE); fi
+endif
 prove-programs:
 	cd crates/faxrows && printf '\061\300' | $(RT) run $(RT_JOBS) -- g4 8 1 - > /dev/null
 	cd crates/faxpack && printf 'P4\n8 1\n\030' | $(RT) run $(RT_JOBS) -- g4 - > /dev/null
@@ -138,9 +158,14 @@ check: all
 	$(BUILD)/faxpack -o g4 1240 1754 b < corpus/pictures/page | $(BUILD)/faxrows -o g4 1240 1754 b | cmp - corpus/pictures/page
 	@echo "the first program and a picture: as they should be"
 
-install: $(if $(wildcard $(BUILD)/faxrows),,all)
-	$(INSTALL) -d $(DESTDIR)$(BINDIR) $(DESTDIR)$(LIBDIR)/pkgconfig $(DESTDIR)$(INCLUDEDIR) $(DESTDIR)$(MANDIR)/man1 $(DESTDIR)$(MANDIR)/man3 \
-		$(DESTDIR)$(COMPLETIONS)
+install: $(if $(wildcard $(BUILD)/faxrows),,all) install-library
+	$(INSTALL) -d $(DESTDIR)$(BINDIR) $(DESTDIR)$(MANDIR)/man1 $(DESTDIR)$(COMPLETIONS)
+	$(INSTALL) -m 755 $(BUILD)/faxrows $(BUILD)/faxpack $(BUILD)/faxconv $(DESTDIR)$(BINDIR)
+	ln -sf faxconv $(DESTDIR)$(BINDIR)/fax2pbm
+	$(INSTALL) -m 644 tools/fax/faxconv.bash $(DESTDIR)$(COMPLETIONS)/faxconv
+	$(INSTALL) -m 644 man/faxrows.1 man/faxpack.1 man/faxconv.1 man/fax2pbm.1 $(DESTDIR)$(MANDIR)/man1
+install-library: $(if $(wildcard $(BUILD)/libhayro_ccitt.so),,library)
+	$(INSTALL) -d $(DESTDIR)$(LIBDIR)/pkgconfig $(DESTDIR)$(INCLUDEDIR) $(DESTDIR)$(MANDIR)/man3
 	rm -f $(BUILD)/hayro_ccitt.pc
 	$(MAKE) --no-print-directory $(BUILD)/hayro_ccitt.pc
 	$(INSTALL) -m 644 $(HEADERS) $(DESTDIR)$(INCLUDEDIR)
@@ -149,10 +174,6 @@ install: $(if $(wildcard $(BUILD)/faxrows),,all)
 	ln -sf $(SHARED) $(DESTDIR)$(LIBDIR)/$(SONAME)
 	ln -sf $(SONAME) $(DESTDIR)$(LIBDIR)/libhayro_ccitt.so
 	$(INSTALL) -m 644 $(BUILD)/hayro_ccitt.pc $(DESTDIR)$(LIBDIR)/pkgconfig
-	$(INSTALL) -m 755 $(BUILD)/faxrows $(BUILD)/faxpack $(BUILD)/faxconv $(DESTDIR)$(BINDIR)
-	ln -sf faxconv $(DESTDIR)$(BINDIR)/fax2pbm
-	$(INSTALL) -m 644 tools/fax/faxconv.bash $(DESTDIR)$(COMPLETIONS)/faxconv
-	$(INSTALL) -m 644 man/faxrows.1 man/faxpack.1 man/faxconv.1 man/fax2pbm.1 $(DESTDIR)$(MANDIR)/man1
 	$(INSTALL) -m 644 man/hayro_ccitt.3 $(DESTDIR)$(MANDIR)/man3
 
 uninstall:

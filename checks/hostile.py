@@ -48,18 +48,27 @@ def answer_of(words):
     return "/".join([*lines, called.TEXTS[status] if status else f"ok {bytes_read}"])
 
 
+def small_cases():
+    """The arguments, data and answer of each case whose data is written out."""
+    return [case[1:] for case in called.lines_of("hostile.tsv") if "*" not in case[2]]
+
+
+def lines_of(cases):
+    """Cases as the text that `each_call.c` reads."""
+    return "".join(numbered(words, text) for words, text, _ in cases)
+
+
 def without_errors_of_memory():
     """A part of the cases under valgrind: no error, and no leaked block."""
     if not shutil.which("valgrind"):
         leave_out("accesses of memory", "valgrind")
         return
     c_library.build()
-    cases = [case[1:] for case in called.lines_of("hostile.tsv") if "*" not in case[2]]
+    cases = small_cases()
     with tempfile.TemporaryDirectory() as folder:
         driver = c_library.compiled(f"{folder}/each_call", "-DUNCOUNTED", "checks/each_call.c", c_library.LIBRARY)
         chosen = cases[::IN_LIBRARY]
-        lines = "".join(numbered(words, text) for words, text, _ in chosen)
-        done = subprocess.run([*VALGRIND, driver], input=lines, capture_output=True, text=True, check=False, timeout=600)
+        done = subprocess.run([*VALGRIND, driver], input=lines_of(chosen), capture_output=True, text=True, check=False, timeout=600)
         assert (done.returncode, done.stderr) == (0, ""), (done.returncode, done.stderr[-2000:])
         answers = [answer_of(line) for line in done.stdout.splitlines()]
         assert answers == [expected for _, _, expected in chosen], "other answers"
@@ -80,9 +89,8 @@ def without_errors_of_memory():
 def by_each_library():
     """Each case by each call of the installed libraries, on the caller's memory between pages that may not be touched."""
     c_library.build()
-    cases = [case[1:] for case in called.lines_of("hostile.tsv") if "*" not in case[2]]
-    lines = "".join(numbered(words, text) for words, text, _ in cases)
-    for printed in c_library.by_each_library("each_call", lines):
+    cases = small_cases()
+    for printed in c_library.by_each_library("each_call", lines_of(cases)):
         assert [answer_of(line) for line in printed.splitlines()] == [expected for _, _, expected in cases], "other answers"
     print(f"  {len(cases)} cases")
 

@@ -32,11 +32,15 @@ def pictures():
             yield columns, kind, flags, k, "00" * size or "-"
 
 
-def compared(driver, lines):
-    """Runs a driver on lines over each installed library, and prints what it counts."""
+def lines_of(cases):
+    """Cases as lines that a driver reads."""
+    return [" ".join(map(str, case)) + "\n" for case in cases]
+
+
+def compared(driver, cases):
+    """Runs a driver on cases over each installed library, and prints what it counts."""
     c_library.build()
-    text = "".join(" ".join(map(str, line)) + "\n" for line in lines)
-    print(*(f"  {printed}" for printed in sorted(c_library.by_each_library(driver, text))), sep="", end="")
+    print(*(f"  {printed}" for printed in sorted(c_library.by_each_library(driver, "".join(lines_of(cases))))), sep="", end="")
 
 
 def rows_one_at_a_time():

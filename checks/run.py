@@ -15,6 +15,7 @@ from concurrent.futures import ThreadPoolExecutor
 os.chdir(os.path.join(os.path.dirname(os.path.abspath(__file__)), ".."))
 sys.dont_write_bytecode = True
 
+import arm64  # noqa: E402
 import built_tests  # noqa: E402
 import c_library  # noqa: E402
 import clients  # noqa: E402
@@ -49,12 +50,12 @@ from left_out import LEFT_OUT  # noqa: E402
 
 
 FILES = [
-    repository, definitions, program, premises, built_tests, packing, c_library, row_by_row, feed, encoder, refusals, devices, cuts, damage_by_k, hostile, memory, large, installed, users, files, fax, fax_output, fax_limits, fax_others, inline_images, released, erased, clients, cost,
+    repository, definitions, program, premises, built_tests, packing, c_library, row_by_row, feed, encoder, refusals, devices, cuts, damage_by_k, hostile, memory, large, installed, users, files, fax, fax_output, fax_limits, fax_others, inline_images, released, erased, clients, cost, arm64,
 ]
 # those that run beside the build of the library for C
 WITHOUT_LIBRARY = [repository, definitions, program, premises, built_tests, packing, devices]
 # those that call `make`, which run in turn, and those that take longest
-MAKE = [installed, users, files]
+MAKE = [installed, users, files, arm64]
 LONG = [cost, large, memory, hostile, released, fax_limits]
 # those that build by cargo, in one folder, in turn
 ERASED = [erased]
