@@ -74,8 +74,8 @@ OBJECTS = $(BUILD)/proved.o $(BUILD)/calls.o $(BUILD)/heap.o
 missing = $(strip $(foreach program,$(1),$(if $(shell command -v $(program)),,$(program))))
 need = $(if $(call missing,$(1)),$(error missing: $(call missing,$(1)); README.md says where each is from))
 # the Debian packages of the tools without which some checks are left out
-TESTED_WITH = cargo ghostscript img2pdf libjbig2dec0-dev libmupdf-dev libqpdf-dev libtiff-dev libtiff-tools lintian mupdf-tools netpbm \
-	pkg-config poppler-utils python3-numpy python3-pikepdf python3-pil python3-pip python3-pypdf python3-pytest qpdf valgrind zlib1g-dev
+TESTED_WITH = cargo gcc-aarch64-linux-gnu ghostscript img2pdf libjbig2dec0-dev libmupdf-dev libqpdf-dev libtiff-dev libtiff-tools lintian mupdf-tools netpbm \
+	pkg-config poppler-utils python3-numpy python3-pikepdf python3-pil python3-pip python3-pypdf python3-pytest qemu-user qpdf valgrind zlib1g-dev
 
 all: library programs
 library: $(BUILD)/libhayro_ccitt.a $(BUILD)/libhayro_ccitt.so $(BUILD)/hayro_ccitt.pc
