@@ -1,6 +1,6 @@
 -- The examples.
 use Rattle.std.proofs.Common.{◌≡◌, ◌≢◌, ◌*◌, ℕ, ◌+◌, ◌-◌, ◌≤◌, true, false, [], ◌∷◌, ◌++◌, length, drop, take, Result, Ok, Err}
-use Rattle.std.proofs.Common.{List, subst, ◌∙◌, arith, ◌⊎◌, inl, inr, replicate, Some, None, refl, sym, ap}
+use Rattle.std.proofs.Common.{List, length-append, subst, ◌∙◌, arith, ◌⊎◌, inl, inr, replicate, Some, None, refl, sym, ap}
 use Rattle.std.specs.Prelude.{map, pos, negsuc}
 use Rattle.std.proofs.lemmas.List.Elements.{All-cons}
 use Rattle.hayro_ccitt.specs.Color.TheVariants.{White}
@@ -13,11 +13,17 @@ use Rattle.hayro_ccitt.specs.LocalityByK.{IsTaggedBody}
 use Rattle.hayro_ccitt.proofs.DamagedLines.DamageByK.{encoded_follows}
 use Rattle.hayro_ccitt.proofs.DamagedLines.EncodedBodies.{encoded_lines_are_bodies}
 use Rattle.worked_examples.specs.Examples.{hex, EncodesTwoLines, EncodesTaggedRows, with_eols, three_rows, bits_changed}
-use Rattle.worked_examples.specs.Examples.{bits_added}
-use Rattle.worked_examples.specs.Examples.{words_added, group3_1d, HaveLocalBodies, ReadsDamage, LimitAfterTheBody}
-use Rattle.worked_examples.specs.Examples.{OneLineFollows}
-use Rattle.worked_examples.specs.Examples.{reading_of}
-use Rattle.worked_examples.specs.Examples.{OneLineDiffers, ReadsDamageByK, with_tags, four_rows}
+use Rattle.worked_examples.specs.Examples.{bits_added, words_added, group3_1d, HaveLocalBodies, ReadsDamage, LimitAfterTheBody}
+use Rattle.worked_examples.specs.Examples.{OneLineFollows, reading_of}
+use Rattle.worked_examples.specs.Examples.{OneLineDiffers, ReadsDamageByK, with_tags, four_rows, AreInRange, row_lost}
+use Rattle.worked_examples.specs.Examples.{AreAlikeAfterTheFirst, ReadsRowsAfter, FeedsOneByte}
+use Rattle.worked_examples.specs.Examples.{TwoLinesConform, LongRunIsShort, WhiteRowIsOneMode, two_lines}
+use Rattle.hayro_ccitt.specs.Pictures.{IsLimitedPicture}
+use Rattle.hayro_ccitt.specs.PlainReading.{eols_here}
+use Rattle.hayro_ccitt.specs.RowsKept.{MakesNoRtc, PutsInStep}
+use Rattle.fax_encode.specs.Shortest.{shortest_from, shortest_line_2d, shortest_run, shortest_words}
+use Rattle.std.specs.Prelude.{nat_lt, ◌<◌}
+use Rattle.std.proofs.lemmas.Bool.{agree_below, agree_below_at, ltb-true}
 use Rattle.hayro_ccitt.specs.EndOfLine.{after_eol, next_eol}
 use Rattle.hayro_ccitt.specs.Locality.{IsLocal, EndsBefore, ComesToLine, EndAlike}
 use Rattle.hayro_ccitt.specs.Repetition.{Turn, Reaches}
@@ -276,3 +282,107 @@ wide_row_read =
     let outcome = (plain (group3_1d 2560 0 "b") (bits_of (hex "00101F35001001001001001001"))).outcome in
     let drawn = ap (λ (rows : List Row). (map changes rows, outcome)) wide_row_drawn in
     drawn ∙ ap (λ (row : List ℕ). (row ∷ [], Ok 13)) (no_changes 2560)
+
+pub are_in_range : AreInRange
+are_in_range = (record { columns = omega arith; rows = omega arith }, refl, refl)
+
+-- ---- Rows after damage
+
+-- the line after the second EOL puts readings in step
+puts_in_step : PutsInStep with_eols (drop 17 (bits_of (hex three_rows))) (drop 29 (bits_of (hex three_rows)))
+    (drop 51 (bits_of (hex three_rows)))
+puts_in_step = record {
+  eol = refl;
+  alone = refl;
+  next = _;
+  next_is = refl;
+  after = _;
+  after_is = refl;
+  ends = λ reference row rest e. whole_stays _ _ row _ rest e (omega arith);
+  count = 1;
+  following_is = refl;
+  unreferred = inr (λ reference other. refl);
+}
+
+-- some bits, without those before others
+left_over : (before here : Bits) → drop (length before) (before ++ here) ≡ here
+left_over [] here = refl
+left_over (bit ∷ before) here = left_over before here
+
+-- of 56 bits none makes six EOLs before the last 27
+no_rtc : (bits line : Bits) → length bits ≡ 56 → length line ≡ 27
+    → ((k : ℕ) → k < 29 → (eols_here with_eols (drop k bits)).0 < 6) → MakesNoRtc with_eols bits line
+no_rtc bits line all some few before here split more =
+    let place : length before < 29 = omega (arith, all, some, ap length split, length-append before here, more) in
+    let there : drop (length before) bits ≡ here = ap (drop (length before)) split ∙ left_over before here in
+    subst (λ (b : Bits). (eols_here with_eols b).0 < 6) there (few (length before) place)
+
+few_eols : (bits : Bits) → agree_below (λ k. nat_lt (eols_here with_eols (drop k bits)).0 6) (λ k. true) 29 ≡ true
+    → (k : ℕ) → k < 29 → (eols_here with_eols (drop k bits)).0 < 6
+few_eols bits tests k below =
+    ltb-true _ _ (agree_below_at (λ k. nat_lt (eols_here with_eols (drop k bits)).0 6) (λ k. true) 29 k tests below)
+
+pub alike_after_the_first : AreAlikeAfterTheFirst
+alike_after_the_first = (
+  refl,
+  record {
+    encoding = inl refl;
+    lenient = refl;
+    unlimited = refl;
+    wide = omega arith;
+    same = refl;
+    step = puts_in_step;
+    sought = inl refl;
+    sought_too = inl refl;
+    no_rtc = no_rtc (bits_of (hex three_rows)) (drop 29 (bits_of (hex three_rows))) refl refl
+        (few_eols (bits_of (hex three_rows)) refl);
+    no_rtc_too = no_rtc (bits_of (hex row_lost)) (drop 29 (bits_of (hex three_rows))) refl refl
+        (few_eols (bits_of (hex row_lost)) refl);
+  },
+)
+
+pub rows_after_read : ReadsRowsAfter
+rows_after_read = (refl, refl)
+
+-- ---- Data in pieces
+
+pub feeds_one_byte : FeedsOneByte
+feeds_one_byte = record {
+  fit = omega arith;
+  lie = record {
+    within = omega arith;
+    more = bits_of (hex "C0");
+    bits = refl;
+    can_come = record { bytes = refl; none = λ e. absurd cc };
+  };
+  stands = record { fresh = refl; ticks = refl; state = refl; start = refl };
+}
+
+-- ---- Conforming data
+
+pub two_lines_conform : TwoLinesConform
+two_lines_conform = (
+  pixels 8 (5 ∷ 6 ∷ []) ∷ pixels 8 (2 ∷ 3 ∷ 5 ∷ 6 ∷ []) ∷ [],
+  inr (IsLimitedPicture.of_t6 (take 28 (bits_of (hex two_lines))) (record {
+    encoding = refl;
+    limit = refl;
+    some = omega arith;
+    picture = (
+      omega arith,
+      All-cons (λ row. length row ≡ 8) (pixels 8 (5 ∷ 6 ∷ [])) (pixels 8 (2 ∷ 3 ∷ 5 ∷ 6 ∷ []) ∷ []) refl
+          (All-cons (λ row. length row ≡ 8) (pixels 8 (2 ∷ 3 ∷ 5 ∷ 6 ∷ [])) [] refl (λ k d lt. absurd (omega arith))),
+    );
+    lines = two_lines_encoded;
+    begins = (drop 28 (bits_of (hex two_lines)), refl);
+  })),
+)
+
+-- ---- The shortest encoding
+
+pub long_run_is_short : LongRunIsShort
+unfolding shortest_run shortest_words
+long_run_is_short = (refl, refl)
+
+pub white_row_is_one_mode : WhiteRowIsOneMode
+unfolding shortest_line_2d shortest_from shortest_run shortest_words
+white_row_is_one_mode = refl

@@ -1,19 +1,29 @@
 -- Worked examples, written as texts: settings, bytes, and the result of the plain reading.
-use Rattle.std.specs.Prelude.{ℕ, ◌+◌, ◌-◌, ◌*◌, ◌==◌, ◌≡◌, nat_lt, List, [], ◌∷◌, take, drop, map, codes, Bool, false, Ok}
-use Rattle.std.specs.Prelude.{Result, if◌then◌else◌}
+use Rattle.std.specs.Prelude.{ℕ, ◌+◌, ◌-◌, ◌*◌, ◌==◌, ◌≡◌, nat_lt, List, [], ◌∷◌, take, drop, map, codes, Bool, true, false, Ok}
+use Rattle.std.specs.Prelude.{Result, if◌then◌else◌, None, length}
 use Rattle.std.specs.List.{list_any}
 use Prim.Native.String.{String}
 use Rattle.hayro_ccitt.specs.DecodeError.{DecodeError}
 use Rattle.hayro_ccitt.specs.EncodingMode.{EncodingMode}
 use Rattle.hayro_ccitt.specs.EncodingMode.TheVariants.{Group4, Group3_1D, Group3_2D}
 use Rattle.hayro_ccitt.specs.DecodeSettings.{DecodeSettings}
-use Rattle.hayro_ccitt.specs.Bits.{bits_of, low_first_bits_of}
+use Rattle.hayro_ccitt.specs.BitOrder.{BitOrder}
+use Rattle.hayro_ccitt.specs.Bits.{AreWholeBytes, bits_of, low_first_bits_of}
+use Rattle.hayro_ccitt.specs.Color.TheVariants.{White}
+use Rattle.hayro_ccitt.specs.Context.{fresh}
 use Rattle.hayro_ccitt.specs.Damage.{cuts_of, Damaged, damage_of, repairs_of, misses_of}
 use Rattle.hayro_ccitt.specs.Rows.{Row, changes, pixels, white_row}
 use Rattle.hayro_ccitt.specs.Encodings.{EncodesRows, PictureT4}
 use Rattle.hayro_ccitt.specs.Locality.{IsLocal, EndAlike}
 use Rattle.hayro_ccitt.specs.LocalityByK.{ComeBefore1D, DifferInOneLine}
 use Rattle.hayro_ccitt.specs.PlainReading.{plain}
+use Rattle.hayro_ccitt.specs.RowFeeds.{Feeding, IsFeedOf, IsOpenAt}
+use Rattle.hayro_ccitt.specs.RowsKept.{AreAlikeAfter}
+use Rattle.hayro_ccitt.specs.Settings.{AreSettings}
+use Rattle.hayro_ccitt.specs.Stand.{Stand}
+use Rattle.fax_conforms.specs.Conforming.{Conforms}
+use Rattle.fax_encode.specs.Chosen.{chosen_run}
+use Rattle.fax_encode.specs.Shortest.{shortest_line_2d, shortest_run}
 
 -- the value of a hexadecimal digit, a capital letter or a figure
 abbrev pub digit : ℕ → ℕ
@@ -169,6 +179,9 @@ abbrev pub OneLineFollows : Type 0
 OneLineFollows = ComeBefore1D with_tags 1 (drop 41 (bits_of (hex four_rows)))
 
 -- `LocalityByK` applies to these two
+abbrev pub AreInRange : Type 0
+AreInRange = AreSettings with_tags × AreWholeBytes (bits_of (hex four_rows)) × AreWholeBytes (bits_of (hex change_moved))
+
 abbrev pub OneLineDiffers : Type 0
 OneLineDiffers = DifferInOneLine with_tags (bits_of (hex four_rows)) (bits_of (hex change_moved)) 30 41 41 1
 
@@ -178,3 +191,64 @@ abbrev pub ReadsDamageByK : Type 0
 ReadsDamageByK = (reading_of with_tags four_rows ≡ ([] ∷ (3 ∷ 5 ∷ []) ∷ (3 ∷ 5 ∷ []) ∷ [] ∷ [], Ok 10))
     × (reading_of with_tags change_moved ≡ ([] ∷ (4 ∷ 6 ∷ []) ∷ (4 ∷ 6 ∷ []) ∷ [] ∷ [], Ok 10))
     × (reading_of with_tags mode_broken ≡ ([] ∷ [] ∷ [] ∷ [] ∷ [], Ok 10))
+
+-- ---- Rows after damage
+
+-- the first of three rows is lost: all bits of its line are zeros, which are fill
+abbrev pub row_lost : String
+row_lost = "0010000C700033"
+
+-- `RowsAfter` applies to these two: from bit 17 on they are the same, an EOL and the line of the second row, after which comes
+-- that of the third
+abbrev pub AreAlikeAfterTheFirst : Type 0
+AreAlikeAfterTheFirst = AreWholeBytes (bits_of (hex row_lost)) × AreAlikeAfter with_eols (bits_of (hex three_rows))
+    (bits_of (hex row_lost)) 17 17 (drop 29 (bits_of (hex three_rows))) (drop 51 (bits_of (hex three_rows)))
+
+-- the last row is the same in both
+abbrev pub ReadsRowsAfter : Type 0
+ReadsRowsAfter = (reading_of with_eols three_rows ≡ ([] ∷ (3 ∷ 5 ∷ []) ∷ [] ∷ [], Ok 7))
+    × (reading_of with_eols row_lost ≡ ((3 ∷ 5 ∷ []) ∷ [] ∷ [], Ok 7))
+
+-- ---- Data in pieces
+
+-- a feed of T.6 data of eight columns and one row to which these bytes were fed, before the first call
+abbrev pub fed : String → Feeding
+fed text = record {
+  ctx = record { held = fresh (group4 8 1 ""); passed = 0; cut = false; ticks = 0; space = 0 };
+  rows = record { started_at = 0; damage = None; cut = false; missed = None; stand = Stand.AfterRow };
+  order = BitOrder.HighestFirst;
+  begun = false;
+  finished = false;
+  kept = bits_of (hex text);
+  dropped = 0;
+  place = 0;
+  looked = 0;
+  part = None;
+  line_read = 0;
+  tried_at = 0;
+  room = 2;
+}
+
+-- it is a feed of data that go on with another byte
+abbrev pub FeedsOneByte : Type 0
+FeedsOneByte = IsFeedOf (bits_of (hex "31C0")) 0 (fed "31")
+
+-- the line there, to which so much was fed, can be changed by data that follows
+abbrev pub LineIsOpen : String → Type 0
+LineIsOpen text = IsOpenAt true Stand.AtLine (fed text).ctx (fed text).kept
+
+-- ---- Conforming data
+
+-- two lines that the row limit ends conform, whatever follows
+abbrev pub TwoLinesConform : Type 0
+TwoLinesConform = Conforms (group4 8 2 "") (bits_of (hex two_lines))
+
+-- ---- The shortest encoding
+
+-- a white run of 3328 pixels: two words of 1664 and one of none have 20 bits, words of 2560, 768 and none 29 (T.4, 4.1.1)
+abbrev pub LongRunIsShort : Type 0
+LongRunIsShort = (shortest_run White 3328 ≡ take 20 (bits_of (hex "618350"))) × (length (chosen_run White 3328) ≡ 29)
+
+-- a white row below a white one is a vertical mode (T.4, 4.2.1.3)
+abbrev pub WhiteRowIsOneMode : Type 0
+WhiteRowIsOneMode = shortest_line_2d (white_row 8) (white_row 8) ≡ take 1 (bits_of (hex "80"))

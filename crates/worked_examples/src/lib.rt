@@ -4,13 +4,18 @@
 //! Each is computed when the crate is checked. Rows of 4294967295 columns and long data are in `test_decoder` only.
 #![tactic(auto)]
 
-ghost use Rattle.std.specs.Prelude.{◌≡◌, [], ◌∷◌, Ok, Err};
+ghost use Rattle.std.specs.Prelude.{◌≡◌, [], ◌∷◌, Ok, Err, true, false};
 ghost use Rattle.worked_examples.specs.Examples.{damage_in, repairs_in, cuts_in, misses_in, reading_of, low_first_reading_of};
-ghost use Rattle.worked_examples.specs.Examples.{group4};
-ghost use Rattle.worked_examples.specs.Examples.{group3_1d, group3_2d};
+ghost use Rattle.worked_examples.specs.Examples.{group4, group3_1d, group3_2d};
 ghost use Rattle.worked_examples.specs.Examples.{EncodesTwoLines, EncodesTaggedRows, HaveLocalBodies, ReadsDamage};
 ghost use Rattle.worked_examples.specs.Examples.{LimitAfterTheBody};
-ghost use Rattle.worked_examples.specs.Examples.{OneLineFollows, OneLineDiffers, ReadsDamageByK};
+ghost use Rattle.worked_examples.specs.Examples.{OneLineFollows, OneLineDiffers, AreInRange, ReadsDamageByK};
+ghost use Rattle.worked_examples.specs.Examples.{AreAlikeAfterTheFirst, ReadsRowsAfter, FeedsOneByte};
+ghost use Rattle.worked_examples.specs.Examples.{LineIsOpen, TwoLinesConform, LongRunIsShort, WhiteRowIsOneMode, hex};
+ghost use Rattle.hayro_ccitt.specs.Bits.{bits_of};
+ghost use Rattle.hayro_ccitt.specs.GapsContinued.{gap_is_settled};
+ghost use Rattle.hayro_ccitt.specs.PlainReading.{failed_at};
+ghost use Rattle.hayro_ccitt.specs.Space.{most_room};
 
 use hayro_ccitt::DecodeError;
 
@@ -169,6 +174,45 @@ pub fn locality_examples()
 /// Locality in two dimensions: a damaged line, one that is read against its row, and the one-dimensional line after them.
 pub fn locality_by_k_examples()
     ensures follows { OneLineFollows }
+    ensures range { AreInRange }
     ensures applies { OneLineDiffers }
     ensures damage { ReadsDamageByK }
+{}
+
+/// Rows after damage: a row is lost, and the third is the same again.
+pub fn rows_after_examples()
+    ensures applies { AreAlikeAfterTheFirst }
+    ensures damage { ReadsRowsAfter }
+{}
+
+/// Where strict data fail after one row: where an EOL is missing, or where a damaged line begins.
+pub fn fault_examples()
+    ensures no_eol { failed_at (group3_1d 8 0 "ls") (bits_of (hex "0019F800CC")) 1 ≡ 17 }
+    ensures damaged_line { failed_at (group3_1d 8 0 "ls") (bits_of (hex "0019800C400033")) 1 ≡ 29 }
+{}
+
+/// Data in pieces: gaps that no data that follows changes, and gaps and lines that wait for more.
+pub fn feed_examples()
+    ensures one_after_an_eol { gap_is_settled (group3_1d 8 0 "l") 1 true (bits_of (hex "0019")) ≡ true }
+    ensures zeros_after_an_eol { gap_is_settled (group3_1d 8 0 "l") 1 true (bits_of (hex "0010")) ≡ false }
+    ensures a_missing_eol_is_sought { gap_is_settled (group3_1d 8 0 "l") 1 true (bits_of (hex "FF")) ≡ false }
+    ensures a_missing_eol_is_a_fault { gap_is_settled (group3_1d 8 0 "ls") 1 true (bits_of (hex "FF")) ≡ true }
+    ensures half_of_eofb { gap_is_settled (group4 8 0 "b") 1 false (bits_of (hex "0010")) ≡ false }
+    ensures eofb { gap_is_settled (group4 8 0 "b") 1 false (bits_of (hex "001001")) ≡ true }
+    ensures a_feed { FeedsOneByte }
+    ensures half_of_a_line { LineIsOpen "31" }
+    ensures a_line { LineIsOpen "31C0" → ⊥ }
+{}
+
+/// Memory: for how many changes each list of a context has room at most.
+pub fn room_examples()
+    ensures by_the_bits { most_room (group4 1728 0 "") (bits_of (hex "31C0")) ≡ 98 }
+    ensures by_the_columns { most_room (group4 8 0 "") (bits_of (hex "31C0")) ≡ 82 }
+{}
+
+/// Data that conform, and the shortest encoding.
+pub fn encoder_examples()
+    ensures conforms { TwoLinesConform }
+    ensures long_run { LongRunIsShort }
+    ensures white_row { WhiteRowIsOneMode }
 {}
