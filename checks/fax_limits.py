@@ -221,8 +221,8 @@ def edge_of_pdf(chance, encode):
                                        (b"/RunLengthDecode", b"\x81\0" * (size // 800)), (b"/LZWDecode", fax.lzw(bytes(size // 400)))])
         return page_of(b"/I Do", [Pdf.body(image(PICTURE).replace(b"/Filter /CCITTFaxDecode", b"/Filter [%s /CCITTFaxDecode]" % filters.strip(b"[]")), data)],
                        b"/XObject << /I 5 0 R >>")
-    brackets = chance.choice((b"[", b"<<", b"(", b"<< /A "))
-    return page_of(b"/I Do", [b"<< /A " + brackets * chance.choice((10, 10000, 200000))] * chance.choice((1, 3, 40)), b"/XObject << /I 5 0 R >>")
+    brackets, (times, objects) = chance.choice((b"[", b"<<", b"(", b"<< /A ")), chance.choice(((10, 40), (2000, 40), (10000, 3), (60000, 1)))
+    return page_of(b"/I Do", [b"<< /A " + brackets * times] * objects, b"/XObject << /I 5 0 R >>")
 
 
 def edges(count, seed):
