@@ -1,10 +1,6 @@
 """Checks of what `make dist` makes: the same bytes in two folders, and each package, where the kit isn't: the command of the README
 installs it, and it decodes a page. Also of the Python package, by pytest.
 
-With BARE_DEBIAN=ROOT.tar in the environment the packages are also installed in that root of Debian, which this command makes:
-
-    mmdebstrap --variant=minbase --include=gcc,libc6-dev,make,python3,python3-pip bookworm ROOT.tar
-
 With PROVE=1 the crate of docs/SINKS.md is proved, which takes a minute.
 """
 import os
@@ -166,6 +162,70 @@ def beside_other_packages(package, folder):
         assert os.path.lexists(f"{root}/usr/bin/{name}"), name
 
 
+# A crate that depends on the crate `hayro-ccitt`, as a PDF renderer does, and a program that depends on both.
+RENDERER = """
+use hayro_ccitt::{decode, DecodeSettings, Decoder, DecoderContext, EncodingMode};
+
+struct Rows(Vec<Vec<u32>>);
+
+impl Decoder for Rows {
+    fn push_row(&mut self, changes: &[u32]) {
+        self.0.push(changes.to_vec());
+    }
+}
+
+pub fn rows(data: &[u8]) -> Vec<Vec<u32>> {
+    let mut context = DecoderContext::new(DecodeSettings {
+        columns: 8,
+        rows: 1,
+        end_of_block: false,
+        end_of_line: false,
+        rows_are_byte_aligned: false,
+        encoding: EncodingMode::Group4,
+        strict: false,
+    });
+    let mut rows = Rows(Vec::new());
+    decode(data, &mut rows, &mut context).unwrap();
+    rows.0
+}
+"""
+VIEWER = "fn main() { println!(\"{:?} {}\", renderer::rows(&[0x31, 0xC0]), hayro_ccitt::DecodeError::UnexpectedEof); }\n"
+
+
+def in_the_place_of_the_crate(folder, environment):
+    """The lines of the packages' pages put each in the place of the crate: `hayro-ccitt` in a program and in a renderer below it, and
+    `hayro-ccitt-proved` in a program."""
+    page = Path(folder, "crate/hayro-ccitt-0.5.0/README.md").read_text(encoding="utf-8")
+    dependency, patch = re.findall(r"^```toml\n(.*?)^```$", page, re.MULTILINE | re.DOTALL)
+    page = Path(folder, "proved-crate/hayro-ccitt-proved-0.5.0/README.md").read_text(encoding="utf-8")
+    (proved,) = re.findall(r"^```toml\n(.*?)^```$", page, re.MULTILINE | re.DOTALL)
+    renderer = 'renderer = { path = "../renderer" }\n'
+    packages = {
+        "crate/renderer": ('[dependencies]\nhayro-ccitt = "0.5"\n', "lib.rs", RENDERER),
+        "crate/viewer": (f"[dependencies]\n{dependency}{renderer}{patch}", "main.rs", VIEWER),
+        "proved-crate/renderer": (f"[dependencies]\n{proved}", "lib.rs", RENDERER),
+        "proved-crate/viewer": (f"[dependencies]\n{proved}{renderer}", "main.rs", VIEWER),
+    }
+    for name, (lines, file, code) in packages.items():
+        at = Path(folder, name)
+        Path(at, "src").mkdir(parents=True)
+        Path(at, "Cargo.toml").write_text(f'[package]\nname = "{at.name}"\nedition = "2021"\n{lines}', encoding="utf-8")
+        Path(at, "src", file).write_text(code, encoding="utf-8")
+        if at.name == "viewer":
+            told = run(["cargo", "run", "-q", "--offline"], cwd=at, env=environment)
+            assert told == "[[3, 5]] unexpected end of input\n", (name, told)
+
+
+def refused_for_other_targets(folder, environment):
+    """For a target that the library isn't compiled for the build of `hayro-ccitt-proved` stops with a line that says so."""
+    here = f"{folder}/proved-crate/hayro-ccitt-proved-0.5.0"
+    for target in ("aarch64-unknown-linux-gnu", "i686-unknown-linux-gnu", "x86_64-pc-windows-gnu", "x86_64-unknown-linux-gnux32"):
+        words = ["cargo", "build", "-q", "--offline", "--target", target]
+        done = subprocess.run(words, cwd=here, env=environment, capture_output=True, text=True, check=False)
+        said = [line for line in done.stderr.splitlines() if "x86_64 Linux only" in line]
+        assert done.returncode != 0 and len(said) == 1 and target in said[0] and "panicked" not in done.stderr, (target, done)
+
+
 def package_of_cargo(folder, environment):
     """`cargo check`, `doc`, `clippy` and `package` work in the unpacked packages, without a network. That of the erased sources has at
     most 400 KB."""
@@ -204,7 +264,8 @@ def packages_where_the_kit_is_not():
         compiled_as_the_tarball_says(folder, environment)
         beside_other_packages(next(map(str, Path(packages).glob("*.deb"))), f"{folder}/beside")
         if "crate" in chosen:
-            package_of_cargo(folder, {**environment, "HOME": f"{folder}/home"})
+            for check in (package_of_cargo, in_the_place_of_the_crate, refused_for_other_targets):
+                check(folder, {**environment, "HOME": f"{folder}/home"})
         refused_without_its_changes(f"{folder}/another/folder")
         if shutil.which("lintian"):
             run(f"lintian --fail-on error {packages}/*.deb")
@@ -227,38 +288,18 @@ def cargo_without_the_library():
         assert done.returncode != 0 and "libhayro_ccitt_c.a: run `make`" in done.stderr and "panicked" not in done.stderr, done.stderr
 
 
-def in_a_bare_debian():
-    """In a root of Debian with nothing but a C compiler and Python, each package is installed by the README's command."""
-    root = os.environ.get("BARE_DEBIAN")
-    if not root:
-        leave_out("the packages in a bare Debian", "BARE_DEBIAN, which checks/released.py explains")
-        return
-    with tempfile.TemporaryDirectory() as folder:
-        c_library.build()
-        packages = made(f"{folder}/repository")
-        os.mkdir(f"{folder}/root")
-        run(["tar", "xf", root, "-C", f"{folder}/root"])
-        assert not shutil.which("rt", path=":".join(f"{folder}/root{at}" for at in PATH.split(":")))
-        chosen = [name for name in PACKAGES if not name.endswith("crate") or toolchain()]
-        mounts = f"mount -t proc proc {folder}/root/proc && mkdir -p {folder}/root/toolchain && "
-        mounts += f"mount --bind {toolchain() or '/mnt'} {folder}/root/toolchain && "
-        for name in chosen:
-            here = filled(f"{folder}/root/{name}", packages)
-            words = {"deb": ("install ", "install -y "), "wheel": ("install ", "install --no-index --break-system-packages ")}.get(name, ("", ""))
-            install, decode = PACKAGES[name]
-            script = f"cd /{name} && {install.replace(*words)} && ({decode})"
-            entered = f"chroot {folder}/root env -i HOME=/root PATH={PATH}:/toolchain/bin sh -ec {shlex.quote(script)}"
-            run(["unshare", "-m", "sh", "-ec", f"{mounts}{entered}"])
-            is_the_page(f"{here}/page.pbm", name)
-    print(f"  {', '.join(chosen)}: each is installed by one command in a bare Debian, and decodes a page")
-
-
 def commands_of_the_readme():
     """The README has the commands that install the packages."""
     with open("README.md", encoding="utf-8") as file:
         text = file.read()
     lacking = [install for install, _ in PACKAGES.values() if f"$ {install}\n" not in text]
     assert not lacking, lacking
+
+
+def files_of(folder, crates):
+    """The sources, definitions and proofs of crates in this folder: the bytes of each file by its name."""
+    paths = [path for crate in crates for part in ("src", "specs", "proofs") for path in Path(folder, crate, part).rglob("*") if path.is_file()]
+    return {str(path.relative_to(folder)): path.read_bytes() for path in paths}
 
 
 def crates_in_another_repository():
@@ -271,10 +312,11 @@ def crates_in_another_repository():
     with tempfile.TemporaryDirectory() as folder:
         for _ in range(2):
             assert run(f"python3 {os.path.abspath(command)}", cwd=folder) == printed
-        files = [f"{at}/{name}" for at, _, names in os.walk(folder) for name in names]
-        assert len(files) > 100 and not any(map(os.path.islink, files))
+        below = ["fax_bits", "fax_reading", "fax_lines", "fax_rows", "fax_feeds", "hayro_ccitt"]
+        copied = files_of(f"{folder}/crates", below)
+        assert copied == files_of("crates", below), "vendor.py copies other files than the crates have"
+        assert not any(os.path.islink(f"{folder}/crates/{name}") for name in copied)
         with open(f"{folder}/crates.txt", encoding="utf-8") as file:
-            below = ["fax_bits", "fax_reading", "fax_lines", "fax_rows", "fax_feeds", "hayro_ccitt"]
             lines = [": ".join([crate, " ".join(below[:place])]).strip() for place, crate in enumerate(below)]
             assert file.read().split("\n") == [*lines, ""]
         if not os.environ.get("PROVE"):
@@ -307,7 +349,7 @@ def python_package():
         leave_out("tests of the Python package", "".join(names))
 
 
-CHECKS = [packages_where_the_kit_is_not, in_a_bare_debian, cargo_without_the_library, commands_of_the_readme, crates_in_another_repository, python_package]
+CHECKS = [packages_where_the_kit_is_not, cargo_without_the_library, commands_of_the_readme, crates_in_another_repository, python_package]
 
 if __name__ == "__main__":
     for check in CHECKS:

@@ -45,18 +45,19 @@ import refusals  # noqa: E402
 import released  # noqa: E402
 import repository  # noqa: E402
 import row_by_row  # noqa: E402
+import systems  # noqa: E402
 import users  # noqa: E402
 from left_out import LEFT_OUT  # noqa: E402
 
 
 FILES = [
-    repository, definitions, program, premises, built_tests, packing, c_library, row_by_row, feed, encoder, refusals, devices, cuts, damage_by_k, hostile, memory, large, installed, users, files, fax, fax_output, fax_limits, fax_others, inline_images, released, erased, clients, cost, arm64,
+    repository, definitions, program, premises, built_tests, packing, c_library, row_by_row, feed, encoder, refusals, devices, cuts, damage_by_k, hostile, memory, large, installed, users, files, fax, fax_output, fax_limits, fax_others, inline_images, released, systems, erased, clients, cost, arm64,
 ]
 # those that run beside the build of the library for C
 WITHOUT_LIBRARY = [repository, definitions, program, premises, built_tests, packing, devices]
 # those that call `make`, which run in turn, and those that take longest
 MAKE = [installed, users, files, arm64]
-LONG = [cost, large, memory, hostile, released, fax_limits]
+LONG = [cost, large, memory, hostile, released, systems, fax_limits]
 # those that build by cargo, in one folder, in turn
 ERASED = [erased]
 

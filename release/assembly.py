@@ -148,6 +148,9 @@ class Writer:
         for section in self.object.sections:
             if section.name == ".comment":
                 self.lines += ["", '\t.section ".comment", "MS", @progbits, 1', bytes_line(section.data.lstrip(b"\0"))]
+        # clang's assembler loses a symbol that nothing but `.reloc` names.
+        missing = [it for it in self.object.symbols if it.bind != LOCAL and it.section == UNDEFINED]
+        self.lines += ["", *(f'\t{".weak" if it.bind == WEAK else ".globl"} "{it.name}"' for it in missing)]
         self.lines += ["", '\t.section ".note.GNU-stack", "", @progbits', ""]
         return "\n".join(self.lines)
 

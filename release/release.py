@@ -22,11 +22,10 @@ CRATE = "hayro-ccitt-0.5.0"
 PROVED_CRATE = "hayro-ccitt-proved-0.5.0"
 TRIPLET = "x86_64-linux-gnu"
 PROVED = ["hayro_ccitt_c", "faxrows", "faxpack"]
+PROGRAMS = ["faxrows", "faxpack", "faxconv"]
 DESCRIPTION = "decoder and encoder for CCITT fax images, with proofs"
 MAKERS = "hayro_ccitt <hayro_ccitt@example.org>"
 NO_LICENCE = "No licence is chosen yet: that is for the owner of the repository to do.\n"
-# The oldest C library that the wheel is for.
-MANYLINUX = (2, 17)
 
 
 def fail(why):
@@ -97,6 +96,8 @@ def provenance(build, version):
     commit = said("git", "rev-parse", "HEAD") or "none"
     changed = "" if commit == "none" or not said("git", "status", "--porcelain") else ", with changes that aren't committed"
     built = [f"{build}/proved.o", f"{build}/faxrows", f"{build}/faxpack"]
+    programs = dotted(newest_libc([f"{build}/{name}" for name in PROGRAMS]))
+    library = dotted(newest_libc([f"{build}/libhayro_ccitt.so.{version}"]))
     return "\n".join(
         [
             f"hayro_ccitt {version}",
@@ -105,6 +106,7 @@ def provenance(build, version):
             f"Proved and compiled by: {said('rt', 'version') or 'unknown'}",
             f"C parts compiled by: {said(os.environ.get('CC', 'cc'), '--version')}",
             f"Linked by: {said('ld', '--version')}",
+            f"Needs: x86-64 Linux, the programs glibc {programs} or newer, the library glibc {library} or newer.",
             "",
             "The proved crates: the SHA-256 of the list that `sha256sum` prints for the files of src, specs and proofs, in order.",
             *proved_sources(),
@@ -202,7 +204,11 @@ def newest_libc(paths):
     for path in paths:
         listed = subprocess.run(["objdump", "-T", path], capture_output=True, text=True, check=True).stdout
         versions |= {tuple(map(int, found.split("."))) for found in re.findall(r"GLIBC_([\d.]+)", listed)}
-    return max(versions, default=(2, 2, 5))
+    return max(versions)
+
+
+def dotted(version):
+    return ".".join(map(str, version))
 
 
 def needs_zlib(path):
@@ -230,7 +236,7 @@ def debian_package(build, version, told, epoch, work):
     os.chmod(library, 0o644)
     subprocess.run(["strip", "--strip-debug", f"{root}/usr/lib/{TRIPLET}/libhayro_ccitt.a"], check=True)
     size = sum(os.path.getsize(f"{root}/{name}") for name in files_in(root)) // 1024
-    libc = ".".join(map(str, newest_libc([*programs, library])))
+    libc = dotted(newest_libc([*programs, library]))
     zlib = ", zlib1g" if any(needs_zlib(path) for path in programs) else ""
     control = [
         "Package: hayro-ccitt",
@@ -295,13 +301,11 @@ def proved_cargo_package(build, told, epoch):
 def wheel(build, version, told, epoch):
     """The Python package with the shared library in it."""
     library = f"{build}/libhayro_ccitt.so.{version}"
-    if newest_libc([library]) > MANYLINUX:
-        fail(f"the library needs a newer C library than {MANYLINUX}, which the wheel's name says")
     interface = version.rpartition(".")[0]
     for name, line in (("__init__", f'__version__ = "{version}"'), ("_library", f'SONAME = "libhayro_ccitt.so.{interface}"')):
         if line not in read(f"bindings/python/hayro_ccitt/{name}.py").decode():
             fail(f"bindings/python/hayro_ccitt/{name}.py isn't of version {version}")
-    tag = f"py3-none-manylinux_{MANYLINUX[0]}_{MANYLINUX[1]}_x86_64"
+    tag = f"py3-none-manylinux_{'_'.join(map(str, newest_libc([library])))}_x86_64"
     about = f"hayro_ccitt-{version}.dist-info"
     metadata = f"Metadata-Version: 2.1\nName: hayro_ccitt\nVersion: {version}\nSummary: A {DESCRIPTION}\nRequires-Python: >=3.9\n"
     modules = [name for name in tracked() if re.match(r"bindings/python/hayro_ccitt/[^/]+(\.py|py\.typed)$", name)]
@@ -348,8 +352,8 @@ def source_tarball(build, version, erased, told, epoch, work):
 def main(build, version):
     if not re.search(rf"^## {re.escape(version)}\b", read("CHANGELOG.md").decode(), re.MULTILINE):
         fail(f"CHANGELOG.md has no version {version}")
-    needed = ["libhayro_ccitt_c.a", "proved.o", "libhayro_ccitt.a", f"libhayro_ccitt.so.{version}", "faxrows", "faxpack"]
-    if missing := [name for name in needed if not os.path.exists(f"{build}/{name}")]:
+    needed = ["libhayro_ccitt_c.a", "proved.o", "libhayro_ccitt.a", f"libhayro_ccitt.so.{version}"]
+    if missing := [name for name in [*needed, *PROGRAMS] if not os.path.exists(f"{build}/{name}")]:
         fail(f"{build} has no {missing[0]}: run `make` first")
     if lacking := [tool for tool in ("dpkg-deb", "objdump", "strip", "rustfmt") if not shutil.which(tool)]:
         fail(f"it takes {', '.join(lacking)}")

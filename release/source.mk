@@ -11,6 +11,13 @@ AR ?= ar
 INSTALL ?= install
 CFLAGS ?= -O2
 
+# proved.s is machine code.
+ifneq ($(MAKECMDGOALS),clean)
+ifneq ($(shell $(CC) $(CFLAGS) -dM -E -x c /dev/null | grep -c -w -e __x86_64__ -e __LP64__ -e __linux__),3)
+$(error x86-64 Linux only: $(CC) compiles for another target)
+endif
+endif
+
 PREFIX ?= /usr/local
 BINDIR ?= $(PREFIX)/bin
 LIBDIR ?= $(PREFIX)/lib
@@ -22,12 +29,14 @@ SONAME = libhayro_ccitt.so.$(INTERFACE)
 HEADERS = c/hayro_ccitt.h c/fax_encode.h c/hayro_ccitt_heap.h
 OBJECTS = build/proved.o build/calls.o build/heap.o
 EXAMPLES = $(patsubst examples/%.c,build/%,$(wildcard examples/*.c))
+# Whether the compiler finds the header of a package of pkg-config: musl-gcc finds none of the system's.
+finds = $(CC) $(CFLAGS) $$(pkg-config --cflags $(1)) -E -include $(2) -x c /dev/null >/dev/null 2>&1
 # faxconv writes PNG and reads compressed PDF by zlib, where pkg-config finds it; WITH_ZLIB= builds it without.
-WITH_ZLIB ?= $(shell pkg-config --exists zlib 2>/dev/null && echo zlib)
+WITH_ZLIB ?= $(shell pkg-config --exists zlib 2>/dev/null && $(call finds,zlib,zlib.h) && echo zlib)
 ZLIB_FLAGS = $(if $(WITH_ZLIB),-DFAX_HAVE_ZLIB $(shell pkg-config --cflags zlib))
 ZLIB_LIBS = $(if $(WITH_ZLIB),$(shell pkg-config --libs zlib))
 # It reads PDF's structure by libqpdf, if that was found here, and again when it runs; WITH_QPDF= builds it with its own reader alone.
-WITH_QPDF ?= $(shell pkg-config --exists 'libqpdf >= 10.6' 2>/dev/null && \
+WITH_QPDF ?= $(shell pkg-config --exists 'libqpdf >= 10.6' 2>/dev/null && $(call finds,libqpdf,qpdf/qpdf-c.h) && \
 	objdump -p "$$(pkg-config --variable=libdir libqpdf)/libqpdf.so" 2>/dev/null | sed -n 's/^ *SONAME *//p')
 QPDF_FLAGS = $(if $(WITH_QPDF),-DFAX_QPDF='"$(WITH_QPDF)"' $(shell pkg-config --cflags libqpdf))
 QPDF_LIBS = $(if $(WITH_QPDF),-ldl)

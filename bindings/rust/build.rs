@@ -1,6 +1,6 @@
 //! Links with the proved static library, and with its allocator `heap.c`: those in `proved/`, which a released package carries, or else
-//! those of the repository. Where neither is there, `cargo check` and `cargo doc` work, and a build says what is missing. The
-//! environment's `CC`, `CFLAGS` and `AR` are respected.
+//! those of the repository. Where neither is there, `cargo check` and `cargo doc` work, and a build says what is missing. For any target
+//! but x86_64 Linux it stops with an error. The environment's `CC`, `CFLAGS` and `AR` are respected.
 
 use std::env;
 use std::path::Path;
@@ -31,7 +31,20 @@ fn compile_heap(heap: &Path, folder: &str) {
     run("AR", "ar", &["crs", &archive, &object]);
 }
 
+/// Whether the package is built for the target that its library is compiled for.
+fn is_target_of_library() -> bool {
+    let is = |key: &str, value: &str| env::var(key).is_ok_and(|found| found == value);
+    is("CARGO_CFG_TARGET_ARCH", "x86_64")
+        && is("CARGO_CFG_TARGET_POINTER_WIDTH", "64")
+        && is("CARGO_CFG_TARGET_OS", "linux")
+}
+
 fn main() {
+    if !is_target_of_library() {
+        let target = env::var("TARGET").unwrap_or_default();
+        println!("cargo::error=x86_64 Linux only: the proved library isn't compiled for {target}");
+        return;
+    }
     let package = Path::new(&env::var("CARGO_MANIFEST_DIR").unwrap()).to_path_buf();
     let (carried, repository) = (package.join("proved"), package.join("../.."));
     let (built, heap) = if carried.exists() {
