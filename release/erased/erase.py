@@ -4,7 +4,7 @@
 
 FOLDER gets the package, laid out by rustfmt. Contracts, ghost items and models go, and what is left is kept token by token, except as
 the lines of REWRITTEN say. The bodies in BY_HAND are replaced. What isn't understood is refused: a word of a contract that is left, an attribute
-that isn't known, a body that isn't there, a character that Rust doesn't have."""
+that isn't known, a function or a line that isn't there once, a character that Rust doesn't have."""
 import os
 import re
 import shutil
@@ -14,11 +14,12 @@ import tempfile
 
 HERE = os.path.dirname(os.path.abspath(__file__))
 API = "bindings/rust"
-# The crate of the calls, and modules that nothing runs: what they declare is named by contracts alone, or tests data.
+# The crate of the calls for C, and its module that is by hand here.
 CALLS = "hayro_ccitt_c"
-LEFT_OUT = {"fax_reading": None, "hayro_ccitt": ["in_step", "laws", "locality", "reach"], "fax_encode": ["laws"]}
-# Its modules that are by hand here, and the files of the API that are: the others are those of bindings/rust.
 HANDLE = "handle"
+# Modules that no call needs, or the whole crate.
+LEFT_OUT = {"fax_reading": None, "hayro_ccitt": ["in_step", "laws", "locality", "reach"], "fax_encode": ["laws"]}
+# The files of the API that are by hand here: the others are those of bindings/rust.
 API_BY_HAND = ["c.rs", "pushed.rs"]
 
 # The functions whose bodies are by hand, by their files, since Rust has no stable form of them, or another one that is faster.
@@ -48,11 +49,11 @@ REWRITTEN = [
     (r"\bvec!\[in alloc; value; count\]", "Vec::filled(alloc, value, count)"),
 ]
 # What `lists.rs` has in place of Rattle's std.
-FROM_LISTS = ["AllocError", "AllocFailed", "Box", "CopiedTo", "Global", "Vec"]
+FROM_LISTS = ["AllocError", "AllocFailed", "Box", "Global", "Vec"]
 DROPPED_USES = r"use std::(alloc::[^;]*|marker::Model|simd::prelude::\*)"
 KEPT_ATTRIBUTES = r"#!?\[(inline(\((always|never)\))?|cold|derive\([\w, ]*\)|repr\(C\)|rattlefmt::skip)\]"
 DROPPED_ATTRIBUTES = r"#!?\[(tactic\(.*\)|unsafe\(no_mangle\))\]"
-REFUSED_WORDS = {"ghost", "requires", "ensures", "invariant", "decreases", "tactic", "rattlefmt", "Rattle", "Model", "unsafe", "by", "mut_ghost", "assert_by"}
+REFUSED_WORDS = {"ghost", "requires", "ensures", "invariant", "tactic", "rattlefmt", "Rattle", "Model", "Drop", "unsafe"}
 
 TOKEN = re.compile(
     r"""(?P<comment>//[^\n]*)|(?P<string>b?"(?:\\.|[^"\\])*")|(?P<char>b?'(?:\\[^'\n]+|[^'\\\n])')|(?P<label>'[a-z_]\w*)
