@@ -243,8 +243,9 @@ def packing_cases():
 
 
 def packing_without_memory():
-    """Each allocation refused in turn: the program reports it, and writes nothing."""
-    seen = 0
+    """Each allocation refused in turn: the program reports it, as bad arguments while it fetches them, and writes nothing."""
+    answers = []
+    ended = [(2, b"", b"faxpack: bad arguments\n"), (3, b"", b"faxpack: out of memory\n")]
     picture = pbm(8, b"\x18\x18")
     with tempfile.TemporaryDirectory() as folder:
         shim = f"{folder}/refuse.so"
@@ -257,13 +258,12 @@ def packing_without_memory():
                 if b"refused\n" not in done.stderr:
                     assert answer == whole, answer
                     break
-                ended = (3, b"", b"faxpack: out of memory\n")
-                assert answer in (whole, ended), (words, number, answer)
-                seen += answer == ended
+                assert answer in (whole, *ended), (words, number, answer)
+                answers.append(answer)
             else:
                 raise AssertionError("it never ran without a refusal")
-    assert seen > 3
-    print(f"  {seen} allocations refused in turn")
+    assert all(answers.count(end) > 3 for end in ended), answers
+    print(f"  {len(answers)} allocations refused in turn")
 
 
 def by_libtiff(folder):

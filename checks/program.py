@@ -393,7 +393,8 @@ def long_data():
         assert done.stdout == b"r 4294967294\nok 1\n", done
 
 
-# The result of a run if one allocation is refused: before decoding, that of the arguments too, with status and standard error ..
+# The result of a run if one allocation is refused: of the arguments, and before decoding, with status and standard error ..
+NO_ARGUMENTS = (2, b"", b"faxrows: bad arguments\n")
 BEFORE_DECODING = (3, b"", b"faxrows: out of memory\n")
 # .. and while decoding: the whole text, and each text that ends in an allocation failure or a refusal. The second row of the
 # second run is damaged: an allocation failure there isn't repaired.
@@ -431,7 +432,7 @@ def refused_memory():
         subprocess.run(["cc", "-shared", "-fPIC", "-o", shim, "checks/refuse.c", "-ldl"], check=True)
         for words, data, text, ended in WHILE_DECODING:
             whole = (0, text, b"")
-            expected = [whole, BEFORE_DECODING, *[(3, text, b"") for text in ended]]
+            expected = [whole, NO_ARGUMENTS, BEFORE_DECODING, *[(3, text, b"") for text in ended]]
             *answers, last = refused_in_turn(words, data, shim)
             assert last == whole, (words, last)
             assert all(answer in expected for answer in answers), (words, [a for a in answers if a not in expected])

@@ -145,8 +145,8 @@ def each_request_of_the_program():
                 *answers, end = program.refused_in_turn(("-o " if bitmap else "") + words, data.hex(), refuse)
                 assert end == whole, (words, bitmap)
                 for answer in answers:
-                    assert answer in [whole, program.BEFORE_DECODING, *wants, *refusals], (words, bitmap, answer)
-                for answer in [program.BEFORE_DECODING, wants[next(k for k, row in enumerate(rows) if row)], refusals[0]]:
+                    assert answer in [whole, program.NO_ARGUMENTS, program.BEFORE_DECODING, *wants, *refusals], (words, bitmap, answer)
+                for answer in [program.NO_ARGUMENTS, program.BEFORE_DECODING, wants[next(k for k, row in enumerate(rows) if row)], refusals[0]]:
                     assert answer in answers, (words, bitmap, answer)
                 runs += len(answers)
             # row by row no row is refused: where there is no memory to gather text it is written at once
@@ -159,8 +159,8 @@ def each_request_of_the_program():
                 *answers, end = program.refused_in_turn(first + words, data.hex(), refuse)
                 assert end == whole, (first, words)
                 for answer in answers:
-                    assert answer in [whole, program.BEFORE_DECODING, *wants], (first, words, answer)
-                for answer in [program.BEFORE_DECODING, wants[next(k for k, row in enumerate(rows) if row)]]:
+                    assert answer in [whole, program.NO_ARGUMENTS, program.BEFORE_DECODING, *wants], (first, words, answer)
+                for answer in [program.NO_ARGUMENTS, program.BEFORE_DECODING, wants[next(k for k, row in enumerate(rows) if row)]]:
                     assert answer in answers, (first, words, answer)
                 assert answers.count(whole) > 1, (first, words)
                 runs += len(answers)

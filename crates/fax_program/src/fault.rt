@@ -8,7 +8,7 @@ use std::fmt;
 /// Why a run ended early.
 #[derive(Debug, Clone, Copy, PartialEq, Eq)]
 pub enum RunFault {
-    /// The arguments are invalid. Nothing was read or written.
+    /// The arguments are invalid, or could not be fetched. Nothing was read or written.
     BadArguments,
     /// The reader failed.
     Read,

@@ -10,4 +10,4 @@ pub mod words;
 pub use device::{Device, Failed};
 pub use fault::{RunFault, status_of_fault};
 pub use files::{read_all, write_all};
-pub use terminal::{print, words_of_run};
+pub use terminal::{args, print};

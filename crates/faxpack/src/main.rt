@@ -13,7 +13,7 @@ pub mod picture;
 pub mod program;
 
 use fax_program::words::is_only_word;
-use fax_program::{Device, RunFault, print, status_of_fault, words_of_run};
+use fax_program::{Device, RunFault, args, print, status_of_fault};
 pub use picture::PictureFault;
 pub use program::run;
 use std::process::ExitCode;
@@ -32,7 +32,7 @@ fn main(rt: HostRuntime) -> ExitCode {
 fn run_words(rt: &HostRuntime) -> Result<u8, RunFault>
     ensures status { IfOk result IsStatusOfRun }
 {
-    let words = words_of_run(rt)?;
+    let words = args(rt)?;
     run_with(rt, words.as_slice())
 }
 

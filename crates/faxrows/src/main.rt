@@ -9,7 +9,7 @@ ghost use Rattle.std.specs.Prelude.{◌≡◌, IfOk};
 ghost use Rattle.faxrows.specs.Statuses.{IsStatusOfRun, status_of_answer, status_of_done};
 
 use fax_program::words::{is_first_word, is_only_word};
-use fax_program::{print, status_of_fault, words_of_run};
+use fax_program::{args, print, status_of_fault};
 pub use fax_program::{Device, Failed, RunFault};
 pub use faxrows_lib::{Done, TextSink, run, run_by_row, run_check, run_damage, run_packed};
 use hayro_ccitt::DecodeError;
@@ -29,7 +29,7 @@ fn main(rt: HostRuntime) -> ExitCode {
 fn run_words(rt: &HostRuntime) -> Result<u8, RunFault>
     ensures status { IfOk result IsStatusOfRun }
 {
-    let words = words_of_run(rt)?;
+    let words = args(rt)?;
     run_with(rt, words.as_slice())
 }
 
