@@ -1,11 +1,14 @@
 /* Loaded before a program, this changes how standard input and output behave. With READ_BYTES or WRITE_BYTES a call reads or
    writes at most that many bytes; with READ_FAILS or WRITE_FAILS the call with that number fails; with WRITE_TAKES_NONE the call
-   with that number writes nothing. A device that is called again after that says so on standard error. With INTERRUPTED a signal
-   interrupts that many calls before each other one. */
+   with that number writes nothing. A device that is called again after that says so on standard error. With INTERRUPTED a call
+   fails that many times before each other one as if a signal had interrupted it. With SIGNAL_EVERY a signal comes every so many
+   microseconds; a read that it interrupts says r on standard error, and a write w. */
 #define _GNU_SOURCE
 #include <dlfcn.h>
 #include <errno.h>
+#include <signal.h>
 #include <stdlib.h>
+#include <sys/time.h>
 #include <unistd.h>
 
 typedef struct {
@@ -47,6 +50,23 @@ static int is_interrupted(device *device) {
     return 0;
 }
 
+static void on_signal(int signal) { (void)signal; }
+
+__attribute__((constructor)) static void start_signals(void) {
+    long every = number("SIGNAL_EVERY");
+    struct sigaction action = {.sa_handler = on_signal}; /* without SA_RESTART */
+    struct itimerval timer = {{0, every}, {0, every}};
+    if (every && (sigaction(SIGALRM, &action, NULL) || setitimer(ITIMER_REAL, &timer, NULL))) _exit(98);
+}
+
+/* The result of a call, which says a letter if a signal interrupted it. */
+static ssize_t said(ssize_t result, const char *letter) {
+    if (result >= 0 || errno != EINTR) return result;
+    if (real_write(2, letter, 1) != 1) _exit(97);
+    errno = EINTR;
+    return result;
+}
+
 static void count_call(device *device) {
     device->calls++;
     if (device->has_failed && real_write(2, "asked again\n", 12) < 0) _exit(99);
@@ -62,7 +82,7 @@ ssize_t read(int file, void *bytes, size_t count) {
         errno = EIO;
         return -1;
     }
-    return real(file, bytes, at_most(count, "READ_BYTES"));
+    return said(real(file, bytes, at_most(count, "READ_BYTES")), "r");
 }
 
 ssize_t write(int file, const void *bytes, size_t count) {
@@ -74,7 +94,7 @@ ssize_t write(int file, const void *bytes, size_t count) {
         return -1;
     }
     if (is_named(&output, "WRITE_TAKES_NONE")) return 0;
-    return real_write(file, bytes, at_most(count, "WRITE_BYTES"));
+    return said(real_write(file, bytes, at_most(count, "WRITE_BYTES")), "w");
 }
 
 ssize_t __write(int file, const void *bytes, size_t count) { return write(file, bytes, count); }

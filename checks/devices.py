@@ -2,7 +2,9 @@
 import os
 import subprocess
 import tempfile
+import time
 
+import packing
 import program
 import refusals
 
@@ -114,4 +116,31 @@ def writes_in_pieces():
     print(f"  {len(fronts)} writers that fail within {len(text)} bytes")
 
 
-CHECKS = [each_read_and_write, readers_without_end, writes_in_pieces]
+def real_signals():
+    """Signals that interrupt the reads of a pipe that is empty, and the writes to one that is full: the run goes on."""
+    rows = 20000
+    data, text = b"\x31\xc0" + b"\xe0" * (rows - 1), b"r 3 5\n" * rows + b"ok 20001\n"
+    picture = b"P4\n8 200000\n" + bytes(k * 37 % 251 for k in range(200000))
+    strip = subprocess.run([packing.PROGRAM, "g4", "b"], input=picture, capture_output=True, check=True).stdout
+    assert len(strip) > 1 << 17
+    interrupted = ""
+    with tempfile.TemporaryDirectory() as folder:
+        variables = {**os.environ, "LD_PRELOAD": refusals.shim(folder, "devices"), "SIGNAL_EVERY": "20000"}
+        for path, words, given, written in [
+            (program.PROGRAM, "g4 8 0 a", data, text),
+            (program.PROGRAM, "-i g4 8 0 a", data, text),
+            (packing.PROGRAM, "g4 b", picture, strip),
+        ]:
+            with subprocess.Popen([path, *words.split()], stdin=subprocess.PIPE, stdout=subprocess.PIPE, stderr=subprocess.PIPE, env=variables) as run:
+                time.sleep(0.3)
+                run.stdin.write(given)
+                run.stdin.close()
+                time.sleep(0.3)
+                assert run.stdout.read() == written, (words, run.stderr.read())
+                letters = run.stderr.read().decode()
+            assert run.returncode == 0 and set(letters) == {"r", "w"}, (words, run.returncode, letters)
+            interrupted += letters
+    print(f"  {interrupted.count('r')} reads and {interrupted.count('w')} writes that signals interrupted")
+
+
+CHECKS = [each_read_and_write, readers_without_end, writes_in_pieces, real_signals]

@@ -1,10 +1,10 @@
 //! Readers and writers that record whether they have failed.
 
-ghost use Rattle.std.specs.Prelude.{◌≡◌, ◌<◌, [], Ok, OnOk, OnErr, IfOk, true, false, length};
+ghost use Rattle.std.specs.Prelude.{◌≡◌, ◌<◌, OnOk, OnErr, IfOk, true, false, length};
 ghost use Rattle.std.specs.Io.KnownBytes.{ReadConsumes, WriteAppends};
 ghost use Rattle.std.specs.Io.{ReadsAtMost, WritesAtMost};
 
-use std::io::{Error, ErrorKind, Read, Write};
+use std::io::{Read, Write};
 use std::marker::Model;
 
 /// A reader or a writer has failed.
@@ -59,73 +59,35 @@ impl<T> Device<T> {
     }
 }
 
-/// How many times a call is made again that a signal has interrupted.
-const MORE_TRIES: u32 = 1000;
-
-/// Returns whether a signal has interrupted a call, which then did nothing.
-fn is_interrupted(error: &Error) -> bool {
-    error.kind() == ErrorKind::Interrupted
-}
-
 impl<R: Read> Device<R> {
-    /// Reads from the device itself.
-    fn read_now(&mut self, buf: &mut [u8]) -> std::io::Result<usize>
-        ensures bound { ReadsAtMost result buf.new }
-        ensures bytes { ReadConsumes (R.remaining self.old.0) (R.remaining self.new.0) result buf.new }
-        ensures flag { self.new.1 ≡ self.old.1 }
-    {
-        self.inner.read(buf)
-    }
-
-    /// Reads once, and returns the number of bytes read into the buffer's start: 0 only at the end, or if the buffer is
-    /// empty. A read that a signal interrupts is made again.
+    /// Reads by one call of the reader, and returns the number of bytes read into the buffer's start: 0 only at the end, or if the
+    /// buffer is empty. An error is not tried again.
     pub fn read(&mut self, buf: &mut [u8]) -> Result<usize, Failed>
         ensures bound { ReadsAtMost result buf.new }
         ensures bytes { ReadConsumes (R.remaining self.old.0) (R.remaining self.new.0) result buf.new }
         ensures ok { OnOk result (self.new.1 ≡ self.old.1) }
         ensures err { OnErr result (self.new.1 ≡ true) }
     {
-        let mut left = MORE_TRIES;
-        'tries: loop {
-            match self.read_now(buf) {
-                Ok(count) => return Ok(count),
-                Err(error) if is_interrupted(&error) && left > 0 => left -= 1,
-                Err(_) => return Err(self.fail()),
-            }
+        match self.inner.read(buf) {
+            Ok(count) => Ok(count),
+            Err(_) => Err(self.fail()),
         }
     }
 }
 
 impl<W: Write> Device<W> {
-    /// Writes to the device itself.
-    fn write_now(&mut self, bytes: &[u8]) -> std::io::Result<usize>
-        ensures bound { WritesAtMost result bytes.now }
-        ensures bytes { WriteAppends (W.contents self.old.0) (W.contents self.new.0) result bytes.now }
-        ensures flag { self.new.1 ≡ self.old.1 }
-    {
-        self.inner.write(bytes)
-    }
-
-    /// Writes once, unless there are no bytes, and returns the number of bytes written from the start. A writer that
-    /// accepts none, though there are some, has failed. A write that a signal interrupts is made again.
+    /// Writes by one call of the writer, and returns the number of bytes written from the start. A writer that accepts none, though
+    /// there are some, has failed. An error is not tried again.
     pub fn write(&mut self, bytes: &[u8]) -> Result<usize, Failed>
         ensures bound { WritesAtMost result bytes.now }
         ensures bytes { WriteAppends (W.contents self.old.0) (W.contents self.new.0) result bytes.now }
         ensures some { IfOk result (λ count. 0 < length bytes.now → 0 < count) }
-        ensures none { bytes.now ≡ [] → (result ≡ Ok 0) × (self.new ≡ self.old) }
         ensures ok { OnOk result (self.new.1 ≡ self.old.1) }
         ensures err { OnErr result (self.new.1 ≡ true) }
     {
-        if bytes.is_empty() {
-            return Ok(0);
-        }
-        let mut left = MORE_TRIES;
-        'tries: loop {
-            match self.write_now(bytes) {
-                Ok(count) if count > 0 => return Ok(count),
-                Err(error) if is_interrupted(&error) && left > 0 => left -= 1,
-                _ => return Err(self.fail()),
-            }
+        match self.inner.write(bytes) {
+            Ok(count) if count > 0 || bytes.is_empty() => Ok(count),
+            _ => Err(self.fail()),
         }
     }
 }

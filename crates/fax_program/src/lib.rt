@@ -5,9 +5,11 @@ pub mod device;
 pub mod fault;
 pub mod files;
 pub mod terminal;
+pub mod uninterrupted;
 pub mod words;
 
 pub use device::{Device, Failed};
 pub use fault::{RunFault, status_of_fault};
 pub use files::{read_all, write_all};
 pub use terminal::{args, print};
+pub use uninterrupted::Uninterrupted;

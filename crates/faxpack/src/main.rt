@@ -13,7 +13,7 @@ pub mod picture;
 pub mod program;
 
 use fax_program::words::is_only_word;
-use fax_program::{Device, RunFault, args, print, status_of_fault};
+use fax_program::{Device, RunFault, Uninterrupted, args, print, status_of_fault};
 pub use picture::PictureFault;
 pub use program::run;
 use std::process::ExitCode;
@@ -49,8 +49,8 @@ fn run_with(rt: &HostRuntime, words: &[String]) -> Result<u8, RunFault>
         print(rt, VERSION)?;
         return Ok(0);
     }
-    let mut reader = Device::new(rt.stdin());
-    let mut writer = Device::new(rt.stdout());
+    let mut reader = Device::new(Uninterrupted(rt.stdin()));
+    let mut writer = Device::new(Uninterrupted(rt.stdout()));
     let answer = run(rt.alloc(), words, &mut reader, &mut writer)?;
     if let Err(fault) = answer {
         let _ = eprintln!(rt; "faxpack: {fault}");

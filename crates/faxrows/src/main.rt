@@ -9,7 +9,7 @@ ghost use Rattle.std.specs.Prelude.{◌≡◌, IfOk};
 ghost use Rattle.faxrows.specs.Statuses.{IsStatusOfRun, status_of_answer, status_of_done};
 
 use fax_program::words::{is_first_word, is_only_word};
-use fax_program::{args, print, status_of_fault};
+use fax_program::{Uninterrupted, args, print, status_of_fault};
 pub use fax_program::{Device, Failed, RunFault};
 pub use faxrows_lib::{Done, TextSink, run, run_by_row, run_check, run_damage, run_packed};
 use hayro_ccitt::DecodeError;
@@ -46,8 +46,8 @@ fn run_with(rt: &HostRuntime, words: &[String]) -> Result<u8, RunFault>
         print(rt, VERSION)?;
         return Ok(0);
     }
-    let mut reader = Device::new(rt.stdin());
-    let mut writer = Device::new(rt.stdout());
+    let mut reader = Device::new(Uninterrupted(rt.stdin()));
+    let mut writer = Device::new(Uninterrupted(rt.stdout()));
     if is_first_word(words, "-o") {
         let answer = run_packed(rt.alloc(), &words[1..], &mut reader, &mut writer)?;
         if let Err(error) = answer {

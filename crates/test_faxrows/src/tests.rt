@@ -8,7 +8,7 @@ use std::process::Abort;
 use test_allocations::{refuse_request, was_refused};
 
 /// Compares two values. The proof of this call takes no time, and that of `assert_eq!` seconds.
-fn same<T: PartialEq + Debug + Drop>(rt: &impl Abort, found: T, expected: T) {
+pub(crate) fn same<T: PartialEq + Debug + Drop>(rt: &impl Abort, found: T, expected: T) {
     assert_eq!(rt; found, expected);
 }
 
