@@ -7,7 +7,7 @@ from .decoding import Data, Picture, decode
 from .errors import DecodeError, NotFax
 
 # No picture has more bytes than this.
-MOST_BYTES = 1 << 30
+MOST_BYTES = 1 << 27
 
 
 class Part(NamedTuple):

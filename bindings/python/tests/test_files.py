@@ -149,6 +149,7 @@ WRONG_TIFF = {
     "tiff without strips": (tiff_of({}), "no strips or tiles"),
     "tiff of narrow tiles": (tiff_of({322: [33], 323: [60]}, [DATA]), "the tiles' width is no multiple of 8"),
     "tiff that is too large": (tiff_of({256: [2**32 - 1], 257: [2**32 - 1]}, [DATA]), "too large"),
+    "tiff that is too wide to be turned": (tiff_of({256: [1 << 25], 274: [6]}, [DATA]), "too large"),
     "tiff of too many rows": (tiff_of({257: [NARROW.rows + 1]}, [DATA]), f"{NARROW.rows} of {NARROW.rows + 1} rows"),
     "tiff that lacks a strip": (tiff_of({257: [99], 278: [NARROW.rows]}, [DATA]), "strips or tiles are missing"),
     "tiff that is cut": (tiff_of({}, [DATA])[:-20], "the file ends early"),
