@@ -1,12 +1,10 @@
 -- What an encoder refuses, and how it says so.
-use Rattle.std.specs.Prelude.{◌≡◌, ◌≢◌, ℕ, ◌<◌, ◌↔◌, true, false, List, ◌++◌, length, get_or, codes, decimal, [], All}
+use Rattle.std.specs.Prelude.{◌≡◌, ◌≢◌, ℕ, ◌<◌, ◌↔◌, true, List, ◌++◌, length, get_or, codes, decimal, [], All}
 use Rattle.std.specs.Prelude.{Option, Some, None, Result, Err}
 use Rattle.hayro_ccitt.specs.Rows.{AreChanges}
 use Rattle.fax_encode.specs.declared.error.EncodeError.{EncodeError}
-use Rattle.fax_encode.specs.declared.error.EncodeError.TheVariants.{NoEncoding, NoColumns, NoRows, NotARow, OutOfMemory}
+use Rattle.fax_encode.specs.declared.error.EncodeError.TheVariants.{NoColumns, NoRows, NotARow, OutOfMemory}
 use Rattle.fax_encode.specs.RowByRow.{RowsEncoded}
-use Rattle.fax_encode.specs.Settings.{names_encoding}
-use Rattle.fax_encode.specs.declared.settings.EncodeSettings.{EncodeSettings}
 
 -- the first list, counted from 0, that isn't strictly ascending and below the width
 pub record IsFirstUnlawful (columns : ℕ) (lists : List (List ℕ)) (k : ℕ) : Type 0 where
@@ -18,11 +16,6 @@ pub record IsFirstUnlawful (columns : ℕ) (lists : List (List ℕ)) (k : ℕ) :
 abbrev pub AreRows : ℕ → List (List ℕ) → Type 0
 AreRows columns lists = All (AreChanges columns) lists
 
--- settings that name no encoding are refused, and of others a width of 0
-pub record RefusesSettings {V : Type 0} (settings : EncodeSettings) (columns : ℕ) (answer : Result V EncodeError) : Type 0 where
-  pub no_encoding : (answer ≡ Err NoEncoding) ↔ (names_encoding settings ≡ false)
-  pub no_columns : (answer ≡ Err NoColumns) ↔ ((names_encoding settings ≡ true) × (columns ≡ 0))
-
 -- of lists that aren't all rows the first such is refused, if there are columns
 abbrev pub RefusesFirstUnlawful : {V : Type 0} → ℕ → List (List ℕ) → Result V EncodeError → Type 0
 RefusesFirstUnlawful columns lists answer =
@@ -31,13 +24,12 @@ RefusesFirstUnlawful columns lists answer =
 -- How a row is refused: if it isn't one, and then nothing changes; or for memory, and then so is each row after it.
 pub record FailsToPush (old new : RowsEncoded) (answer : Result (Unit {0}) EncodeError) : Type 0 where
   pub kept : (k : ℕ) → answer ≡ Err (NotARow k) → new ≡ old
-  pub others : (answer ≢ Err NoEncoding) × (answer ≢ Err NoColumns) × (answer ≢ Err NoRows)
+  pub others : (answer ≢ Err NoColumns) × (answer ≢ Err NoRows)
   pub wanted : old.wants_memory ≡ true → answer ≡ Err OutOfMemory
   pub wants : answer ≡ Err OutOfMemory → new.wants_memory ≡ true
 
 -- the text of a refusal
 abbrev pub text_of_refusal : EncodeError → List ℕ
-text_of_refusal NoEncoding = codes "no encoding"
 text_of_refusal NoColumns = codes "no columns"
 text_of_refusal NoRows = codes "no rows"
 text_of_refusal (NotARow k) = codes "row " ++ decimal k ++ codes " is not a list of changes"
@@ -46,7 +38,6 @@ text_of_refusal OutOfMemory = codes "out of memory"
 -- the text of a refusal, whatever the width and other options it is printed with; the text of a refusal that has a
 -- number is not specified
 abbrev pub text_with_options : EncodeError → Option (List ℕ)
-text_with_options NoEncoding = Some (text_of_refusal NoEncoding)
 text_with_options NoColumns = Some (text_of_refusal NoColumns)
 text_with_options NoRows = Some (text_of_refusal NoRows)
 text_with_options (NotARow k) = None

@@ -4,14 +4,14 @@ ghost use Rattle.std.specs.Prelude.{◌≡◌, ◌≢◌, ◌<◌, ◌≤◌, �
 ghost use Rattle.hayro_ccitt.specs.Bits.{bits_in};
 ghost use Rattle.fax_encode.specs.Chosen.{filled_up, rows_of};
 ghost use Rattle.fax_encode.specs.Packed.{bytes_of_row, shown};
-ghost use Rattle.fax_encode.specs.Refusals.{AreRows, IsFirstUnlawful, RefusesSettings};
+ghost use Rattle.fax_encode.specs.Refusals.{AreRows, RefusesFirstUnlawful};
 ghost use Rattle.fax_encode.specs.Settings.{chosen, names_encoding, needs_row, with_end};
 ghost use Rattle.fax_encode.specs.Writing.{all_bits};
 
 use crate::bit_order::bytes_in_order;
 use crate::bit_writer::BitWriter;
 use crate::bitmap_rows::scan_row;
-use crate::encoding::{RowBelow, names_encoding, put_end, put_part};
+use crate::encoding::{RowBelow, put_end, put_part};
 use crate::rows::first_unlawful;
 use crate::white_rows::{WhiteRows, lines_for, put_white_lines, white_rows};
 use crate::{EncodeError, EncodeSettings};
@@ -75,12 +75,11 @@ fn picture(
 
 /// Encodes rows, given as lists of changes, as the settings say: each line, the EOL before it or the zeros after it, EOFB
 /// or RTC after the last, and zeros up to a whole byte. A line of two-dimensional Group 3 is two-dimensional if K allows it
-/// and it is no longer than the one-dimensional line (T.4, 4.2.1).
+/// and it is no longer than the one-dimensional line (T.4, 4.2.1). The settings must name an encoding, as
+/// [`names_encoding`](crate::names_encoding) says.
 ///
 /// # Errors
 ///
-/// - `NoEncoding` if the settings name no encoding: EOLs or fill in Group 4, fill without EOLs, RTC without EOLs, aligned rows
-///   with EOLs, or two-dimensional Group 3 with a `k` of 0.
 /// - `NoColumns` if `columns` is 0.
 /// - `NoRows` if there are no rows, other than in Group 4 with EOFB.
 /// - `NotARow` with the index of the first list that is not strictly ascending and below `columns`.
@@ -93,18 +92,15 @@ pub fn encode(
     rows: &[Vec<u32>],
     settings: EncodeSettings,
 ) -> std::result::Result<Vec<u8>, EncodeError>
-    ensures refusals { RefusesSettings settings columns result }
-    ensures no_rows { (result ≡ Err EncodeError.NoRows) ↔ ((names_encoding settings ≡ true) × (0 < columns)
+    requires names { names_encoding settings ≡ true }
+    ensures no_columns { (result ≡ Err EncodeError.NoColumns) ↔ (columns ≡ 0) }
+    ensures no_rows { (result ≡ Err EncodeError.NoRows) ↔ ((0 < columns)
         × (needs_row settings.encoding settings.end_of_block ≡ true) × (length rows.now ≡ 0)) }
-    ensures not_a_row { (k : ℕ) → (result ≡ Err (EncodeError.NotARow k)) ↔ ((names_encoding settings ≡ true) × (0 < columns)
-        × IsFirstUnlawful columns (map (λ row. row.items) rows.now) k) }
+    ensures not_a_row { RefusesFirstUnlawful columns (map (λ row. row.items) rows.now) result }
     ensures rows { IfOk result (λ _. AreRows columns (map (λ row. row.items) rows.now)) }
     ensures encoded { IfOk result (λ bytes. bits_in settings.order bytes.items
         ≡ filled_up (chosen settings columns (rows_of columns (map (λ row. row.items) rows.now)))) }
 {
-    if !names_encoding(settings) {
-        return Err(EncodeError::NoEncoding);
-    }
     if columns == 0 {
         return Err(EncodeError::NoColumns);
     }
@@ -176,12 +172,11 @@ fn bitmap_picture(
     Ok(bytes_in_order(writer.finish()?, settings.order))
 }
 
-/// Encodes the rows of a bitmap as the settings say, as [`encode`] encodes lists of changes. Its rows are those of
-/// [`encode_bitmap_g4`](crate::encode_bitmap_g4).
+/// Encodes the rows of a bitmap as the settings say, which must name an encoding, as [`encode`] encodes lists of changes. Its rows
+/// are those of [`encode_bitmap_g4`](crate::encode_bitmap_g4).
 ///
 /// # Errors
 ///
-/// - `NoEncoding` if the settings name no encoding, as for [`encode`].
 /// - `NoColumns` if `columns` is 0.
 /// - `NoRows` if the bitmap has no whole row, other than in Group 4 with EOFB.
 /// - `OutOfMemory` if an allocation fails.
@@ -193,16 +188,14 @@ pub fn encode_bitmap(
     bitmap: &[u8],
     settings: EncodeSettings,
 ) -> std::result::Result<Vec<u8>, EncodeError>
-    ensures refusals { RefusesSettings settings columns result }
-    ensures no_rows { (result ≡ Err EncodeError.NoRows) ↔ ((names_encoding settings ≡ true) × (0 < columns)
+    requires names { names_encoding settings ≡ true }
+    ensures no_columns { (result ≡ Err EncodeError.NoColumns) ↔ (columns ≡ 0) }
+    ensures no_rows { (result ≡ Err EncodeError.NoRows) ↔ ((0 < columns)
         × (needs_row settings.encoding settings.end_of_block ≡ true) × (length bitmap.now < bytes_of_row columns)) }
     ensures not_a_row { (k : ℕ) → result ≢ Err (EncodeError.NotARow k) }
     ensures encoded { IfOk result (λ bytes. bits_in settings.order bytes.items
         ≡ filled_up (chosen settings columns (shown columns bitmap.now))) }
 {
-    if !names_encoding(settings) {
-        return Err(EncodeError::NoEncoding);
-    }
     if columns == 0 {
         return Err(EncodeError::NoColumns);
     }

@@ -60,7 +60,6 @@ pub fn encode_g4(
     aligned: bool,
 ) -> std::result::Result<Vec<u8>, EncodeError>
     ensures no_columns { (result ≡ Err EncodeError.NoColumns) ↔ (columns ≡ 0) }
-    ensures no_encoding { result ≢ Err EncodeError.NoEncoding }
     ensures not_a_row { RefusesFirstUnlawful columns (map (λ row. row.items) rows.now) result }
     ensures no_rows { result ≢ Err EncodeError.NoRows }
     ensures rows { IfOk result (λ _. AreRows columns (map (λ row. row.items) rows.now)) }
@@ -83,7 +82,6 @@ pub fn encode_1d(
     rows: &[Vec<u32>],
 ) -> std::result::Result<Vec<u8>, EncodeError>
     ensures no_columns { (result ≡ Err EncodeError.NoColumns) ↔ (columns ≡ 0) }
-    ensures no_encoding { result ≢ Err EncodeError.NoEncoding }
     ensures no_rows { (result ≡ Err EncodeError.NoRows) ↔ ((0 < columns) × (length rows.now ≡ 0)) }
     ensures not_a_row { RefusesFirstUnlawful columns (map (λ row. row.items) rows.now) result }
     ensures rows { IfOk result (λ _. AreRows columns (map (λ row. row.items) rows.now)) }
@@ -107,7 +105,6 @@ pub fn encode_bitmap_g4(
     aligned: bool,
 ) -> std::result::Result<Vec<u8>, EncodeError>
     ensures no_columns { (result ≡ Err EncodeError.NoColumns) ↔ (columns ≡ 0) }
-    ensures no_encoding { result ≢ Err EncodeError.NoEncoding }
     ensures no_rows { result ≢ Err EncodeError.NoRows }
     ensures not_a_row { (k : ℕ) → result ≢ Err (EncodeError.NotARow k) }
     ensures encoded { IfOk result (λ bytes. bits_of bytes.items ≡ filled_up (chosen_t6 columns aligned (shown columns bitmap.now))) }
@@ -127,7 +124,6 @@ pub fn encode_bitmap_1d(
     bitmap: &[u8],
 ) -> std::result::Result<Vec<u8>, EncodeError>
     ensures no_columns { (result ≡ Err EncodeError.NoColumns) ↔ (columns ≡ 0) }
-    ensures no_encoding { result ≢ Err EncodeError.NoEncoding }
     ensures no_rows { (result ≡ Err EncodeError.NoRows) ↔ ((0 < columns) × (length bitmap.now < bytes_of_row columns)) }
     ensures not_a_row { (k : ℕ) → result ≢ Err (EncodeError.NotARow k) }
     ensures encoded { IfOk result (λ bytes. bits_of bytes.items ≡ filled_up (chosen_t4 (shown columns bitmap.now))) }

@@ -5,7 +5,7 @@ ghost use Rattle.hayro_ccitt.specs.Bits.{bits_in, bits_of};
 ghost use Rattle.hayro_ccitt.specs.Rows.{AreChanges, pixels, white_row};
 ghost use Rattle.fax_encode.specs.Chosen.{filled_up};
 ghost use Rattle.fax_encode.specs.Packed.{bytes_of_row, in_black};
-ghost use Rattle.fax_encode.specs.Refusals.{FailsToPush, RefusesSettings};
+ghost use Rattle.fax_encode.specs.Refusals.{FailsToPush};
 ghost use Rattle.fax_encode.specs.RowByRow.{KeepsSettings, no_rows, with_row};
 ghost use Rattle.fax_encode.specs.Settings.{names_encoding, needs_row, with_end};
 
@@ -13,7 +13,7 @@ use crate::bit_order::bytes_in_order;
 use crate::bit_writer::BitWriter;
 use crate::bitmap_rows::{scan_in_black, zero_bytes};
 use crate::by_settings::needs_row;
-use crate::encoding::{RowBelow, names_encoding, put_end, put_part};
+use crate::encoding::{RowBelow, put_end, put_part};
 use crate::rows::is_row;
 use crate::shortest_lines::Way;
 use crate::white_rows::{WhiteLines, put_white_line, white_lines};
@@ -68,23 +68,22 @@ impl Model for Encoder {
 }
 
 impl Encoder {
-    /// Creates an encoder of rows of `columns` pixels. It allocates nothing.
+    /// Creates an encoder of rows of `columns` pixels, by settings that name an encoding
+    /// ([`names_encoding`](crate::names_encoding)). It allocates nothing.
     ///
     /// # Errors
     ///
-    /// `NoEncoding` if the settings name no encoding, as for [`encode`](crate::encode); else `NoColumns` if `columns` is 0.
+    /// `NoColumns` if `columns` is 0.
     pub fn new(
         alloc: Global,
         columns: u32,
         settings: EncodeSettings,
     ) -> std::result::Result<Encoder, EncodeError>
-        ensures refusals { RefusesSettings settings columns result }
+        requires names { names_encoding settings ≡ true }
+        ensures no_columns { (result ≡ Err EncodeError.NoColumns) ↔ (columns ≡ 0) }
         ensures made { IfOk result (λ encoder. encoder ≡ no_rows settings columns) }
-        ensures succeeds { IsOk result ↔ ((names_encoding settings ≡ true) × (0 < columns)) }
+        ensures succeeds { IsOk result ↔ (0 < columns) }
     {
-        if !names_encoding(settings) {
-            return Err(EncodeError::NoEncoding);
-        }
         if columns == 0 {
             return Err(EncodeError::NoColumns);
         }
@@ -324,8 +323,7 @@ impl Encoder {
         ensures wanted { self.wants_memory ≡ true → result ≡ Err EncodeError.OutOfMemory }
         ensures no_rows { (result ≡ Err EncodeError.NoRows) ↔ ((self.wants_memory ≡ false) × (self.count ≡ 0)
             × (needs_row self.settings.encoding self.settings.end_of_block ≡ true)) }
-        ensures others { (result ≢ Err EncodeError.NoEncoding) × (result ≢ Err EncodeError.NoColumns)
-            × ((k : ℕ) → result ≢ Err (EncodeError.NotARow k)) }
+        ensures others { (result ≢ Err EncodeError.NoColumns) × ((k : ℕ) → result ≢ Err (EncodeError.NotARow k)) }
         ensures encoded { IfOk result (λ bytes. bits_in self.settings.order bytes.items
             ≡ filled_up (with_end self.settings self.lines)) }
     {

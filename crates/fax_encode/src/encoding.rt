@@ -35,7 +35,8 @@ fn names_group3(settings: EncodeSettings) -> bool
     !settings.eols_end_at_bytes && !settings.end_of_block
 }
 
-/// Returns whether settings name an encoding.
+/// Returns whether settings name an encoding. With EOLs or fill Group 4 names none, and Group 3 none with fill or RTC without EOLs,
+/// with aligned rows and EOLs, or, in two dimensions, with a `k` of 0.
 pub fn names_encoding(settings: EncodeSettings) -> bool
     ensures { result ≡ names_encoding settings }
 {

@@ -5,8 +5,6 @@ use std::fmt;
 /// Why an image was not encoded.
 #[derive(Debug, Clone, Copy, PartialEq, Eq)]
 pub enum EncodeError {
-    /// The settings name no encoding.
-    NoEncoding,
     /// The image has no columns.
     NoColumns,
     /// The image has no rows, and one is needed.
@@ -27,7 +25,6 @@ impl fmt::Display for EncodeError {
 
     fn fmt<W: fmt::Write>(&self, f: &mut fmt::Formatter<W>) -> fmt::Result {
         match self {
-            EncodeError::NoEncoding => f.write_str("no encoding"),
             EncodeError::NoColumns => f.write_str("no columns"),
             EncodeError::NoRows => f.write_str("no rows"),
             EncodeError::NotARow(row) => write!(f, "row {row} is not a list of changes"),

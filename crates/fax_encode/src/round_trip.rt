@@ -70,7 +70,6 @@ pub fn bitmap_by_group4(
     aligned: bool,
 ) -> std::result::Result<BitmapSink, EncodeError>
     ensures no_columns { (result ≡ Err EncodeError.NoColumns) ↔ (columns ≡ 0) }
-    ensures no_encoding { result ≢ Err EncodeError.NoEncoding }
     ensures not_a_row { RefusesFirstUnlawful columns (map (λ row. row.items) rows.now) result }
     ensures no_rows { result ≢ Err EncodeError.NoRows }
     ensures packed { IfOk result (λ sink. bits_of sink.bytes ≡ packed (rows_of columns (map (λ row. row.items) rows.now))) }
@@ -93,7 +92,6 @@ pub fn bitmap_by_group3(
     ensures packed { IfOk result (λ sink. bits_of sink.bytes
         ≡ packed (rows_of columns (map (λ row. row.items) rows.now))) }
     ensures no_columns { (result ≡ Err EncodeError.NoColumns) ↔ (columns ≡ 0) }
-    ensures no_encoding { result ≢ Err EncodeError.NoEncoding }
     ensures no_rows { (result ≡ Err EncodeError.NoRows) ↔ ((0 < columns) × (length rows.now ≡ 0)) }
     ensures not_a_row { RefusesFirstUnlawful columns (map (λ row. row.items) rows.now) result }
 {

@@ -1,9 +1,10 @@
 //! The arguments of the program, and what they mean.
 
-ghost use Rattle.std.specs.Prelude.{◌≡◌, map, string_bytes};
+ghost use Rattle.std.specs.Prelude.{◌≡◌, true, IfSome, map, string_bytes};
 ghost use Rattle.std.specs.List.{list_all};
 ghost use Rattle.faxpack.specs.Arguments.{arguments_of_words, picture_words, rows_words, settings_of_words, k_of, are_flags};
 ghost use Rattle.faxpack.specs.Arguments.{are_apart, effort_with, is_flag};
+ghost use Rattle.fax_encode.specs.Settings.{names_encoding};
 
 use fax_encode::{Effort, EncodeSettings, names_encoding};
 use fax_program::words::{has_flag, is_first_word, mode_of, number_of, order_with, times};
@@ -28,7 +29,8 @@ pub struct Arguments {
 
 /// Returns what the arguments mean, or `None` if they are invalid or name no encoding.
 pub fn arguments_of(words: &[String]) -> Option<Arguments>
-    ensures { result ≡ arguments_of_words (map string_bytes words.now) }
+    ensures arguments { result ≡ arguments_of_words (map string_bytes words.now) }
+    ensures names { IfSome result (λ arguments. names_encoding arguments.settings ≡ true) }
 {
     if is_first_word(words, "-o") {
         return rows_words(&words[1..]);
@@ -38,7 +40,8 @@ pub fn arguments_of(words: &[String]) -> Option<Arguments>
 
 /// Returns what a mode and flags mean, for a PBM picture.
 fn picture_words(words: &[String]) -> Option<Arguments>
-    ensures { result ≡ picture_words (map string_bytes words.now) }
+    ensures arguments { result ≡ picture_words (map string_bytes words.now) }
+    ensures names { IfSome result (λ arguments. names_encoding arguments.settings ≡ true) }
 {
     let [mode, flags, more @ ..] = words else {
         return None;
@@ -52,7 +55,8 @@ fn picture_words(words: &[String]) -> Option<Arguments>
 
 /// Returns what a mode, the columns, the rows and flags mean, for rows without a header.
 fn rows_words(words: &[String]) -> Option<Arguments>
-    ensures { result ≡ rows_words (map string_bytes words.now) }
+    ensures arguments { result ≡ rows_words (map string_bytes words.now) }
+    ensures names { IfSome result (λ arguments. names_encoding arguments.settings ≡ true) }
 {
     let [mode, columns, rows, flags, more @ ..] = words else {
         return None;
@@ -68,7 +72,8 @@ fn rows_words(words: &[String]) -> Option<Arguments>
 
 /// Returns the settings that a mode, flags and the arguments after them mean, if they name an encoding.
 fn settings_of_words(mode: &str, flags: &str, more: &[String]) -> Option<EncodeSettings>
-    ensures { result ≡ settings_of_words mode.now flags.now (map string_bytes more.now) }
+    ensures settings { result ≡ settings_of_words mode.now flags.now (map string_bytes more.now) }
+    ensures names { IfSome result (λ settings. names_encoding settings ≡ true) }
 {
     let encoding = mode_of(mode)?;
     let k = k_of(more)?;

@@ -1,6 +1,7 @@
 //! A run of the program: reads all that a reader has, and writes it encoded.
 
 ghost use Rattle.std.specs.Prelude.{◌≡◌, ◌↔◌, ◌≢◌, ◌⊎◌, IfOk, IfErr, true, false, map, string_bytes, None, Ok, Err};
+ghost use Rattle.fax_encode.specs.Settings.{names_encoding};
 ghost use Rattle.fax_program.specs.Devices.{ReadsInput};
 ghost use Rattle.faxpack.specs.Arguments.{arguments_of_words};
 ghost use Rattle.faxpack.specs.Runs.{IsAnswer, OnKnown};
@@ -51,6 +52,7 @@ fn write_encoded<W: Write>(
     arguments: Arguments,
     writer: &mut Device<W>,
 ) -> std::result::Result<std::result::Result<(), PictureFault>, RunFault>
+    requires names { names_encoding arguments.settings ≡ true }
     ensures answer { IfOk result (λ answer.
         IsAnswer arguments input.now answer (W.contents writer.old.0) (W.contents writer.new.0)) }
     ensures refused { IfOk result (λ answer. IfErr answer (λ _. writer.new ≡ writer.old)) }

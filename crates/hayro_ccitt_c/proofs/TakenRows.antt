@@ -4,16 +4,16 @@ use Rattle.std.specs.Prelude.{Result}
 use Rattle.hayro_ccitt.specs.Rows.{Row}
 use Rattle.fax_encode.specs.RowByRow.{RowsEncoded, with_row}
 use Rattle.fax_encode.specs.declared.error.EncodeError.{EncodeError}
-use Rattle.fax_encode.specs.declared.error.EncodeError.TheVariants.{NoEncoding, NoColumns, NoRows, NotARow, OutOfMemory}
+use Rattle.fax_encode.specs.declared.error.EncodeError.TheVariants.{NoColumns, NoRows, NotARow, OutOfMemory}
 use Rattle.hayro_ccitt_c.specs.RowsTaken.{TakesNext, status_of_adding}
 use Rattle.hayro_ccitt_c.specs.declared.strip.Strip.TheVariants.{Rows}
 
 pub takes_next : (rows new : RowsEncoded) (IsRow IsNone : Type 0) (row : Row) (answer : Result (Unit {0}) EncodeError)
     → (IsNone → ¬ IsRow) → ((¬ IsRow) → IsNone) → OnOk answer (new ≡ with_row rows row) → OnOk answer IsRow
     → ((k : ℕ) → (answer ≡ Err (NotARow k)) ↔ ((rows.wants_memory ≡ false) × IsNone × (k ≡ rows.count)))
-    → ((k : ℕ) → answer ≡ Err (NotARow k) → new ≡ rows) → (answer ≢ Err NoEncoding)
-    × (answer ≢ Err NoColumns) × (answer ≢ Err NoRows) → (rows.wants_memory ≡ true → answer ≡ Err OutOfMemory)
-    → (answer ≡ Err OutOfMemory → new.wants_memory ≡ true) → TakesNext rows (Rows new) IsRow row (status_of_adding answer)
+    → ((k : ℕ) → answer ≡ Err (NotARow k) → new ≡ rows) → (answer ≢ Err NoColumns) × (answer ≢ Err NoRows)
+    → (rows.wants_memory ≡ true → answer ≡ Err OutOfMemory) → (answer ≡ Err OutOfMemory → new.wants_memory ≡ true)
+    → TakesNext rows (Rows new) IsRow row (status_of_adding answer)
 takes_next rows new IsRow IsNone row (Ok done) out back taken lawful not_a_row kept others wanted wants = record {
   statuses = inl refl;
   taken = λ e. (lawful, ap Rows taken);
@@ -38,9 +38,7 @@ takes_next rows new IsRow IsNone row (Err (NotARow k)) out back taken lawful not
   wanted = λ e. let is = wanted e in absurd cc;
   wants = λ e. absurd cc;
 }
-takes_next rows new IsRow IsNone row (Err NoEncoding) out back taken lawful not_a_row kept others wanted wants =
-    absurd (others.0 refl)
 takes_next rows new IsRow IsNone row (Err NoColumns) out back taken lawful not_a_row kept others wanted wants =
-    absurd (others.1 refl)
+    absurd (others.0 refl)
 takes_next rows new IsRow IsNone row (Err NoRows) out back taken lawful not_a_row kept others wanted wants =
-    absurd (others.2 refl)
+    absurd (others.1 refl)

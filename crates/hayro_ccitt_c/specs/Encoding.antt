@@ -1,6 +1,6 @@
 -- Encoding for callers in C.
 use Rattle.std.specs.Prelude.{◌≡◌, ◌≤◌, ◌<◌, ℕ, ◌*◌, ◌&&◌, not, Bool, nat_le, nat_lt, List, length, take, drop, Option, Some}
-use Rattle.std.specs.Prelude.{None, option_map, if◌then◌else◌, ◌≢◌, ◌↔◌, true, false, Result, Err, IfOk, Vec}
+use Rattle.std.specs.Prelude.{None, option_map, if◌then◌else◌, ◌≢◌, ◌↔◌, true, Result, Err, IfOk, Vec}
 use Rattle.hayro_ccitt.specs.Bits.{Bits, bits_in}
 use Rattle.hayro_ccitt.specs.BitOrder.{BitOrder}
 use Rattle.hayro_ccitt.specs.BitOrder.TheVariants.{HighestFirst, LowestFirst}
@@ -9,7 +9,7 @@ use Rattle.fax_encode.specs.Chosen.{filled_up}
 use Rattle.fax_encode.specs.Settings.{chosen, names_encoding, needs_row}
 use Rattle.fax_encode.specs.declared.settings.Effort.TheVariants.{Procedure, Shortest}
 use Rattle.fax_encode.specs.declared.error.EncodeError.{EncodeError}
-use Rattle.fax_encode.specs.declared.error.EncodeError.TheVariants.{NoColumns, NoEncoding, NoRows, NotARow}
+use Rattle.fax_encode.specs.declared.error.EncodeError.TheVariants.{NoColumns, NoRows, NotARow}
 use Rattle.fax_encode.specs.declared.settings.EncodeSettings.{EncodeSettings as EncoderSettings}
 use Rattle.hayro_ccitt.specs.Rows.{Row}
 use Rattle.hayro_ccitt_c.specs.Packing.{are_whole_rows, bytes_of_row, layout_with, rows_read}
@@ -79,13 +79,11 @@ rows_asked s bitmap = rows_read (layout_asked s) s.columns bitmap
 abbrev pub bits_asked : EncoderSettings → ℕ → List Row → Bits
 bits_asked s columns rows = filled_up (chosen s columns rows)
 
--- What a call returns that encodes the rows of a bitmap: their bits, unless there is no encoding by these settings, or no row
--- where one is needed.
+-- What a call returns that encodes the rows of a bitmap: their bits, unless there is no row where one is needed.
 pub record EncodesRows {A : Type 0} (settings : EncoderSettings) (layout : Layout) (columns : ℕ) (bitmap : List ℕ)
     (answer : Result (Vec ℕ A) EncodeError) : Type 0 where
-  pub no_encoding : (answer ≡ Err NoEncoding) ↔ (names_encoding settings ≡ false)
-  pub no_rows : (answer ≡ Err NoRows) ↔ ((names_encoding settings ≡ true)
-      × (needs_row settings.encoding settings.end_of_block ≡ true) × (length bitmap < bytes_of_row columns))
+  pub no_rows : (answer ≡ Err NoRows)
+      ↔ ((needs_row settings.encoding settings.end_of_block ≡ true) × (length bitmap < bytes_of_row columns))
   pub others : (answer ≢ Err NoColumns) × ((k : ℕ) → answer ≢ Err (NotARow k))
   pub encoded : IfOk answer (λ bytes. bits_in settings.order bytes.items
       ≡ bits_asked settings columns (rows_read layout columns bitmap))

@@ -6,7 +6,7 @@ use Rattle.fax_encode.specs.Chosen.{filled_up}
 use Rattle.fax_encode.specs.RowByRow.{RowsEncoded, with_row}
 use Rattle.fax_encode.specs.Settings.{needs_row, with_end}
 use Rattle.fax_encode.specs.declared.error.EncodeError.{EncodeError}
-use Rattle.fax_encode.specs.declared.error.EncodeError.TheVariants.{NoEncoding, NoColumns, NoRows, NotARow}
+use Rattle.fax_encode.specs.declared.error.EncodeError.TheVariants.{NoColumns, NoRows, NotARow}
 use Rattle.fax_encode.specs.declared.error.EncodeError.TheVariants.{OutOfMemory as NoMemory}
 use Rattle.hayro_ccitt_c.specs.declared.encoding.EncodeOutcome.{EncodeOutcome}
 use Rattle.hayro_ccitt_c.specs.declared.strip.Strip.{Strip}
@@ -16,7 +16,6 @@ use Rattle.hayro_ccitt_c.specs.declared.status.TheConstants.{OK, OUT_OF_MEMORY, 
 -- the status of adding a row: 6 if it isn't one
 abbrev pub status_of_adding : Result (Unit {0}) EncodeError → ℕ
 status_of_adding (Ok done) = OK
-status_of_adding (Err NoEncoding) = NOT_TAKEN
 status_of_adding (Err NoColumns) = NOT_TAKEN
 status_of_adding (Err NoRows) = NOT_TAKEN
 status_of_adding (Err (NotARow k)) = NOT_TAKEN

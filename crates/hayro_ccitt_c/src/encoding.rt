@@ -1,6 +1,6 @@
 //! Encoding for callers in C: the settings that they pass, and what is returned. `c/fax_encode.h` declares it.
 
-ghost use Rattle.std.specs.Prelude.{◌≡◌, ◌<◌, ◌≤◌, ◌↔◌, ◌&&◌, false, length, nat_le, nat_lt, Err, IfOk, IfSome};
+ghost use Rattle.std.specs.Prelude.{◌≡◌, ◌<◌, ◌≤◌, ◌↔◌, ◌&&◌, false, true, length, nat_le, nat_lt, Err, IfOk, IfSome};
 ghost use Rattle.std.specs.Prelude.{IsOk, IsOkUnless, IsTrue, OnOk};
 ghost use Rattle.hayro_ccitt.specs.Bits.{bits_in, bits_of};
 ghost use Rattle.fax_encode.specs.RowByRow.{with_row, with_rows};
@@ -107,6 +107,7 @@ fn encoder_of(settings: &EncodeSettings) -> Option<fax_encode::EncodeSettings>
 /// Returns the settings of the encoder that C means, or `None` if they are invalid, name no encoding, or there are no columns.
 pub(crate) fn encoder_of_rows(settings: &EncodeSettings) -> Option<fax_encode::EncodeSettings>
     ensures meant { result ≡ of_rows settings.now }
+    ensures names { IfSome result (λ meant. names_encoding meant ≡ true) }
 {
     let meant = encoder_of(settings)?;
     if settings.columns > 0 && names_encoding(meant) {
@@ -165,6 +166,7 @@ fn encode_spread(
 ) -> Result<Vec<u8>, EncodeError>
     requires some { 0 < columns }
     requires reaches { bytes_of_row columns ≤ layout.stride }
+    requires names { names_encoding settings ≡ true }
     ensures { EncodesRows settings layout columns bitmap.now result }
 {
     let mut encoder = Encoder::new(alloc, columns, settings)?;
@@ -189,6 +191,7 @@ fn encode_rows(
 ) -> Result<Vec<u8>, EncodeError>
     requires some { 0 < columns }
     requires reaches { bytes_of_row columns ≤ layout.stride }
+    requires names { names_encoding settings ≡ true }
     ensures { EncodesRows settings layout columns bitmap.now result }
 {
     if are_together(columns, layout) {
@@ -212,6 +215,9 @@ fn bytes_of(
     ensures encoded { IfOk result (λ bytes. bits_in settings.order bytes.items
         ≡ bits_asked settings columns (rows_read layout columns bitmap.now)) }
 {
+    if !names_encoding(settings) {
+        return Err(Unencoded::NotTaken);
+    }
     match encode_rows(alloc, columns, bitmap, settings, layout) {
         Ok(bytes) => Ok(bytes),
         Err(EncodeError::OutOfMemory) => Err(Unencoded::OutOfMemory),

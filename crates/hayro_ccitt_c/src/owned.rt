@@ -4,6 +4,7 @@ ghost use Rattle.std.specs.Prelude.{◌≡◌, ◌≢◌, ◌<◌, ◌≤◌, If
 ghost use Rattle.hayro_ccitt.specs.Bits.{BitsFit, bits_in, bits_of};
 ghost use Rattle.hayro_ccitt.specs.Rows.{AreChanges, changes, pixels};
 ghost use Rattle.fax_encode.specs.RowByRow.{no_rows};
+ghost use Rattle.fax_encode.specs.Settings.{names_encoding};
 ghost use Rattle.hayro_ccitt_c.specs.declared.strip.Strip.TheVariants.{Rows};
 ghost use Rattle.hayro_ccitt_c.specs.Owned.{IfReading, IfReadings, IfStrip, IfStrips, is_reading, is_strip};
 ghost use Rattle.hayro_ccitt_c.specs.Packing.{bytes_of_row, row_read};
@@ -55,6 +56,7 @@ impl Owned {
         columns: u32,
         settings: EncodeSettings,
     ) -> Result<Box<Owned>, EncodeError>
+        requires names { names_encoding settings ≡ true }
         ensures opened { IfOk result (λ made. IfStrip made.value (λ strip. strip ≡ Rows (no_rows settings columns))) }
         ensures kind { IfOk result (λ made. is_strip made.value ≡ true) }
     {

@@ -13,7 +13,7 @@ use fax_callers::{
     BlackPixels, FirstRows, PageSearch, count_black, decode_first_rows, decode_once, group4_pages,
     page_end, page_ends, page_ends_by, row_in_step, strip_to_bitmap,
 };
-use fax_encode::{BitmapSink, encode};
+use fax_encode::{BitmapSink, encode, names_encoding};
 use hayro_ccitt::DecodeError::{OutOfMemory, Refused};
 use hayro_ccitt::bit_reader::BitOrder::HighestFirst;
 use hayro_ccitt::{
@@ -221,7 +221,9 @@ pub fn append_page(
     words: &str,
     rows: &[Vec<u32>],
 ) -> usize {
-    let page = encode(rt.alloc(), 8, rows, settings_by(words)).expect(rt, words);
+    let settings = settings_by(words);
+    assert!(rt; names_encoding(settings), "{words}");
+    let page = encode(rt.alloc(), 8, rows, settings).expect(rt, words);
     data.extend_from_slice(&page).expect(rt, "memory");
     data.len()
 }

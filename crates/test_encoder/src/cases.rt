@@ -9,6 +9,9 @@
 //! turn (`made_at_last`). An image is rows, as changes between commas, or bytes
 //! as hexadecimal digits. What is found is written as bytes are, or as `Debug` writes it; errors are written by their names.
 
+ghost use Rattle.std.specs.Prelude.{◌≡◌, true};
+ghost use Rattle.fax_encode.specs.Settings.{names_encoding};
+
 use crate::same;
 use fax_callers::{
     FirstRows, count_black, decode_first_rows, group3_pages, group4_pages, is_blank, page_end,
@@ -17,7 +20,7 @@ use fax_callers::{
 use fax_encode::{
     BitmapSink, Effort, EncodeError, EncodeSettings, Encoder, bitmap_by_group3, bitmap_by_group4,
     encode, encode_1d, encode_bitmap, encode_bitmap_1d, encode_bitmap_g4, encode_g4,
-    rows_of_bitmap,
+    names_encoding, rows_of_bitmap,
 };
 use hayro_ccitt::bit_reader::BitOrder;
 use hayro_ccitt::{DecodeSettings, DecoderContext, EncodingMode, bits_fit};
@@ -113,15 +116,19 @@ fn encoded_by(
     let alloc = rt.alloc();
     let settings = settings_by(call);
     if has(call, "refused") {
-        let made = made_in_want(alloc, name, columns, rows, bitmap, settings);
+        let made = made_in_want(rt, alloc, name, columns, rows, bitmap, settings);
         digits_of(rt, &made.expect(rt, call))
     } else {
-        bytes_or_error(rt, by_name(alloc, name, columns, rows, bitmap, settings))
+        bytes_or_error(
+            rt,
+            by_name(rt, alloc, name, columns, rows, bitmap, settings),
+        )
     }
 }
 
 /// Makes a call with each of its allocations refused in turn, and returns what `made_at_last` does.
 fn made_in_want(
+    rt: &impl Abort,
     alloc: Global,
     name: &str,
     columns: u32,
@@ -131,7 +138,7 @@ fn made_in_want(
 ) -> Result<Vec<u8>, (usize, Option<EncodeError>)> {
     made_at_last(
         alloc,
-        &|| by_name(alloc, name, columns, rows, bitmap, settings),
+        &|| by_name(rt, alloc, name, columns, rows, bitmap, settings),
         &is_want,
     )
 }
@@ -196,6 +203,7 @@ fn said<T: Debug + Drop>(rt: &(impl Abort + AllocGlobal), value: T) -> String {
 
 /// Calls a function that returns bytes, or whose sink holds some.
 fn by_name(
+    rt: &impl Abort,
     alloc: Global,
     name: &str,
     columns: u32,
@@ -203,6 +211,7 @@ fn by_name(
     bitmap: &[u8],
     settings: EncodeSettings,
 ) -> Result<Vec<u8>, EncodeError> {
+    assert!(rt; names_encoding(settings), "no encoding");
     let aligned = settings.rows_are_byte_aligned;
     match name {
         "encode_bitmap_g4" => encode_bitmap_g4(alloc, columns, bitmap, aligned),
@@ -220,7 +229,9 @@ fn by_name_of_rows(
     columns: u32,
     rows: &[Vec<u32>],
     settings: EncodeSettings,
-) -> Result<Vec<u8>, EncodeError> {
+) -> Result<Vec<u8>, EncodeError>
+    requires { names_encoding settings ≡ true }
+{
     let aligned = settings.rows_are_byte_aligned;
     match name {
         "encode_g4" => encode_g4(alloc, columns, rows, aligned),
@@ -238,7 +249,9 @@ fn by_changes(
     columns: u32,
     rows: &[Vec<u32>],
     settings: EncodeSettings,
-) -> Result<Vec<u8>, EncodeError> {
+) -> Result<Vec<u8>, EncodeError>
+    requires { names_encoding settings ≡ true }
+{
     let mut encoder = Encoder::new(alloc, columns, settings)?;
     for row in rows {
         encoder.push_changes(row)?;
@@ -252,7 +265,9 @@ fn by_packed_rows(
     columns: u32,
     bitmap: &[u8],
     settings: EncodeSettings,
-) -> Result<Vec<u8>, EncodeError> {
+) -> Result<Vec<u8>, EncodeError>
+    requires { names_encoding settings ≡ true }
+{
     let mut encoder = Encoder::new(alloc, columns, settings)?;
     for start in (0..bitmap.len()).step_by(columns.div_ceil(8).max(1) as usize) {
         encoder.push_packed_row(&bitmap[start..])?;

@@ -3,7 +3,9 @@
 
 use crate::cases::{bytes_of, check, row_of, says, settings_by};
 use crate::same;
-use fax_encode::{BitmapSink, Effort, EncodeError, EncodeSettings, Encoder, encode_bitmap};
+use fax_encode::{
+    BitmapSink, Effort, EncodeError, EncodeSettings, Encoder, encode_bitmap, names_encoding,
+};
 use hayro_ccitt::bit_reader::BitOrder;
 use hayro_ccitt::{DecodeSettings, DecoderContext, EncodingMode, bits_fit, decode_in};
 use std::alloc::AllocGlobal;
@@ -98,28 +100,63 @@ fn shorter_line(rt: HostRuntime) {
     );
 }
 
-/// Settings that name no encoding.
-const UNNAMED: &str = "
-    g4 eol: NoEncoding
-    g4 fill: NoEncoding
-    1d fill: NoEncoding
-    1d rtc: NoEncoding
-    1d eol aligned: NoEncoding
-    2d k=0: NoEncoding
-";
+/// Tests whether the settings that each line of a text names name an encoding.
+fn are_named(rt: &(impl Abort + AllocGlobal), lines: &str, expected: bool) {
+    for words in lines.trim().lines() {
+        same(
+            rt,
+            (words, names_encoding(settings_by(words))),
+            (words, expected),
+        );
+    }
+}
+
+#[test]
+fn names(rt: HostRuntime) {
+    are_named(
+        &rt,
+        "
+        g4 eol
+        g4 fill
+        g4 eol rtc
+        1d fill
+        2d fill
+        1d rtc
+        2d rtc
+        1d eol aligned
+        2d eol aligned
+        2d k=0
+        2d eol k=0
+        ",
+        false,
+    );
+    are_named(
+        &rt,
+        "
+        g4
+        g4 rtc
+        g4 aligned rtc
+        g4 k=0
+        1d
+        1d aligned
+        1d k=0
+        1d eol
+        1d eol fill rtc
+        2d k=1
+        2d aligned
+        2d eol fill rtc
+        ",
+        true,
+    );
+}
 
 #[test]
 fn refusals(rt: HostRuntime) {
-    check(&rt, "encode 0 3,5/3,5/4,7/white/0,9", UNNAMED);
-    check(
-        &rt,
-        "encode_bitmap 0 1800001800000E0000000000FF8000",
-        UNNAMED,
-    );
     check(
         &rt,
         "",
         "
+        encode 0 - 1d: NoColumns
         encode 0 3,5/3,5/4,7/white/0,9 1d: NoColumns
         encode 24 - 1d: NoRows
         encode 9 3,5/3,5/4,7/white/0,9 1d: NotARow(4)
@@ -127,7 +164,6 @@ fn refusals(rt: HostRuntime) {
         encode_bitmap 24 1800 g4: NoRows
         ",
     );
-    says(&rt, EncodeError::NoEncoding, "no encoding");
 }
 
 #[test]
@@ -140,6 +176,13 @@ fn refused_memory(rt: HostRuntime) {
         encode_bitmap 24 1800001800000E0000000000FF8000 2d eol fill refused: 0001C63000017001DD5800010C00019A89A8
         ",
     );
+}
+
+/// Creates an encoder of rows of 24 pixels, by the settings that words name.
+fn encoder_by(rt: &(impl Abort + AllocGlobal), words: &str) -> Encoder {
+    let settings = settings_by(words);
+    assert!(rt; names_encoding(settings), "{words}");
+    Encoder::new(rt.alloc(), 24, settings).expect(rt, "no columns")
 }
 
 /// Adds a row by its changes, and compares what is returned and how many rows there are.
@@ -161,12 +204,11 @@ fn refusals_row_by_row(rt: HostRuntime) {
         &rt,
         "push_changes",
         "
-        0 - g4 eol: NoEncoding
         0 - 1d: NoColumns
         24 - 1d: NoRows
         ",
     );
-    let mut encoder = Encoder::new(rt.alloc(), 24, settings_by("1d")).expect(&rt, "settings");
+    let mut encoder = encoder_by(&rt, "1d");
     assert!(&rt; encoder.needs_row());
     pushes(&rt, &mut encoder, "24", Err(EncodeError::NotARow(0)), 0);
     pushes(&rt, &mut encoder, "3,5", Ok(()), 1);
@@ -193,7 +235,7 @@ fn refused_memory_row_by_row(rt: HostRuntime) {
 #[test]
 fn wanting_memory_stays(rt: HostRuntime) {
     let alloc = rt.alloc();
-    let mut encoder = Encoder::new(alloc, 24, settings_by("1d")).expect(&rt, "settings");
+    let mut encoder = encoder_by(&rt, "1d");
     refuse_request(alloc, 1);
     let first = encoder.push_changes(&[3, 5]);
     if was_refused(alloc) {
@@ -228,6 +270,7 @@ fn to_read(settings: EncodeSettings) -> DecodeSettings {
 
 /// Encodes the picture, decodes it to its last byte, and encodes the bitmap again.
 fn comes_back(rt: &(impl Abort + AllocGlobal), settings: EncodeSettings) {
+    assert!(rt; names_encoding(settings), "no encoding");
     let alloc = rt.alloc();
     let bytes = encode_bitmap(alloc, 24, &BITMAP, settings).expect(rt, "the picture is refused");
     let mut ctx = DecoderContext::new(alloc, to_read(settings)).expect(rt, "no memory");
@@ -261,8 +304,7 @@ fn comes_back_by(
         order,
         effort: Effort::Procedure,
     };
-    let first = encode_bitmap(rt.alloc(), 24, &BITMAP, settings).err();
-    if first != Some(EncodeError::NoEncoding) {
+    if names_encoding(settings) {
         comes_back(rt, settings);
     }
 }

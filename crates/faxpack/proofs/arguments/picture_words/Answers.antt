@@ -9,7 +9,7 @@ too_few_for_picture [] few = refl
 too_few_for_picture (a ∷ []) few = refl
 too_few_for_picture (a ∷ b ∷ more) few = absurd (omega (arith, few))
 
-pub returns-in_default : goal.returns-in_default
-returns-in_default c =
+pub returns-in_default-clause-arguments : goal.returns-in_default-clause-arguments
+returns-in_default-clause-arguments c =
     too_few_for_picture (map string_bytes c.args.words.now) (omega
     (arith, length-map c.args.words.now string_bytes, c.in_default.len_below))

@@ -11,7 +11,7 @@ too_few_for_rows (a ∷ b ∷ []) few = refl
 too_few_for_rows (a ∷ b ∷ c ∷ []) few = refl
 too_few_for_rows (a ∷ b ∷ c ∷ d ∷ more) few = absurd (omega (arith, few))
 
-pub returns-in_default : goal.returns-in_default
-returns-in_default c =
+pub returns-in_default-clause-arguments : goal.returns-in_default-clause-arguments
+returns-in_default-clause-arguments c =
     too_few_for_rows (map string_bytes c.args.words.now) (omega
     (arith, length-map c.args.words.now string_bytes, c.in_default.len_below))

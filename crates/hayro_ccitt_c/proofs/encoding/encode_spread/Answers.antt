@@ -1,10 +1,10 @@
 use Rattle.std.proofs.lemmas.Grind.{common_steps}
-use Rattle.std.proofs.Common.{arith, ◌≡◌, ℕ, true, List, sym, ap, subst, ◌∙◌, rules, IfOk}
+use Rattle.std.proofs.Common.{arith, ◌≡◌, ℕ, true, List, sym, ap, subst, ◌∙◌, IfOk}
 use Rattle.hayro_ccitt.specs.Bits.{Bits, bits_in}
 use Rattle.hayro_ccitt.specs.Rows.{Row}
 use Rattle.fax_encode.specs.Chosen.{filled_up}
 use Rattle.fax_encode.specs.RowByRow.{RowsEncoded, no_rows, with_rows}
-use Rattle.fax_encode.specs.Settings.{chosen, names_encoding, needs_row}
+use Rattle.fax_encode.specs.Settings.{chosen, needs_row}
 use Rattle.fax_encode.specs.declared.settings.EncodeSettings.{EncodeSettings as EncoderSettings}
 use Rattle.hayro_ccitt_c.specs.Packing.{rows_read}
 use Rattle.hayro_ccitt_c.proofs.SpreadRows.{settings_are, lines_are, none_wanted, none_counted, none_there, few_if_none}
@@ -20,22 +20,19 @@ returns c =
     let is : now ≡ with_rows (no_rows settings columns) rows = c.in_ok-push_rows.ensures.pushed
     ∙ ap (λ (r : RowsEncoded). with_rows r rows) c.in_ok-encoder.ensures.made in
     let same = settings_are settings columns rows now is in
-    let named : names_encoding settings ≡ true = search rules in
     record {
-      no_encoding = grind (arith, common_steps);
       no_rows = (
         λ refused.
             let told = c.finish.ensures.no_rows.0 refused in
             let none = none_counted settings columns rows now is told.1 in (
-              named,
               subst (λ (s : EncoderSettings). needs_row s.encoding s.end_of_block ≡ true) same told.2,
               few_if_none c.args.layout columns c.args.bitmap.now c.requires.some c.requires.reaches none,
             ),
         λ given.
             c.finish.ensures.no_rows.1 (
               none_wanted settings columns rows now is,
-              none_there settings columns rows now is (rows_read-none c.args.layout columns c.args.bitmap.now given.2),
-              subst (λ (s : EncoderSettings). needs_row s.encoding s.end_of_block ≡ true) (sym same) given.1,
+              none_there settings columns rows now is (rows_read-none c.args.layout columns c.args.bitmap.now given.1),
+              subst (λ (s : EncoderSettings). needs_row s.encoding s.end_of_block ≡ true) (sym same) given.0,
             ),
       );
       others = grind (arith, common_steps);
