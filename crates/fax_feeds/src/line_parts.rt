@@ -17,7 +17,8 @@ use fax_bits::bit_reader::{BitReader, BitScanner};
 use fax_bits::codes::{Color, Mode};
 use fax_bits::{DecodeError, DecodeSettings, EncodingMode};
 use fax_lines::changes::vertical_place;
-use fax_lines::context::{DecoderContext, places_after, read_word};
+use fax_lines::context::DecoderContext;
+use fax_lines::context::reading::{places_after, read_word};
 
 /// Where in a line its next word begins. Of its front only the number of pixels is kept.
 #[derive(Clone, Copy)]

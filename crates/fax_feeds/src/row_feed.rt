@@ -28,9 +28,8 @@ use fax_bits::bit_reader::{
 use fax_bits::codes::Color;
 use fax_bits::{DecodeError, DecodeSettings, EncodingMode, Result};
 use fax_lines::Decoder;
-use fax_lines::context::{
-    DecoderContext, begin_line, no_white_lines, reference_row, repeats_white,
-};
+use fax_lines::context::white_rows::{no_white_lines, repeats_white};
+use fax_lines::context::{DecoderContext, begin_line, reference_row};
 use fax_rows::push_rows::{WhiteLinesAhead, push_white_rows};
 use fax_rows::row_reader::{RowState, Stand, first_stand, has_ended, is_at_line};
 use fax_rows::rows::try_row;

@@ -6,7 +6,7 @@ use Rattle.fax_bits.specs.declared.codes.Mode.{Mode}
 use Rattle.fax_bits.specs.declared.codes.Mode.TheVariants.{Horizontal, Pass}
 use Rattle.fax_bits.specs.declared.codes.Color.TheVariants.{White}
 use Rattle.fax_lines.specs.declared.modes.CodingLine.{CodingLine}
-use Rattle.fax_lines.specs.declared.modes.ModesHere.{ModesHere}
+use Rattle.fax_lines.specs.declared.vertical_groups.ModesHere.{ModesHere}
 use Rattle.fax_lines.specs.declared.modes.Stroke.{Stroke}
 use Rattle.fax_lines.specs.declared.run_pairs.TwoRuns.{TwoRuns}
 use Rattle.fax_bits.specs.Bits.{here}

@@ -1,25 +1,17 @@
 //! What a decoder keeps from line to line, and the lines themselves.
 
-ghost use Rattle.std.specs.Prelude.{◌≡◌, ◌+◌, ◌-◌, ◌*◌, ◌^◌, ◌<◌, ◌≤◌, ◌↔◌, ℕ, Ok, Err, OnOk, OnErr, IfOk, true};
-ghost use Rattle.std.specs.Prelude.{false, suc, max, pos, vec_capacity};
-ghost use Rattle.std.specs.Prelude.{◌||◌, IsOkUnless, IsTrue, if◌then◌else◌, is_some, option_map, length, get_or, []};
-ghost use Rattle.fax_reading.specs.LocalityByK.{after_mode};
-ghost use Rattle.fax_bits.specs.Ticks.{run_found};
-ghost use Rattle.fax_reading.specs.Work.{mode_found};
-ghost use Rattle.fax_bits.specs.ReaderSteps.{Reads};
-ghost use Rattle.fax_bits.specs.Runs.{codes_of, read_run};
+ghost use Rattle.std.specs.Prelude.{◌≡◌, ◌+◌, ◌*◌, ◌^◌, ◌<◌, ◌≤◌, ◌↔◌, Err, OnOk, OnErr, IfOk, true};
+ghost use Rattle.std.specs.Prelude.{false, suc, max, vec_capacity};
+ghost use Rattle.std.specs.Prelude.{IsOkUnless, IsTrue, length, get_or, []};
 ghost use Rattle.fax_reading.specs.Rows.{AreChanges, right_of, b1, b2, changes, opposite};
 ghost use Rattle.fax_bits.specs.Bits.{here};
-ghost use Rattle.fax_reading.specs.Context.{redrawn, taken_row, after_repair, after_taking, fresh, with_missed};
-ghost use Rattle.fax_bits.specs.CodeReading.{read_code};
+ghost use Rattle.fax_reading.specs.Context.{redrawn, taken_row, after_repair, after_taking, fresh};
 ghost use Rattle.fax_lines.specs.ContextSteps.{CountsWords, DrawsAtOnce, DrawsOneMode, DrawsUsualModes, DrawsUsualRuns};
-ghost use Rattle.fax_lines.specs.ContextSteps.{GrowsFor, IsAtStart, OnlyDraws, PassesChanges, SeeksB1};
+ghost use Rattle.fax_lines.specs.ContextSteps.{GrowsFor, IsAtStart, OnlyDraws, SeeksB1};
 ghost use Rattle.fax_lines.specs.ContextSteps.{PushesPixels};
 ghost use Rattle.fax_lines.specs.PassedRows.{PassesRow};
 ghost use Rattle.fax_lines.specs.SinkStates.{state_of};
-ghost use Rattle.fax_lines.specs.Counting.{OnlyCounts};
-ghost use Rattle.fax_reading.specs.Context.{ArePassed, exceeds, right_of_painted, with_cut};
-ghost use Rattle.fax_lines.specs.WhiteLines.{AreKnown, MayFollow};
+ghost use Rattle.fax_reading.specs.Context.{exceeds};
 ghost use Rattle.fax_reading.specs.Answers.{DrawsLine, DrawsStep, OnAnswer, words_of_run, words_from_1d};
 ghost use Rattle.fax_reading.specs.Answers.{words_from_2d, RepairStoresChange, pen_of, step_of_run, step_of_mode};
 ghost use Rattle.fax_reading.specs.Answers.{line_from_1d, line_from_2d, front_of, is_broken, strict_step_of_run};
@@ -27,19 +19,19 @@ ghost use Rattle.fax_reading.specs.Answers.{TellsCut};
 ghost use Rattle.fax_reading.specs.Lines.{line_1d, line_2d};
 ghost use Rattle.fax_reading.specs.Space.{most_stored};
 
+pub mod counts;
+pub mod reading;
+pub mod white_rows;
+
 use crate::Decoder;
 use crate::changes::{append_pixels, b1_index, change_or_end, vertical_place};
 use crate::modes::{
-    CodingLine, draw_modes, drop_open_change_in_row, ensure_bits_and_room, has_no_room,
-    has_room_for_window, is_sparse, is_white_row, is_wide, next_color, put_ends, repeat_changes,
-    take_ends,
+    CodingLine, draw_modes, drop_open_change_in_row, ensure_bits_and_room, has_room_for_window,
+    is_wide, next_color, put_ends, repeat_changes, take_ends,
 };
-use crate::run_pairs::{
-    RunsOfLine, close_black_run, draw_long_pairs, draw_runs, drop_open_change, push_change,
-};
-use crate::white_lines::{WhiteLines, may_follow, none_known, white_lines};
+use crate::run_pairs::{RunsOfLine, close_black_run, draw_long_pairs, draw_runs, drop_open_change};
 use fax_bits::bit_reader::{
-    BitOrder, BitReader, BitScanner, Window, at_hand, go_on_with, go_to, pass_bits, window_at_hand,
+    BitOrder, BitReader, Window, at_hand, go_on_with, go_to, pass_bits, window_at_hand,
 };
 use fax_bits::codes::{Color, Mode, Ticks, pass_v0, tick_times};
 use fax_bits::tables::Tables;
@@ -60,8 +52,8 @@ fn exchange(reference: &mut Vec<u32>, coding: &mut Vec<u32>)
     ensures space { max (vec_capacity reference.new) (vec_capacity coding.new)
         ≡ max (vec_capacity reference.old) (vec_capacity coding.old) }
 {
-    let is_white = is_white_row(coding);
-    if is_white_row(reference) {
+    let is_white = coding.is_empty();
+    if reference.is_empty() {
         if is_white {
             return;
         }
@@ -72,17 +64,6 @@ fn exchange(reference: &mut Vec<u32>, coding: &mut Vec<u32>)
     mem::swap(coding, &mut drawn);
     mem::swap(reference, &mut drawn);
     mem::swap(coding, &mut above);
-}
-
-/// Finds the white lines of these settings. This is a call, so that rows that aren't white cost nothing for it.
-#[cold]
-#[inline(never)]
-fn find_white_lines(lines: &mut WhiteLines, settings: DecodeSettings, has_eols: bool)
-    requires { 0 < settings.columns }
-    ensures known { AreKnown settings lines.new }
-    ensures same { lines.new.has_eols ≡ has_eols }
-{
-    *lines = white_lines(settings, has_eols);
 }
 
 /// The state of decoding: the settings, the reference row and the coding row (T.4, 4.2.1.1), the number of rows
@@ -438,20 +419,6 @@ impl DecoderContext {
         Ok(())
     }
 
-    /// Passes a run of a colour without drawing it, and returns whether one is here. If there is none, the offset is
-    /// unspecified.
-    fn pass_run(&mut self, color: Color, reader: &mut BitReader<'_>) -> bool
-        ensures run { result ≡ true → (n : ℕ) × (read_run color (here reader.old) ≡ Ok (n, here reader.new)) }
-        ensures none { result ≡ false → (fault : DecodeError) × (read_run color (here reader.old) ≡ Err fault) }
-        ensures same_bits { reader.new.bits ≡ reader.old.bits }
-        ensures only_ticks { OnlyCounts self.old self.new }
-        ensures cut { self.new.cut ≡ self.old.cut }
-        ensures at_most { self.new.ticks
-            ≤ self.old.ticks + length (run_found color (0, here reader.old)) + (if result then 0 else 1) }
-    {
-        run_length(self, color, reader).is_some()
-    }
-
     /// Reads a run of the present colour, paints it and turns the colour.
     #[inline(always)]
     fn draw_run(&mut self, reader: &mut BitReader<'_>) -> Result<()>
@@ -612,26 +579,18 @@ impl DecoderContext {
         go_on_with(reader, &window);
     }
 
-    /// Draws the first runs of a wide line of few changes as long as they are usual; or none, if one or two are likely, since the row
-    /// before has one change or none.
-    #[inline(always)]
-    fn draw_first_long_runs(&mut self, reader: &mut BitReader<'_>)
-        ensures { DrawsUsualRuns self.old self.new reader.old reader.new }
-    {
-        if reference_row(self).len() > 1 {
-            self.draw_long_runs_of(reader);
-        }
-    }
-
     /// Draws the first runs of a line as long as they are usual: without a call, if few are likely, since the row before has few
-    /// changes.
+    /// changes; and none of a wide line, if one or two are likely.
     #[inline(always)]
     fn draw_first_runs(&mut self, reader: &mut BitReader<'_>)
         ensures { DrawsUsualRuns self.old self.new reader.old reader.new }
     {
-        if is_sparse(self.settings.columns, self.ref_changes.len()) {
-            self.draw_first_long_runs(reader);
-        } else if reference_row(self).len() < 7 {
+        let changes = self.ref_changes.len();
+        if is_wide(self.settings.columns) && changes < 16 {
+            if changes > 1 {
+                self.draw_long_runs_of(reader);
+            }
+        } else if changes < 7 {
             self.draw_few_runs_of(reader);
         } else {
             self.draw_runs_of(reader);
@@ -699,7 +658,7 @@ impl DecoderContext {
         requires { IsAtStart self.old }
         ensures { DrawsAtOnce self.old self.new reader.old reader.new result }
     {
-        if !is_white_row(&self.ref_changes) {
+        if !self.ref_changes.is_empty() {
             return false;
         }
         let columns = self.settings.columns;
@@ -756,7 +715,7 @@ impl DecoderContext {
                 return;
             }
             // The first row with changes is drawn by calls that ask for the room that it needs.
-            if is_white_row(&self.ref_changes) && has_no_room(&self.coding_changes) {
+            if self.ref_changes.is_empty() && self.coding_changes.capacity() == 0 {
                 return;
             }
         }
@@ -802,75 +761,6 @@ impl DecoderContext {
     }
 }
 
-/// Returns the fault of the last line that was repaired.
-pub fn last_fault(ctx: &DecoderContext) -> DecodeError
-    ensures { result ≡ ctx.now.held.repairs.fault }
-{
-    ctx.last_fault
-}
-
-/// Counts a row whose line was repaired after this fault.
-pub fn count_damaged_row(ctx: &mut DecoderContext, fault: DecodeError)
-    requires { ctx.old.held.repairs.rows + 1 < 2 ^ 64 }
-    ensures frame { ctx.new ≡ record ctx.old {
-      held = record ctx.old.held {
-        repairs = record ctx.old.held.repairs {
-          rows = ctx.old.held.repairs.rows + 1;
-          fault = fault;
-          last = ctx.old.held.taken;
-        };
-      };
-    } }
-{
-    ctx.damaged_rows += 1;
-    ctx.last_fault = fault;
-    ctx.last_damaged = ctx.decoded_rows;
-}
-
-/// Returns whether a run of the line was cut at the row's end.
-#[inline(always)]
-pub fn is_cut(ctx: &DecoderContext) -> bool
-    ensures { result ≡ ctx.now.cut }
-{
-    ctx.is_cut
-}
-
-/// Counts the row of the line as one in which a run was cut.
-#[cold]
-#[inline(never)]
-pub fn count_cut_row(ctx: &mut DecoderContext)
-    requires rows { ctx.old.held.taken + 1 < 2 ^ 64 }
-    ensures frame { ctx.new ≡ record ctx.old {
-      held = record ctx.old.held { repairs = with_cut ctx.old.held.taken ctx.old.held.repairs };
-    } }
-{
-    // At most one row is cut a row.
-    if ctx.cut_rows <= ctx.decoded_rows {
-        ctx.cut_rows += 1;
-    }
-}
-
-/// Counts an EOL that is missed after the rows so far, unless the last of them was repaired.
-#[cold]
-#[inline(never)]
-pub fn count_missed_eol(ctx: &mut DecoderContext)
-    ensures frame { ctx.new ≡ record ctx.old {
-      held = record ctx.old.held { repairs = with_missed ctx.old.held.taken ctx.old.held.repairs };
-    } }
-{
-    // At most one EOL is missed a row.
-    if ctx.last_damaged != ctx.decoded_rows && ctx.missed_eols < ctx.decoded_rows {
-        ctx.missed_eols += 1;
-    }
-}
-
-/// Sets the offset of the fault.
-pub fn set_fault_start(ctx: &mut DecoderContext, place: Option<usize>)
-    ensures frame { ctx.new ≡ record ctx.old { held = record ctx.old.held { fault_start = place } } }
-{
-    ctx.fault_start = place;
-}
-
 /// Returns the changes of the reference row: those of the last accepted row, none before the first.
 pub fn reference_row(ctx: &DecoderContext) -> &[u32]
     ensures changes { result.now ≡ changes ctx.now.held.reference }
@@ -878,14 +768,6 @@ pub fn reference_row(ctx: &DecoderContext) -> &[u32]
     ensures width { length ctx.now.held.reference ≡ ctx.now.held.settings.columns }
 {
     ctx.ref_changes.as_slice()
-}
-
-/// Resets all but the settings to what a new context has.
-pub fn restart(ctx: &mut DecoderContext)
-    ensures frame { ctx.new ≡ record { held = fresh ctx.old.held.settings; passed = 0; cut = false; ticks = 0; space = ctx.old.space } }
-{
-    ctx.reset();
-    ctx.ticks = Ticks::new();
 }
 
 /// Empties the front and sets the colour to white, as each line begins, where no run of it is cut.
@@ -917,188 +799,6 @@ pub fn end_line(ctx: &mut DecoderContext)
     exchange(&mut ctx.ref_changes, &mut ctx.coding_changes);
     begin_line(ctx);
     ctx.decoded_rows += 1;
-}
-
-/// Returns that no white line is known yet.
-#[inline(always)]
-pub fn no_white_lines(ctx: &DecoderContext) -> WhiteLines
-    ensures { AreKnown ctx.now.held.settings result }
-{
-    none_known(&ctx.settings)
-}
-
-/// Returns whether one of these white lines may be next: below a white row, where lines begin anywhere. They are those of
-/// the settings then.
-#[inline(always)]
-pub fn repeats_white(ctx: &DecoderContext, lines: &mut WhiteLines) -> bool
-    requires { AreKnown ctx.now.held.settings lines.old }
-    ensures known { AreKnown ctx.now.held.settings lines.new }
-    ensures follow { result ≡ true
-        → MayFollow ctx.now.held.settings ctx.now.held.has_eols ctx.now.held.reference lines.new }
-{
-    if !is_white_row(&ctx.ref_changes) {
-        return false;
-    }
-    let columns = ctx.settings.columns;
-    if columns == 0 {
-        return false;
-    }
-    if ctx.settings.rows_are_byte_aligned && !ctx.has_eols {
-        return false;
-    }
-    // The limit is 0 only before they are found; there may be none.
-    if lines.limit == 0 || lines.has_eols != ctx.has_eols {
-        find_white_lines(lines, ctx.settings, ctx.has_eols);
-    }
-    lines.first.count != 0
-}
-
-/// Returns whether the bits of one of these white lines are next, and that line may be next (see `repeats_white`).
-#[inline(always)]
-pub fn white_is_next(ctx: &DecoderContext, lines: &mut WhiteLines, reader: &BitReader<'_>) -> bool
-    requires { AreKnown ctx.now.held.settings lines.old }
-    ensures known { AreKnown ctx.now.held.settings lines.new }
-    ensures follow { result ≡ true
-        → MayFollow ctx.now.held.settings ctx.now.held.has_eols ctx.now.held.reference lines.new }
-{
-    repeats_white(ctx, lines) && may_follow(lines, reader, 0)
-}
-
-/// Counts one more row that is the reference row again, with two ticks: for its mode and for b1, or for the words of its run.
-#[inline(always)]
-pub fn take_row_again(ctx: &mut DecoderContext)
-    requires { ctx.old.held.taken + 1 < 2 ^ 64 }
-    ensures frame { ctx.new ≡ record ctx.old {
-      held = record ctx.old.held { taken = ctx.old.held.taken + 1 };
-      ticks = ctx.old.ticks + 2;
-    } }
-{
-    let rows = ctx.decoded_rows;
-    ctx.decoded_rows = rows + 1;
-    ctx.ticks.tick();
-    ctx.ticks.tick();
-}
-
-/// Counts so many more rows, each as `take_row_again` does.
-#[inline(always)]
-pub fn take_rows_again(ctx: &mut DecoderContext, count: u64)
-    requires { ctx.old.held.taken + count < 2 ^ 64 }
-    ensures frame { ctx.new ≡ record ctx.old {
-      held = record ctx.old.held { taken = ctx.old.held.taken + count };
-      ticks = ctx.old.ticks + count + count;
-    } }
-{
-    ctx.decoded_rows += count;
-    tick_times(&mut ctx.ticks, count as usize);
-    tick_times(&mut ctx.ticks, count as usize);
-}
-
-/// Takes back the last row, which the sink refused: it isn't counted, and this many rows are damaged, and in this many a
-/// run was cut.
-#[cold]
-#[inline(never)]
-pub fn take_back_row(ctx: &mut DecoderContext, damaged_rows: u64, cut_rows: u64)
-    requires { 0 < ctx.old.held.taken }
-    ensures frame { ctx.new ≡ record ctx.old {
-      held = record ctx.old.held {
-        taken = ctx.old.held.taken - 1;
-        repairs = record ctx.old.held.repairs { rows = damaged_rows; cut = cut_rows };
-      };
-    } }
-{
-    ctx.decoded_rows -= 1;
-    ctx.damaged_rows = damaged_rows;
-    ctx.cut_rows = cut_rows;
-}
-
-/// Reads a word of a run of a colour without drawing it.
-#[inline(always)]
-pub fn read_word(ctx: &mut DecoderContext, color: Color, reader: &mut BitScanner<'_>) -> Result<u16>
-    ensures word { Reads (read_code (codes_of color)) reader.old reader.new result }
-    ensures same_bits { reader.new.bits ≡ reader.old.bits }
-    ensures onward { reader.old.place ≤ reader.new.place }
-    ensures lacking { result ≡ Err DecodeError.UnexpectedEof → reader.new ≡ reader.old }
-    ensures frame { ctx.new ≡ record ctx.old { ticks = ctx.old.ticks + 1 } }
-{
-    reader.read_word(color, &ctx.tables, &mut ctx.ticks)
-}
-
-/// Returns b1 and b2 of a row of which this many pixels are painted, and whose next ones have this colour (T.4, 4.2.1.1).
-/// `passed` is how many changes of the reference row are known not to be right of a0; afterwards it is the number of all such
-/// changes.
-#[inline(always)]
-pub fn places_after(
-    ctx: &mut DecoderContext,
-    painted: u32,
-    color: Color,
-    passed: &mut usize,
-) -> (u32, u32)
-    requires { ArePassed (changes ctx.old.held.reference) painted passed.old }
-    ensures b1 { result.0 ≡ b1 ctx.old.held.reference (right_of_painted painted) color }
-    ensures b2 { result.1 ≡ b2 ctx.old.held.reference (right_of_painted painted) color }
-    ensures within { result.0 ≤ ctx.old.held.settings.columns }
-    ensures onward { painted ≤ ctx.old.held.settings.columns → painted ≤ result.0 }
-    ensures passes { PassesChanges (changes ctx.old.held.reference) painted passed.old passed.new ctx.old.ticks
-        ctx.new.ticks }
-    ensures frame { ctx.new ≡ record ctx.old { ticks = ctx.new.ticks } }
-{
-    let ticks = &mut ctx.ticks;
-    let index = b1_index(
-        ctx.ref_changes.as_slice(),
-        painted,
-        color,
-        ctx.settings.columns,
-        passed,
-        ticks,
-    );
-    (ctx.reference_change(index), ctx.reference_change(index + 1))
-}
-
-/// Passes a run of a colour without drawing it, and returns its length. If there is none, it returns `None`, and the
-/// offset is unspecified.
-pub fn run_length(ctx: &mut DecoderContext, color: Color, reader: &mut BitReader<'_>) -> Option<u32>
-    ensures run { (n : ℕ) → result ≡ Some n → read_run color (here reader.old) ≡ Ok (n, here reader.new) }
-    ensures none { result ≡ None → (fault : DecodeError) × (read_run color (here reader.old) ≡ Err fault) }
-    ensures same_bits { reader.new.bits ≡ reader.old.bits }
-    ensures only_ticks { OnlyCounts ctx.old ctx.new }
-    ensures cut { ctx.new.cut ≡ ctx.old.cut }
-    ensures at_most { ctx.new.ticks
-        ≤ ctx.old.ticks + length (run_found color (0, here reader.old)) + (if is_some result then 0 else 1) }
-{
-    match reader.decode_run(color, &ctx.tables, &mut ctx.ticks) {
-        Ok(run) => Some(run),
-        Err(_) => None,
-    }
-}
-
-/// Passes the mode here, in a line of this colour, with the runs of a horizontal one, without drawing it, and
-/// returns the colour after it. If there is none, or one of its runs is broken, it returns `None`, and the offset is
-/// unspecified (T.4, 4.2.1.3).
-pub fn pass_mode(
-    ctx: &mut DecoderContext,
-    color: Color,
-    reader: &mut BitReader<'_>,
-) -> Option<Color>
-    ensures after { option_map (λ after. (after, here reader.new)) result ≡ after_mode color (here reader.old) }
-    ensures same_bits { reader.new.bits ≡ reader.old.bits }
-    ensures only_ticks { OnlyCounts ctx.old ctx.new }
-    ensures cut { ctx.new.cut ≡ ctx.old.cut }
-    ensures at_most { ctx.new.ticks
-        ≤ ctx.old.ticks + length (mode_found color (here reader.old)) + (if is_some result then 0 else 1) }
-{
-    let Ok(mode) = reader.decode_mode(&mut ctx.ticks) else {
-        return None;
-    };
-    match mode {
-        Mode::Pass => Some(color),
-        Mode::Vertical(_) => Some(color.opposite()),
-        Mode::Horizontal => {
-            if !ctx.pass_run(color, reader) || !ctx.pass_run(color.opposite(), reader) {
-                return None;
-            }
-            Some(color)
-        }
-    }
 }
 
 /// Decodes a one-dimensional line, whatever the front was before (T.4, 4.1.1). Of what the context holds, only

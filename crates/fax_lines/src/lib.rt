@@ -14,6 +14,7 @@ pub mod context;
 mod modes;
 mod regular_places;
 mod run_pairs;
+mod vertical_groups;
 pub mod white_lines;
 
 use fax_bits::{DecodeError, Result};

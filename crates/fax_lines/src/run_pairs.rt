@@ -51,17 +51,15 @@ pub(crate) fn run_at_hand(
     }
 }
 
-/// Fills the window if it has fewer than 26 bits after so many; returns false if it can't be filled.
+/// Fills the window if it has fewer than `count` bits; returns false if it can't be filled.
 #[inline(always)]
-fn ensure_run_after(window: &mut Window<'_>, width: usize) -> bool
-    requires { width ≤ 26 }
+pub(crate) fn ensure_bits(window: &mut Window<'_>, count: usize) -> bool
+    requires { count ≤ 57 }
     ensures same { window.new.at ≡ window.old.at }
-    ensures enough { result ≡ true → width + 26 ≤ window.new.left }
+    ensures enough { result ≡ true → count ≤ window.new.left }
+    ensures most { window.old.left ≤ 64 → window.new.left ≤ 64 }
 {
-    if window.left() >= width + 26 {
-        return true;
-    }
-    window.refill()
+    window.left() >= count || window.refill()
 }
 
 /// Stores a change at the position reached, if there is room for it.
@@ -90,18 +88,6 @@ fn has_room_for_pair(changes: &Vec<u32>) -> bool
     ensures { result ≡ true → vec_len changes.now + 2 ≤ vec_capacity changes.now }
 {
     changes.len() + 2 <= changes.capacity()
-}
-
-/// Fills the window if it has fewer than twelve bits; returns false if it can't be filled.
-#[inline(always)]
-fn ensure_pair(window: &mut Window<'_>) -> bool
-    ensures same { window.new.at ≡ window.old.at }
-    ensures enough { result ≡ true → 12 ≤ window.new.left }
-{
-    if window.left() >= 12 {
-        return true;
-    }
-    window.refill()
 }
 
 /// Two runs that were read, of a colour and of the other one.
@@ -216,7 +202,7 @@ fn draw_pair(
     ensures left { IfNone result (DrawsNothing window.old row.old ticks.old window.new row.new ticks.new) }
     ensures kept { MovesOn window.old row.old window.new row.new }
 {
-    if !line.by_pairs || !ensure_pair(window) {
+    if !line.by_pairs || !ensure_bits(window, 12) {
         return None;
     }
     let runs = pair_at_hand(window, 0, Color::White)?;
@@ -249,7 +235,7 @@ pub(crate) fn draw_two_runs(
     ensures left { IfNone result (DrawsNothing window.old row.old ticks.old window.new row.new ticks.new) }
     ensures kept { MovesOn window.old row.old window.new row.new }
 {
-    if !ensure_run_after(window, 0) {
+    if !ensure_bits(window, 26) {
         return None;
     }
     let (first, width, words) = run_at_hand(window, 0, Color::White, tables.lookup(Color::White))?;
@@ -269,7 +255,7 @@ pub(crate) fn draw_two_runs(
     if !has_room_for_pair(row) {
         return None;
     }
-    if !ensure_run_after(window, width) {
+    if !ensure_bits(window, width + 26) {
         return None;
     }
     let (second, width2, words2) = run_at_hand(

@@ -127,20 +127,6 @@ pub(crate) fn white_lines(settings: DecodeSettings, has_eols: bool) -> WhiteLine
     }
 }
 
-/// Returns that no line is known of these settings.
-#[inline(always)]
-pub(crate) fn none_known(_settings: &DecodeSettings) -> WhiteLines
-    ensures { AreKnown _settings.now result }
-{
-    WhiteLines {
-        has_eols: false,
-        gap: 0,
-        first: CodeWord { count: 0, bits: 0 },
-        second: CodeWord { count: 0, bits: 0 },
-        limit: 0,
-    }
-}
-
 /// Passes one of these lines if it is next, and returns whether one is; otherwise nothing changes.
 #[inline(always)]
 pub fn pass_line(lines: WhiteLines, reader: &mut BitReader<'_>) -> bool

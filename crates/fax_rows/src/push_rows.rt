@@ -15,9 +15,9 @@ use fax_bits::bit_reader::{
 };
 use fax_bits::{EncodingMode, Result};
 use fax_lines::Decoder;
-use fax_lines::context::{
-    DecoderContext, no_white_lines, reference_row, take_back_row, white_is_next,
-};
+use fax_lines::context::counts::take_back_row;
+use fax_lines::context::white_rows::{no_white_lines, white_is_next};
+use fax_lines::context::{DecoderContext, reference_row};
 use fax_lines::white_lines::{WhiteLines, may_follow, pass_placed_line, placed_lines};
 
 /// Of lines with fewer bits many are in the window of a reader, which passes them as fast.

@@ -25,9 +25,8 @@ use crate::group3::read_leading_eols;
 use crate::rows::{pass_gap, read_row};
 use fax_bits::bit_reader::{BitOrder, BitReader, bit_len};
 use fax_bits::{DecodeError, DecodeSettings, EncodingMode, Result};
-use fax_lines::context::{
-    DecoderContext, begin_line, last_fault, reference_row, take_row_again, take_rows_again,
-};
+use fax_lines::context::counts::{last_fault, take_row_again, take_rows_again};
+use fax_lines::context::{DecoderContext, begin_line, reference_row};
 use fax_lines::white_lines::{WhiteLines, pass_line};
 use std::alloc::Global;
 use std::marker::Model;

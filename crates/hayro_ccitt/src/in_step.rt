@@ -16,7 +16,8 @@ use crate::reach::{is_before_1d, pass_modes};
 use crate::{DecodeSettings, EncodingMode};
 use fax_bits::bit_reader::{BitReader, copy, starting_at};
 use fax_bits::codes::{Color, pass_eol};
-use fax_lines::context::{DecoderContext, run_length};
+use fax_lines::context::DecoderContext;
+use fax_lines::context::reading::run_length;
 use fax_rows::rows::read_eols;
 
 /// Passes the runs of a one-dimensional line without drawing them, as many as its columns take, and returns whether it is

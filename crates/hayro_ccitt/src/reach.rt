@@ -11,7 +11,8 @@ ghost use Rattle.hayro_ccitt.specs.{Ticks.looked, Work.most_for_lines};
 use crate::{DecodeSettings, EncodingMode};
 use fax_bits::bit_reader::{BitReader, copy, starting_at};
 use fax_bits::codes::{Color, pass_eol};
-use fax_lines::context::{DecoderContext, pass_mode};
+use fax_lines::context::DecoderContext;
+use fax_lines::context::reading::pass_mode;
 
 /// Passes the modes of a line, with their runs, as many as can be read.
 pub(crate) fn pass_modes(ctx: &mut DecoderContext, reader: &mut BitReader<'_>)

@@ -12,7 +12,7 @@ use Rattle.std.proofs.lemmas.List.{get_or-append-add, get_or-take, length-take-l
 use Rattle.fax_lines.specs.DrawnModes.{AreModesHere, DrawsMode, IsNextMode, pen_here}
 use Rattle.fax_bits.specs.ModeGroups.{VerticalWord, AreNextWords, IsNextWord, width_of, distance_of, offset_at, words_of}
 use Rattle.fax_lines.specs.RegularModes.{AreSet, IsRegular}
-use Rattle.fax_lines.specs.declared.modes.ModesHere.{ModesHere}
+use Rattle.fax_lines.specs.declared.vertical_groups.ModesHere.{ModesHere}
 use Rattle.fax_lines.proofs.DrawingLines.UsualModes.{vertical_on, left_stroke, full_stroke, b2_within, twice_2d, draws_mode}
 use Rattle.fax_lines.proofs.DrawingLines.UsualStrokes.{pixels-pending}
 use Rattle.std.proofs.Math.Seq.{take-suc}

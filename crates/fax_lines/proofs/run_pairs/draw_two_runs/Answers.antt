@@ -7,7 +7,7 @@ pub returns-then-first-room-2-clause-drawn : goal.returns-then-first-room-2-clau
 returns-then-first-room-2-clause-drawn c =
     let unfilled = c.requires.«open» in
     let full = c.if-first-room-2.true in
-    let same = c.ensure_run_after.ensures.same in
+    let same = c.ensure_bits.ensures.same in
     record {
       drawn = white_ends _ _ _ _ _ _ _ _ _ _ _ _ unfilled.inside unfilled.lawful unfilled.even refl
           (rw same at c.in_ok-first.ensures.run) (omega (arith, full)) (omega (arith, full)) (rw same at c.pass.ensures.moved)
@@ -17,8 +17,8 @@ returns-then-first-room-2-clause-drawn c =
 
 pub returns-clause-drawn : goal.returns-clause-drawn
 returns-clause-drawn c =
-    let same = c.ensure_run_after.ensures.same in
-    let still = c.ensure_run_after-2.ensures.same in
+    let same = c.ensure_bits.ensures.same in
+    let still = c.ensure_bits-2.ensures.same in
     c.draw_both.ensures.drawn c.args.window.now c.pass-2.new.self (record {
       width = c.in_ok-first.width;
       width2 = c.in_ok-second.width2;

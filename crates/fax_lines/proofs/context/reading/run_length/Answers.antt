@@ -1,6 +1,6 @@
 use Rattle.fax_lines.proofs.Names.{sym, ◌∙◌, none-some}
-use Rattle.fax_lines.proofs.context.run_length.Goals.{in-Ok, in-Err}
-use Rattle.fax_lines.proofs.context.run_length.Goals as goal
+use Rattle.fax_lines.proofs.context.reading.run_length.Goals.{in-Ok, in-Err}
+use Rattle.fax_lines.proofs.context.reading.run_length.Goals as goal
 
 pub returns-clause-none : goal.returns-clause-none
 returns-clause-none c = elim c.match-decode_run.branch [

@@ -1,7 +1,7 @@
 use Rattle.fax_lines.proofs.Names.{common_steps}
 use Rattle.fax_lines.proofs.Names.{refl, arith}
 use Rattle.fax_lines.proofs.DrawingLines.UsualModes.{goes_on, keeps_on}
-use Rattle.fax_lines.proofs.modes.draw_by_groups.Goals as goal
+use Rattle.fax_lines.proofs.vertical_groups.draw_by_groups.Goals as goal
 
 pub modes-preserved-in-Some : goal.modes-preserved-in-Some
 modes-preserved-in-Some c =

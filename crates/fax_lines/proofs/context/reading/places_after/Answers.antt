@@ -4,8 +4,8 @@ use Rattle.fax_lines.proofs.Names.{◌≡◌, ◌≤◌, ℕ, Row, Color, b1, ri
 use Rattle.fax_reading.proofs.PixelRows.ChangesAndPixels.{changes-pixels}
 use Rattle.fax_reading.proofs.PixelRows.ReferencePlaces.{row_length}
 use Rattle.fax_reading.proofs.PixelRows.ChangePlaces.{is_least}
-use Rattle.fax_lines.proofs.context.places_after.Goals.{After-as_slice}
-use Rattle.fax_lines.proofs.context.places_after.Goals as goal
+use Rattle.fax_lines.proofs.context.reading.places_after.Goals.{After-as_slice}
+use Rattle.fax_lines.proofs.context.reading.places_after.Goals as goal
 
 -- b1 is in the row, or at its end
 b1_in_row : (reference : Row) (from : ℕ) (color : Color) → b1 reference from color ≤ length reference

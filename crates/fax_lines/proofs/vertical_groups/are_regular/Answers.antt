@@ -1,6 +1,6 @@
 use Rattle.std.proofs.lemmas.Bool.{eqb-true, eqb-false}
 use Rattle.fax_lines.proofs.DrawingLines.GroupMasks.{set_before_count, first_before_count}
-use Rattle.fax_lines.proofs.modes.are_regular.Goals as goal
+use Rattle.fax_lines.proofs.vertical_groups.are_regular.Goals as goal
 
 pub returns-clause-all : goal.returns-clause-all
 returns-clause-all c e =

@@ -5,7 +5,7 @@ use Rattle.std.proofs.lemmas.List.{get_or-take, length-take-le}
 use Rattle.fax_lines.proofs.Names.{◌≡◌, ℕ, refl, arith}
 use Rattle.fax_lines.proofs.DrawingLines.RegularModes.{draws_first, first_inside, stored_at, after_first}
 use Rattle.fax_bits.specs.ModeGroups.{width_of, words_of}
-use Rattle.fax_lines.proofs.modes.draw_regular.Goals as goal
+use Rattle.fax_lines.proofs.vertical_groups.draw_regular.Goals as goal
 
 -- what is stored
 stored : (c : goal.After-next_color) → c.push_first_places.new.row.items ≡ c.args.row.now.items ++ take c.count-count.result

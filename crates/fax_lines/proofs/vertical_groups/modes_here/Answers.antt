@@ -3,7 +3,7 @@ use Rattle.fax_lines.proofs.Names.{common_steps}
 use Rattle.fax_lines.proofs.Names.{◌+◌, ◌-◌}
 use Rattle.fax_reading.proofs.PixelRows.EndedPlaces.{ended_at}
 use Rattle.fax_reading.proofs.PixelRows.ReferencePlaces.{end_within}
-use Rattle.fax_lines.proofs.modes.modes_here.Goals as goal
+use Rattle.fax_lines.proofs.vertical_groups.modes_here.Goals as goal
 
 pub regular_places-regular-requires-clause-below : goal.regular_places-regular-requires-clause-below
 regular_places-regular-requires-clause-below c k = grind (arith, common_steps, ended_at, end_within)

@@ -1,6 +1,6 @@
 use Rattle.fax_lines.specs.DrawnModes.{CanDraw, DrawsOn}
 use Rattle.fax_lines.proofs.Names.{◌-◌, length}
-use Rattle.fax_lines.proofs.modes.draw_by_groups.Given as goal
+use Rattle.fax_lines.proofs.vertical_groups.draw_by_groups.Given as goal
 
 -- what is drawn so far, and that the row isn't full
 abbrev pub invariant-modes : goal.invariant-modes

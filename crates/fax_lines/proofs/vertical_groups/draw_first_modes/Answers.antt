@@ -12,8 +12,8 @@ use Rattle.fax_reading.proofs.PixelRows.ReferencePlaces.{opposite_twice}
 use Rattle.fax_lines.specs.DrawnModes.{first_clear}
 use Rattle.fax_bits.specs.ModeGroups.{VerticalWord, width_of, words_of}
 use Rattle.fax_lines.specs.RegularModes.{AreSet}
-use Rattle.fax_lines.proofs.modes.draw_first_modes.Goals.{After-painted_by-painted}
-use Rattle.fax_lines.proofs.modes.draw_first_modes.Goals as goal
+use Rattle.fax_lines.proofs.vertical_groups.draw_first_modes.Goals.{After-painted_by-painted}
+use Rattle.fax_lines.proofs.vertical_groups.draw_first_modes.Goals as goal
 
 -- the places are stored, and it is known which of them is the first that isn't marked
 module _ (c : After-painted_by-painted) where

@@ -5,7 +5,7 @@ use Rattle.fax_lines.proofs.DrawingLines.RegularModes.{first_word, named_by}
 use Rattle.fax_lines.proofs.DrawingLines.UsualModes.{draws_vertical, b1_within, full_stroke, left_stroke}
 use Rattle.fax_lines.proofs.DrawingLines.UsualStrokes.{pixels-pending}
 use Rattle.fax_bits.specs.ModeGroups.{words_of, offset_at}
-use Rattle.fax_lines.proofs.modes.draw_first.Goals as goal
+use Rattle.fax_lines.proofs.vertical_groups.draw_first.Goals as goal
 
 pub overflow_add-above : goal.overflow_add-above
 overflow_add-above c = grind (arith, common_steps, b1_within)

@@ -1,0 +1,408 @@
+//! Vertical modes, up to four at a time.
+
+ghost use Rattle.std.specs.Prelude.{vec_len, vec_capacity, get_or, ◌≡◌, ◌+◌, ◌<◌, ◌≤◌, IfSome};
+ghost use Rattle.std.specs.Prelude.{IfNone, IsTrue, ◌↔◌, true, false, length, take, drop};
+ghost use Rattle.std.specs.Prelude.{◌++◌, ◌∷◌, ◌^◌};
+ghost use Rattle.fax_lines.specs.DrawnModes.{AreModesHere, IsFirstMode, LeadFrom, first_clear};
+ghost use Rattle.fax_bits.specs.ModeGroups.{AreNextWords, words_of};
+ghost use Rattle.fax_lines.specs.RegularModes.{AreSet};
+ghost use Rattle.fax_lines.specs.DrawnModes.{CanDraw, DrawsMode};
+ghost use Rattle.fax_lines.specs.DrawnModes.{DrawsOn, DrawsSome, KeepsRoom};
+ghost use Rattle.fax_reading.specs.Rows.{opposite};
+ghost use Rattle.fax_reading.specs.UsualModes.{AreEnded, changes_in, IsB1, TurnsFrom};
+
+use crate::modes::{
+    CodingLine, Stroke, change_at, draw_horizontal, draw_pass, draw_vertical, mode_at_hand,
+    next_color, refill_if_low, seek_b1,
+};
+use crate::regular_places::regular_places;
+use crate::run_pairs::push_change;
+use fax_bits::bit_reader::Window;
+use fax_bits::codes::{Ticks, tick_times};
+use fax_bits::mode_groups::{ModeGroup, group_at_hand};
+
+/// Returns a stroke with the colour that the number of changes says, so that a loop needn't keep it.
+#[inline(always)]
+fn recolored(row: &Vec<u32>, stroke: Stroke) -> Stroke
+    requires colored { TurnsFrom (vec_len row.now) stroke.color }
+    ensures { result ≡ stroke }
+{
+    Stroke {
+        color: next_color(row),
+        ..stroke
+    }
+}
+
+/// Vertical modes that are next, four at most, where they lead to, and which of them are regular.
+#[derive(Clone, Copy)]
+struct ModesHere {
+    group: ModeGroup,
+    /// The places of four modes.
+    places: [u32; 4],
+    /// A bit for each mode, from the lowest: a mode is regular if its bit and those below it are set.
+    regular: u64,
+}
+
+/// Returns where the vertical modes of a group lead to, below the changes of the reference row from b1 on.
+#[inline(always)]
+fn modes_here(line: &CodingLine<'_>, stroke: Stroke, group: ModeGroup) -> ModesHere
+    requires ended { AreEnded line.now.columns line.now.places.now }
+    requires fits { line.now.columns + 3 < 2 ^ 31 }
+    requires inside { stroke.painted < line.now.columns }
+    requires within { (0 < stroke.index) × (stroke.index ≤ length (changes_in line.now.places.now) + 1) }
+    ensures same { result.group ≡ group }
+    ensures lead { LeadFrom line.now stroke result }
+{
+    let (places, regular) = regular_places(
+        line.places,
+        line.columns,
+        stroke.index,
+        group.offsets(),
+        stroke.painted,
+    );
+    ModesHere {
+        group,
+        places,
+        regular,
+    }
+}
+
+/// Returns whether all modes of a group are regular.
+#[inline(always)]
+fn are_regular(modes: &ModesHere) -> bool
+    requires mask { modes.now.regular < 16 }
+    requires few { length (words_of modes.now.group) ≤ 4 }
+    ensures all { result ≡ true → AreSet modes.now.regular (length (words_of modes.now.group)) }
+    ensures some { result ≡ false → first_clear modes.now < length (words_of modes.now.group) }
+{
+    (15 - modes.regular) & modes.group.used() == 0
+}
+
+/// Stores four places after a row's changes.
+#[inline(always)]
+fn push_places(row: &mut Vec<u32>, places: [u32; 4])
+    requires room { vec_len row.old + 4 ≤ vec_capacity row.old }
+    ensures items { row.new.items ≡ row.old.items ++ places }
+    ensures count { vec_len row.new ≡ vec_len row.old + 4 }
+    ensures room { vec_capacity row.new ≡ vec_capacity row.old }
+{
+    push_change(row, places[0]);
+    push_change(row, places[1]);
+    push_change(row, places[2]);
+    push_change(row, places[3]);
+}
+
+/// Stores the first of four places after a row's changes, as many as are counted.
+#[inline(always)]
+fn push_first_places(row: &mut Vec<u32>, places: [u32; 4], count: usize)
+    requires few { count ≤ 4 }
+    requires room { vec_len row.old + 4 ≤ vec_capacity row.old }
+    ensures items { row.new.items ≡ row.old.items ++ take count places }
+    ensures count { vec_len row.new ≡ vec_len row.old + count }
+    ensures room { vec_capacity row.new ≡ vec_capacity row.old }
+{
+    let before = row.len();
+    push_places(row, places);
+    row.truncate(before + count);
+}
+
+/// Draws the modes of a group, which are all regular.
+#[inline(always)]
+fn draw_regular(
+    window: &mut Window<'_>,
+    row: &mut Vec<u32>,
+    _line: &CodingLine<'_>,
+    stroke: Stroke,
+    modes: &ModesHere,
+    ticks: &mut Ticks,
+) -> Stroke
+    requires can { CanDraw _line.now stroke window.old row.old }
+    requires here { AreModesHere _line.now stroke window.old modes.now }
+    requires all { AreSet modes.now.regular (length (words_of modes.now.group)) }
+    ensures drawn { DrawsMode _line.now stroke window.old row.old ticks.old result window.new row.new ticks.new }
+    ensures inside { result.painted < _line.now.columns }
+    ensures kept { KeepsRoom window.old row.old window.new row.new }
+{
+    let count = ModeGroup::count(modes.group);
+    push_first_places(row, modes.places, count);
+    window.pass(modes.group.width());
+    tick_times(ticks, 2 * count);
+    Stroke {
+        painted: row[row.len() - 1],
+        index: stroke.index + count,
+        color: next_color(row),
+    }
+}
+
+/// Returns the index of b1 after a vertical mode, whose place is right of a0.
+#[inline(always)]
+fn b1_after(line: &CodingLine<'_>, stroke: Stroke, place: u32, ticks: &mut Ticks) -> usize
+    requires ended { AreEnded line.now.columns line.now.places.now }
+    requires within { stroke.index ≤ length (changes_in line.now.places.now) + 1 }
+    requires at { IsB1 line.now.columns (changes_in line.now.places.now) stroke.painted stroke.index stroke.color }
+    requires inside { (stroke.painted < place) × (place < line.now.columns) }
+    ensures at { IsB1 line.now.columns (changes_in line.now.places.now) place result (opposite stroke.color) }
+    ensures work { (ticks.old ≤ ticks.new) × (ticks.new + stroke.index ≤ ticks.old + result + 1) }
+{
+    if stroke.index > 0 && change_at(line, stroke.index - 1) > place {
+        return stroke.index - 1;
+    }
+    seek_b1(line, place, stroke.index + 1, ticks)
+}
+
+/// Draws the first mode of a group if it leads to a place right of a0, in the row or at its end. Returns `None`, and draws
+/// nothing, elsewhere.
+#[inline(always)]
+fn draw_first(
+    window: &mut Window<'_>,
+    row: &mut Vec<u32>,
+    line: &CodingLine<'_>,
+    stroke: Stroke,
+    group: ModeGroup,
+    ticks: &mut Ticks,
+) -> Option<Stroke>
+    requires enough { 16 ≤ window.old.left }
+    requires can { CanDraw line.now stroke window.old row.old }
+    requires some { 0 < length (words_of group) }
+    requires words { AreNextWords (words_of group) window.old.at }
+    ensures drawn { IfSome result (λ next. DrawsMode line.now stroke window.old row.old ticks.old next window.new row.new ticks.new) }
+    ensures left { IfNone result ((window.new ≡ window.old) × (row.new ≡ row.old) × (ticks.new ≡ ticks.old)) }
+    ensures kept { KeepsRoom window.old row.old window.new row.new }
+{
+    let above = change_at(line, stroke.index) + u32::from(group.offsets()[0]);
+    if above <= stroke.painted + 3 {
+        return None;
+    }
+    let place = above - 3;
+    if place > line.columns {
+        return None;
+    }
+    window.pass(group.first_width(1));
+    tick_times(ticks, 2);
+    let color = stroke.color.opposite();
+    if place == line.columns {
+        return Some(Stroke {
+            painted: place,
+            index: stroke.index,
+            color,
+        });
+    }
+    push_change(row, place);
+    let index = b1_after(line, stroke, place, ticks);
+    Some(Stroke {
+        painted: place,
+        index,
+        color,
+    })
+}
+
+/// Draws the mode that is here, whose group this is. Returns `None`, and draws nothing, if it isn't of the usual kind.
+#[inline(always)]
+fn draw_mode_of_group(
+    window: &mut Window<'_>,
+    row: &mut Vec<u32>,
+    line: &CodingLine<'_>,
+    stroke: Stroke,
+    group: ModeGroup,
+    ticks: &mut Ticks,
+) -> Option<Stroke>
+    requires enough { 16 ≤ window.old.left }
+    requires can { CanDraw line.now stroke window.old row.old }
+    requires first { IsFirstMode group window.old }
+    requires words { AreNextWords (words_of group) window.old.at }
+    ensures drawn { DrawsSome line.now stroke window.old row.old ticks.old result window.new row.new ticks.new }
+    ensures kept { KeepsRoom window.old row.old window.new row.new }
+{
+    if group.is_horizontal() {
+        return draw_horizontal(window, row, line, stroke, ticks);
+    }
+    if group.is_pass() {
+        return Some(draw_pass(window, row, line, stroke, ticks));
+    }
+    if ModeGroup::count(group) == 0 {
+        return None;
+    }
+    if let Some(reached) = draw_first(window, row, line, stroke, group, ticks) {
+        return Some(reached);
+    }
+    let (mode, width) = mode_at_hand(window);
+    draw_vertical(window, row, line, stroke, (mode?, width), ticks)
+}
+
+/// Returns the last of some places that are stored in a row from an index on, or what was painted before if there is none.
+#[inline(always)]
+fn painted_by(row: &Vec<u32>, start: usize, count: usize, painted: u32) -> u32
+    requires within { start + count ≤ vec_len row.now }
+    ensures { result ≡ get_or (painted ∷ drop start row.now.items) count 0 }
+{
+    if count == 0 {
+        return painted;
+    }
+    row[start + count - 1]
+}
+
+/// Draws the regular modes that a group begins with, and the mode after them if it leads to a place right of them in the row, or
+/// to the row's end. Returns how far the row is drawn then, and whether it isn't full; or `None` if no mode is drawn.
+#[inline(always)]
+fn draw_first_modes(
+    window: &mut Window<'_>,
+    row: &mut Vec<u32>,
+    line: &CodingLine<'_>,
+    stroke: Stroke,
+    modes: &ModesHere,
+    ticks: &mut Ticks,
+) -> Option<(Stroke, bool)>
+    requires can { CanDraw line.now stroke window.old row.old }
+    requires here { AreModesHere line.now stroke window.old modes.now }
+    requires some { first_clear modes.now < length (words_of modes.now.group) }
+    ensures drawn { IfSome result
+        (λ next. DrawsMode line.now stroke window.old row.old ticks.old next.0 window.new row.new ticks.new) }
+    ensures open { IfSome result (λ next. IsTrue next.1 ↔ (next.0.painted < line.now.columns)) }
+    ensures left { IfNone result ((window.new ≡ window.old) × (row.new.items ≡ row.old.items) × (ticks.new ≡ ticks.old)) }
+    ensures kept { KeepsRoom window.old row.old window.new row.new }
+{
+    let count = (!modes.regular).trailing_zeros() as usize;
+    let start = row.len();
+    push_places(row, modes.places);
+    let place = row[start + count];
+    let painted = painted_by(row, start, count, stroke.painted);
+    if painted < place && place < line.columns {
+        row.truncate(start + count + 1);
+        window.pass(modes.group.first_width(count + 1));
+        tick_times(ticks, 2 * count + 2);
+        let before = Stroke {
+            painted,
+            index: stroke.index + count,
+            color: next_color(row).opposite(),
+        };
+        let index = b1_after(line, before, place, ticks);
+        let color = next_color(row);
+        return Some((
+            Stroke {
+                painted: place,
+                index,
+                color,
+            },
+            true,
+        ));
+    }
+    row.truncate(start + count);
+    let index = stroke.index + count;
+    if place == line.columns {
+        window.pass(modes.group.first_width(count + 1));
+        tick_times(ticks, 2 * count + 2);
+        let color = next_color(row).opposite();
+        return Some((
+            Stroke {
+                painted: place,
+                index,
+                color,
+            },
+            false,
+        ));
+    }
+    if count == 0 {
+        return None;
+    }
+    window.pass(modes.group.first_width(count));
+    tick_times(ticks, 2 * count);
+    let color = next_color(row);
+    Some((
+        Stroke {
+            painted,
+            index,
+            color,
+        },
+        true,
+    ))
+}
+
+/// Draws the vertical modes of a group, as many as lead to places in the row, if b1 isn't the first change. Returns how far the
+/// row is drawn then, and whether it isn't full; or `None`, drawing nothing, if there is no such mode.
+#[inline(always)]
+fn draw_group(
+    window: &mut Window<'_>,
+    row: &mut Vec<u32>,
+    line: &CodingLine<'_>,
+    stroke: Stroke,
+    group: ModeGroup,
+    ticks: &mut Ticks,
+) -> Option<(Stroke, bool)>
+    requires enough { 16 ≤ window.old.left }
+    requires can { CanDraw line.now stroke window.old row.old }
+    requires words { AreNextWords (words_of group) window.old.at }
+    ensures drawn { IfSome result
+        (λ next. DrawsMode line.now stroke window.old row.old ticks.old next.0 window.new row.new ticks.new) }
+    ensures open { IfSome result (λ next. IsTrue next.1 ↔ (next.0.painted < line.now.columns)) }
+    ensures left { IfNone result ((window.new ≡ window.old) × (row.new.items ≡ row.old.items) × (ticks.new ≡ ticks.old)) }
+    ensures kept { KeepsRoom window.old row.old window.new row.new }
+{
+    if ModeGroup::count(group) == 0 {
+        return None;
+    }
+    if stroke.index == 0 {
+        return None;
+    }
+    let modes = modes_here(line, stroke, group);
+    if are_regular(&modes) {
+        let next = draw_regular(window, row, line, stroke, &modes, ticks);
+        return Some((next, true));
+    }
+    draw_first_modes(window, row, line, stroke, &modes, ticks)
+}
+
+/// Draws modes while they are of the usual kind, and there is room. Returns the stroke that is reached then.
+#[inline(always)]
+fn draw_by_groups(
+    window: &mut Window<'_>,
+    row: &mut Vec<u32>,
+    line: &CodingLine<'_>,
+    stroke: Stroke,
+    ticks: &mut Ticks,
+) -> Stroke
+    requires can { CanDraw line.now stroke window.old row.old }
+    ensures { DrawsOn line.now stroke window.old row.old ticks.old result window.new row.new ticks.new }
+{
+    let mut now = stroke;
+    'modes: loop {
+        if !refill_if_low(window, row) {
+            return recolored(row, now);
+        }
+        let group = group_at_hand(window);
+        if let Some((next, is_open)) = draw_group(window, row, line, now, group, ticks) {
+            if !is_open {
+                return next;
+            }
+            now = next;
+            continue;
+        }
+        let here = recolored(row, now);
+        match draw_mode_of_group(window, row, line, here, group, ticks) {
+            None => return here,
+            Some(next) => {
+                if next.painted == line.columns {
+                    return next;
+                }
+                now = next;
+            }
+        }
+    }
+}
+
+/// Draws modes by groups, as `draw_by_groups` does, with a copy of the window, so that its fields stay in registers.
+#[inline(always)]
+pub(crate) fn draw_groups(
+    window: &mut Window<'_>,
+    row: &mut Vec<u32>,
+    line: &CodingLine<'_>,
+    stroke: Stroke,
+    ticks: &mut Ticks,
+) -> Stroke
+    requires can { CanDraw line.now stroke window.old row.old }
+    ensures { DrawsOn line.now stroke window.old row.old ticks.old result window.new row.new ticks.new }
+{
+    let mut bits = window.copy();
+    let reached = draw_by_groups(&mut bits, row, line, stroke, ticks);
+    *window = bits;
+    reached
+}
