@@ -382,6 +382,10 @@ def rows_of_an_open_pipe():
             assert select.select([done.stdout], [], [], 60)[0], f"no line after {data}"
             assert done.stdout.readline() == line, data
         assert done.wait(timeout=60) == 0
+    # Without columns there are no rows, whatever the data is.
+    with subprocess.Popen([PROGRAM, "-i", "1d", "0", "0", "l"], stdin=subprocess.PIPE, stdout=subprocess.PIPE, bufsize=0) as done:
+        assert select.select([done.stdout], [], [], 60)[0], "no line without columns"
+        assert done.stdout.read() == b"ok 0\n" and done.wait(timeout=60) == 0
 
 
 def long_data():

@@ -160,6 +160,16 @@ def test_rows_come_as_soon_as_they_are_known():
         assert list(rows) == [] and rows.ended and rows.unused == b"\x07"
 
 
+def test_without_columns_a_feed_has_ended():
+    for k in (-1, 0, 1):
+        feed = RowFeed(0, k=k)
+        assert list(feed) == [] and feed.ended
+        feed.feed(b"\x00\x10")
+        assert list(feed) == [] and (feed.bytes_read, feed.unused) == (0, b"\x00\x10")
+        rows = rows_from(io.BytesIO(b"\x31\xc0"), 0, k=k)
+        assert list(rows) == [] and rows.ended and rows.bytes_read == 0
+
+
 def test_bytes_read_after_a_fault():
     # A line with a black run that has no word, at bit 29; and bits where the EOL after the first row should be, at bit 17.
     for data, place in (("0019800C400033", 29), ("0019F800CC", 17)):

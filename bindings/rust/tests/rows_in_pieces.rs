@@ -293,6 +293,25 @@ fn a_panic_of_a_sink_leaves_the_feed() {
     assert_eq!((feed.bytes_read(), feed.unused()), (5, vec![]));
 }
 
+#[test]
+fn without_columns_a_feed_has_ended() {
+    for encoding in [
+        EncodingMode::Group4,
+        EncodingMode::Group3_1D,
+        EncodingMode::Group3_2D,
+    ] {
+        let mut feed = RowFeed::new(DecodeSettings {
+            columns: 0,
+            encoding,
+            ..settings(0)
+        });
+        assert_eq!(feed.next_row(), Ok(Fed::End));
+        feed.feed(&CLOSED).unwrap();
+        assert_eq!(feed.next_row(), Ok(Fed::End));
+        assert_eq!((feed.bytes_read(), feed.unused()), (0, CLOSED.to_vec()));
+    }
+}
+
 /// A line with a black run that has no word, at bit 29; and bits where the EOL after the first row should be, at bit 17.
 #[test]
 fn bytes_read_after_a_fault() {

@@ -33,7 +33,8 @@ reads_later {before} {mid} {new} {result} same bits unended reads = record {
   damage = at (λ s b n. result ≡ Ok true → new.damage ≡ fault_in (get_or (repairs_by_line s b) n [])) reads.damage;
   cut = at (λ s b n. result ≡ Ok true → new.cut ≡ cut_in (get_or (cuts_by_line s b) n [])) reads.cut;
   end = at (λ s b n. result ≡ Ok false → (new.end ≡ Some (Ok tt)) × (new.taken ≡ n) × HasEnded s b new.taken new.place) reads.end;
-  error = at (λ s b n. IfErr result (λ e. (new.end ≡ Some (Err e)) × (new.taken ≡ n) × HasFailed s b new.taken e)) reads.error;
+  error = at (λ s b n. IfErr result (λ e. (new.end ≡ Some (Err e)) × (new.taken ≡ n) × HasFailed s b new.taken new.place e))
+      reads.error;
   fault_start = λ none. at (λ s b n. OnErr result (new.line_start ≡ failed_at s b n)) (reads.fault_start (unended none));
   missed = at (λ s b n. new.missed ≡ missed_before s b n) reads.missed;
   last = λ none. ((reads.last none).0 ∙ same.row, (reads.last none).1 ∙ same.damage, (reads.last none).2 ∙ same.cut);

@@ -285,6 +285,10 @@ waits_near {bits} {tried} feed is within waits four unlimited wide size given co
       length-drop feed.dropped bits,
     )
 
+    first_gap_waits : (none : Bool) {settled : Bool} → (none || settled) ≡ false → settled ≡ false
+    first_gap_waits true waits = absurd (false≢true (sym waits))
+    first_gap_waits false waits = waits
+
     near : (begun : Bool) → IsOpenAt begun feed.rows.stand feed.ctx (drop feed.place feed.kept)
         → StandsIn begun tried feed.rows feed.ctx (record { bits = bits; place = place })
         → EndsWithin (length is.lie.more + 12) (end_of settings bits).outcome
@@ -293,4 +297,4 @@ waits_near {bits} {tried} feed is within waits four unlimited wide size given co
         feed.rows.stand feed.ctx refl refl waits stands.0
     near false waits front =
         front_within settings wide four unlimited bits (drop feed.place feed.kept) is.lie.more feed.ctx.held place split
-        (ap (λ (n : ℕ). drop n bits) front.start) waits
+        (ap (λ (n : ℕ). drop n bits) front.start) (first_gap_waits (eqb settings.columns 0) waits)

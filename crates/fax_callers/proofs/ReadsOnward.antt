@@ -231,7 +231,7 @@ module _ {bits : Bits} {tried : ℕ} {feed : Feeding} (is : IsFeedOf bits tried 
   at_stand count outcome AtEnd memory stands =
       let same : (place + 7) / 8 ≡ count = let both = sym stands.0.count ∙ outcome in cc in omega (arith, same)
   at_stand count outcome (AtFault error) memory stands =
-      by_kind (λ (e : DecodeError). e ≢ OutOfMemory → HasFailed settings bits feed.ctx.held.taken e
+      by_kind (λ (e : DecodeError). e ≢ OutOfMemory → HasFailed settings bits feed.ctx.held.taken place e
       → min size ((place + 7) / 8) ≤ count)
       (λ e fault some failed. absurd (let both = sym (failed.fault fault) ∙ outcome in cc))
       (λ some failed. absurd (some refl)) (λ some failed. absurd (failed.not_refused refl)) error

@@ -18,7 +18,7 @@ use Rattle.fax_bits.specs.Bits.{AreWholeBytes, Bits, BitsAt, bits_in, here}
 use Rattle.fax_reading.specs.Context.{Context, Held, fresh, redrawn}
 use Rattle.fax_reading.specs.Continuations.{is_short}
 use Rattle.fax_reading.specs.Decoding.{SinkState}
-use Rattle.fax_reading.specs.GapsContinued.{first_gap_is_settled, gap_is_settled}
+use Rattle.fax_reading.specs.GapsContinued.{gap_is_settled}
 use Rattle.fax_feeds.specs.GapsSeen.{IsSeen, nothing_seen, rules_for}
 use Rattle.fax_feeds.specs.declared.gap_look.GapLook.{GapLook}
 use Rattle.fax_feeds.specs.LineParts.{IsLawfulPart, IsPartOf}
@@ -27,7 +27,7 @@ use Rattle.fax_reading.specs.PlainReading.{line_here, lines_of, row_of_line}
 use Rattle.fax_reading.specs.Rows.{Row, changes}
 use Rattle.fax_rows.specs.RowsRead.{IsStanding, IsStandingAtLine, ReachesNextLine, ReadsNext, RowsRead, ended, is_at_line}
 use Rattle.fax_rows.specs.RowsRead.{seen}
-use Rattle.fax_rows.specs.RowsTried.{CanCome, IsLeft, TriesRow}
+use Rattle.fax_rows.specs.RowsTried.{CanCome, IsLeft, TriesRow, front_is_settled}
 use Rattle.fax_bits.specs.Faults.{no_memory}
 
 -- ---- What is seen
@@ -156,7 +156,7 @@ pub record StaysThere (old new : RowsRead) : Type 0 where
 -- (T.4, 4.1 and
 -- 4.2; T.6, 2.2 and 2.4.1.1).
 abbrev pub IsOpenAt : Bool → Stand → Context → Bits → Type 0
-IsOpenAt false stand ctx next = first_gap_is_settled ctx.held.settings.encoding ctx.held.settings next ≡ false
+IsOpenAt false stand ctx next = front_is_settled ctx.held.settings next ≡ false
 IsOpenAt true AtLine ctx next = is_short (line_here ctx.held.settings ctx.held.reference next) ≡ true
 IsOpenAt true AfterRow ctx next = gap_is_settled ctx.held.settings ctx.held.taken ctx.held.has_eols next ≡ false
 IsOpenAt true AtEnd ctx next = ⊥
@@ -429,7 +429,7 @@ pub record Begins (old new : Feeding) (answer : Bool) : Type 0 where
   pub taken : new.ctx.held.taken ≡ old.ctx.held.taken
   pub waits : answer ≡ false → (new.ctx.held ≡ old.ctx.held) × (new.ctx.ticks ≡ old.ctx.ticks + extra) × (new.rows ≡ old.rows)
       × (new.place ≡ old.place) × (old.finished ≡ false)
-      × (first_gap_is_settled old.ctx.held.settings.encoding old.ctx.held.settings old.kept ≡ false)
+      × (front_is_settled old.ctx.held.settings old.kept ≡ false)
   pub reaches : (whole : Bits) (tried : ℕ) → answer ≡ true → IsFeedOf whole tried old → ReachesLine old new extra
   pub unfailed : answer ≡ true → (error : DecodeError) → ended new.rows.stand ≢ Some (Err error)
   pub passes : (whole : Bits) (tried : ℕ) → answer ≡ true → IsFeedOf whole tried old

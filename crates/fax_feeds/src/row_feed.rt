@@ -5,10 +5,10 @@ ghost use Rattle.std.specs.Prelude.{Some, Ok, Err, ◌⊎◌, ◌↔◌, ◌-◌
 ghost use Rattle.std.specs.Prelude.{IfOk, IfErr, OnErr, OnOk, IsOkUnless, Result, is_ok, if◌then◌else◌, length, max, drop};
 ghost use Rattle.fax_bits.specs.Bits.{AreWholeBytes, Bits, bits_in, here};
 ghost use Rattle.fax_reading.specs.Context.{fresh, redrawn};
-ghost use Rattle.fax_reading.specs.GapsContinued.{first_gap_is_settled, gap_is_settled};
+ghost use Rattle.fax_reading.specs.GapsContinued.{gap_is_settled};
 ghost use Rattle.fax_feeds.specs.GapsSeen.{CountsLooks, IsSeen, is_settled, nothing_seen, rules_for, stage_following};
 ghost use Rattle.fax_rows.specs.RowsRead.{at_end_of_rows, ended, is_at_line};
-ghost use Rattle.fax_rows.specs.RowsTried.{IsLeft};
+ghost use Rattle.fax_rows.specs.RowsTried.{IsLeft, front_is_settled};
 ghost use Rattle.fax_feeds.specs.RowFeeds.{Begins, ComeNext, ComesInFeed, DropsRead, ReadsInFeed, ComesOn, FeedsNext};
 ghost use Rattle.fax_feeds.specs.RowFeeds.{IsFeedOf, KeepsBits, TriesLine, fed_bits, fed_end, fed_none, fed_row, is_left};
 ghost use Rattle.fax_feeds.specs.RowFeeds.{HoldsMore, KeepsPart, LineGoesOn, Scans, ScansLine, StaysShort, line_answer};
@@ -127,8 +127,7 @@ fn front_waits(
     is_last: bool,
 ) -> bool
     requires seen { IsSeen (rules_for false ctx.old.held) look.old (here reader.now) }
-    ensures waits { result ≡ (not is_last && not (first_gap_is_settled ctx.old.held.settings.encoding ctx.old.held.settings
-        (here reader.now))) }
+    ensures waits { result ≡ (not is_last && not (front_is_settled ctx.old.held.settings (here reader.now))) }
     ensures held { ctx.new.held ≡ ctx.old.held }
     ensures looked { CountsLooks look.old look.new ctx.old.ticks ctx.new.ticks }
     ensures onward { look.old.bits ≤ look.new.bits }
@@ -136,6 +135,9 @@ fn front_waits(
     ensures seen { IsSeen (rules_for false ctx.old.held) look.new (here reader.now) }
     ensures space { ctx.new.space ≡ ctx.old.space }
 {
+    if ctx.settings().columns == 0 {
+        return false; // There is no line.
+    }
     let rules = first_rules(ctx.settings());
     look_waits(ctx, look, &rules, reader, is_last)
 }
@@ -795,7 +797,7 @@ impl RowFeed {
     }
 
     /// Reads the next row, if no data that follows can change it. After [`Fed::NeedsMore`] feed more, or finish the data. At the
-    /// end of the image each further call returns [`Fed::End`].
+    /// end of the image each further call returns [`Fed::End`]; without columns, the first one does.
     ///
     /// # Errors
     ///
@@ -1103,8 +1105,7 @@ impl RowFeed {
         self.ctx.decoded_rows()
     }
 
-    /// Returns the offset in bits at which the line of the last row begins, as
-    /// `RowReader::line_start` does.
+    /// Returns the offset in bits at which the line of the last row begins, as `RowReader::line_start` does.
     pub fn line_start(&self) -> usize
         ensures { result ≡ self.now.rows.started_at }
     {
@@ -1156,8 +1157,7 @@ impl RowFeed {
         self.ctx.missed_eols()
     }
 
-    /// Returns the number of bytes consumed so far, the last one rounded up: at the end of the image those that
-    /// `decode` returns.
+    /// Returns the number of bytes consumed so far, as `RowReader::bytes_read` does.
     pub fn bytes_read(&self) -> usize
         ensures { result ≡ (self.now.dropped + self.now.place + 7) / 8 }
     {

@@ -116,12 +116,14 @@ pub record HasEnded (settings : DecodeSettings) (bits : Bits) (taken place : ℕ
   pub count : (plain settings bits).outcome ≡ Ok ((place + 7) / 8)
 
 -- It has ended with an error: the fault of the plain reading, after all of its rows; or an allocation failure in a line that
--- paints a black pixel.
-pub record HasFailed (settings : DecodeSettings) (bits : Bits) (taken : ℕ) (error : DecodeError) : Type 0 where
+-- paints a black pixel. The next bit is the first one of the line that couldn't be read; or, where strict data lack an EOL, the
+-- first one after the last row (T.4, 4.1.2).
+pub record HasFailed (settings : DecodeSettings) (bits : Bits) (taken place : ℕ) (error : DecodeError) : Type 0 where
   pub all : IsFault error → taken ≡ length (plain settings bits).rows
   pub fault : IsFault error → (plain settings bits).outcome ≡ Err error
   pub memory : error ≡ OutOfMemory → PaintsBlack (lines_of settings bits) taken
   pub not_refused : error ≢ Refused
+  pub fails_at : place ≡ failed_at settings bits taken
 
 -- What a call that reads the next row leaves: the row of the plain reading with this index, or the end.
 pub record ReadsNext (old new : RowsRead) (result : Result Bool DecodeError) : Type 0 where
@@ -143,7 +145,8 @@ pub record ReadsNext (old new : RowsRead) (result : Result Bool DecodeError) : T
   -- there was none
   pub end : result ≡ Ok false → (new.end ≡ Some (Ok tt)) × (new.taken ≡ old.taken)
       × HasEnded old.settings old.bits new.taken new.place
-  pub error : IfErr result (λ e. (new.end ≡ Some (Err e)) × (new.taken ≡ old.taken) × HasFailed old.settings old.bits new.taken e)
+  pub error : IfErr result (λ e. (new.end ≡ Some (Err e)) × (new.taken ≡ old.taken)
+      × HasFailed old.settings old.bits new.taken new.place e)
   -- the offset of the fault: the first bit of the line that couldn't be read, or where its EOL is missing (T.4, 4.1.2)
   pub fault_start : old.end ≡ None → OnErr result (new.line_start ≡ failed_at old.settings old.bits old.taken)
   -- where the EOL was missed in the gap after the last row, if it was (T.4, 4.1.2)
@@ -161,7 +164,7 @@ pub record ReachesNextLine (old new : RowsRead) (result : Result Bool DecodeErro
   pub line : result ≡ Ok true → new.at_line ≡ true
   pub unended : result ≡ Ok true → new.end ≡ None
   pub end : result ≡ Ok false → (new.end ≡ Some (Ok tt)) × HasEnded old.settings old.bits new.taken new.place
-  pub error : IfErr result (λ e. (new.end ≡ Some (Err e)) × HasFailed old.settings old.bits new.taken e)
+  pub error : IfErr result (λ e. (new.end ≡ Some (Err e)) × HasFailed old.settings old.bits new.taken new.place e)
   pub fault_start : OnErr result (new.line_start ≡ failed_at old.settings old.bits old.taken)
   pub missed : new.missed ≡ missed_before old.settings old.bits old.taken
   -- the last row and its damage are unchanged, and so is the offset of its line if the gap has no fault
@@ -215,7 +218,8 @@ ReaderStands AfterRow settings bits held place = StandsAfterRow settings bits he
 ReaderStands AtEnd settings bits held place =
     HasEnded settings bits held.taken place × (0 < settings.columns → IsWhole settings bits held (Ok (drop place bits)))
 ReaderStands (AtFault error) settings bits held place =
-    HasFailed settings bits held.taken error × (0 < settings.columns → IsFault error → IsWhole settings bits held (Err error))
+    HasFailed settings bits held.taken place error
+    × (0 < settings.columns → IsFault error → IsWhole settings bits held (Err error))
 
 -- the EOLs missed in this number of gaps were counted, and the last repaired row is before one of them (T.4, 4.1.2)
 pub record MissesAreCounted (settings : DecodeSettings) (bits : Bits) (repairs : Repairs) (gaps : ℕ) : Type 0 where

@@ -1,9 +1,10 @@
 -- A gap that is passed and a row that is read in data of which more may come.
-use Rattle.std.specs.Prelude.{◌≡◌, ◌≢◌, ◌≤◌, ◌+◌, ◌*◌, ℕ, Bool, true, false, [], ◌++◌, length, max, not, ◌⊎◌, ◌&&◌, Result, Ok}
-use Rattle.std.specs.Prelude.{Err}
+use Rattle.std.specs.Prelude.{◌≡◌, ◌≢◌, ◌≤◌, ◌+◌, ◌*◌, ℕ, Bool, true, false, [], ◌++◌, length, max, not, ◌⊎◌, ◌&&◌}
+use Rattle.std.specs.Prelude.{◌||◌, ◌==◌, Result, Ok, Err}
 use Rattle.std.specs.Prelude.{OnErr, OnOk, IfErr, IfOk}
 use Rattle.fax_bits.specs.declared.codes.Color.TheVariants.{White}
 use Rattle.fax_bits.specs.declared.error.DecodeError.{DecodeError}
+use Rattle.fax_bits.specs.declared.settings.DecodeSettings.{DecodeSettings}
 use Rattle.fax_bits.specs.declared.error.DecodeError.TheVariants.{InvalidCode, OutOfMemory, Refused}
 use Rattle.fax_reading.specs.Answers.{HasBlack, IsFault, front_of}
 use Rattle.fax_bits.specs.Bits.{AreWholeBytes, Bits, BitsAt, here}
@@ -35,6 +36,8 @@ pub record ReadsRow (old new : Context) (answer : Result (Unit {0}) DecodeError)
   pub stored : OnOk answer (length (changes new.held.reference)
       ≤ length (found_here old.held.settings old.held.reference start) + 1)
   pub width : OnOk answer (length new.held.reference ≡ old.held.settings.columns)
+  -- after an error the next bit is the first one of the line
+  pub put_back : OnErr answer (rest ≡ start)
   pub space : new.space ≤ max old.space (room_for (most_stored old.held.reference
       (line_here old.held.settings old.held.reference start)))
 
@@ -47,6 +50,8 @@ pub record PassesGap (old new : Context) (answer : Result Bool DecodeError) (sta
   pub given_up : IfOk answer (λ over. over ≡ true → new.held.has_eols ≡ old.held.has_eols)
   pub only_code : IfErr answer (λ e. e ≡ InvalidCode)
   pub unchanged : OnErr answer (new.held ≡ old.held)
+  -- after an error the next bit is the first one of the gap
+  pub put_back : OnErr answer (rest ≡ start)
   pub counts : old.ticks ≤ new.ticks
   pub work : OnOk answer (new.held.has_eols ≡ old.held.has_eols
       → new.ticks + 4 * length rest ≤ old.ticks + 4 * length start
@@ -151,6 +156,11 @@ pub record PassesGapHere (gap_start : ℕ) (rows kept : RowState) (old new : Con
   pub put_back : OnErr over (here after ≡ here before)
   pub space : new.space ≡ old.space
 
+-- no data that follows these bits changes what is before the first line: without columns there is no line, or the gap there is
+-- settled (T.4, 4.1.2; T.6, 2.4.1.1)
+abbrev pub front_is_settled : DecodeSettings → Bits → Bool
+front_is_settled settings bits = (settings.columns == 0) || first_gap_is_settled settings.encoding settings bits
+
 -- What a call leaves that passes what is before the first line of the data, where these are all bits of it (T.4, 4.1.2; T.6,
 -- 2.4.1.1).
 pub record StandsAlone (stand : Stand) (old new : Context) (bits : Bits) (place : ℕ) : Type 0 where
@@ -169,11 +179,11 @@ pub record TakesNone (old new : Context) (before after : BitsAt) : Type 0 where
 -- whatever bits follow, if they change nothing of it (T.4, 4.1.2; T.6, 2.4.1.1).
 pub record StandsFirst (stand : Stand) (old new : Context) (before after : BitsAt) : Type 0 where
   pub stands : (more : Bits)
-      → (more ≡ []) ⊎ (first_gap_is_settled old.held.settings.encoding old.held.settings before.bits ≡ true)
+      → (more ≡ []) ⊎ (front_is_settled old.held.settings before.bits ≡ true)
       → ReaderStands stand old.held.settings (before.bits ++ more) new.held after.place
   pub damage : (more : Bits) → DamageIsCounted stand old.held.settings (before.bits ++ more) new.held
   pub paid : (more : Bits)
-      → (more ≡ []) ⊎ (first_gap_is_settled old.held.settings.encoding old.held.settings before.bits ≡ true)
+      → (more ≡ []) ⊎ (front_is_settled old.held.settings before.bits ≡ true)
       → IsPaid old.ticks stand old.held.settings (before.bits ++ more) new.held after.place new.ticks
   pub within : after.place ≤ length after.bits
   pub row : new.held.reference ≡ old.held.reference

@@ -145,8 +145,8 @@ impl RowCursor {
         self.ctx.settings()
     }
 
-    /// Returns the offset in bits at which the line of the last row begins, after its EOL; in two-dimensional data of Group
-    /// 3 that of its tag bit (T.4, 4.2.2).
+    /// Returns the offset in bits at which the line of the last row begins, as
+    /// [`RowReader::line_start`](crate::row_reader::RowReader::line_start) does.
     pub fn line_start(&self) -> usize
         ensures { result ≡ self.now.rows.started_at }
     {
@@ -199,7 +199,7 @@ impl RowCursor {
         self.rows.missed
     }
 
-    /// Returns the number of bytes consumed so far, the last one rounded up.
+    /// Returns the number of bytes consumed so far, as [`RowReader::bytes_read`](crate::row_reader::RowReader::bytes_read) does.
     pub fn bytes_read(&self) -> usize
         ensures { result ≡ (self.now.place + 7) / 8 }
     {

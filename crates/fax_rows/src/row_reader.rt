@@ -532,7 +532,8 @@ impl<'a> RowReader<'a> {
     }
 
     /// Returns the number of bytes consumed so far, the last one rounded up: after a row those up to its end, where a repaired
-    /// line ends where it begins, and at the end of the image those that `decode` returns.
+    /// line ends where it begins, at the end of the image those that `decode` returns, and after an error those up to
+    /// [`line_start`](RowReader::line_start).
     pub fn bytes_read(&self) -> usize
         ensures { result ≡ (self.now.place + 7) / 8 }
     {

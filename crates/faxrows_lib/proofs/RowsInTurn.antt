@@ -61,17 +61,19 @@ ended_well settings bits old new count of_settings of_bits reads is =
     (subst (λ (b : Bits). EndsByRow old.settings b new.taken (Ok count)) of_bits here)
 
 -- a fault that ends a reading ends it after all rows
-ended_by : (settings : DecodeSettings) (bits : Bits) (taken : ℕ) (error : DecodeError) → HasFailed settings bits taken error
-    → IsFault error → (taken ≡ length (rows_of settings bits)) × (outcome_of settings bits ≡ Err error)
-ended_by settings bits taken error failed fault =
+ended_by : (settings : DecodeSettings) (bits : Bits) (taken place : ℕ) (error : DecodeError)
+    → HasFailed settings bits taken place error → IsFault error
+    → (taken ≡ length (rows_of settings bits)) × (outcome_of settings bits ≡ Err error)
+ended_by settings bits taken place error failed fault =
     (failed.all fault ∙ sym (length-map (plain settings bits).rows changes), failed.fault fault)
 
 -- a reading that has failed, after at most all rows, ends like this
-pub failed_so : (settings : DecodeSettings) (bits : Bits) (taken : ℕ) (error : DecodeError) → HasFailed settings bits taken error
-    → taken ≤ length (rows_of settings bits) → EndsAfter settings bits taken (Err error)
-failed_so settings bits taken error failed within =
-    by_kind (λ error. HasFailed settings bits taken error → EndsAfter settings bits taken (Err error))
-    (λ error fault failed. of_fault_kind (kind_of error) _ _ _ fault (ended_by settings bits taken error failed fault))
+pub failed_so : (settings : DecodeSettings) (bits : Bits) (taken place : ℕ) (error : DecodeError)
+    → HasFailed settings bits taken place error → taken ≤ length (rows_of settings bits)
+    → EndsAfter settings bits taken (Err error)
+failed_so settings bits taken place error failed within =
+    by_kind (λ error. HasFailed settings bits taken place error → EndsAfter settings bits taken (Err error))
+    (λ error fault failed. of_fault_kind (kind_of error) _ _ _ fault (ended_by settings bits taken place error failed fault))
     (λ failed. (within, failed.memory refl)) (λ failed. absurd (failed.not_refused refl)) error failed
 
 -- after a call that fails the reading has ended with its error
@@ -81,9 +83,9 @@ pub ended_badly : (settings : DecodeSettings) (bits : Bits) (old new : RowsRead)
 ended_badly settings bits old new error of_settings of_bits within reads =
     let same : rows_of old.settings old.bits ≡ rows_of settings bits
     = same_rows old.settings settings old.bits bits of_settings of_bits in
-    let failed : HasFailed settings bits new.taken error
-    = subst (λ (s : DecodeSettings). HasFailed s bits new.taken error) of_settings
-    (subst (λ (b : Bits). HasFailed old.settings b new.taken error) of_bits reads.error.2) in (
-      failed_so settings bits new.taken error failed (omega (arith, within, reads.error.1)),
+    let failed : HasFailed settings bits new.taken new.place error
+    = subst (λ (s : DecodeSettings). HasFailed s bits new.taken new.place error) of_settings
+    (subst (λ (b : Bits). HasFailed old.settings b new.taken new.place error) of_bits reads.error.2) in (
+      failed_so settings bits new.taken new.place error failed (omega (arith, within, reads.error.1)),
       λ refused. failed.not_refused (search rules),
     )

@@ -132,7 +132,7 @@ badly_ended {whole} {tried} {feed} {error} is_feed e within =
     let settings = feed.ctx.held.settings in
     let failed = (failed_stands feed.rows.stand settings whole feed.ctx.held (feed.dropped + feed.place) e
     (stands_ended is_feed e)).0 in (
-      failed_so settings whole feed.ctx.held.taken error failed within,
+      failed_so settings whole feed.ctx.held.taken (feed.dropped + feed.place) error failed within,
       λ refused. failed.not_refused (search rules),
     )
 

@@ -33,8 +33,9 @@ pub record PassesNextRows {M : Type 0} (whole : Bits) (step : M → List ℕ →
       → (new.finished ≡ false) × IsOpenAt new.begun new.rows.stand new.ctx (drop new.place new.kept)
   -- there are no more rows
   pub end : answer ≡ Ok Fed.End → HasEnded old.ctx.held.settings whole new.ctx.held.taken (new.dropped + new.place)
-  -- the plain reading has this fault after them
-  pub fault : IfErr answer (λ e. IsFault e → HasFailed old.ctx.held.settings whole new.ctx.held.taken e)
+  -- the plain reading has this fault after them, and the reading is where it fails
+  pub fault : IfErr answer (λ e. IsFault e
+      → HasFailed old.ctx.held.settings whole new.ctx.held.taken (new.dropped + new.place) e)
   -- it is a reading of that data still
   pub tried : ℕ
   pub stands : IsFeedOf whole tried new

@@ -18,8 +18,8 @@ use Rattle.fax_rows.specs.declared.row_reader.RowState.{RowState}
 use Rattle.fax_feeds.proofs.Readings.BlackGoesOn.{black_goes_on}
 use Rattle.fax_reading.specs.Answers.{HasBlack, PaintsBlack}
 use Rattle.fax_reading.specs.Continuations.{is_short}
-use Rattle.fax_reading.specs.GapsContinued.{first_gap_is_settled, gap_is_settled}
-use Rattle.fax_rows.specs.RowsTried.{CanCome, IsLeft, StandsFirst, TriesRow}
+use Rattle.fax_reading.specs.GapsContinued.{gap_is_settled}
+use Rattle.fax_rows.specs.RowsTried.{CanCome, IsLeft, StandsFirst, TriesRow, front_is_settled}
 use Rattle.fax_feeds.specs.RowFeeds.{ComesInFeed, ComesOn, Feeding, IsFeedOf, KeepsBits, LieIn, ReadsInFeed, StandsIn}
 use Rattle.fax_feeds.specs.RowFeeds.{HasNone, LooksAhead, TriesLine, came, fed_over}
 use Rattle.fax_feeds.specs.declared.gap_look.GapLook.{GapLook}
@@ -343,7 +343,7 @@ module _ (old new : Feeding) (mid : Context) (before after : BitsAt) (stand : St
     (unfailed : (error : DecodeError) → ended stand ≢ Some (Err error))
     (at_line : is_some (ended stand) ≡ false → is_at_line stand ≡ true)
     (settled : (old.finished ≡ true)
-    ⊎ (first_gap_is_settled mid.held.settings.encoding mid.held.settings before.bits ≡ true))
+    ⊎ (front_is_settled mid.held.settings before.bits ≡ true))
     {whole : Bits} {tried : ℕ} (feed : IsFeedOf whole tried old) (front : IsAtFront tried old.rows old.ctx
     (old.dropped + old.place)) where
   abbrev lie : LieIn whole old.dropped old.finished old.kept
@@ -355,9 +355,8 @@ module _ (old new : Feeding) (mid : Context) (before after : BitsAt) (stand : St
   whole_is : whole ≡ before.bits ++ lie.more
   whole_is = grind (arith, common_steps, none_dropped)
 
-  changes_nothing : (old.finished ≡ true) ⊎
-      (first_gap_is_settled mid.held.settings.encoding mid.held.settings before.bits ≡ true)
-      → (lie.more ≡ []) ⊎ (first_gap_is_settled mid.held.settings.encoding mid.held.settings before.bits ≡ true)
+  changes_nothing : (old.finished ≡ true) ⊎ (front_is_settled mid.held.settings before.bits ≡ true)
+      → (lie.more ≡ []) ⊎ (front_is_settled mid.held.settings before.bits ≡ true)
   changes_nothing (inl last) = inl (lie.can_come.none last)
   changes_nothing (inr is) = inr is
 
@@ -829,7 +828,7 @@ unbegun_looks false line is looks = looks
 unbegun_looks true line is looks = absurd (false≢true (sym is))
 
 open_front : (begun : Bool) (stand : Stand) (ctx : Context) (next : Bits) → begun ≡ false
-    → first_gap_is_settled ctx.held.settings.encoding ctx.held.settings next ≡ false → IsOpenAt begun stand ctx next
+    → front_is_settled ctx.held.settings next ≡ false → IsOpenAt begun stand ctx next
 open_front false stand ctx next unbegun waits = waits
 open_front true stand ctx next unbegun waits = absurd (false≢true (sym unbegun))
 

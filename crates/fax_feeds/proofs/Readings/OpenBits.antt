@@ -4,7 +4,8 @@ use Rattle.fax_feeds.proofs.Names.{◌≡◌, ◌∙◌, ◌+◌, ◌≤◌, ◌
 use Rattle.fax_feeds.proofs.Names.{refl, sym, ap, arith, length, length-append, replicate, inl, inr, cases_lt, false≢true}
 use Rattle.fax_feeds.proofs.Names.{Bits, DecodeSettings, EncodingMode, Group4, Group3_1D, Group3_2D, Row}
 use Rattle.fax_feeds.proofs.Names.{Gap, Progress, all_eols, at_front, at_gap, gap_after_row, line_here}
-use Rattle.fax_feeds.proofs.Names.{append_assoc, misses_eol}
+use Rattle.fax_feeds.proofs.Names.{append_assoc, misses_eol, ◌||◌, eqb}
+use Rattle.fax_rows.specs.RowsTried.{front_is_settled}
 use Rattle.fax_reading.specs.Continuations.{is_short}
 use Rattle.fax_feeds.specs.FeedsKeepLittle.{OpenBitsAreRead, left_by, left_by_first}
 use Rattle.fax_reading.specs.GapsContinued.{first_gap_is_settled, gap_is_settled, holds_one}
@@ -142,6 +143,25 @@ open_first_gap_before settings first more = by_encoding settings.encoding
     by_encoding Group4 waits = open_gap_before settings 0 false first more waits
     by_encoding Group3_1D waits = without_tags waits
     by_encoding Group3_2D waits = without_tags waits
+
+-- without columns nothing is open
+pub first_gap_is_open : (settings : DecodeSettings) (bits : Bits) → front_is_settled settings bits ≡ false
+    → first_gap_is_settled settings.encoding settings bits ≡ false
+first_gap_is_open settings bits = by_columns (eqb settings.columns 0)
+  where
+    by_columns : (none : Bool) → (none || first_gap_is_settled settings.encoding settings bits) ≡ false
+        → first_gap_is_settled settings.encoding settings bits ≡ false
+    by_columns true waits = absurd (false≢true (sym waits))
+    by_columns false waits = waits
+
+pub open_front_before : (settings : DecodeSettings) (first more : Bits) → front_is_settled settings (first ++ more) ≡ false
+    → front_is_settled settings first ≡ false
+open_front_before settings first more = by_columns (eqb settings.columns 0)
+  where
+    by_columns : (none : Bool) → (none || first_gap_is_settled settings.encoding settings (first ++ more)) ≡ false
+        → (none || first_gap_is_settled settings.encoding settings first) ≡ false
+    by_columns true waits = absurd (false≢true (sym waits))
+    by_columns false waits = open_first_gap_before settings first more waits
 
 -- the bits after the gap before no row
 left_at_front : (here : Bits) (so_far : Progress) (gap : Gap) → left_by_first here (at_gap so_far gap) ≡ left_by here gap

@@ -1,7 +1,7 @@
 -- Rows one at a time: what comes before the first line is passed, in data of which a reader may hold a part.
 use Rattle.fax_rows.proofs.Names.{common_steps}
 use Rattle.fax_rows.proofs.Names.{◌≡◌, ◌≢◌, ◌∙◌, ◌<◌, ◌≤◌, ◌+◌, ◌++◌, ◌⊎◌, [], ℕ, Bool, false, true, inl, inr, length, drop}
-use Rattle.fax_rows.proofs.Names.{ap, sym, subst, arith}
+use Rattle.fax_rows.proofs.Names.{ap, sym, subst, arith, ◌||◌}
 use Rattle.fax_rows.proofs.Names.{length-drop, IfOk-weaker, on_err_weaker, on_ok_weaker, DecodeSettings, Result, DecodeError}
 use Rattle.fax_rows.proofs.Names.{append-nil}
 use Rattle.fax_rows.proofs.Names.{Group4, Bits, Held, Context, fresh, gap_said, all_eols, gap_after_row, first_line}
@@ -14,12 +14,12 @@ use Rattle.fax_bits.specs.Ones.{holds_one}
 use Rattle.fax_reading.proofs.GapsContinued.ContinuedEols.{all_eols-more}
 use Rattle.fax_reading.proofs.Readings.DamageCounted.{first_gap_left}
 use Rattle.fax_reading.proofs.Work.ChangesStored.{changes_white}
-use Rattle.fax_rows.proofs.Readings.RowByRow.{none_damaged, misses_after, first_gap_stands, first_line_stands}
+use Rattle.fax_rows.proofs.Readings.RowByRow.{none_damaged, misses_after, first_gap_stands, first_line_stands, has_columns}
 use Rattle.fax_rows.proofs.Readings.GapsPassed.{gap_goes_on, looked-more}
 use Rattle.fax_rows.proofs.Work.CallsPaid.{first_gap_paid, first_line_paid}
 use Rattle.fax_reading.proofs.Work.EolsPassed.{unsought_after}
 use Rattle.fax_reading.specs.GapsContinued.{first_gap_is_settled, gap_is_settled}
-use Rattle.fax_rows.specs.RowsTried.{PassesGap, StandsAlone, StandsFirst}
+use Rattle.fax_rows.specs.RowsTried.{PassesGap, StandsAlone, StandsFirst, front_is_settled}
 
 -- in Group 4 a gap (T.6, 2.4.1.1)
 module _ (old new : Context) (bits : Bits) (next : ℕ) (over : Result Bool DecodeError) (within : next ≤ length bits)
@@ -49,6 +49,12 @@ module _ (old new : Context) (bits : Bits) (next : ℕ) (over : Result Bool Deco
   pub front_paid : IsPaid old.ticks (stand_after over) settings bits last next new.ticks
   front_paid = grind (arith, common_steps, first_gap_paid, IfOk-weaker, on_ok_weaker, settings, last, frame, said, sought)
 
+-- where there are columns, the gap is settled
+settled_gap : (settings : DecodeSettings) (bits : Bits) → 0 < settings.columns → front_is_settled settings bits ≡ true
+    → first_gap_is_settled settings.encoding settings bits ≡ true
+settled_gap settings bits wide is =
+    ap (λ (b : Bool). b || first_gap_is_settled settings.encoding settings bits) (sym (has_columns settings wide)) ∙ is
+
 -- so whatever follows
 pub front_goes_on : (old new : Context) (bits : Bits) (next : ℕ) (over : Result Bool DecodeError) → next ≤ length bits
     → old.held.settings.encoding ≡ Group4 → 0 < old.held.settings.columns → old.held ≡ fresh old.held.settings
@@ -57,7 +63,7 @@ pub front_goes_on : (old new : Context) (bits : Bits) (next : ℕ) (over : Resul
 front_goes_on old new bits next over within is wide begins passes after at =
     let longer : (more : Bits) → next ≤ length (bits ++ more) = λ more. omega (arith, within, length-append bits more) in
     let continues = λ (more : Bits)
-    (settled : (more ≡ []) ⊎ (first_gap_is_settled old.held.settings.encoding old.held.settings bits ≡ true)).
+    (settled : (more ≡ []) ⊎ (front_is_settled old.held.settings bits ≡ true)).
     subst (PassesGap old new over (bits ++ more)) (sym (drop-append-le next bits more within))
     (gap_goes_on old new over bits (drop next bits) more (at_front more settled) passes) in
     let place = ap (λ (a : BitsAt). a.place) at in
@@ -79,10 +85,11 @@ front_goes_on old new bits next over within is wide begins passes after at =
     by_encoding Group3_1D e settled = absurd cc
     by_encoding Group3_2D e settled = absurd cc
 
-    at_front : (more : Bits) → (more ≡ []) ⊎ (first_gap_is_settled old.held.settings.encoding old.held.settings bits ≡ true)
+    at_front : (more : Bits) → (more ≡ []) ⊎ (front_is_settled old.held.settings bits ≡ true)
         → (more ≡ []) ⊎ (gap_is_settled old.held.settings old.held.taken old.held.has_eols bits ≡ true)
     at_front more (inl none) = inl none
-    at_front more (inr settled) = grind (arith, common_steps, by_encoding)
+    at_front more (inr settled) =
+        let gap = settled_gap old.held.settings bits wide settled in inr (grind (arith, common_steps, by_encoding))
 
 -- in Group 3 the EOLs there (T.4, 4.1.2)
 pub eols_go_on : (old new : Context) (bits : Bits) (next : ℕ) → next ≤ length bits → old.held.settings.encoding ≢ Group4
@@ -128,16 +135,17 @@ eols_go_on old new bits next within other wide begins frame rest work counts aft
     by_encoding Group3_1D e settled = settled
     by_encoding Group3_2D e settled = settled
 
-    same_eols : (more : Bits) → (more ≡ []) ⊎ (first_gap_is_settled old.held.settings.encoding old.held.settings bits ≡ true)
+    same_eols : (more : Bits) → (more ≡ []) ⊎ (front_is_settled old.held.settings bits ≡ true)
         → all_eols (bits ++ more) ≡ ((all_eols bits).0, (all_eols bits).1 ++ more)
     same_eols more (inl none) = grind (arith, common_steps, append-nil)
-    same_eols more (inr settled) = all_eols-more more bits (by_encoding old.held.settings.encoding other settled)
+    same_eols more (inr settled) =
+        all_eols-more more bits (by_encoding old.held.settings.encoding other (settled_gap old.held.settings bits wide settled))
 
-    first_has : (more : Bits) → (more ≡ []) ⊎ (first_gap_is_settled old.held.settings.encoding old.held.settings bits ≡ true)
+    first_has : (more : Bits) → (more ≡ []) ⊎ (front_is_settled old.held.settings bits ≡ true)
         → (first_line old.held.settings (bits ++ more)).has_eols ≡ (first_line old.held.settings bits).has_eols
     first_has more settled = grind (arith, common_steps, same_eols)
 
-    first_rest : (more : Bits) → (more ≡ []) ⊎ (first_gap_is_settled old.held.settings.encoding old.held.settings bits ≡ true)
+    first_rest : (more : Bits) → (more ≡ []) ⊎ (front_is_settled old.held.settings bits ≡ true)
         → (first_line old.held.settings (bits ++ more)).rest ≡ (all_eols bits).1 ++ more
     first_rest more settled = ap (λ (found : ℕ × Bits). found.1) (same_eols more settled)
 

@@ -135,6 +135,7 @@ gap_goes_on old new over start rest more (inr settled) passes =
       given_up = passes.given_up;
       only_code = passes.only_code;
       unchanged = passes.unchanged;
+      put_back = on_err_weaker over (λ same. ap (λ (b : Bits). b ++ more) same) passes.put_back;
       counts = passes.counts;
       work = on_ok_weaker over (λ work kept. omega (
         arith,

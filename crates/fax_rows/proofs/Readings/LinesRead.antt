@@ -46,7 +46,7 @@ module _ (from : ℕ) (rows : RowState) (old new : Context) (bits : Bits) (place
   -- or it wasn't
   module _ (e : DecodeError) (reads : ReadsRow old new (Err e) (drop place bits) (drop next bits)) where
     unread : ReaderStands (AtFault e) held.settings bits left next
-    unread = isnt_read stands reads.row
+    unread = isnt_read stands reads.row (omega (arith, within, length-drop next bits, ap length reads.put_back))
 
     settings_left : left.settings ≡ held.settings
     settings_left = ap (λ (h : Held). h.settings) reads.row.held

@@ -14,7 +14,8 @@ use Rattle.fax_rows.proofs.Names.{whole_reading, plain, lines_of, line_starts, s
 use Rattle.fax_rows.proofs.Names.{row_ends, end_of_row, end_of_turn, failed_at, Turn}
 use Rattle.fax_rows.proofs.Names.{Reaches, Row, found_here, words_of, words_of_turn, Stand, AtLine, AfterRow, AtEnd, AtFault}
 use Rattle.fax_rows.proofs.Names.{EncodingMode, Group4, RowsRead, ReadsNext, damage_since, start_after}
-use Rattle.fax_rows.proofs.Names.{ReachesNextLine, seen, line_after, DamageIsCounted, MissesAreCounted, MissesAfterRow}
+use Rattle.fax_rows.proofs.Names.{IsStanding, ReachesNextLine, seen, line_after, DamageIsCounted, MissesAreCounted}
+use Rattle.fax_rows.proofs.Names.{MissesAfterRow}
 use Rattle.fax_rows.proofs.Names.{Misses, ReaderStands, ended, stand_after, is_at_line, StandsAtLine, StandsAfterRow}
 use Rattle.fax_rows.proofs.Names.{redrawn, White, end_of, ends_with, add_row}
 use Rattle.fax_rows.proofs.Names.{IsWhole, IsFault, cut_by_turn, cuts_by_line, cut_in, cut_since}
@@ -294,13 +295,14 @@ reader_fails_at_line {settings} {bits} stands =
     (ap (λ (h : Held). h.taken) stands.held_is)
     ∙ given_is settings stands.wide bits stands.begins stands.reaches (start_of_turn bits) _)
 
--- no row was read there
+-- no row was read there, and the next bit is the first one of the line
 pub isnt_read : {settings : DecodeSettings} {bits : Bits} {held : Held} {here : Bits} → StandsAtLine settings bits held here
     → {new : Held} {left_over : Bits} {e : DecodeError} → TakesOneRow (line_here held.settings held.reference here)
     (line_here (record held.settings { strict = true }) held.reference here) (row_of_line held.settings held.has_eols here
     (line_here held.settings held.reference here)) held new (Err e) left_over
-    → HasFailed settings bits new.taken e × (0 < settings.columns → IsFault e → IsWhole settings bits new (Err e))
-isnt_read {settings} {bits} {held} stands {new} {e = e} takes =
+    → {place : ℕ} → place ≡ length bits - length here
+    → HasFailed settings bits new.taken place e × (0 < settings.columns → IsFault e → IsWhole settings bits new (Err e))
+isnt_read {settings} {bits} {held} stands {new} {e = e} takes at =
     let so_far = stands.so_far in
     let turn = takes_turn stands takes in
     let taken : new.taken ≡ length so_far.rows = ap (λ (h : Held). h.taken) turn.held in
@@ -313,6 +315,8 @@ isnt_read {settings} {bits} {held} stands {new} {e = e} takes =
         fault = λ fault. ap (λ (r : Reading). r.outcome) (reading fault);
         memory = λ is. grind (arith, common_steps, so_far, given_there);
         not_refused = λ is. turn.not_refused (ap (λ (x : DecodeError). Err x) is);
+        fails_at = at ∙ reader_fails_at_line stands
+            ∙ ap (failed_at settings bits) (sym (ap (λ (h : Held). h.taken) turn.held ∙ sym (taken_is stands)));
       },
       λ wide fault. whole fault,
     )
@@ -330,6 +334,12 @@ at_line_stands AtLine settings bits held place is stands = stands
 at_line_stands AfterRow settings bits held place is stands = absurd (false≢true is)
 at_line_stands AtEnd settings bits held place is stands = absurd (false≢true is)
 at_line_stands (AtFault error) settings bits held place is stands = absurd (false≢true is)
+
+-- there is room for its row
+pub room_at_line : (from : ℕ) (rows : RowState) (ctx : Context) (at : BitsAt) → IsStanding from rows ctx at
+    → is_at_line rows.stand ≡ true → (ctx.held.taken ≤ length at.bits + 1) × (ctx.held.repairs.rows ≤ ctx.held.taken)
+room_at_line from rows ctx at stands line =
+    (few (at_line_stands rows.stand ctx.held.settings at.bits ctx.held at.place line stands.0), stands.1.few)
 
 -- nothing is drawn there, so a line that is begun again is the same
 pub begun_is : {settings : DecodeSettings} {bits : Bits} {held : Held} {here : Bits} → StandsAtLine settings bits held here
@@ -362,9 +372,10 @@ failed_stands (AtFault error) settings bits held place {e} is stands = grind (ar
 -- ---- A gap is passed
 
 -- an allocation didn't fail in a gap, and no row was refused
-code_failed : (settings : DecodeSettings) (bits : Bits) (taken : ℕ) (e : DecodeError) → e ≡ InvalidCode
-    → taken ≡ length (plain settings bits).rows → (plain settings bits).outcome ≡ Err e → HasFailed settings bits taken e
-code_failed settings bits taken e is all outcome = grind (arith, common_steps)
+code_failed : (settings : DecodeSettings) (bits : Bits) (taken place : ℕ) (e : DecodeError) → e ≡ InvalidCode
+    → taken ≡ length (plain settings bits).rows → (plain settings bits).outcome ≡ Err e → place ≡ failed_at settings bits taken
+    → HasFailed settings bits taken place e
+code_failed settings bits taken place e is all outcome at = grind (arith, common_steps)
 
 -- if the gap before a turn ends the reading, it ends like this
 module _ (settings : DecodeSettings) (wide : 0 < settings.columns) (bits : Bits) (rows : List Row) (last : Held) (place : ℕ)
@@ -374,8 +385,9 @@ module _ (settings : DecodeSettings) (wide : 0 < settings.columns) (bits : Bits)
   ended_well is = grind (arith, common_steps, plain_whole, bytes_before-place)
 
   ended_badly : (e : DecodeError) → e ≡ InvalidCode → end_of settings bits
-      ≡ record { rows = rows; has_eols = has_eols; outcome = Err e } → HasFailed settings bits last.taken e
-  ended_badly e code is = grind (arith, common_steps, plain_whole, code_failed)
+      ≡ record { rows = rows; has_eols = has_eols; outcome = Err e } → place ≡ failed_at settings bits last.taken
+      → HasFailed settings bits last.taken place e
+  ended_badly e code is at = grind (arith, common_steps, plain_whole, code_failed)
 
 -- the gap after a row leads to a line, or to the end
 module _ (settings : DecodeSettings) (bits : Bits) (held : Held) (here_now : Bits)
@@ -407,6 +419,13 @@ module _ (settings : DecodeSettings) (bits : Bits) (held : Held) (here_now : Bit
   starts_following (Ok over) said offset before is = tt
   starts_following (Err e) said offset before is = is ∙ sym (fails_there e said)
 
+  -- and so does the next bit
+  stays_there : (e : DecodeError) → gap_after_row held.settings held.taken held.has_eols here_now
+      ≡ gap_said (Err e) last.has_eols (drop place bits) → drop place bits ≡ here_now → place ≡ failed_at settings bits last.taken
+  stays_there e said put_back =
+      let at : place ≡ length bits - length here_now = omega (arith, within, length-drop place bits, ap length put_back) in
+      at ∙ sym (fails_there e said) ∙ ap (failed_at settings bits) (sym (ap (λ (h : Held). h.taken) frame))
+
   -- if it is the end, that is all of the reading
   whole : {outcome : Result Bits DecodeError} → move_on settings stands.so_far ≡ ends_with next outcome
       → last.has_eols ≡ held.has_eols → IsWhole settings bits last outcome
@@ -418,14 +437,15 @@ module _ (settings : DecodeSettings) (bits : Bits) (held : Held) (here_now : Bit
   pub gap_stands : (answer : Result Bool DecodeError)
       → gap_after_row held.settings held.taken held.has_eols here_now ≡ gap_said answer last.has_eols (drop place bits)
       → IsOkUnless answer InvalidCode → IfOk answer (λ over. over ≡ true → last.has_eols ≡ held.has_eols)
-      → OnErr answer (last.has_eols ≡ held.has_eols) → ReaderStands (stand_after answer) settings bits last place
-  gap_stands (Ok true) said code kept same =
+      → OnErr answer (last.has_eols ≡ held.has_eols) → OnErr answer (drop place bits ≡ here_now)
+      → ReaderStands (stand_after answer) settings bits last place
+  gap_stands (Ok true) said code kept same put_back =
       let ends = turn_said (Ok true) said in (
         ended_well settings stands.wide bits next.rows last place within last_taken next.has_eols
             (ends_with_turn settings stands.wide bits stands.begins stands.reaches ends),
         λ wide. whole ends (kept refl),
       )
-  gap_stands (Ok false) said code kept same = record {
+  gap_stands (Ok false) said code kept same put_back = record {
     wide = stands.wide;
     first = stands.first;
     so_far = record next { has_eols = last.has_eols; rest = drop place bits };
@@ -436,12 +456,21 @@ module _ (settings : DecodeSettings) (bits : Bits) (held : Held) (here_now : Bit
     held_is = frame ∙ ap (λ (h : Held). record h { has_eols = last.has_eols; repairs = last.repairs }) stands.held_is;
     rest_is = refl;
   }
-  gap_stands (Err e) said code kept same =
+  gap_stands (Err e) said code kept same put_back =
       let ends = turn_said (Err e) said in (
         ended_badly settings stands.wide bits next.rows last place within last_taken next.has_eols e code
-            (ends_with_turn settings stands.wide bits stands.begins stands.reaches ends),
+            (ends_with_turn settings stands.wide bits stands.begins stands.reaches ends) (stays_there e said put_back),
         λ wide fault. whole ends same,
       )
+
+-- where no EOLs are sought, no gap is faulty
+pub no_fault : (settings : DecodeSettings) (taken : ℕ) (here : Bits) (answer : Result Bool DecodeError) (has_eols : Bool)
+    (rest : Bits)
+    → gap_after_row settings taken false here ≡ gap_said answer has_eols rest → (error : DecodeError)
+    → ended (stand_after answer) ≡ Some (Err error) → ⊥
+no_fault settings taken here (Ok true) has_eols rest said error is = cc
+no_fault settings taken here (Ok false) has_eols rest said error is = cc
+no_fault settings taken here (Err e) has_eols rest said error is = grind (arith, common_steps, cond-false, unmissed)
 
 -- the first gap of Group 4 does too
 module _ (settings : DecodeSettings) (wide : 0 < settings.columns) (bits : Bits) (is : settings.encoding ≡ Group4) (last : Held)
@@ -477,16 +506,8 @@ module _ (settings : DecodeSettings) (wide : 0 < settings.columns) (bits : Bits)
         (sym (ap (λ (h : Held). h.repairs) frame));
     rest_is = refl;
   }
-  first_gap_stands (Err e) said code unsought = grind (arith, common_steps, first_said, ended_badly, first_ended, whole_front)
-
--- where no EOLs are sought, no gap is faulty
-pub no_fault : (settings : DecodeSettings) (taken : ℕ) (here : Bits) (answer : Result Bool DecodeError) (has_eols : Bool)
-    (rest : Bits)
-    → gap_after_row settings taken false here ≡ gap_said answer has_eols rest → (error : DecodeError)
-    → ended (stand_after answer) ≡ Some (Err error) → ⊥
-no_fault settings taken here (Ok true) has_eols rest said error is = cc
-no_fault settings taken here (Ok false) has_eols rest said error is = cc
-no_fault settings taken here (Err e) has_eols rest said error is = grind (arith, common_steps, cond-false, unmissed)
+  first_gap_stands (Err e) said code unsought =
+      absurd (no_fault settings 0 bits (Err e) last.has_eols (drop place bits) said e refl)
 
 -- data of Group 3 begin at a line
 pub first_line_stands : (settings : DecodeSettings) → 0 < settings.columns → (bits : Bits) → settings.encoding ≢ Group4

@@ -61,7 +61,7 @@ module _ (from : ℕ) (rows : RowState) (ctx : Context) (at : BitsAt) (stands : 
   is_paid = subst (λ (s : Stand). IsPaid from s settings bits held at.place ctx.ticks) aligned_after_row stands.2.paid
 
   at_line : StandsAtLine settings bits held line
-  at_line = gap_stands settings bits held (here at) stands_after held place within refl (Ok false) said tt (λ over. refl) tt
+  at_line = gap_stands settings bits held (here at) stands_after held place within refl (Ok false) said tt (λ over. refl) tt tt
 
   counted : MissesAreCounted settings bits held.repairs held.taken
   counted = misses_passed settings bits held (here at) stands_after misses held kept refl

@@ -11,7 +11,7 @@ use Rattle.hayro_ccitt.specs.GapsContinued.{first_gap_is_settled, gap_is_settled
 use Rattle.hayro_ccitt.specs.Lines.{Line}
 use Rattle.fax_feeds.specs.RowFeeds.{CountsRow, Feeding, FeedsNext, FeedsRow, HoldsMore, IsFeedOf, IsOpenAt, StandsIn, fed_end}
 use Rattle.fax_feeds.specs.declared.row_feed.Fed.{Fed}
-use Rattle.fax_feeds.proofs.Readings.OpenBits.{open_bits_are_read, open_first_gap_before, open_gap_before}
+use Rattle.fax_feeds.proofs.Readings.OpenBits.{first_gap_is_open, open_bits_are_read, open_front_before, open_gap_before}
 use Rattle.fax_feeds.proofs.Readings.RowsFed.{from_place}
 use Rattle.hayro_ccitt.proofs.Readings.RowsOfFeeds.{none_taken}
 use Rattle.fax_reading.proofs.Continuations.LinesContinued.{line_settled}
@@ -30,7 +30,7 @@ open_line_before settings reference first rest waits =
 open_before_it : (begun : Bool) (stand : Stand) (ctx : Context) (first rest : Bits)
     → IsOpenAt begun stand ctx (first ++ rest) → IsOpenAt begun stand ctx first
 open_before_it false stand ctx first rest waits =
-    open_first_gap_before ctx.held.settings first rest waits
+    open_front_before ctx.held.settings first rest waits
 open_before_it true AtLine ctx first rest waits = open_line_before ctx.held.settings ctx.held.reference first rest waits
 open_before_it true AfterRow ctx first rest waits =
     open_gap_before ctx.held.settings ctx.held.taken ctx.held.has_eols first rest waits
@@ -87,7 +87,7 @@ module _ {whole : Bits} {tried most : ℕ} {feed : Feeding} (stands : IsFeedOf w
   by_begun : (begun : Bool) → feed.begun ≡ begun → IsOpenAt begun feed.rows.stand feed.ctx bits_next
       → StandsIn begun tried feed.rows feed.ctx (record { bits = whole; place = feed.dropped + feed.place })
       → length bits_next ≤ most
-  by_begun false is waits at = first_most is waits
+  by_begun false is waits at = first_most is (first_gap_is_open settings bits_next waits)
   by_begun true is waits at = by_stand feed.rows.stand refl waits at.0
 
   open_most : IsOpenAt feed.begun feed.rows.stand feed.ctx bits_next → length bits_next ≤ most

@@ -58,7 +58,8 @@ have_read whole tried old (new ∷ rows) unended stands reads =
 
 module _ {whole : Bits} {tried : ℕ} {old new : Feeding} where
   failed : (e : DecodeError) → e ≢ OutOfMemory → FeedsNext whole tried old new (Err e)
-      → (new.ctx.held.taken ≡ old.ctx.held.taken) × HasFailed old.ctx.held.settings whole new.ctx.held.taken e
+      → (new.ctx.held.taken ≡ old.ctx.held.taken)
+      × HasFailed old.ctx.held.settings whole new.ctx.held.taken (new.dropped + new.place) e
   failed e other next = let (over, taken, has) = (next.fault other).error in (taken, has)
 
   never_refused : (answer : Result Fed DecodeError) → FeedsNext whole tried old new answer → answer ≢ Err Refused
@@ -78,7 +79,8 @@ module _ {whole : Bits} {tried : ℕ} {old new : Feeding} where
   has_ended answer next is = let (over, taken, has) = (next.end is).end refl in has
 
   has_failed : (answer : Result Fed DecodeError) → FeedsNext whole tried old new answer
-      → IfErr answer (λ e. IsFault e → HasFailed old.ctx.held.settings whole new.ctx.held.taken e)
+      → IfErr answer (λ e. IsFault e
+      → HasFailed old.ctx.held.settings whole new.ctx.held.taken (new.dropped + new.place) e)
   has_failed (Ok fed) next = tt
   has_failed (Err e) next = λ fault. (failed e (fault_not_memory e fault) next).1
 
@@ -110,8 +112,8 @@ module _ {M : Type 0} (whole : Bits) (step : M → List ℕ → M) (before after
         waits = next.unsettled;
         end = λ is. subst (λ (s : DecodeSettings). HasEnded s whole new.ctx.held.taken (new.dropped + new.place))
             read.settings (has_ended answer next is);
-        fault = subst (λ (s : DecodeSettings). IfErr answer (λ e. IsFault e → HasFailed s whole new.ctx.held.taken e))
-            read.settings (has_failed answer next);
+        fault = subst (λ (s : DecodeSettings). IfErr answer (λ e. IsFault e
+            → HasFailed s whole new.ctx.held.taken (new.dropped + new.place) e)) read.settings (has_failed answer next);
         tried = read.tried + next.extra;
         stands = next.stands;
       }

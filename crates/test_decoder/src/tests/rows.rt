@@ -312,6 +312,26 @@ fn rows_of_group_4_one_at_a_time(rt: HostRuntime) {
     );
 }
 
+/// Without columns there is no row, whatever data follows: a feed is at its end at once, as `decode` is.
+#[test]
+fn no_columns_are_no_rows(rt: HostRuntime) {
+    let cases = cases_of(
+        &rt,
+        "Group4 0 columns 0 rows b | 31C0 | []
+        Group3_1D 0 columns 0 rows l | 31C0 | []
+        Group3_2D 0 columns 3 rows | 31C0 | []",
+    );
+    for (words, digits, _) in &cases {
+        let settings = settings_in(&rt, words);
+        let mut feed =
+            RowFeed::new(rt.alloc(), BitOrder::HighestFirst, settings).expect(&rt, "memory");
+        same(&rt, feed.next_row(), Ok(Fed::End));
+        feeds(&rt, &mut feed, &bytes_of(&rt, digits));
+        same(&rt, feed.next_row(), Ok(Fed::End));
+        same(&rt, feed.bytes_read(), 0);
+    }
+}
+
 /// Rows that are passed on from data in pieces are those of `decode`.
 #[test]
 fn rows_are_pushed_in_pieces(rt: HostRuntime) {

@@ -21,6 +21,7 @@ returns-then-count-gt0-clause-passes c = record {
   given_up = search rules;
   only_code = search rules;
   unchanged = search rules;
+  put_back = search rules;
   counts = search rules;
   work = λ kept.
       omega (
@@ -85,6 +86,7 @@ returns-clause-passes c = record {
   given_up = search rules;
   only_code = search rules;
   unchanged = search rules;
+  put_back = search rules;
   counts =
       grind (arith, common_steps, next_eol_found);
   work = λ kept.
@@ -116,6 +118,22 @@ returns-clause-passes c = record {
         ap (λ (held : Held). looked_ahead held.settings.encoding rest) c.read_eols-count.ensures.only_ticks.held,
         ap (λ (held : Held). tag_tests held.settings.encoding) c.read_eols-count.ensures.only_ticks.held,
       );
+  work_given_up = search rules;
+  work_refused = search rules;
+}
+
+pub returns-then-settings-clause-passes : goal.returns-then-settings-clause-passes
+returns-then-settings-clause-passes c = record {
+  gap = search rules;
+  held = search rules;
+  missed = search rules;
+  given_up = search rules;
+  only_code = search rules;
+  unchanged = search rules;
+  put_back = stays c.args.ctx.now.held.settings (here c.args.reader.now) c.read_eols-count.ensures.eols
+      c.if-count-gt0.false;
+  counts = search rules;
+  work = search rules;
   work_given_up = search rules;
   work_refused = search rules;
 }

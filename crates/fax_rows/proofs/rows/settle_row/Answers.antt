@@ -30,6 +30,7 @@ returns-in_err-recover_from-clause-row c before start is read =
       at_most = omega (arith, ap (λ (x : Context). x.ticks) kept, read.at_most);
       stored = rw (answer.1) tt;
       width = rw (answer.1) tt;
+      put_back = grind (arith, common_steps);
       space = omega (arith, ap (λ (x : Context). x.space) kept, read.space);
     }
 
@@ -55,6 +56,7 @@ returns-in-Err-clause-row c before start is read =
       at_most = omega (arith, c.take_damaged_row.ensures.moves.count, ap (λ (x : Context). x.ticks) frame, read.at_most);
       stored = grind (arith, common_steps, changes_repaired);
       width = search rules;
+      put_back = search rules;
       space = grind (arith, common_steps, grown_again);
     }
 

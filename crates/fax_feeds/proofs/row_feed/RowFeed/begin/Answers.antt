@@ -10,7 +10,7 @@ use Rattle.fax_feeds.proofs.Readings.LooksKept.{fresh_look, seen_begun, seen_the
 use Rattle.fax_feeds.proofs.Readings.FeedsOn.{at_front, front_fed, front_reaches}
 use Rattle.fax_feeds.proofs.Readings.PartsFed.{none_kept, unbegun_none}
 use Rattle.fax_feeds.proofs.Readings.RowsFed.{waits_for, waits_not}
-use Rattle.fax_reading.specs.GapsContinued.{first_gap_is_settled}
+use Rattle.fax_rows.specs.RowsTried.{front_is_settled}
 use Rattle.fax_feeds.specs.RowFeeds.{Feeding, feeding_of}
 use Rattle.fax_feeds.proofs.row_feed.RowFeed.begin.Goals.{After-front_waits, After-bit_pos-self-inside}
 use Rattle.fax_feeds.proofs.row_feed.RowFeed.begin.Goals as goal
@@ -37,7 +37,7 @@ pub returns-then-front_waits-clause-begins : goal.returns-then-front_waits-claus
 returns-then-front_waits-clause-begins c =
     let at = (goal.at.returns-then-front_waits-clause-begins c).After-front_waits in
     let held = c.self.inside.ctx.held in
-    let waits = waits_for c.self.inside.is_last (first_gap_is_settled held.settings.encoding held.settings
+    let waits = waits_for c.self.inside.is_last (front_is_settled held.settings
     (here c.placed_at-reader.result)) (sym c.front_waits.ensures.waits ∙ c.if-front_waits.true) in
     rw (← c.self.view_is) (record {
       extra = c.front_waits.new.ctx.ticks - c.self.inside.ctx.ticks;
@@ -88,11 +88,11 @@ returns-clause-begins c =
     let stood = c.first_stand-self-inside in
     let same = c.front_waits.ensures.held in
     let ticks : mid.ticks ≡ inside.ctx.ticks + more = omega (arith, c.front_waits.ensures.looked, c.front_waits.ensures.onward) in
-    let closed = waits_not inside.is_last (first_gap_is_settled held.settings.encoding held.settings
+    let closed = waits_not inside.is_last (front_is_settled held.settings
     (here c.placed_at-reader.result)) (sym c.front_waits.ensures.waits ∙ c.if-front_waits.false) in
-    let settled = subst (λ (h : Held). (inside.is_last ≡ true) ⊎ (first_gap_is_settled h.settings.encoding h.settings
+    let settled = subst (λ (h : Held). (inside.is_last ≡ true) ⊎ (front_is_settled h.settings
     c.placed_at-reader.result.bits ≡ true)) (sym same) (subst (λ (b : Bits). (inside.is_last ≡ true)
-    ⊎ (first_gap_is_settled held.settings.encoding held.settings b ≡ true)) (starts at) closed) in
+    ⊎ (front_is_settled held.settings b ≡ true)) (starts at) closed) in
     let settings_are = stood.ensures.takes_none.settings in
     let now : Feeding = record {
       ctx = stood.new.ctx;

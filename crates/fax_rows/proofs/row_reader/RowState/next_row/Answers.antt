@@ -5,7 +5,7 @@ use Rattle.fax_rows.proofs.Names.{err_from_is_err_and, ReachesNextLine, ReadsNex
 use Rattle.fax_rows.proofs.Names.{seen}
 use Rattle.fax_rows.proofs.Names.{row_came, arith, max, most_room, ◌≤◌, ◌+◌}
 use Rattle.fax_rows.proofs.Names.{◌*◌}
-use Rattle.fax_rows.proofs.Readings.RowByRow.{at_line_stands, few, reads_on, begun_is}
+use Rattle.fax_rows.proofs.Readings.RowByRow.{at_line_stands, begun_is, reads_on, room_at_line}
 use Rattle.fax_rows.proofs.Work.CallsPaid.{line_enough}
 use Rattle.fax_lines.proofs.Work.RoomTaken.{grown_within, row_enough}
 use Rattle.fax_rows.proofs.row_reader.RowState.next_row.Goals.{After-read_line}
@@ -14,15 +14,10 @@ use Rattle.fax_rows.proofs.row_reader.RowState.next_row.Goals as goal
 -- if there is a line, there is room for its row
 pub returns-then-not-has_room-clause-reads : goal.returns-then-not-has_room-clause-reads
 returns-then-not-has_room-clause-reads c stands =
-    grind (
-      arith,
-      common_steps,
-      at_line_stands,
-      false≢true,
-      few,
-      c.come_to_line.ensures.stands 0 stands,
-      c.come_to_line.ensures.comes 0 stands,
-    )
+    let room = room_at_line 0 c.come_to_line.new.self c.come_to_line.new.ctx c.come_to_line.new.reader
+    (c.come_to_line.ensures.stands 0 stands) in
+    let line = (c.come_to_line.ensures.comes 0 stands).line in
+    grind (arith, common_steps, false≢true, room, line)
 
 -- the reading is at that line when it is begun
 record Begun (c : After-read_line) (ctx : Context) : Type 0 where
