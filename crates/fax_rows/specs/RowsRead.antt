@@ -116,7 +116,7 @@ pub record HasEnded (settings : DecodeSettings) (bits : Bits) (taken place : ℕ
   pub count : (plain settings bits).outcome ≡ Ok ((place + 7) / 8)
 
 -- It has ended with an error: the fault of the plain reading, after all of its rows; or an allocation failure in a line that
--- paints a black pixel. The next bit is the first one of the line that couldn't be read; or, where strict data lack an EOL, the
+-- paints a black pixel. The next bit is the first one of the line that couldn't be read; or, where strict data lacks an EOL, the
 -- first one after the last row (T.4, 4.1.2).
 pub record HasFailed (settings : DecodeSettings) (bits : Bits) (taken place : ℕ) (error : DecodeError) : Type 0 where
   pub all : IsFault error → taken ≡ length (plain settings bits).rows

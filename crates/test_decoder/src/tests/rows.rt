@@ -323,8 +323,9 @@ fn no_columns_are_no_rows(rt: HostRuntime) {
     );
     for (words, digits, _) in &cases {
         let settings = settings_in(&rt, words);
-        let mut feed =
-            RowFeed::new(rt.alloc(), BitOrder::HighestFirst, settings).expect(&rt, "memory");
+        let mut feed = RowFeed::new(rt.alloc(), BitOrder::HighestFirst, settings).expect(
+            &rt, "memory",
+        );
         same(&rt, feed.next_row(), Ok(Fed::End));
         feeds(&rt, &mut feed, &bytes_of(&rt, digits));
         same(&rt, feed.next_row(), Ok(Fed::End));
