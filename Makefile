@@ -64,6 +64,8 @@ QPDF_FLAGS = $(if $(WITH_QPDF),-DFAX_QPDF='"$(WITH_QPDF)"' $(shell pkg-config --
 QPDF_LIBS = $(if $(WITH_QPDF),-ldl)
 COMPLETIONS ?= $(PREFIX)/share/bash-completion/completions
 
+# The loader refuses the shared library in one line on a processor below the level x86-64-v2.
+LEVEL = $(if $(TARGET),,-Wl,-z,x86-64-v2)
 SHARED = libhayro_ccitt.so.$(VERSION)
 SONAME = libhayro_ccitt.so.$(INTERFACE)
 OBJECTS = $(BUILD)/proved.o $(BUILD)/calls.o $(BUILD)/heap.o
@@ -118,7 +120,7 @@ $(BUILD)/libhayro_ccitt.a: $(OBJECTS)
 	$(AR) crs $@ $^
 # These are copies, since `rt ci` refuses links in the repository.
 $(BUILD)/libhayro_ccitt.so: $(OBJECTS) c/exports
-	$(CC) $(CFLAGS) $(LDFLAGS) -shared -Wl,-soname,$(SONAME) -Wl,--version-script=c/exports -o $(BUILD)/$(SHARED) $(OBJECTS)
+	$(CC) $(CFLAGS) $(LDFLAGS) -shared $(LEVEL) -Wl,-soname,$(SONAME) -Wl,--version-script=c/exports -o $(BUILD)/$(SHARED) $(OBJECTS)
 	cp $(BUILD)/$(SHARED) $(BUILD)/$(SONAME)
 	cp $(BUILD)/$(SHARED) $@
 $(BUILD)/hayro_ccitt.pc: c/hayro_ccitt.pc.in c/hayro_ccitt.h Makefile | $(BUILD)

@@ -1,6 +1,6 @@
-"""Checks of what `make dist` makes, as users have it: by each C compiler and each Python on this machine, and in Debian 11, 12 and
-13 with nothing but a C compiler, make and Python, without a network. Each package decodes a page, or is refused where it isn't for that
-system. What it needs is what the packages and the README say.
+"""Checks of what `make dist` makes, as users have it: by each C compiler and each Python on this machine, on a processor without SSE4,
+and in Debian 11, 12 and 13 with nothing but a C compiler, make and Python, without a network. Each package decodes a page, or is refused
+where it isn't for that system. What it needs is what the packages and the README say.
 
 debootstrap makes the roots of Debian, once: they stay in ~/.cache/hayro_ccitt/roots.
 """
@@ -23,6 +23,8 @@ ROOTS = os.path.join(os.environ.get("XDG_CACHE_HOME") or os.path.expanduser("~/.
 # The packages whose programs or library are compiled for one C library; the others are compiled where they are installed.
 COMPILED = {"tarball": "programs", "deb": "programs", "wheel": "library"}
 OTHER_TARGETS = ["aarch64-linux-gnu-gcc", "gcc -m32"]
+# A processor of x86-64 without SSE4, which the proved machine code needs.
+OLD = "qemu-x86_64 -cpu core2duo"
 
 
 def failed(words, **more):
@@ -87,6 +89,34 @@ def by_each_compiler(packages, folder):
         lines = failed(["make", f"CC={compiler}"], cwd=f"{here}/other")
         assert len(lines) == 1 and "x86-64 Linux only" in lines[0] and not os.path.exists(f"{here}/other/build"), (compiler, lines)
     print(f"  the source tarball by {', '.join(found)}; refused for the targets of {', '.join(others)}")
+
+
+# The processor
+
+
+def on_an_old_processor(packages, folder):
+    """Without SSE4 the tool, the wheel and the proved crate say so and end; the crate that Rust compiles decodes a page."""
+    if not shutil.which(OLD.split()[0]):
+        leave_out("the packages on an old processor", OLD.split()[0])
+        return
+    here = filled(folder, packages)
+    at = unpacked(packages, f"{here}/unpacked")
+    said = {
+        "tool": failed(f"{OLD} {at['tarball']}/bin/faxconv -m g4 -w 1240 -r 1754 strip > page.pbm", cwd=here),
+        "wheel": failed(f"PYTHONPATH={at['wheel']} {OLD} {IN_PYTHON.replace('python3', '/usr/bin/python3', 1)}", cwd=here)[-1:],
+    }
+    if toolchain():
+        example = "target/release/examples/strip_to_pbm g4 1240 1754 b"
+        for crate in "crate", "proved-crate":
+            run("cargo build -q --offline --release --example strip_to_pbm", cwd=at[crate])
+        said["proved crate"] = [
+            line for line in failed(f"{OLD} {at['proved-crate']}/{example} < strip > page.pbm", cwd=here) if "processor" in line
+        ]
+        run(f"{OLD} {at['crate']}/{example} < strip > page.pbm", cwd=here)
+        is_the_page(f"{here}/page.pbm", f"the crate by {OLD}")
+    for name, lines in said.items():
+        assert len(lines) == 1 and re.search("processor|CPU", lines[0]), (name, lines)
+        print(f"  without SSE4, {name}: {lines[0]}")
 
 
 # Python
@@ -248,7 +278,7 @@ def says_what_it_needs(packages, folder):
     print(f"  glibc {asked['programs']} for the programs, {asked['library']} for the library, as is said")
 
 
-PARTS = [says_what_it_needs, by_each_compiler, by_each_python, in_each_debian]
+PARTS = [says_what_it_needs, by_each_compiler, on_an_old_processor, by_each_python, in_each_debian]
 
 
 def packages_as_users_have_them():

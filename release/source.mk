@@ -24,6 +24,8 @@ LIBDIR ?= $(PREFIX)/lib
 INCLUDEDIR ?= $(PREFIX)/include
 MANDIR ?= $(PREFIX)/share/man
 
+# The loader refuses the shared library in one line on a processor below the level x86-64-v2, where the linker can say so.
+LEVEL := $(shell $(CC) -shared -nostdlib -Wl,-z,x86-64-v2 -Wl,--fatal-warnings -o /dev/null -x c /dev/null 2>/dev/null && echo -Wl,-z,x86-64-v2)
 SHARED = libhayro_ccitt.so.$(VERSION)
 SONAME = libhayro_ccitt.so.$(INTERFACE)
 HEADERS = c/hayro_ccitt.h c/fax_encode.h c/hayro_ccitt_heap.h
@@ -53,7 +55,7 @@ build/libhayro_ccitt.a: $(OBJECTS)
 	rm -f $@
 	$(AR) crs $@ $^
 build/libhayro_ccitt.so: $(OBJECTS) c/exports
-	$(CC) $(CFLAGS) $(LDFLAGS) -shared -Wl,-soname,$(SONAME) -Wl,--version-script=c/exports -o $@ $(OBJECTS)
+	$(CC) $(CFLAGS) $(LDFLAGS) -shared $(LEVEL) -Wl,-soname,$(SONAME) -Wl,--version-script=c/exports -o $@ $(OBJECTS)
 build/hayro_ccitt.pc: c/hayro_ccitt.pc.in c/hayro_ccitt.h | build
 	sed -e 's|@PREFIX@|$(PREFIX)|' -e 's|@LIBDIR@|$(LIBDIR)|' -e 's|@INCLUDEDIR@|$(INCLUDEDIR)|' -e 's|@VERSION@|$(VERSION)|' $< > $@
 build/faxconv: $(wildcard tools/fax/*.[ch]) $(HEADERS) build/libhayro_ccitt.a

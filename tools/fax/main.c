@@ -294,12 +294,27 @@ static int open_standard_streams(void)
     return is_open;
 }
 
+/* Whether this processor has the instructions of the proved machine code. */
+static int has_instructions(void)
+{
+#ifdef __x86_64__
+    __builtin_cpu_init();
+    return __builtin_cpu_supports("sse4.2") && __builtin_cpu_supports("popcnt");
+#else
+    return 1;
+#endif
+}
+
 int main(int count, char **arguments)
 {
     options wanted;
     int status = CANNOT_GO_ON;
     if (!open_standard_streams() || !read_options(count, arguments, &wanted, &status))
         return status;
+    if (!has_instructions()) {
+        tell(NULL, "this processor has no SSE4.2, which the decoder needs");
+        return CANNOT_GO_ON;
+    }
     run all = {.wanted = &wanted};
     open_sink(&all.out, &wanted);
     status = wanted.count ? WHOLE : do_file(&all, NULL);

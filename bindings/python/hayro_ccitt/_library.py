@@ -67,10 +67,14 @@ CALLS = {
 
 
 def loaded() -> ctypes.CDLL:
-    """The library that HAYRO_CCITT_LIBRARY names; or else that of the wheel, in this folder; or else the installed one."""
+    """The library that HAYRO_CCITT_LIBRARY names; or else that of the wheel, in this folder; or else the installed one. It can't be
+    loaded where there is none, and on a processor below the level x86-64-v2."""
     named = os.environ.get("HAYRO_CCITT_LIBRARY")
     beside = os.path.join(os.path.dirname(os.path.abspath(__file__)), "libhayro_ccitt.so")
-    library = ctypes.CDLL(named or (beside if os.path.exists(beside) else SONAME))
+    try:
+        library = ctypes.CDLL(named or (beside if os.path.exists(beside) else SONAME))
+    except OSError as error:
+        raise ImportError(f"the library of hayro_ccitt can't be loaded: {error}") from None
     for name, arguments in CALLS.items():
         call = getattr(library, name)
         call.argtypes, call.restype = arguments, c_uint32

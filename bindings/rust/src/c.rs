@@ -3,6 +3,7 @@
 use crate::zeros;
 use alloc::vec::Vec;
 use core::ffi::c_void;
+use core::sync::atomic::{AtomicBool, Ordering};
 
 pub(crate) const OK: u32 = 0;
 pub(crate) const UNEXPECTED_EOF: u32 = 1;
@@ -183,8 +184,28 @@ unsafe extern "C" {
     ) -> u32;
 }
 
+/// SSE3, SSSE3, CMPXCHG16B, SSE4.1, SSE4.2 and POPCNT, of the level x86-64-v2, by their bits in ECX of CPUID's leaf 1.
+const LEVEL_2: u32 = 1 | 1 << 9 | 1 << 13 | 1 << 19 | 1 << 20 | 1 << 23;
+
+/// Panics on a processor that lacks instructions of the proved machine code: they would end the program without a word.
+fn check_processor() {
+    static IS_CHECKED: AtomicBool = AtomicBool::new(false);
+    if IS_CHECKED.load(Ordering::Relaxed) {
+        return;
+    }
+    // SAFETY: each processor of x86-64 has CPUID and its leaf 1. (Later compilers need no `unsafe` here.)
+    #[allow(unused_unsafe)]
+    let found = unsafe { core::arch::x86_64::__cpuid(1) }.ecx;
+    assert!(
+        found & LEVEL_2 == LEVEL_2,
+        "hayro-ccitt-proved needs a processor of the level x86-64-v2"
+    );
+    IS_CHECKED.store(true, Ordering::Relaxed);
+}
+
 /// Packs the rows, and returns the status and the outcome.
 pub(crate) fn decode_packed(data: &[u8], settings: &Settings, bitmap: &mut [u8]) -> (u32, Outcome) {
+    check_processor();
     let mut outcome = Outcome::default();
     // SAFETY: pointers of references and slices are not null and valid for their lengths, `outcome` is this call's own, and
     // nothing else refers to `bitmap`, since it is borrowed mutably.
@@ -208,6 +229,7 @@ pub(crate) fn decode_changes(
     settings: &Settings,
     lists: &mut Vec<u32>,
 ) -> (u32, Outcome) {
+    check_processor();
     let mut outcome = Outcome::default();
     let length = lists.len();
     let room = lists.spare_capacity_mut();
@@ -231,6 +253,7 @@ pub(crate) fn decode_changes(
 
 /// Encodes a bitmap into `data`, and returns the status and the number of bytes.
 fn encode_into(bitmap: &[u8], settings: &EncodeSettings, data: &mut [u8]) -> (u32, EncodeOutcome) {
+    check_processor();
     let mut outcome = EncodeOutcome::default();
     // SAFETY: as above; and nothing else refers to `data`, since it is borrowed mutably.
     let status = unsafe {
@@ -271,6 +294,7 @@ pub(crate) struct Rows<'a> {
 impl<'a> Rows<'a> {
     /// Opens a reader, or returns the status.
     pub(crate) fn open(data: &'a [u8], settings: &Settings) -> Result<Self, u32> {
+        check_processor();
         let mut rows = Self {
             data,
             reader: Reader::closed(),
@@ -331,6 +355,7 @@ pub(crate) struct Feed {
 impl Feed {
     /// Opens a reader, or returns the status.
     pub(crate) fn open(settings: &Settings) -> Result<Self, u32> {
+        check_processor();
         let mut feed = Self {
             reader: Reader::closed(),
             row: Row::default(),
