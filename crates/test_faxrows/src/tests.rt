@@ -408,12 +408,12 @@ fn writes_rows_before_a_read_fails(rt: HostRuntime) {
 }
 
 /// Runs row by row, each with the number of bytes that are read: none after EOFB, or after one that shows that no EOFB follows the
-/// last row.
+/// last row; none at all without columns.
 const READ_SO_FAR: &str = r#"
     g4 8 0 b: 31C0040040FFFF: Ok(Good) "r 3 5\nok 5\n": 5
     g4 8 1 -: 31C0FFFF: Ok(Good) "r 3 5\nok 2\n": 3
     g4 8 0 b: 31C0: Ok(Faulty) "r 3 5\nerror: invalid CCITT code sequence\n": 2
-    g4 0 0 -: 31C0: Ok(Good) "ok 0\n": 1
+    g4 0 0 -: 31C0: Ok(Good) "ok 0\n": 0
     1d 8 0 l: 0019800C700033: Ok(Good) "r\nr 3 5\nr\nok 7\n": 7
     g4 8 0 s: 20: Ok(Faulty) "error: unexpected end of input\n": 1
 "#;
