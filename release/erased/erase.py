@@ -273,11 +273,16 @@ def crates_below():
     return [name for name in sorted(found, key=list(named).index) if LEFT_OUT.get(name, []) is not None]
 
 
+def modules_of(folder):
+    """The files of a crate's modules below its folder, without their endings: those of modules within modules are in folders."""
+    found = [os.path.relpath(f"{at}/{name}", folder) for at, _, names in os.walk(folder) for name in names]
+    return [name.removesuffix(".rt") for name in found if name.endswith(".rt")]
+
+
 def write_proved(folder):
     crates, used = crates_below(), set()
     for crate in crates:
-        files = sorted(name.removesuffix(".rt") for name in os.listdir(f"crates/{crate}/src") if name.endswith(".rt"))
-        for name in files:
+        for name in sorted(modules_of(f"crates/{crate}/src")):
             if name in (LEFT_OUT.get(crate) or []) or (crate, name) == (CALLS, HANDLE):
                 continue
             try:
