@@ -84,14 +84,14 @@ library: $(BUILD)/libhayro_ccitt.a $(BUILD)/libhayro_ccitt.so $(BUILD)/hayro_cci
 programs: prove-programs $(BUILD)/faxrows $(BUILD)/faxpack $(BUILD)/fax2pbm $(EXAMPLES:%=$(BUILD)/%)
 
 # rt itself rebuilds what has changed, and what depends on it. It makes the library for every machine under one name: that for this
-# machine is set aside meanwhile.
+# machine is put back.
 MADE = crates/hayro_ccitt_c/out/libhayro_ccitt_c.a
 prove-library:
 	@$(call need,$(firstword $(RT)) $(firstword $(CC)) $(OBJCOPY))
 ifeq ($(TARGET),)
 	cd crates/hayro_ccitt_c && $(RT) lib $(RT_JOBS)
 else
-	if test -f $(MADE); then mv $(MADE) $(MADE).kept; fi
+	if test -f $(MADE); then cp -p $(MADE) $(MADE).kept; fi
 	cd crates/hayro_ccitt_c && $(RT) lib $(RT_JOBS) --target $(TARGET)
 	mv $(MADE) $(PROVED)
 	if test -f $(MADE).kept; then mv $(MADE).kept $(MADE); fi
