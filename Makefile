@@ -2,15 +2,17 @@
 #
 #   make first                decodes a row by the sources, before any proof: r 3 5, and ok 2
 #   make test                 all proofs, tests and checks
+#   make tools                installs the Debian packages without which some checks are left out
 #   make                      the library, static and shared, and the programs
 #   make check                runs what was built on the first program of hayro_ccitt.h and on a picture
 #   make install PREFIX=DIR   headers, libraries, hayro_ccitt.pc, manual pages and programs; DESTDIR is respected
 #   make uninstall PREFIX=DIR
 #   make erased               the Cargo package hayro-ccitt, in build/hayro-ccitt: the proved sources without contracts
 #   make dist                 the packages of a release, in build/dist
-#   make library TARGET=aarch64-unknown-linux-gnu
-#                             the library for ARM64, into build/aarch64-unknown-linux-gnu, by a cross compiler (Debian's
-#                             gcc-aarch64-linux-gnu); install-library takes TARGET too
+#   make TARGET=aarch64-unknown-linux-gnu
+#                             the same for ARM64, into build/aarch64-unknown-linux-gnu, by a cross compiler (Debian's
+#                             gcc-aarch64-linux-gnu). Rust compiles faxrows and faxpack, of the proved sources, with its std for
+#                             the target. `library`, `install`, `install-library` and `dist` take TARGET too
 #   make clean                removes build/; the results of proofs in crates/*/out stay
 #
 # `rt`, of the Rattle kit, proves and compiles the crates first. JOBS=1 runs it with one job at a time.
@@ -44,8 +46,12 @@ MANDIR ?= $(PREFIX)/share/man
 
 BUILD = build$(TARGET:%=/%)
 PROVED = crates/hayro_ccitt_c/out/libhayro_ccitt_c$(TARGET:%=-%).a
-FAXROWS = crates/faxrows/out/faxrows
-FAXPACK = crates/faxpack/out/faxpack
+# The Cargo package `hayro-ccitt`: the proved sources with their contracts erased.
+ERASED = $(BUILD)/hayro-ccitt
+# The kit links programs for this machine alone. For another one Rust compiles them, of the same sources.
+FAXROWS = $(if $(TARGET),$(BUILD)/cargo/$(TARGET)/programs,crates/faxrows/out)/faxrows
+FAXPACK = $(if $(TARGET),$(BUILD)/cargo/$(TARGET)/programs,crates/faxpack/out)/faxpack
+CARGO_LINKER = CARGO_TARGET_$(shell echo '$(TARGET)' | tr 'a-z-' 'A-Z_')_LINKER
 HEADERS = c/hayro_ccitt.h c/fax_encode.h c/hayro_ccitt_heap.h
 CALLS = hayro_ccitt_measure hayro_ccitt_decode_packed hayro_ccitt_decode_changes \
 	hayro_ccitt_open hayro_ccitt_next_changes hayro_ccitt_next_packed hayro_ccitt_close \
@@ -53,8 +59,10 @@ CALLS = hayro_ccitt_measure hayro_ccitt_decode_packed hayro_ccitt_decode_changes
 	hayro_ccitt_feed_rows_changes hayro_ccitt_feed_rows_packed hayro_ccitt_feed_unused hayro_ccitt_feed_close fax_encode_bitmap \
 	fax_encode_open fax_encode_row_packed fax_encode_row_changes fax_encode_finish fax_encode_close
 EXAMPLES = strip_to_pbm pbm_to_strip rows_to_pbm rows_to_strip inline_image_filter
-# faxconv writes PNG and reads compressed PDF by zlib, where pkg-config finds it; WITH_ZLIB= builds it without.
-WITH_ZLIB ?= $(shell pkg-config --exists zlib 2>/dev/null && echo zlib)
+# faxconv writes PNG and reads compressed PDF by zlib, where pkg-config finds it, or the compiler for another machine; WITH_ZLIB= builds
+# it without.
+HAS_ZLIB = $(if $(TARGET),echo 'int main(void) { return 0; }' | $(CC) $(LDFLAGS) -include zlib.h -x c - -lz -o /dev/null,pkg-config --exists zlib)
+WITH_ZLIB ?= $(shell $(HAS_ZLIB) 2>/dev/null && echo zlib)
 ZLIB_FLAGS = $(if $(WITH_ZLIB),-DFAX_HAVE_ZLIB $(shell pkg-config --cflags zlib))
 ZLIB_LIBS = $(if $(WITH_ZLIB),$(shell pkg-config --libs zlib))
 # It reads PDF's structure by libqpdf, if that was found here, and again when it runs; WITH_QPDF= builds it with its own reader alone.
@@ -70,14 +78,19 @@ SHARED = libhayro_ccitt.so.$(VERSION)
 SONAME = libhayro_ccitt.so.$(INTERFACE)
 OBJECTS = $(BUILD)/proved.o $(BUILD)/calls.o $(BUILD)/heap.o
 
-.PHONY: all library programs first test check install install-library uninstall clean prove-library prove-programs
+.PHONY: all library programs first test tools check install install-library uninstall clean dist erased prove-library prove-programs prove-test-programs
 
 # Ends with a line that names the programs that are missing.
 missing = $(strip $(foreach program,$(1),$(if $(shell command -v $(program)),,$(program))))
 need = $(if $(call missing,$(1)),$(error missing: $(call missing,$(1)); README.md says where each is from))
 # the Debian packages of the tools without which some checks are left out
-TESTED_WITH = cargo gcc-aarch64-linux-gnu ghostscript img2pdf libjbig2dec0-dev libmupdf-dev libqpdf-dev libtiff-dev libtiff-tools lintian mupdf-tools netpbm \
-	pkg-config poppler-utils python3-numpy python3-pikepdf python3-pil python3-pip python3-pypdf python3-pytest qemu-user qpdf valgrind zlib1g-dev
+TESTED_WITH = cargo gcc-aarch64-linux-gnu gcc-i686-linux-gnu gcc-s390x-linux-gnu ghostscript img2pdf \
+	libjbig2dec0-dev libmupdf-dev libqpdf-dev libtiff-dev libtiff-tools lintian lld mupdf-tools netpbm nodejs pkg-config \
+	poppler-utils python3-numpy python3-pikepdf python3-pil python3-pip python3-pycryptodome python3-pypdf python3-pytest \
+	qemu-user qpdf rust-web-src rustc-web valgrind zlib1g-dev
+# those that are missing; Debian's cargo is too old, and its cargo-web isn't
+LACKING = $$(for it in $(TESTED_WITH); do \
+	dpkg -s $$it >/dev/null 2>&1 || command -v $$it >/dev/null || echo $$it; done | sed 's/^cargo$$/cargo-web/')
 
 all: library programs
 library: $(BUILD)/libhayro_ccitt.a $(BUILD)/libhayro_ccitt.so $(BUILD)/hayro_ccitt.pc
@@ -91,14 +104,25 @@ prove-library:
 ifeq ($(TARGET),)
 	cd crates/hayro_ccitt_c && $(RT) lib $(RT_JOBS)
 else
-	if test -f $(MADE); then cp -p $(MADE) $(MADE).kept; fi
+	if test -f $(MADE); then mv $(MADE) $(MADE).kept; fi
 	cd crates/hayro_ccitt_c && $(RT) lib $(RT_JOBS) --target $(TARGET)
-	mv $(MADE) $(PROVED)
+	if test -f $(MADE); then mv $(MADE) $(PROVED); fi
 	if test -f $(MADE).kept; then mv $(MADE).kept $(MADE); fi
 endif
+ifeq ($(TARGET),)
 prove-programs:
 	cd crates/faxrows && printf '\061\300' | $(RT) run $(RT_JOBS) -- g4 8 1 - > /dev/null
 	cd crates/faxpack && printf 'P4\n8 1\n\030' | $(RT) run $(RT_JOBS) -- g4 - > /dev/null
+else
+prove-programs:
+	@$(call need,python3 cargo rustfmt)
+	python3 release/erased/erase.py $(ERASED)
+	cd $(ERASED)/programs && RUSTFLAGS=--remap-path-prefix=$(abspath $(ERASED))= $(CARGO_LINKER)=$(CC) \
+		cargo build -q --profile programs --offline --target $(TARGET) --target-dir $(abspath $(BUILD))/cargo
+endif
+
+prove-test-programs:
+	cd crates/test_streams && $(RT) run $(RT_JOBS) < stdin > /dev/null
 
 $(PROVED): prove-library ;
 $(FAXROWS) $(FAXPACK): prove-programs ;
@@ -147,10 +171,12 @@ first:
 
 test:
 	@$(call need,rt git python3 $(firstword $(CC)) $(OBJCOPY))
-	@lacking=$$(for it in $(TESTED_WITH); do \
-		dpkg -s $$it >/dev/null 2>&1 || command -v $$it >/dev/null || printf ' %s' $$it; done); \
-		test -z "$$lacking" || echo "some checks will be left out, unless: apt-get install$$lacking"
+	@lacking=$(LACKING); test -z "$$lacking" || echo "some checks will be left out, unless: apt-get install" $$lacking
 	bash test.sh
+
+# Installs the packages that are missing. What can't be installed is named, and is no error.
+tools:
+	@bash checks/gate/install.sh $(LACKING)
 
 check: all
 	sed -n 's/^ \*   //p' c/hayro_ccitt.h | sed '/^cc first/d' > $(BUILD)/first.c
@@ -188,4 +214,13 @@ uninstall:
 clean:
 	rm -rf $(BUILD)
 
-include dist.mk
+# The packages of a release, of what `make` built: see release/release.py.
+dist:
+	python3 release/release.py $(BUILD) $(VERSION) $(TARGET)
+
+# The Cargo package, and the library for C and the programs in its folders.
+erased:
+	python3 release/erased/erase.py $(ERASED)
+	cd $(ERASED) && cargo build -q --release --offline --all-features
+	cd $(ERASED)/c && cargo build -q --release --offline
+	cd $(ERASED)/programs && cargo build -q --profile programs --offline

@@ -1,4 +1,4 @@
-//! One decoding by the Cargo package, for callgrind to count its instructions; `package.py` says how it is called.
+//! One decoding by the Cargo package, for callgrind to count its instructions; `package.py` runs it.
 
 use hayro_ccitt::{DecodeSettings, Decoder, DecoderContext, EncodingMode, decode, decode_packed};
 

@@ -11,11 +11,11 @@ import shutil
 import subprocess
 import sys
 import tempfile
+from pathlib import Path
 
-import c_library
-import packing
-import program
-from left_out import leave_out
+from c import c_library
+from gate.skipped import leave_out
+from programs import packing, program
 
 sys.path.append("bench")
 
@@ -267,8 +267,7 @@ def slow_shapes():
             for size in SIZES:
                 made = of_size(size)
                 assert len(made.data) == size, shape
-                with open(f"{folder}/data", "wb") as file:
-                    file.write(made.data.translate(c_library.MIRRORED) if flags & LOW_FIRST else made.data)
+                Path(f"{folder}/data").write_bytes(made.data.translate(c_library.MIRRORED) if flags & LOW_FIRST else made.data)
                 command = [driver, "rows", str(encoding), str(made.columns), "0", str(flags), f"{folder}/data"]
                 cost, printed = instructions(folder, command)
                 known = f"{made.status} {made.rows} {made.changes}"
@@ -310,7 +309,7 @@ def encoding_dense_rows():
     c_library.build()
     worse = []
     with tempfile.TemporaryDirectory() as folder:
-        driver = c_library.compiled(f"{folder}/driver", "checks/measured_encoding.c", c_library.LIBRARY)
+        driver = c_library.compiled(f"{folder}/driver", "checks/c/measured_encoding.c", c_library.LIBRARY)
         for shape, encoding, letters, rows, bits, measured in DENSE_ROWS:
             costs = []
             for columns in WIDTHS:
@@ -338,14 +337,32 @@ def runs_of_the_program():
         for words, row, last, measured in RUNS:
             costs = []
             for size in RUN_SIZES:
-                with open(f"{folder}/data", "wb") as file:
-                    file.write(b"\xff" * size)
+                Path(f"{folder}/data").write_bytes(b"\xff" * size)
                 with open(f"{folder}/data", "rb") as stdin:
                     cost, written = instructions(folder, [program.PROGRAM, *words.split()], whole=True, stdin=stdin)
                 assert written == row * (8 * size) + (last and last % size), (words, size)
                 costs.append(cost)
             too_slow(f"faxrows {words}", costs, RUN_SIZES, measured, worse)
     assert not worse, worse
+
+
+def checks_of_dense_rows():
+    """The work of `faxrows -c` is in proportion to its data, a row of alternate pixels and two copies of it."""
+    if not shutil.which("valgrind"):
+        leave_out("the cost of a check", "valgrind")
+        return
+    assert os.path.exists(program.PROGRAM)
+    costs = []
+    with tempfile.TemporaryDirectory() as folder:
+        for size in RUN_SIZES:
+            Path(f"{folder}/data").write_bytes(filled(V0, size, dense(size)))
+            with open(f"{folder}/data", "rb") as stdin:
+                cost, written = instructions(folder, [program.PROGRAM, "-c", "g4", str(size), "3", "-"], whole=True, stdin=stdin)
+            assert written == b"ok\n", (size, written)
+            costs.append(cost)
+    growth = costs[1] / costs[0]
+    print(f"  faxrows -c: {costs[1] / RUN_SIZES[1]:.1f} instructions a byte, {growth:.2f} times for four times the data")
+    assert growth <= MOST, growth
 
 
 # A page of a scanner in each kind of picture, and pages of what is rare there, each with its rows; the ways that measured_pages.c
@@ -364,22 +381,20 @@ def costs_of_pages():
     """The instructions a change of each way on each page, in each encoding: a page has a row limit, as a strip of a TIFF has one; the
     programs read the page of text to its end."""
     with tempfile.TemporaryDirectory() as folder:
-        driver = c_library.compiled(f"{folder}/driver", "checks/measured_pages.c", c_library.LIBRARY)
+        driver = c_library.compiled(f"{folder}/driver", "checks/c/measured_pages.c", c_library.LIBRARY)
         for page, rows in PAGES.items():
             for encoding, (mode, _) in enumerate(PICTURES):
                 counts, printed = costs_of_page(folder, driver, page, encoding, rows, len(WAYS))
                 for way, count in zip(WAYS, counts):
                     yield page, mode, way, count / int(printed)
                 changes = int(printed) if page == "text" else changes
-        with open(PAGE, "rb") as file:
-            bitmap = file.read()
+        bitmap = Path(PAGE).read_bytes()
         for mode, flags in PICTURES:
             words = ["-o", mode, str(COLUMNS), str(ROWS), flags]
             with open(PAGE, "rb") as stdin:
                 cost, strip = instructions(folder, [packing.PROGRAM, *words], whole=True, stdin=stdin)
             yield "text", mode, "faxpack", cost / changes
-            with open(f"{folder}/strip", "wb") as file:
-                file.write(strip)
+            Path(f"{folder}/strip").write_bytes(strip)
             for way, first in PROGRAM_WAYS.items():
                 with open(f"{folder}/strip", "rb") as stdin:
                     cost, written = instructions(folder, [program.PROGRAM, *filter(None, first), mode, str(COLUMNS), "0", flags], whole=True, stdin=stdin)
@@ -439,7 +454,7 @@ def write_table():
             file.write(f"{page}\t{mode}\t{way}\t{cost:.1f}\n")
 
 
-CHECKS = [slow_shapes, encoding_dense_rows, real_pages, runs_of_the_program]
+CHECKS = [slow_shapes, encoding_dense_rows, real_pages, runs_of_the_program, checks_of_dense_rows]
 
 if __name__ == "__main__":
     if sys.argv[1:] != ["--write"]:

@@ -3,8 +3,10 @@
     python3 checks/run.py                  all of them
     python3 checks/run.py NAME             those of one file, or one check: repository, program, cost.slow_shapes ..
     python3 checks/run.py --without NAME   all but those of one file
+    python3 checks/run.py NAME COMMAND ..  what else a file does: fax mutated N SEED; fax_limits edges N SEED, or refused N SEED;
+                                           repository --write, which writes the lists of places anew
 
-Several checks run in parallel, each in a process of its own: one for each processor.
+README.md says which file checks what. Several checks run in parallel, each in a process of its own: one for each processor.
 """
 import os
 import subprocess
@@ -15,55 +17,36 @@ from concurrent.futures import ThreadPoolExecutor
 os.chdir(os.path.join(os.path.dirname(os.path.abspath(__file__)), ".."))
 sys.dont_write_bytecode = True
 
-import arm64  # noqa: E402
-import built_tests  # noqa: E402
-import c_library  # noqa: E402
-import clients  # noqa: E402
 import cost  # noqa: E402
-import cuts  # noqa: E402
-import damage_by_k  # noqa: E402
-import definitions  # noqa: E402
-import devices  # noqa: E402
-import encoder  # noqa: E402
-import erased  # noqa: E402
-import fax  # noqa: E402
-import fax_limits  # noqa: E402
-import fax_others  # noqa: E402
-import fax_output  # noqa: E402
-import feed  # noqa: E402
-import files  # noqa: E402
-import hostile  # noqa: E402
-import inline_images  # noqa: E402
-import installed  # noqa: E402
-import kept  # noqa: E402
-import large  # noqa: E402
-import memory  # noqa: E402
-import packing  # noqa: E402
-import premises  # noqa: E402
-import program  # noqa: E402
-import refusals  # noqa: E402
-import released  # noqa: E402
-import repository  # noqa: E402
-import row_by_row  # noqa: E402
-import systems  # noqa: E402
-import users  # noqa: E402
-from left_out import LEFT_OUT  # noqa: E402
+from c import arm64, c_library, cuts, damage_by_k, encoder, feed, hostile, inline_images, large, memory, refusals, row_by_row  # noqa: E402
+from gate import built  # noqa: E402
+from gate.skipped import LEFT_OUT  # noqa: E402
+from programs import built_tests, claims, conformance, devices, fax, fax_limits, fax_others, fax_output, files, packing, program, streams  # noqa: E402
+from releases import clients, erased, erased_programs, installed, released, released_arm64, systems, users  # noqa: E402
+from repository import definitions, repository  # noqa: E402
 
 
 FILES = [
-    repository, definitions, program, premises, built_tests, packing, c_library, row_by_row, feed, encoder, refusals, devices, cuts, damage_by_k, hostile, memory, large, installed, users, files, fax, fax_output, fax_limits, fax_others, inline_images, released, systems, erased, clients, cost, arm64,
+    *(repository, definitions),
+    *(program, claims, built_tests, packing, conformance, streams),
+    *(c_library, row_by_row, feed, encoder, refusals, devices, cuts, damage_by_k, hostile, memory, large),
+    *(installed, users, files, fax, fax_output, fax_limits, fax_others, inline_images),
+    *(released, systems, erased, erased_programs, clients, cost, arm64, released_arm64),
 ]
 # those that run beside the build of the library for C
-WITHOUT_LIBRARY = [repository, definitions, program, premises, built_tests, packing, devices]
+WITHOUT_LIBRARY = [repository, definitions, program, claims, built_tests, packing, conformance, streams, devices]
 # those that call `make`, which run in turn, and those that take longest
-MAKE = [installed, users, files, arm64]
+MAKE = [installed, users, files, arm64, released_arm64]
 LONG = [cost, large, memory, hostile, released, systems, fax_limits]
 # those that build by cargo, in one folder, in turn
-ERASED = [erased]
+ERASED = [erased, erased_programs]
+# The files by their names.
+NAMED = {it.__name__.rpartition(".")[2]: it for it in FILES}
 
 
 def names_of(file):
-    return [f"{file.__name__}.{check.__name__}" for check in file.CHECKS]
+    name = file.__name__.rpartition(".")[2]
+    return [f"{name}.{check.__name__}" for check in file.CHECKS]
 
 
 def run_one(name):
@@ -71,7 +54,7 @@ def run_one(name):
     file, _, check = name.partition(".")
     began = seconds_used()
     try:
-        next(it for of in FILES if of.__name__ == file for it in of.CHECKS if it.__name__ == check)()
+        next(it for it in NAMED[file].CHECKS if it.__name__ == check)()
     except Exception:
         print(f"{check}: FAILED")
         traceback.print_exc(file=sys.stdout)
@@ -121,10 +104,20 @@ def main():
     if words and "." in words[0]:
         passed = run_one(words[0])
         summary(int(passed), int(not passed), LEFT_OUT)
-    chosen = [it for it in FILES if not words or (it.__name__ in words) != (words[0] == "--without")]
+    if len(words) > 1 and words[1] in getattr(NAMED.get(words[0]), "COMMANDS", {}):
+        count = NAMED[words[0]].COMMANDS[words[1]](*map(int, words[2:]))
+        print("done" if count is None else f"{count} files")
+        sys.exit()
+    is_without = words[:1] == ["--without"]
+    unknown = {*words[is_without:]} - {*NAMED}
+    if unknown:
+        sys.exit(f"no file of checks is named {', '.join(sorted(unknown))}")
+    chosen = [it for name, it in NAMED.items() if not words or (name in words) != is_without]
     if {*chosen} - {repository, definitions, built_tests}:
-        kept.have("faxrows")
-        kept.have("faxpack")
+        built.have("faxrows")
+        built.have("faxpack")
+    if streams in chosen:
+        built.have("test_streams")
     passed, failed, left_out = 0, 0, []
     for *lines, last in map(str.splitlines, run_in_parallel(chosen)):
         print(*lines, sep="\n", flush=True)

@@ -1,10 +1,12 @@
 """Makes the packages of a release of what `make` built; `make dist` calls it.
 
-    python3 release/release.py BUILD VERSION
+    python3 release/release.py BUILD VERSION [TARGET]
 
-BUILD/dist gets the binary tarball, the Debian package, the two Cargo packages, the Python wheel, the source tarball and SHA256SUMS. The
-same files give the same bytes in any folder. A version that CHANGELOG.md doesn't have is refused."""
+BUILD/dist gets the binary tarball, the Debian package, the two Cargo packages, the Python wheel, the source tarball and SHA256SUMS; for
+another target than x86-64 the tarball, the Debian package and the wheel, which are what differs. The same files give the same bytes in
+any folder. A version that CHANGELOG.md doesn't have is refused, and a file that is for another machine."""
 import base64
+import collections
 import email.utils
 import gzip
 import hashlib
@@ -20,7 +22,13 @@ import zipfile
 
 CRATE = "hayro-ccitt-0.5.0"
 PROVED_CRATE = "hayro-ccitt-proved-0.5.0"
-TRIPLET = "x86_64-linux-gnu"
+# A target: its machine, as in the names of tarballs and wheels; Debian's names of its files' folder and of packages for it; what the names
+# of its tools begin with; and the number of the machine in files of ELF.
+Target = collections.namedtuple("Target", "machine triplet debian tools number title")
+TARGETS = {
+    "": Target("x86_64", "x86_64-linux-gnu", "amd64", "", 62, "x86-64"),
+    "aarch64-unknown-linux-gnu": Target("aarch64", "aarch64-linux-gnu", "arm64", "aarch64-linux-gnu-", 183, "ARM64"),
+}
 PROVED = ["hayro_ccitt_c", "faxrows", "faxpack"]
 PROGRAMS = ["faxrows", "faxpack", "faxconv"]
 DESCRIPTION = "decoder and encoder for CCITT fax images, with proofs"
@@ -91,11 +99,21 @@ def proved_sources():
     return lines
 
 
-def provenance(build, version):
+def is_for(target, path):
+    """Whether a file of ELF is for this target's machine."""
+    head = read(path)[:20]
+    return head[:4] == b"\x7fELF" and int.from_bytes(head[18:20], "little") == target.number
+
+
+def provenance(build, version, name):
     """What the packages were made from, with what, and how the same bytes are made again."""
+    target = TARGETS[name]
     commit = said("git", "rev-parse", "HEAD") or "none"
     changed = "" if commit == "none" or not said("git", "status", "--porcelain") else ", with changes that aren't committed"
-    built = [f"{build}/proved.o", f"{build}/faxrows", f"{build}/faxpack"]
+    built = [f"{build}/proved.o"]
+    if not name:
+        built += [f"{build}/faxrows", f"{build}/faxpack", *(f"{build}/{other}/proved.o" for other in targets_in(build) if other)]
+    of_rust = f"{CRATE}.crate has none of these. It is" if not name else "The programs faxrows and faxpack have none of these. They are"
     programs = dotted(newest_libc([f"{build}/{name}" for name in PROGRAMS]))
     library = dotted(newest_libc([f"{build}/libhayro_ccitt.so.{version}"]))
     return "\n".join(
@@ -104,20 +122,22 @@ def provenance(build, version):
             "",
             f"Commit: {commit}{changed}",
             f"Proved and compiled by: {said('rt', 'version') or 'unknown'}",
-            f"C parts compiled by: {said(os.environ.get('CC', 'cc'), '--version')}",
-            f"Linked by: {said('ld', '--version')}",
-            f"Needs: x86-64 Linux, the programs glibc {programs} or newer, the library glibc {library} or newer.",
+            f"C parts compiled by: {said(f'{target.tools}gcc' if name else os.environ.get('CC', 'cc'), '--version')}",
+            f"Linked by: {said(f'{target.tools}ld', '--version')}",
+            f"Needs: {target.title} Linux, the programs glibc {programs} or newer, the library glibc {library} or newer.",
             "",
             "The proved crates: the SHA-256 of the list that `sha256sum` prints for the files of src, specs and proofs, in order.",
             *proved_sources(),
             "",
-            "What the kit compiled them to: the object of the library, its calls renamed to proved_*, and two programs.",
-            *(f"{sha256(read(name))}  {os.path.basename(name)}" for name in built),
+            f"What the kit compiled them to: the object of the library, its calls renamed to proved_*{'' if name else ', and two programs'}.",
+            *(f"{sha256(read(path))}  {os.path.relpath(path, build)}" for path in built),
             "",
-            f"{CRATE}.crate has none of these. It is the proved sources, compiled by Rust: release/erased erased their contracts.",
+            f"{of_rust} the proved sources, compiled by Rust: release/erased erased their contracts.",
             f"Laid out by: {said('rustfmt', '--version') or 'unknown'}",
+            *([f"Compiled by: {said(os.environ.get('RUSTC', 'rustc'), '--version')}"] if name else []),
             "",
-            "The same bytes again, with this kit, compiler and linker: `make && make dist` in a clone of this commit, in any folder.",
+            "The same bytes again, with this kit, compiler and linker: "
+            f"`make{name and ' TARGET='}{name} && make dist{name and ' TARGET='}{name}` in a clone of this commit, in any folder.",
             "",
         ]
     )
@@ -151,7 +171,8 @@ def entries_of(folder, top):
 
 
 def installed(build, to, *words):
-    done = subprocess.run(["make", "--no-print-directory", f"BUILD={build}", f"DESTDIR={to}", *words, "install"], capture_output=True, text=True, check=False)
+    words = ["make", "--no-print-directory", f"BUILD={build}", f"DESTDIR={to}", *words, "install"]
+    done = subprocess.run(words, capture_output=True, text=True, check=False)
     if done.returncode != 0:
         fail(f"`make install` failed:\n{done.stdout}{done.stderr}")
     # The file with the other prefix isn't left in BUILD.
@@ -167,8 +188,8 @@ def documents(folder, told):
             write(f"{folder}/{name}", read(name))
 
 
-def binary_tarball(build, version, told, epoch, work):
-    top = f"hayro_ccitt-{version}-linux-x86_64"
+def binary_tarball(build, version, target, told, epoch, work):
+    top = f"hayro_ccitt-{version}-linux-{target.machine}"
     installed(build, f"{work}/binary", "PREFIX=/")
     pc = f"{work}/binary/lib/pkgconfig/hayro_ccitt.pc"
     text = read(pc).decode()
@@ -216,9 +237,9 @@ def needs_zlib(path):
     return "NEEDED" in listed and "libz.so" in listed
 
 
-def debian_package(build, version, told, epoch, work):
+def debian_package(build, version, target, told, epoch, work):
     root = f"{work}/debian"
-    installed(build, root, "PREFIX=/usr", f"LIBDIR=/usr/lib/{TRIPLET}")
+    installed(build, root, "PREFIX=/usr", f"LIBDIR=/usr/lib/{target.triplet}")
     documents(f"{root}/usr/share/doc/hayro-ccitt", told)
     shared = f"{root}/usr/share/doc/hayro-ccitt"
     os.rename(f"{shared}/CHANGELOG.md", f"{shared}/changelog")
@@ -230,18 +251,18 @@ def debian_package(build, version, told, epoch, work):
         os.remove(name)
     write(f"{shared}/copyright", NO_LICENCE)
     programs = [f"{root}/usr/bin/{name}" for name in os.listdir(f"{root}/usr/bin") if not os.path.islink(f"{root}/usr/bin/{name}")]
-    library = f"{root}/usr/lib/{TRIPLET}/libhayro_ccitt.so.{version}"
+    library, strip = f"{root}/usr/lib/{target.triplet}/libhayro_ccitt.so.{version}", f"{target.tools}strip"
     for path in [*programs, library]:
-        subprocess.run(["strip", "--strip-unneeded", path], check=True)
+        subprocess.run([strip, "--strip-unneeded", path], check=True)
     os.chmod(library, 0o644)
-    subprocess.run(["strip", "--strip-debug", f"{root}/usr/lib/{TRIPLET}/libhayro_ccitt.a"], check=True)
+    subprocess.run([strip, "--strip-debug", f"{root}/usr/lib/{target.triplet}/libhayro_ccitt.a"], check=True)
     size = sum(os.path.getsize(f"{root}/{name}") for name in files_in(root)) // 1024
     libc = dotted(newest_libc([*programs, library]))
     zlib = ", zlib1g" if any(needs_zlib(path) for path in programs) else ""
     control = [
         "Package: hayro-ccitt",
         f"Version: {version}-1",
-        "Architecture: amd64",
+        f"Architecture: {target.debian}",
         f"Maintainer: {MAKERS}",
         f"Installed-Size: {size}",
         f"Depends: libc6 (>= {libc}){zlib}",
@@ -262,7 +283,7 @@ def debian_package(build, version, told, epoch, work):
             os.chmod(f"{at}/{name}", 0o755)
         for name in names:
             os.utime(f"{at}/{name}", (epoch, epoch), follow_symlinks=False)
-    package = f"hayro-ccitt_{version}-1_amd64.deb"
+    package = f"hayro-ccitt_{version}-1_{target.debian}.deb"
     words = ["dpkg-deb", "--root-owner-group", "-Zxz", "--build", root, f"{work}/{package}"]
     subprocess.run(words, check=True, capture_output=True, env={**os.environ, "SOURCE_DATE_EPOCH": str(epoch)})
     return package, read(f"{work}/{package}")
@@ -276,6 +297,11 @@ def erased_sources(work):
     return {name: read(f"{work}/erased/{name}") for name in files_in(f"{work}/erased") if not name.startswith("tests/")}
 
 
+def targets_in(build):
+    """The targets whose library was built: this machine's, and others in folders of their names."""
+    return [name for name in TARGETS if os.path.exists(f"{build}/{name}/libhayro_ccitt_c.a")]
+
+
 def crate(name, files, epoch):
     return f"{name}.crate", packed_tar([(f"{name}/{file}", 0o644, data) for file, data in files.items()], epoch)
 
@@ -286,11 +312,12 @@ def cargo_package(erased, told, epoch):
 
 
 def proved_cargo_package(build, told, epoch):
-    """The package of bindings/rust, with the library as the kit made it, its functions placed by the Makefile."""
+    """The package of bindings/rust, with the library as the kit made it for each target that was built, its functions placed by the
+    Makefile."""
     files = {name.removeprefix("bindings/rust/"): read(name) for name in tracked() if name.startswith("bindings/rust/")}
     files = {name: data for name, data in files.items() if not name.startswith("tests/") and name != ".gitignore"}
     files |= {
-        "proved/libhayro_ccitt_c.a": read(f"{build}/libhayro_ccitt_c.a"),
+        **{f"proved/libhayro_ccitt_c{name and '-'}{name}.a": read(f"{build}/{name}/libhayro_ccitt_c.a") for name in targets_in(build)},
         "proved/heap.c": read("c/heap.c"),
         "proved/hayro_ccitt_heap.h": read("c/hayro_ccitt_heap.h"),
         "PROVENANCE": told.encode(),
@@ -298,14 +325,14 @@ def proved_cargo_package(build, told, epoch):
     return crate(PROVED_CRATE, files, epoch)
 
 
-def wheel(build, version, told, epoch):
+def wheel(build, version, target, told, epoch):
     """The Python package with the shared library in it."""
     library = f"{build}/libhayro_ccitt.so.{version}"
     interface = version.rpartition(".")[0]
     for name, line in (("__init__", f'__version__ = "{version}"'), ("_library", f'SONAME = "libhayro_ccitt.so.{interface}"')):
         if line not in read(f"bindings/python/hayro_ccitt/{name}.py").decode():
             fail(f"bindings/python/hayro_ccitt/{name}.py isn't of version {version}")
-    tag = f"py3-none-manylinux_{'_'.join(map(str, newest_libc([library])))}_x86_64"
+    tag = f"py3-none-manylinux_{'_'.join(map(str, newest_libc([library])))}_{target.machine}"
     about = f"hayro_ccitt-{version}.dist-info"
     metadata = f"Metadata-Version: 2.1\nName: hayro_ccitt\nVersion: {version}\nSummary: A {DESCRIPTION}\nRequires-Python: >=3.9\n"
     modules = [name for name in tracked() if re.match(r"bindings/python/hayro_ccitt/[^/]+(\.py|py\.typed)$", name)]
@@ -349,31 +376,40 @@ def source_tarball(build, version, erased, told, epoch, work):
     return f"{top}.tar.gz", packed_tar(entries_of(root, top), epoch)
 
 
-def main(build, version):
+def main(build, version, name=""):
+    if name not in TARGETS:
+        fail(f"no release is made for {name}: for {', '.join(filter(None, TARGETS))}, and without TARGET for x86-64")
+    target = TARGETS[name]
     if not re.search(rf"^## {re.escape(version)}\b", read("CHANGELOG.md").decode(), re.MULTILINE):
         fail(f"CHANGELOG.md has no version {version}")
-    needed = ["libhayro_ccitt_c.a", "proved.o", "libhayro_ccitt.a", f"libhayro_ccitt.so.{version}"]
-    if missing := [name for name in [*needed, *PROGRAMS] if not os.path.exists(f"{build}/{name}")]:
+    library = f"libhayro_ccitt.so.{version}"
+    needed = ["libhayro_ccitt_c.a", "proved.o", "libhayro_ccitt.a", library]
+    if missing := [it for it in [*needed, *PROGRAMS] if not os.path.exists(f"{build}/{it}")]:
         fail(f"{build} has no {missing[0]}: run `make` first")
-    if lacking := [tool for tool in ("dpkg-deb", "objdump", "strip", "rustfmt") if not shutil.which(tool)]:
+    if other := [it for it in ["proved.o", library, *PROGRAMS] if not is_for(target, f"{build}/{it}")]:
+        fail(f"{build}/{other[0]} isn't for {target.title}")
+    if lacking := [tool for tool in ("dpkg-deb", "objdump", f"{target.tools}strip", "rustfmt") if not shutil.which(tool)]:
         fail(f"it takes {', '.join(lacking)}")
     epoch = int(os.environ.get("SOURCE_DATE_EPOCH") or said("git", "log", "-1", "--format=%ct") or 315532800)
-    told = provenance(build, version)
+    told = provenance(build, version, name)
     with tempfile.TemporaryDirectory() as work:
-        erased = erased_sources(work)
         packages = [
-            binary_tarball(build, version, told, epoch, work),
-            debian_package(build, version, told, epoch, work),
-            cargo_package(erased, told, epoch),
-            proved_cargo_package(build, told, epoch),
-            wheel(build, version, told, epoch),
-            source_tarball(build, version, erased, told, epoch, work),
+            binary_tarball(build, version, target, told, epoch, work),
+            debian_package(build, version, target, told, epoch, work),
+            wheel(build, version, target, told, epoch),
         ]
+        if not name:
+            erased = erased_sources(work)
+            packages += [
+                cargo_package(erased, told, epoch),
+                proved_cargo_package(build, told, epoch),
+                source_tarball(build, version, erased, told, epoch, work),
+            ]
     shutil.rmtree(f"{build}/dist", ignore_errors=True)
-    for name, data in packages:
-        write(f"{build}/dist/{name}", data)
-    write(f"{build}/dist/SHA256SUMS", "".join(f"{sha256(data)}  {name}\n" for name, data in packages))
-    print("\n".join(f"{build}/dist/{name} ({len(data)} bytes)" for name, data in packages))
+    for package, data in packages:
+        write(f"{build}/dist/{package}", data)
+    write(f"{build}/dist/SHA256SUMS", "".join(f"{sha256(data)}  {package}\n" for package, data in packages))
+    print("\n".join(f"{build}/dist/{package} ({len(data)} bytes)" for package, data in packages))
 
 
 if __name__ == "__main__":

@@ -17,15 +17,15 @@ typedef struct {
 static int next_fax(fz_context *ctx, fz_stream *stream, size_t max)
 {
     fax *state = stream->state;
-    hayro_ccitt_row told;
+    hayro_ccitt_row outcome;
     (void)max;
     uint32_t status =
-        hayro_ccitt_next_packed(state->data->data, state->data->len, &state->reader, state->row, state->width, &told);
+        hayro_ccitt_next_packed(state->data->data, state->data->len, &state->reader, state->row, state->width, &outcome);
     if (status != HAYRO_CCITT_OK) {
         if (status == HAYRO_CCITT_OUT_OF_MEMORY)
             fz_throw(ctx, FZ_ERROR_MEMORY, "out of memory");
         if (status != HAYRO_CCITT_NO_ROW)
-            fz_warn(ctx, "fault in the fax data after %d rows", (int)told.rows);
+            fz_warn(ctx, "fault in the fax data after %d rows", (int)outcome.rows);
         return EOF;
     }
     stream->rp = state->row;

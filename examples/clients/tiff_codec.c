@@ -32,7 +32,7 @@ static hayro_ccitt_settings settings_of(TIFF *tif)
 static int decode(TIFF *tif, uint8_t *bitmap, tmsize_t size, uint16_t sample)
 {
     hayro_ccitt_settings settings = settings_of(tif);
-    hayro_ccitt_outcome told;
+    hayro_ccitt_outcome outcome;
     size_t width = ((size_t)settings.columns + 7) / 8;
     (void)sample;
     if (!width || (size_t)size % width) {
@@ -41,16 +41,16 @@ static int decode(TIFF *tif, uint8_t *bitmap, tmsize_t size, uint16_t sample)
     }
     settings.rows = (uint32_t)((size_t)size / width);
     memset(bitmap, 0, (size_t)size);
-    uint32_t status = hayro_ccitt_decode_packed(tif->tif_rawcp, (size_t)tif->tif_rawcc, &settings, bitmap, (size_t)size, &told);
+    uint32_t status = hayro_ccitt_decode_packed(tif->tif_rawcp, (size_t)tif->tif_rawcc, &settings, bitmap, (size_t)size, &outcome);
     if (status == HAYRO_CCITT_OUT_OF_MEMORY) {
         TIFFErrorExtR(tif, "fax", "Out of memory");
         return -1;
     }
-    if (status != HAYRO_CCITT_OK || told.rows < settings.rows || told.damaged_rows || told.cut_rows || told.missed_eols)
-        TIFFWarningExtR(tif, "fax", "Damaged data: %u of %u rows, %u of them repaired, %u cut", (unsigned)told.rows, settings.rows,
-                        (unsigned)told.damaged_rows, (unsigned)told.cut_rows);
-    tif->tif_rawcp += told.bytes_read;
-    tif->tif_rawcc -= (tmsize_t)told.bytes_read;
+    if (status != HAYRO_CCITT_OK || outcome.rows < settings.rows || outcome.damaged_rows || outcome.cut_rows || outcome.missed_eols)
+        TIFFWarningExtR(tif, "fax", "Damaged data: %u of %u rows, %u of them repaired, %u cut", (unsigned)outcome.rows, settings.rows,
+                        (unsigned)outcome.damaged_rows, (unsigned)outcome.cut_rows);
+    tif->tif_rawcp += outcome.bytes_read;
+    tif->tif_rawcc -= (tmsize_t)outcome.bytes_read;
     return 1;
 }
 

@@ -2,8 +2,8 @@
 
     python3 release/erased/erase.py FOLDER
 
-FOLDER gets the package, laid out by rustfmt. Contracts, ghost items and models go, and what is left is kept token by token, except as
-the lines of REWRITTEN say. The bodies in BY_HAND are replaced. What isn't understood is refused: a word of a contract that is left, an attribute
+FOLDER gets the package, laid out by rustfmt, with the library for C in its folder `c` and the programs in `programs`. Contracts, ghost
+items and models go, and calls of laws, which do nothing; what is left is kept token by token, except as the lines of REWRITTEN say. The bodies in BY_HAND are replaced. What isn't understood is refused: a word of a contract that is left, an attribute
 that isn't known, a function or a line that isn't there once, a character that Rust doesn't have."""
 import os
 import re
@@ -17,8 +17,17 @@ API = "bindings/rust"
 # The crate of the calls for C, and its module that is by hand here.
 CALLS = "hayro_ccitt_c"
 HANDLE = "handle"
+# The programs, which are a package of their own, beside that of the library.
+PROGRAMS = ["faxrows", "faxpack"]
+# The file that a crate begins with.
+ROOTS = ["lib", "main"]
 # Modules that no call needs, or the whole crate.
-LEFT_OUT = {"fax_reading": None, "hayro_ccitt": ["in_step", "laws", "locality", "reach"], "fax_encode": ["laws"]}
+LEFT_OUT = {
+    "fax_reading": None,
+    "hayro_ccitt": ["in_step", "laws", "locality", "reach"],
+    "fax_encode": ["laws"],
+    "fax_conforms": ["laws"],
+}
 # The files of the API that are by hand here: the others are those of bindings/rust.
 API_BY_HAND = ["c.rs", "pushed.rs"]
 
@@ -34,22 +43,29 @@ LINES_BY_HAND = {
     # so that it isn't tried
     ("fax_lines", "context"): ("by_groups: self.suits_groups", "by_groups: false"),
 }
+# A name, a field, or what a call without arguments returns.
+PLACE = r"\w+(?:\.\w+(?:\(\))?)*"
 # What is written otherwise, in each file that has it.
 REWRITTEN = [
     (r"\bfmt<W: fmt::Write>", "fmt"),
     (r"\bfmt::Formatter<W>", "fmt::Formatter<'_>"),
     (r"\bimpl<T: Drop>", "impl<T>"),
     (r"\bpub extern \"C\" fn\b", "pub fn"),
+    # what a program begins with
+    (r"(?m)^fn main\(rt: HostRuntime\)", "pub fn main(rt: HostRuntime)"),
     # pointers that nothing is read by
     (r"\*mut u8\b", "usize"),
     # what Rust 1.85 doesn't have
-    (r"(?<=(?:if| =) )([\w.()]+)\.is_multiple_of\(2\)(?= \{|;)", r"\1 % 2 == 0"),
-    (r"([\w.()]+)\.is_multiple_of\(2\)", r"(\1 % 2 == 0)"),
+    (rf"(?<=(?:if| =) )({PLACE})\.is_multiple_of\(2\)(?= \{{|;)", r"\1 % 2 == 0"),
+    (rf"(?<=(?:if| =) )({PLACE})\.is_multiple_of\(2\)(?= [!=]= )", r"(\1 % 2 == 0)"),
     (r"\.to_vec\(alloc\)", ".copied_to(alloc)"),
     (r"\bvec!\[in alloc; value; count\]", "Vec::filled(alloc, value, count)"),
 ]
 # What `lists.rs` has in place of Rattle's std.
 FROM_LISTS = ["AllocError", "AllocFailed", "Box", "Global", "Vec"]
+# What `system.rs` has in place of it, in the programs, and what is Rust's own std there.
+FROM_SYSTEM = ["HostRuntime"]
+OF_SYSTEM, OF_STD = r"::(env|process)\b", r"::io\b"
 DROPPED_USES = r"use std::(alloc::[^;]*|marker::Model|simd::prelude::\*)"
 KEPT_ATTRIBUTES = r"#!?\[(inline(\((always|never)\))?|cold|derive\([\w, ]*\)|repr\(C\)|rattlefmt::skip)\]"
 DROPPED_ATTRIBUTES = r"#!?\[(tactic\(.*\)|unsafe\(no_mangle\))\]"
@@ -136,7 +152,7 @@ def attribute(text, at):
 
 def erase(text):
     """The text without contracts, ghost items and models, and how many of each there were."""
-    kept, counts, at = [], {"clauses": 0, "ghost items": 0, "models": 0}, 0
+    kept, counts, at = [], {"clauses": 0, "ghost items": 0, "models": 0, "calls of laws": 0}, 0
     while at < len(text):
         token = TOKEN.match(text, at)
         piece = token[0]
@@ -166,6 +182,24 @@ def erase(text):
     return "".join(kept), counts
 
 
+def without_laws(text, counts):
+    """Calls of laws are for their contracts: they go, if what they call does nothing."""
+    for crate, law in re.findall(r"^use (\w+)::laws::(\w+);$", text, re.MULTILINE):
+        laws, _ = erase(read(f"crates/{crate}/src/laws.rt"))
+        if not re.search(rf"\bpub fn {law}\(\)\s*\{{\}}", laws):
+            raise Refused(f"a law of {crate} that does something: {law}")
+        text = once(text, f"use {crate}::laws::{law};\n", "")
+        text, calls = re.subn(rf"^ *{law}\(\);\n", "", text, flags=re.MULTILINE)
+        counts["calls of laws"] += calls
+    return text
+
+
+def rewritten(text):
+    for pattern, by in REWRITTEN:
+        text = re.sub(pattern, by, text)
+    return text
+
+
 def without_unused_labels(text):
     """Labels are for contracts of loops: what no `break` or `continue` names goes."""
     named = {*re.findall(r"\b(?:break|continue) ('\w+)", text)}
@@ -181,8 +215,10 @@ def renamed(text, crate, crates):
         is_front = text.startswith("::", at) and not before.endswith("::")
         if token["comment"]:
             piece = re.sub(r"(?<=\]\()crate::", f"crate::proved::{crate}::", piece)
+        elif is_front and piece == "std" and re.compile(OF_SYSTEM).match(text, at):
+            piece = "crate::system"
         elif is_front and piece == "std":
-            piece = "core"
+            piece = "std" if re.compile(OF_STD).match(text, at) else "core"
         elif is_front and piece == "crate":
             piece = f"crate::proved::{crate}"
         elif is_front and token["word"] and piece in crates:
@@ -221,25 +257,26 @@ def refuse_leftovers(text):
         raise Refused(f"words of contracts are left: {sorted(left)}")
     if other := [mark for mark in code if not mark.isascii()]:
         raise Refused(f"characters of contracts are left: {other[:9]}")
-    if found := re.search(r"\bstd::|\bvec!|\bu\d+x\d+\b|\bdyn\b|\bextern\b|/\*", code):
+    if found := re.search(rf"\bstd(?!{OF_STD})::|\bvec!|\bu\d+x\d+\b|\bdyn\b|\bextern\b|\bis_multiple_of\b|/\*", code):
         raise Refused(f"not erased: {found[0]}")
 
 
-def import_of(text):
-    """The line that takes what the text names from `lists.rs`."""
+def imports_of(text):
+    """The lines that take what the text names from `lists.rs` and `system.rs`."""
     code = code_of(text)
-    names = [name for name in FROM_LISTS if re.search(rf"\b{name}\b", code)]
-    names += ["CopiedTo"] if ".copied_to(" in code else []
-    return f"use crate::lists::{{{', '.join(names)}}};\n" if names else ""
+    from_lists, from_system = ([name for name in names if re.search(rf"\b{name}\b", code)] for names in (FROM_LISTS, FROM_SYSTEM))
+    from_lists += ["CopiedTo"] if ".copied_to(" in code else []
+    lines = {"lists": from_lists, "system": from_system}
+    return "".join(f"use crate::{of}::{{{', '.join(names)}}};\n" for of, names in lines.items() if names)
 
 
 def module(crate, name, crates, used):
     """A source of a crate as a module of the package."""
     path = f"crates/{crate}/src/{name}.rt"
     text, counts = erase(read(path))
-    for pattern, by in REWRITTEN:
-        text = re.sub(pattern, by, text)
-    if name == "lib":
+    text = without_laws(text, counts)
+    text = rewritten(text)
+    if name in ROOTS:
         if crate == CALLS:
             text = re.sub(r"^mod ", "pub(crate) mod ", text, flags=re.MULTILINE)
         for gone in LEFT_OUT.get(crate) or []:
@@ -261,13 +298,13 @@ def module(crate, name, crates, used):
     front = re.match(r"(\s|//![^\n]*\n)*", text).end()
     erased = ", ".join(f"{count} {what}" for what, count in counts.items() if count) or "nothing"
     said = f"// {path} without contracts. Erased: {erased}." + "".join(f" By hand: {what}." for what in by_hand)
-    return f"{said}\n\n{text[:front].strip()}\n\n{import_of(text)}{text[front:]}"
+    return f"{said}\n\n{text[:front].strip()}\n\n{imports_of(text)}{text[front:]}"
 
 
-def crates_below():
-    """The crates of the calls, those below first."""
+def crates_below(*tops):
+    """These crates and those that they are made of, those below first."""
     named = dict((line.split(":")[0].split()[0], line.split(":")[1].split()) for line in read("crates.txt").splitlines() if not line.startswith("#"))
-    found = [CALLS]
+    found = [*tops]
     for name in found:
         found += [it for it in named[name] if it in named and it not in found]
     return [name for name in sorted(found, key=list(named).index) if LEFT_OUT.get(name, []) is not None]
@@ -279,9 +316,9 @@ def modules_of(folder):
     return [name.removesuffix(".rt") for name in found if name.endswith(".rt")]
 
 
-def write_proved(folder):
-    crates, used = crates_below(), set()
-    for crate in crates:
+def write_modules(folder, written, crates, used):
+    """Writes the modules of some crates, in files that name those of all these crates."""
+    for crate in written:
         for name in sorted(modules_of(f"crates/{crate}/src")):
             if name in (LEFT_OUT.get(crate) or []) or (crate, name) == (CALLS, HANDLE):
                 continue
@@ -289,12 +326,21 @@ def write_proved(folder):
                 text = module(crate, name, crates, used)
             except Refused as why:
                 sys.exit(f"crates/{crate}/src/{name}.rt: {why}")
-            write(f"{folder}/src/proved/{crate}/{'mod' if name == 'lib' else name}.rs", text)
+            write(f"{folder}/{crate}/{'mod' if name in ROOTS else name}.rs", text)
+    modules = "".join(f"pub mod {crate};\n" for crate in written)
+    modules += "pub use decoder::proved::*;\n" if len(written) < len(crates) else ""
+    write(f"{folder}/mod.rs", said_by_hand(f"{HERE}/src/proved.rs") + modules)
+
+
+def write_proved(folder):
+    """Writes the modules of the library, and those of the programs, which take the library's."""
+    below, used = crates_below(CALLS), set()
+    crates = crates_below(CALLS, *PROGRAMS)
+    write_modules(f"{folder}/src/proved", below, below, used)
+    write(f"{folder}/src/proved/{CALLS}/{HANDLE}.rs", said_by_hand(f"{HERE}/src/{HANDLE}.rs"))
+    write_modules(f"{folder}/programs/src/proved", [it for it in crates if it not in below], crates, used)
     if unused := {*BY_HAND, *LINES_BY_HAND} - used:
         sys.exit(f"no such sources: {sorted(unused)}")
-    write(f"{folder}/src/proved/{CALLS}/{HANDLE}.rs", said_by_hand(f"{HERE}/src/{HANDLE}.rs"))
-    modules = "".join(f"pub mod {crate};\n" for crate in crates)
-    write(f"{folder}/src/proved/mod.rs", said_by_hand(f"{HERE}/src/proved.rs") + modules)
 
 
 def once(text, old, new):
@@ -316,7 +362,7 @@ def write_api(folder):
         text = read(f"{API}/src/{name}")
         if name == "lib.rs":
             text = once(text, "#![deny(unsafe_op_in_unsafe_fn)]", "#![forbid(unsafe_code)]")
-            text = once(text, "mod encoding;\n", "mod encoding;\nmod lists;\n")
+            text = once(text, "mod encoding;\n", "mod encoding;\n#[doc(hidden)]\npub mod lists;\n")
             text = once(text, "mod pushed;\n", "#[doc(hidden)]\npub mod proved;\nmod pushed;\n")
             text = re.sub(r"(?<=\n)//! What runs is a C.*?\n(?=//!\n)", read(f"{HERE}/src/what_runs.txt"), text, count=1, flags=re.DOTALL)
             text = once(text, ", and needs an allocator and a C compiler.", ", and needs an allocator.")
@@ -329,13 +375,14 @@ def write_api(folder):
 def write_package(folder):
     write_proved(folder)
     write_api(folder)
-    for name in ("Cargo.toml", "README.md", "c/Cargo.toml"):
+    for name in ("Cargo.toml", "README.md", "c/Cargo.toml", "programs/Cargo.toml"):
         write(f"{folder}/{name}", read(f"{HERE}/{name}"))
     for name in ("hayro_ccitt.h", "fax_encode.h", "hayro_ccitt_heap.h"):
         write(f"{folder}/c/include/{name}", read(f"c/{name}"))
-    for name in os.listdir(f"{HERE}/c/src"):
-        write(f"{folder}/c/src/{name}", said_by_hand(f"{HERE}/c/src/{name}"))
-    roots = [f"{folder}/src/lib.rs", f"{folder}/c/src/lib.rs"]
+    for of in ("c/src", "programs/src"):
+        for name in files_in(f"{HERE}/{of}"):
+            write(f"{folder}/{of}/{name}", said_by_hand(f"{HERE}/{of}/{name}"))
+    roots = [f"{folder}/{name}.rs" for name in ("src/lib", "c/src/lib", "programs/src/lib", *(f"programs/src/bin/{it}" for it in PROGRAMS))]
     done = subprocess.run(["rustfmt", "--edition", "2024", *roots], capture_output=True, text=True, check=False)
     if done.returncode != 0:
         sys.exit(f"rustfmt: {done.stderr[-3000:]}")
@@ -356,7 +403,7 @@ def main(folder):
                 write(f"{folder}/{name}.part", text)
                 os.replace(f"{folder}/{name}.part", f"{folder}/{name}")
         for name in files_in(folder) - files_in(work):
-            if name.startswith(("src/", "examples/", "tests/", "c/src/", "c/include/")):
+            if name.startswith(("src/", "examples/", "tests/", "c/src/", "c/include/", "programs/src/")):
                 os.remove(f"{folder}/{name}")
 
 

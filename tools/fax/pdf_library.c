@@ -39,19 +39,15 @@ static struct {
     CALLS(POINTER)
 } call;
 
-/* Loads libqpdf once: with the libraries that it needs this takes longer than a page, so a run that reads no PDF goes without. */
+/* Part 1: the child process, which alone loads libqpdf and calls it: a library of C++ that is loaded without memory ends its process. */
+
 static int is_loaded(void)
 {
-    static int is_tried, is_whole = 1;
-    if (!is_tried) {
-        void *library = dlopen(FAX_QPDF, RTLD_NOW);
-        CALLS(LOAD)
-        is_tried = 1;
-    }
+    void *library = dlopen(FAX_QPDF, RTLD_NOW);
+    int is_whole = 1;
+    CALLS(LOAD)
     return is_whole;
 }
-
-/* Part 1: the child process, which alone calls libqpdf. */
 
 /* The object of a number. */
 typedef struct {
@@ -81,24 +77,30 @@ static uint64_t mapped(void)
     return is_read ? (uint64_t)pages * (uint64_t)sysconf(_SC_PAGESIZE) : 0;
 }
 
+/* What the library says by itself isn't for users, nor is a picture of its memory. */
+static void be_silent(void)
+{
+    struct rlimit core = {0, 0};
+    setrlimit(RLIMIT_CORE, &core);
+#ifndef __SANITIZE_ADDRESS__
+    if (!freopen("/dev/null", "w", stderr))
+        _exit(UNREADABLE);
+#endif
+}
+
 /* libqpdf bounds neither its time nor its memory: some hundred bytes of two filters are half a gigabyte, and comments in a file without
  * a table take time as the square of their number. What exceeds these limits ends the process. */
 static void set_limits(size_t length)
 {
     uint64_t before = mapped(), microseconds = 200000 + (uint64_t)length / 2;
     struct itimerval time = {{0, 0}, {(time_t)(microseconds / 1000000), (suseconds_t)(microseconds % 1000000)}};
-    struct rlimit core = {0, 0}, memory;
+    struct rlimit memory;
     signal(SIGPROF, SIG_DFL);
     setitimer(ITIMER_PROF, &time, NULL);
-    setrlimit(RLIMIT_CORE, &core);
     if (before && !getrlimit(RLIMIT_AS, &memory)) {
         memory.rlim_cur = (rlim_t)(before + (64 << 20) + 80 * (uint64_t)length);
         setrlimit(RLIMIT_AS, &memory);
     }
-#ifndef __SANITIZE_ADDRESS__
-    if (!freopen("/dev/null", "w", stderr)) /* what the C++ library says of an exception that nothing catches */
-        _exit(UNREADABLE);
-#endif
 }
 
 static void put(rewriting *it, const void *bytes, size_t length)
@@ -277,14 +279,17 @@ int plain_pdf(span file, buffer *into)
 {
     buffer plain = {NULL, 0, 0, 0};
     int ends[2];
-    if (!is_loaded() || pipe(ends))
+    if (pipe(ends))
         return 0;
     pid_t child = fork();
     if (child == 0) {
         FILE *to = fdopen(ends[1], "wb");
         close(ends[0]);
+        be_silent();
+        if (!to || !is_loaded())
+            _exit(UNREADABLE);
         set_limits(file.length);
-        _exit(to ? rewrite(file, to) : UNREADABLE);
+        _exit(rewrite(file, to));
     }
     close(ends[1]);
     int end = read_child(child, ends[0], &plain);

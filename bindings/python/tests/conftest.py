@@ -64,7 +64,7 @@ def answers(tmp_path_factory):
     """The cases and, of each, the lines of answers.c."""
     folder = tmp_path_factory.mktemp("answers")
     library = os.environ["HAYRO_CCITT_LIBRARY"]
-    source, program = str(ROOT / "checks/answers.c"), str(folder / "answers")
+    source, program = str(ROOT / "checks/c/answers.c"), str(folder / "answers")
     found = f"-Wl,-rpath,{os.path.dirname(library)}"
     subprocess.run(["cc", "-O2", f"-I{ROOT}/c", source, library, found, "-o", program], check=True)
     narrow = [(words, part) for words, data, _ in strips() if " 1240 " not in words for part in damaged(data)]

@@ -234,6 +234,41 @@ def test_pdf_needs_pikepdf_or_pypdf(tmp_path):
     assert_refused(path, "where pikepdf or pypdf is installed; neither is", without(tmp_path, *READERS))
 
 
+READER_THAT = {
+    "crashes": ("import os, signal; os.kill(os.getpid(), signal.SIGSEGV)", "not readable: ended by SIGSEGV"),
+    "does not end": ("while True: pass", "not readable: it takes more than 1 s"),
+}
+
+
+@pytest.mark.parametrize("it", READER_THAT)
+def test_a_reader_that_crashes_or_does_not_end(it, tmp_path):
+    path = made.saved(tmp_path, "plain", lambda to: to.stream(made.image_of(NARROW, GRAY), DATA))
+    body, text = READER_THAT[it]
+    (tmp_path / "pikepdf.py").write_text(f"def open(path):\n    {body}\n")
+    done = ran("--seconds", "1", path, modules=tmp_path)
+    assert (done.returncode, done.stderr) == (2, f"hayro_ccitt: {path}: {text}\n")
+
+
+# Contents of which the first two end a process that reads them by pikepdf 6.
+DAMAGED_CONTENTS = [
+    b"q BI% /W 61 /H 40 /BPC 1 /CS /G /F /CCF /DP << /K -1 /Columns 61 >> ID &\xa0\x11\x80\x10\nEI Q\n/I Do\n",
+    b"q BI /W 61 /H 40 /BPC 1 /CS /G /F \xafCCF /DP <<>> /K -1 /Columns 61 >> nullID &\xa0\x11\x80\x10\nEI Q\n",
+    b"BI /W 5 ] ID x EI",
+    b"[" * 100000,
+]
+
+
+@pytest.mark.parametrize("reader", READERS)
+def test_damaged_contents(reader, tmp_path):
+    pytest.importorskip(reader)
+    modules = without(tmp_path, *(it for it in READERS if it != reader))
+    for content in DAMAGED_CONTENTS:
+        path = tmp_path / "damaged.pdf"
+        made.Writer().save(path, [("", content, "")])
+        done = ran("--seconds", "5", path, modules=modules)
+        assert done.returncode in (1, 2) and "Traceback" not in done.stderr, (content, done)
+
+
 def test_names_are_printed_without_control_characters(tmp_path):
     if not any(map(importlib.util.find_spec, READERS)):
         pytest.skip("no pikepdf or pypdf")

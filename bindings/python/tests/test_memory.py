@@ -104,7 +104,7 @@ assert held() == 0, "decode leaves blocks"
 @pytest.fixture(scope="module")
 def counted_heap(tmp_path_factory):
     path = tmp_path_factory.mktemp("heap") / "counted_heap.so"
-    subprocess.run(["cc", "-O2", "-shared", "-fPIC", ROOT / "checks/counted_heap.c", "-o", path], check=True)
+    subprocess.run(["cc", "-O2", "-shared", "-fPIC", ROOT / "checks/c/counted_heap.c", "-o", path], check=True)
     return path
 
 

@@ -3,7 +3,6 @@
 use crate::zeros;
 use alloc::vec::Vec;
 use core::ffi::c_void;
-use core::sync::atomic::{AtomicBool, Ordering};
 
 pub(crate) const OK: u32 = 0;
 pub(crate) const UNEXPECTED_EOF: u32 = 1;
@@ -184,11 +183,18 @@ unsafe extern "C" {
     ) -> u32;
 }
 
+/// On ARM64 the machine code needs no more than each processor has.
+#[cfg(target_arch = "aarch64")]
+fn check_processor() {}
+
 /// SSE3, SSSE3, CMPXCHG16B, SSE4.1, SSE4.2 and POPCNT, of the level x86-64-v2, by their bits in ECX of CPUID's leaf 1.
+#[cfg(not(target_arch = "aarch64"))]
 const LEVEL_2: u32 = 1 | 1 << 9 | 1 << 13 | 1 << 19 | 1 << 20 | 1 << 23;
 
 /// Panics on a processor that lacks instructions of the proved machine code: they would end the program without a word.
+#[cfg(not(target_arch = "aarch64"))]
 fn check_processor() {
+    use core::sync::atomic::{AtomicBool, Ordering};
     static IS_CHECKED: AtomicBool = AtomicBool::new(false);
     if IS_CHECKED.load(Ordering::Relaxed) {
         return;
@@ -198,7 +204,7 @@ fn check_processor() {
     let found = unsafe { core::arch::x86_64::__cpuid(1) }.ecx;
     assert!(
         found & LEVEL_2 == LEVEL_2,
-        "hayro-ccitt-proved needs a processor of the level x86-64-v2"
+        "hayro-ccitt-proved needs a processor of the level x86-64-v2; the package hayro-ccitt runs on any"
     );
     IS_CHECKED.store(true, Ordering::Relaxed);
 }

@@ -178,15 +178,18 @@ fn pack_rows(data: &[u8], ctx: &mut DecoderContext, settings: c::Settings) -> Pa
 }
 
 /// Returns the length of a bitmap of as many rows as there may be, if that is usual: up to 16 MiB, or 64 times the length of the
-/// data. There may be as many as the limit, and one more than the data has bits. With more room nothing is allocated for rows
-/// that may not come.
+/// data, and no more than a sixteenth of the address space. There may be as many as the limit, and one more than the data has
+/// bits. With more room nothing is allocated for rows that may not come. Of data that is too long there is none.
 fn room_for_all(data: &[u8], settings: &DecodeSettings, width: usize) -> Option<usize> {
+    if data.len() > MOST_BYTES {
+        return Some(0);
+    }
     let limit = match settings.rows {
         0 => usize::MAX,
         rows => rows as usize,
     };
     let rows = limit.min(data.len().saturating_mul(8).saturating_add(1));
-    let usual = data.len().saturating_mul(64).max(1 << 24);
+    let usual = data.len().saturating_mul(64).clamp(1 << 24, usize::MAX / 16);
     rows.checked_mul(width).filter(|room| *room <= usual)
 }
 
@@ -252,7 +255,7 @@ fn open_feed(settings: &c::Settings) -> c::Feed {
     }
 }
 
-/// Opens a reader. The settings are valid, and no slice is too long; so if it can't, an allocation failed.
+/// Opens a reader. The settings are valid; so if it can't, an allocation failed.
 fn open_rows<'a>(data: &'a [u8], settings: &c::Settings) -> c::Rows<'a> {
     match c::Rows::open(data, settings) {
         Ok(rows) => rows,
@@ -260,12 +263,16 @@ fn open_rows<'a>(data: &'a [u8], settings: &c::Settings) -> c::Rows<'a> {
     }
 }
 
+/// The most bytes that are decoded: eight times as many and 64 more fit in a `usize`. A 64-bit machine has no more.
+const MOST_BYTES: usize = (usize::MAX - 64) / 8;
+
 /// Returns the error of a status. The last arm is for an allocation that failed.
 fn error_of(status: u32) -> DecodeError {
     match status {
         c::UNEXPECTED_EOF => DecodeError::UnexpectedEof,
         c::INVALID_CODE => DecodeError::InvalidCode,
-        c::OVERFLOW => DecodeError::Overflow,
+        // Valid settings are taken, and all data but what is too long.
+        c::OVERFLOW | c::NOT_TAKEN => DecodeError::Overflow,
         _ => out_of_memory::<u32>(0),
     }
 }
@@ -401,7 +408,8 @@ pub enum DecodeError {
     UnexpectedEof,
     /// The bits are no code word, or strict data breaks a rule.
     InvalidCode,
-    /// A length or a position exceeds 32 bits, or a changing element lies left of a0.
+    /// A length or a position exceeds 32 bits, or a changing element lies left of a0. Where `usize` has 32 bits, also that the data has
+    /// 2^32 - 64 bits or more.
     Overflow,
 }
 

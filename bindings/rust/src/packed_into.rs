@@ -1,6 +1,6 @@
 //! Packed rows in the caller's memory.
 
-use crate::{DecodeError, DecoderContext, c, error_of, usize_of};
+use crate::{DecodeError, DecoderContext, MOST_BYTES, c, error_of, usize_of};
 use core::fmt;
 
 /// How packed rows lie in memory, and which bit is black.
@@ -89,8 +89,8 @@ fn pack_into(
         // It is at most the length of the data.
         c::OK => Ok(outcome.bytes_read as usize),
         c::REFUSED => Err(IntoError::NoRoom),
-        // No slice is too long, and all else that these settings say is valid.
-        c::NOT_TAKEN => Err(IntoError::ShortStride),
+        // All else that these settings say is valid.
+        c::NOT_TAKEN if data.len() <= MOST_BYTES => Err(IntoError::ShortStride),
         _ => Err(IntoError::Data(error_of(status))),
     };
     ctx.tell(&outcome, result.is_err() && status != c::NOT_TAKEN);

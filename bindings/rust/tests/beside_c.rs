@@ -1,5 +1,5 @@
 //! Every call on the strips of the corpus with each of their settings, whole, damaged and cut, and on its cases: the rows, the result, the
-//! counts, the place of a fault and the numbers of each row are those of the C calls, as `checks/answers.c` prints them.
+//! counts, the place of a fault and the numbers of each row are those of the C calls, as `checks/c/answers.c` prints them.
 
 mod common;
 
@@ -21,7 +21,7 @@ fn in_c(cases: &[Case]) -> Vec<String> {
     let (program, asked) = (format!("{folder}/answers"), format!("{folder}/asked"));
     let library = format!("{ROOT}/crates/hayro_ccitt_c/out/libhayro_ccitt_c.a");
     let sources = [
-        format!("{ROOT}/checks/answers.c"),
+        format!("{ROOT}/checks/c/answers.c"),
         format!("{ROOT}/c/heap.c"),
         library,
     ];

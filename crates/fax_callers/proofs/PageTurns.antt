@@ -2,7 +2,7 @@
 use Rattle.hayro_ccitt.proofs.Names.{◌≡◌, ◌≢◌, ℕ, ◌+◌, ◌≤◌, ◌++◌, ◌∙◌, inr, Bool, true, false, List}
 use Rattle.hayro_ccitt.proofs.Names.{Option, None, Some, Result, Ok, Err, refl, sym, ap, subst, arith, length, drop, length-drop}
 use Rattle.hayro_ccitt.proofs.Names.{Bits, bits_in, DecodeError, DecodeSettings, OutOfMemory, HasEnded, IfErr, IsFault}
-use Rattle.hayro_ccitt.proofs.Names.{Group4, MissIsTold, ReadsNext, RowsRead, ended, missed_before, plain, ◌<◌}
+use Rattle.hayro_ccitt.proofs.Names.{Group4, MissIsReported, ReadsNext, RowsRead, ended, missed_before, plain, ◌<◌}
 use Rattle.hayro_ccitt.specs.BitOrder.{BitOrder}
 use Rattle.hayro_ccitt.specs.Bits.{BitsFit}
 use Rattle.hayro_ccitt.specs.RowFeeds.{Feeding, FeedsNext, IsFeedOf, KeepsBits, StandsIn, StaysThere, fed_end, fed_over}
@@ -97,13 +97,13 @@ failed_again : {whole : Bits} {tried : ℕ} {page : Feeding} {error : DecodeErro
     → ended page.rows.stand ≡ Some (Err error) → ReadsNext (fed_over whole page) (fed_over whole page) (Err error)
 failed_again {whole} {tried} {page} {error} is e = by_begun page.begun is.stands
   where
-    told : (stand : Stand) → ended stand ≡ Some (Err error)
-        → MissIsTold stand page.ctx.held.settings whole page.ctx.held.taken page.rows.missed
+    reported : (stand : Stand) → ended stand ≡ Some (Err error)
+        → MissIsReported stand page.ctx.held.settings whole page.ctx.held.taken page.rows.missed
         → page.rows.missed ≡ missed_before page.ctx.held.settings whole page.ctx.held.taken
-    told AtLine e is = absurd cc
-    told AfterRow e is = absurd cc
-    told AtEnd e is = is
-    told (AtFault other) e is = is
+    reported AtLine e is = absurd cc
+    reported AfterRow e is = absurd cc
+    reported AtEnd e is = is
+    reported (AtFault other) e is = is
 
     by_begun : (begun : Bool) → StandsIn begun tried page.rows page.ctx
         (record { bits = whole; place = page.dropped + page.place })
@@ -125,7 +125,7 @@ failed_again {whole} {tried} {page} {error} is e = by_begun page.begun is.stands
           end = λ f. absurd cc;
           error = (e, refl, failed);
           fault_start = λ none. let never = sym none ∙ e in absurd cc;
-          missed = told page.rows.stand e stands.3;
+          missed = reported page.rows.stand e stands.3;
           last = λ f. (refl, refl, refl);
           last_start = λ f. absurd cc;
         }

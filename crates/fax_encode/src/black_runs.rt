@@ -85,7 +85,7 @@ fn paint_long_run(row: &mut [u8], from: usize, to: u32, is_cleared: bool)
     ensures length { length row.new ≡ length row.old }
 {
     let first = from / 8;
-    let last = (to as usize + 7) / 8 - 8;
+    let last = (to as usize).div_ceil(8) - 8;
     paint_in_word(row, first, from % 8, 64, is_cleared);
     put_pixels(row, last, ones_before(((8 - to % 8) % 8) as usize));
     paint_bytes(row, first + 8, last);
@@ -102,7 +102,7 @@ fn paint_black(row: &mut [u8], from: u32, to: u32, is_cleared: bool)
     ensures length { length row.new ≡ length row.old }
 {
     let start = from as usize;
-    if start / 8 * 8 + 64 < to as usize {
+    if to as usize - start / 8 * 8 > 64 {
         paint_long_run(row, start, to, is_cleared);
     } else {
         paint_short_run(row, start, to as usize, is_cleared);

@@ -24,7 +24,7 @@ pub use Rattle.fax_reading.specs.Rows.{opposite, paint, pixels, right_of}
 pub use Rattle.fax_rows.specs.RowsRead.{IsPaid, IsStanding, IsStandingAtLine}
 pub use Rattle.fax_rows.specs.RowsRead.{PaidAtLine, ReachesNextLine}
 pub use Rattle.fax_rows.specs.RowsRead.{ReadsNext, RowsRead, ended}
-pub use Rattle.fax_rows.specs.RowsRead.{is_at_line, line_after, MissIsTold, row_came, seen, stand_after}
+pub use Rattle.fax_rows.specs.RowsRead.{is_at_line, line_after, MissIsReported, row_came, seen, stand_after}
 pub use Rattle.fax_bits.specs.Runs.{codes_of}
 pub use Rattle.fax_reading.specs.Work.{found_here, most_counted}
 pub use Rattle.fax_bits.specs.declared.bit_reader.BitOrder.TheVariants.{HighestFirst, LowestFirst}

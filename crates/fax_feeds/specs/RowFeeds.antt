@@ -303,12 +303,13 @@ pub record KeepsBits (old new : Feeding) : Type 0 where
   pub room : new.room ≡ old.room
 
 -- What a call that reads the next row leaves, whatever the data is: the settings; and of a row that it is counted, has as many
--- pixels as there are columns, and a gap is next.
+-- pixels as there are columns, and a gap is next, of which nothing was looked at.
 pub record CountsRow (old new : Feeding) (answer : Result Fed DecodeError) : Type 0 where
   pub settings : new.ctx.held.settings ≡ old.ctx.held.settings
   pub taken : answer ≡ Ok Fed.Row → (new.ctx.held.taken ≡ old.ctx.held.taken + 1) × (new.ctx.held.taken < 2 ^ 64)
   pub width : answer ≡ Ok Fed.Row → length new.ctx.held.reference ≡ old.ctx.held.settings.columns
   pub stands : answer ≡ Ok Fed.Row → (new.begun ≡ true) × (new.rows.stand ≡ AfterRow) × (new.part ≡ None)
+  pub unlooked : answer ≡ Ok Fed.Row → new.looked ≡ 0
 
 -- a short line is read on: nothing changes but the count of work, and what is kept of the line
 pub record Scans (old new : Feeding) : Type 0 where

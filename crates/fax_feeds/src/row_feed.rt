@@ -14,9 +14,10 @@ ghost use Rattle.fax_feeds.specs.RowFeeds.{IsFeedOf, KeepsBits, TriesLine, fed_b
 ghost use Rattle.fax_feeds.specs.RowFeeds.{HoldsMore, KeepsPart, LineGoesOn, Scans, ScansLine, StaysShort, line_answer};
 ghost use Rattle.fax_reading.specs.Continuations.{is_short};
 ghost use Rattle.fax_feeds.specs.RowFeeds.{IsPartOf1d, line_of_feed, says_short, some_line};
-ghost use Rattle.fax_feeds.specs.RowFeeds.{CountsRow, Feeding, FeedsRow, PushesRows, unused};
+ghost use Rattle.fax_feeds.specs.RowFeeds.{CountsRow, Feeding, FeedsRow, PassesRows, PushesRows, unused};
 ghost use Rattle.fax_reading.specs.Rows.{AreChanges, changes};
 ghost use Rattle.fax_lines.specs.SinkStates.{state_of};
+ghost use Rattle.fax_lines.specs.WhiteLines.{AreKnown};
 
 use crate::gap_look::{
     GapLook, GapRules, GapStage, first_rules, is_settled_at_once, rules_after_row,
@@ -30,6 +31,7 @@ use fax_bits::{DecodeError, DecodeSettings, EncodingMode, Result};
 use fax_lines::Decoder;
 use fax_lines::context::white_rows::{no_white_lines, repeats_white};
 use fax_lines::context::{DecoderContext, begin_line, reference_row};
+use fax_lines::white_lines::WhiteLines;
 use fax_rows::push_rows::{WhiteLinesAhead, push_white_rows};
 use fax_rows::row_reader::{RowState, Stand, first_stand, has_ended, is_at_line};
 use fax_rows::rows::try_row;
@@ -205,22 +207,6 @@ fn fed_row(row: Result<bool>) -> Result<Fed>
         Ok(false) => Ok(Fed::NeedsMore),
         Err(error) => Err(error),
     }
-}
-
-/// Returns whether a row was read.
-fn is_read(row: &Result<bool>) -> bool
-    ensures read { result ≡ true → row.now ≡ Ok true }
-    ensures other { result ≡ false → row.now ≢ Ok true }
-{
-    matches!(row, Ok(true))
-}
-
-/// Returns whether a row was the last that was read, and no gap after it yet.
-#[inline(always)]
-fn is_after_row(stand: Stand) -> bool
-    ensures { result ≡ true → stand ≡ Stand.AfterRow }
-{
-    matches!(&stand, Stand::AfterRow)
 }
 
 /// Returns whether a call read a row.
@@ -829,107 +815,39 @@ impl RowFeed {
         }
     }
 
-    /// Reads each row after the last one, with one reader of the bits that are kept.
-    #[inline(never)]
-    fn push_on<D: Decoder>(&mut self, decoder: &mut D) -> Result<Fed>
-        requires width { self.old.ctx.held.settings.columns ≤ D.width decoder.old }
-        requires begun { self.old.begun ≡ true }
-        requires after { self.old.rows.stand ≡ Stand.AfterRow }
-        requires none_kept { self.old.part ≡ None }
-        ensures width { D.width decoder.new ≡ D.width decoder.old }
-        ensures pushes { PushesRows (D.step (D.width decoder.old))
-            (state_of D.Decoder decoder.old) (state_of D.Decoder decoder.new) self.old self.new result }
-    {
-        let mut reader = placed_at(&self.data, self.order, self.place);
-        let mut lines = no_white_lines(&self.ctx);
-        let fed;
-        'rows: loop {
-            let gap_place = self.dropped + self.place;
-            let line = come_to_settled_line(
-                &mut self.rows,
-                &mut self.ctx,
-                &mut self.look,
-                &mut reader,
-                self.is_last,
-                gap_place,
-            );
-            self.place = reader.bit_pos();
-            if !is_some_line(&line) {
-                return fed_none(line);
-            }
-            if !can_take_row(&self.ctx) {
-                return Err(DecodeError::UnexpectedEof);
-            }
-            let line_start = self.dropped + self.place;
-            begin_line(&mut self.ctx);
-            let row = try_line(
-                &mut self.rows,
-                &mut self.ctx,
-                &mut reader,
-                self.is_last,
-                line_start,
-            );
-            self.place = reader.bit_pos();
-            if !is_read(&row) {
-                fed = row;
-                break 'rows;
-            }
-            if let Err(refusal) = decoder.push_row(reference_row(&self.ctx)) {
-                return Err(refusal);
-            }
-            let repeats = repeats_white(&self.ctx, &mut lines);
-            let white = WhiteLinesAhead {
-                lines: &lines,
-                in_pieces: true,
-                dropped: self.dropped,
-            };
-            if let Err(refused) = push_white_rows(
-                repeats,
-                white,
-                &mut self.rows,
-                &mut self.ctx,
-                &mut reader,
-                decoder,
-            ) {
-                self.place = reader.bit_pos();
-                return Err(refused);
-            }
-            self.place = reader.bit_pos();
-            'white: while self.rows.take_white_row(
-                repeats,
-                lines,
-                self.dropped + self.place,
-                &mut self.ctx,
-                &mut reader,
-            ) {
-                self.place = reader.bit_pos();
-                if let Err(refused) = decoder.push_row(&[]) {
-                    return Err(refused);
-                }
-            }
-        }
-        if is_unsettled(&fed) {
-            self.keep_part();
-        }
-        fed_row(fed)
-    }
-
-    /// Reads the next row and each after it.
+    /// Reads the white lines below the last row, if it is white, and passes their rows to the sink. After `Refused` that row was read.
     #[inline(always)]
-    fn push_from_next<D: Decoder>(&mut self, decoder: &mut D) -> Result<Fed>
-        requires width { self.old.ctx.held.settings.columns ≤ D.width decoder.old }
+    fn push_white<D: Decoder>(&mut self, lines: &mut WhiteLines, decoder: &mut D) -> Result<()>
+        requires known { AreKnown self.old.ctx.held.settings lines.old }
+        requires after { (self.old.begun ≡ true) × (self.old.rows.stand ≡ Stand.AfterRow) × (self.old.part ≡ None) }
+        requires unlooked { self.old.looked ≡ 0 }
         ensures width { D.width decoder.new ≡ D.width decoder.old }
-        ensures pushes { PushesRows (D.step (D.width decoder.old))
-            (state_of D.Decoder decoder.old) (state_of D.Decoder decoder.new) self.old self.new result }
+        ensures known { AreKnown self.old.ctx.held.settings lines.new }
+        ensures passes { OnOk result (PassesRows (D.step (D.width decoder.old)) (D.meaning decoder.old) (D.meaning decoder.new)
+            self.old self.new × (D.has_refused decoder.new ≡ D.has_refused decoder.old)) }
+        ensures refused { IfErr result (λ e. PushesRows (D.step (D.width decoder.old))
+            (state_of D.Decoder decoder.old) (state_of D.Decoder decoder.new) self.old self.new (Err e)) }
     {
-        let fed = self.next_row();
-        if !is_row(&fed) {
-            return fed;
+        let repeats = repeats_white(&self.ctx, lines);
+        if !repeats {
+            return Ok(());
         }
-        if let Err(error) = decoder.push_row(self.row()) {
-            return Err(error);
-        }
-        self.push_on(decoder)
+        let mut reader = placed_at(&self.data, self.order, self.place);
+        let white = WhiteLinesAhead {
+            lines,
+            in_pieces: true,
+            dropped: self.dropped,
+        };
+        let pushed = push_white_rows(
+            repeats,
+            white,
+            &mut self.rows,
+            &mut self.ctx,
+            &mut reader,
+            decoder,
+        );
+        self.place = reader.bit_pos();
+        pushed
     }
 
     /// Reads each row that no data that follows can change, and passes it to the sink, until more data is needed or the image
@@ -960,10 +878,19 @@ impl RowFeed {
         ensures pushes { PushesRows (D.step (D.width decoder.old))
             (state_of D.Decoder decoder.old) (state_of D.Decoder decoder.new) self.old self.new result }
     {
-        if self.begun && is_after_row(self.rows.stand) && self.part.is_none() {
-            return self.push_on(decoder);
+        let mut lines = no_white_lines(&self.ctx);
+        'rows: loop {
+            let fed = self.next_row();
+            if !is_row(&fed) {
+                return fed;
+            }
+            if let Err(refusal) = decoder.push_row(self.row()) {
+                return Err(refusal);
+            }
+            if let Err(refused) = self.push_white(&mut lines, decoder) {
+                return Err(refused);
+            }
         }
-        self.push_from_next(decoder)
     }
 
     /// Drops the bytes that were read.

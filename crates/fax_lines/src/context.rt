@@ -493,10 +493,11 @@ impl DecoderContext {
         }
     }
 
-    /// Draws pairs of runs of any number of code words as long as they are usual, from a white one on.
-    #[inline(always)]
-    fn draw_long_runs(&mut self, window: &mut Window<'_>)
-        ensures { DrawsUsualRuns self.old self.new window.old.at window.new.at }
+    /// Draws pairs of runs of any number of code words as long as they are usual, from a white one on, in whichever order the reader's
+    /// bits are.
+    #[inline(never)]
+    fn draw_long_runs_of(&mut self, reader: &mut BitReader<'_>)
+        ensures { DrawsUsualRuns self.old self.new reader.old reader.new }
     {
         if !self.color.is_white() {
             return;
@@ -507,6 +508,7 @@ impl DecoderContext {
         if !close_black_run(&mut self.coding_changes, self.pixels_decoded) {
             return;
         }
+        let mut window = window_at_hand(reader);
         let line = RunsOfLine {
             settings: self.settings,
             tables: &self.tables,
@@ -514,7 +516,7 @@ impl DecoderContext {
         };
         let ticks = &mut self.ticks;
         let (place, color) = draw_long_pairs(
-            window,
+            &mut window,
             &mut self.coding_changes,
             self.pixels_decoded,
             &line,
@@ -523,15 +525,6 @@ impl DecoderContext {
         drop_open_change(&mut self.coding_changes, place);
         self.pixels_decoded = place;
         self.color = color;
-    }
-
-    /// Draws usual runs of any number of code words from a reader, in whichever order its bits are.
-    #[inline(never)]
-    fn draw_long_runs_of(&mut self, reader: &mut BitReader<'_>)
-        ensures { DrawsUsualRuns self.old self.new reader.old reader.new }
-    {
-        let mut window = window_at_hand(reader);
-        self.draw_long_runs(&mut window);
         go_on_with(reader, &window);
     }
 
@@ -568,19 +561,8 @@ impl DecoderContext {
         self.draw_runs_of(reader);
     }
 
-    /// Draws the runs of a row of few changes as long as they are usual, in whichever order the reader's bits are, without a call, from
-    /// the reader's own window on.
-    #[inline(always)]
-    fn draw_few_runs_of(&mut self, reader: &mut BitReader<'_>)
-        ensures { DrawsUsualRuns self.old self.new reader.old reader.new }
-    {
-        let mut window = window_at_hand(reader);
-        self.draw_pairs_from_white(&mut window, false);
-        go_on_with(reader, &window);
-    }
-
-    /// Draws the first runs of a line as long as they are usual: without a call, if few are likely, since the row before has few
-    /// changes; and none of a wide line, if one or two are likely.
+    /// Draws the first runs of a line as long as they are usual: from the reader's own window, if few are likely, since the row before
+    /// has few changes; and none of a wide line, if one or two are likely.
     #[inline(always)]
     fn draw_first_runs(&mut self, reader: &mut BitReader<'_>)
         ensures { DrawsUsualRuns self.old self.new reader.old reader.new }
@@ -590,11 +572,15 @@ impl DecoderContext {
             if changes > 1 {
                 self.draw_long_runs_of(reader);
             }
-        } else if changes < 7 {
-            self.draw_few_runs_of(reader);
-        } else {
-            self.draw_runs_of(reader);
+            return;
         }
+        if changes >= 7 {
+            self.draw_runs_of(reader);
+            return;
+        }
+        let mut window = window_at_hand(reader);
+        self.draw_pairs_from_white(&mut window, false);
+        go_on_with(reader, &window);
     }
 
     /// Draws modes from the start of a line as long as they are usual.

@@ -16,7 +16,7 @@ use crate::changes::{change_or_end, make_room};
 use crate::run_pairs::{
     TwoRuns, drop_open_change, ensure_bits, is_next, pair_at_hand, push_change, push_two,
 };
-use crate::vertical_groups::draw_groups;
+use crate::vertical_groups::draw_by_groups;
 use fax_bits::bit_reader::Window;
 use fax_bits::codes::{Color, Mode, Ticks, mode_of, tick_times};
 use fax_bits::tables::Tables;
@@ -195,11 +195,7 @@ fn has_two_v0(window: &Window<'_>) -> bool
     ensures two { result ≡ true → (next : AtHand) → next.at ≡ moved 1 window.now.at → next.left + 1 ≡ window.now.left
         → IsNextMode (Mode.Vertical (pos 0)) 1 next }
 {
-    let bits = window.peek_7();
-    if bits < 96 {
-        return false;
-    }
-    true
+    window.peek_7() >= 96
 }
 
 /// Draws V0: a change below b1, or the rest of the row; and V0 once more if it is next, and inside the row.
@@ -237,35 +233,6 @@ fn draw_v0(
     draw_v0_below(window, row, line, stroke, place, ticks)
 }
 
-/// Draws VR up to the row's end. Returns `None`, and draws nothing, if it doesn't end there.
-#[inline(always)]
-fn draw_to_end(
-    window: &mut Window<'_>,
-    row: &mut Vec<u32>,
-    line: &CodingLine<'_>,
-    stroke: Stroke,
-    mode: VerticalMode,
-    ticks: &mut Ticks,
-) -> Option<Stroke>
-    requires mode { IsNextMode (Mode.Vertical (pos mode.distance)) mode.width window.old }
-    requires some { 0 < mode.distance }
-    requires can { CanDraw line.now stroke window.old row.old }
-    ensures drawn { DrawsSome line.now stroke window.old row.old ticks.old result window.new row.new ticks.new }
-    ensures kept { KeepsRoom window.old row.old window.new row.new }
-{
-    let b1 = change_at(line, stroke.index);
-    if line.columns - b1 != mode.distance {
-        return None;
-    }
-    window.pass(mode.width);
-    tick_times(ticks, 2);
-    Some(Stroke {
-        painted: line.columns,
-        color: stroke.color.opposite(),
-        ..stroke
-    })
-}
-
 /// Draws VR: a change right of b1, or the rest of the row. Returns `None`, and draws nothing, if that is after the row's end.
 #[inline(always)]
 fn draw_right(
@@ -283,12 +250,20 @@ fn draw_right(
     ensures kept { KeepsRoom window.old row.old window.new row.new }
 {
     let b1 = change_at(line, stroke.index);
-    if line.columns - b1 <= mode.distance {
-        return draw_to_end(window, row, line, stroke, mode, ticks);
+    let room = line.columns - b1;
+    if room < mode.distance {
+        return None;
     }
-    let place = b1 + mode.distance;
     window.pass(mode.width);
     tick_times(ticks, 2);
+    if room == mode.distance {
+        return Some(Stroke {
+            painted: line.columns,
+            color: stroke.color.opposite(),
+            ..stroke
+        });
+    }
+    let place = b1 + mode.distance;
     push_change(row, place);
     let index = seek_b1(line, place, stroke.index + 1, ticks);
     Some(Stroke {
@@ -604,16 +579,7 @@ fn is_turned(color: Color, next: Color) -> bool
     ensures same { result ≡ false → next ≡ color }
     ensures other { result ≡ true → next ≡ opposite color }
 {
-    match color {
-        Color::White => match next {
-            Color::White => false,
-            Color::Black => true,
-        },
-        Color::Black => match next {
-            Color::White => true,
-            Color::Black => false,
-        },
-    }
+    color.is_white() != next.is_white()
 }
 
 /// Draws modes in one colour while they are of the usual kind, up to one that changes the colour. Returns the stroke that is
@@ -656,26 +622,6 @@ fn draw_run_of_modes(
     }
 }
 
-/// Draws modes of a black run, if that is next, up to a white one. Returns the stroke that is reached then, and whether that is
-/// all.
-#[inline(always)]
-fn draw_to_white(
-    window: &mut Window<'_>,
-    row: &mut Vec<u32>,
-    line: &CodingLine<'_>,
-    stroke: Stroke,
-    ticks: &mut Ticks,
-) -> (Stroke, bool)
-    requires can { CanDraw line.now stroke window.old row.old }
-    ensures on { DrawsOn line.now stroke window.old row.old ticks.old result.0 window.new row.new ticks.new }
-    ensures turned { result.1 ≡ false → (result.0.color ≡ Color.White) × (CanDraw line.now result.0 window.new row.new) }
-{
-    match stroke.color {
-        Color::White => (stroke, false),
-        Color::Black => draw_run_of_modes(window, row, line, stroke, ticks),
-    }
-}
-
 /// Draws modes while they are of the usual kind, and there is room. Returns the stroke that is reached then.
 #[inline(always)]
 fn draw_by_colors(
@@ -690,34 +636,35 @@ fn draw_by_colors(
 {
     // A copy of the window, so that its fields stay in registers.
     let mut bits = window.copy();
-    let (first, is_done) = draw_to_white(&mut bits, row, line, stroke, ticks);
-    if is_done {
-        *window = bits;
-        return first;
-    }
-    let mut white = Stroke {
-        color: Color::White,
-        ..first
-    };
+    let mut now = stroke;
     'turns: loop {
-        let (next, is_over) = draw_run_of_modes(&mut bits, row, line, white, ticks);
+        let (next, is_over) = match now.color {
+            Color::White => draw_run_of_modes(
+                &mut bits,
+                row,
+                line,
+                Stroke {
+                    color: Color::White,
+                    ..now
+                },
+                ticks,
+            ),
+            Color::Black => draw_run_of_modes(
+                &mut bits,
+                row,
+                line,
+                Stroke {
+                    color: Color::Black,
+                    ..now
+                },
+                ticks,
+            ),
+        };
         if is_over {
             *window = bits;
             return next;
         }
-        let black = Stroke {
-            color: Color::Black,
-            ..next
-        };
-        let (next, is_over) = draw_run_of_modes(&mut bits, row, line, black, ticks);
-        if is_over {
-            *window = bits;
-            return next;
-        }
-        white = Stroke {
-            color: Color::White,
-            ..next
-        };
+        now = next;
     }
 }
 
@@ -737,7 +684,7 @@ fn draw_with_own_list(
     let empty = Vec::new(*row.allocator());
     let mut own = mem::replace(row, empty);
     let reached = if line.by_groups {
-        draw_groups(window, &mut own, line, stroke, ticks)
+        draw_by_groups(window, &mut own, line, stroke, ticks)
     } else {
         draw_by_colors(window, &mut own, line, stroke, ticks)
     };

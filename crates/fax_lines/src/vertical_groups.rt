@@ -1,7 +1,7 @@
 //! Vertical modes, up to four at a time.
 
 ghost use Rattle.std.specs.Prelude.{vec_len, vec_capacity, get_or, ◌≡◌, ◌+◌, ◌<◌, ◌≤◌, IfSome};
-ghost use Rattle.std.specs.Prelude.{IfNone, IsTrue, ◌↔◌, true, false, length, take, drop};
+ghost use Rattle.std.specs.Prelude.{IfNone, true, false, length, take, drop};
 ghost use Rattle.std.specs.Prelude.{◌++◌, ◌∷◌, ◌^◌};
 ghost use Rattle.fax_lines.specs.DrawnModes.{AreModesHere, IsFirstMode, LeadFrom, first_clear};
 ghost use Rattle.fax_bits.specs.ModeGroups.{AreNextWords, words_of};
@@ -150,52 +150,6 @@ fn b1_after(line: &CodingLine<'_>, stroke: Stroke, place: u32, ticks: &mut Ticks
     seek_b1(line, place, stroke.index + 1, ticks)
 }
 
-/// Draws the first mode of a group if it leads to a place right of a0, in the row or at its end. Returns `None`, and draws
-/// nothing, elsewhere.
-#[inline(always)]
-fn draw_first(
-    window: &mut Window<'_>,
-    row: &mut Vec<u32>,
-    line: &CodingLine<'_>,
-    stroke: Stroke,
-    group: ModeGroup,
-    ticks: &mut Ticks,
-) -> Option<Stroke>
-    requires enough { 16 ≤ window.old.left }
-    requires can { CanDraw line.now stroke window.old row.old }
-    requires some { 0 < length (words_of group) }
-    requires words { AreNextWords (words_of group) window.old.at }
-    ensures drawn { IfSome result (λ next. DrawsMode line.now stroke window.old row.old ticks.old next window.new row.new ticks.new) }
-    ensures left { IfNone result ((window.new ≡ window.old) × (row.new ≡ row.old) × (ticks.new ≡ ticks.old)) }
-    ensures kept { KeepsRoom window.old row.old window.new row.new }
-{
-    let above = change_at(line, stroke.index) + u32::from(group.offsets()[0]);
-    if above <= stroke.painted + 3 {
-        return None;
-    }
-    let place = above - 3;
-    if place > line.columns {
-        return None;
-    }
-    window.pass(group.first_width(1));
-    tick_times(ticks, 2);
-    let color = stroke.color.opposite();
-    if place == line.columns {
-        return Some(Stroke {
-            painted: place,
-            index: stroke.index,
-            color,
-        });
-    }
-    push_change(row, place);
-    let index = b1_after(line, stroke, place, ticks);
-    Some(Stroke {
-        painted: place,
-        index,
-        color,
-    })
-}
-
 /// Draws the mode that is here, whose group this is. Returns `None`, and draws nothing, if it isn't of the usual kind.
 #[inline(always)]
 fn draw_mode_of_group(
@@ -209,7 +163,6 @@ fn draw_mode_of_group(
     requires enough { 16 ≤ window.old.left }
     requires can { CanDraw line.now stroke window.old row.old }
     requires first { IsFirstMode group window.old }
-    requires words { AreNextWords (words_of group) window.old.at }
     ensures drawn { DrawsSome line.now stroke window.old row.old ticks.old result window.new row.new ticks.new }
     ensures kept { KeepsRoom window.old row.old window.new row.new }
 {
@@ -221,9 +174,6 @@ fn draw_mode_of_group(
     }
     if ModeGroup::count(group) == 0 {
         return None;
-    }
-    if let Some(reached) = draw_first(window, row, line, stroke, group, ticks) {
-        return Some(reached);
     }
     let (mode, width) = mode_at_hand(window);
     draw_vertical(window, row, line, stroke, (mode?, width), ticks)
@@ -241,8 +191,8 @@ fn painted_by(row: &Vec<u32>, start: usize, count: usize, painted: u32) -> u32
     row[start + count - 1]
 }
 
-/// Draws the regular modes that a group begins with, and the mode after them if it leads to a place right of them in the row, or
-/// to the row's end. Returns how far the row is drawn then, and whether it isn't full; or `None` if no mode is drawn.
+/// Draws the regular modes that a group begins with, and the mode after them if it leads to a place right of them in the row.
+/// Returns how far the row is drawn then, or `None` if no mode is drawn.
 #[inline(always)]
 fn draw_first_modes(
     window: &mut Window<'_>,
@@ -251,13 +201,12 @@ fn draw_first_modes(
     stroke: Stroke,
     modes: &ModesHere,
     ticks: &mut Ticks,
-) -> Option<(Stroke, bool)>
+) -> Option<Stroke>
     requires can { CanDraw line.now stroke window.old row.old }
     requires here { AreModesHere line.now stroke window.old modes.now }
     requires some { first_clear modes.now < length (words_of modes.now.group) }
-    ensures drawn { IfSome result
-        (λ next. DrawsMode line.now stroke window.old row.old ticks.old next.0 window.new row.new ticks.new) }
-    ensures open { IfSome result (λ next. IsTrue next.1 ↔ (next.0.painted < line.now.columns)) }
+    ensures drawn { IfSome result (λ next. DrawsMode line.now stroke window.old row.old ticks.old next window.new row.new ticks.new) }
+    ensures inside { IfSome result (λ next. next.painted < line.now.columns) }
     ensures left { IfNone result ((window.new ≡ window.old) × (row.new.items ≡ row.old.items) × (ticks.new ≡ ticks.old)) }
     ensures kept { KeepsRoom window.old row.old window.new row.new }
 {
@@ -277,48 +226,27 @@ fn draw_first_modes(
         };
         let index = b1_after(line, before, place, ticks);
         let color = next_color(row);
-        return Some((
-            Stroke {
-                painted: place,
-                index,
-                color,
-            },
-            true,
-        ));
+        return Some(Stroke {
+            painted: place,
+            index,
+            color,
+        });
     }
     row.truncate(start + count);
-    let index = stroke.index + count;
-    if place == line.columns {
-        window.pass(modes.group.first_width(count + 1));
-        tick_times(ticks, 2 * count + 2);
-        let color = next_color(row).opposite();
-        return Some((
-            Stroke {
-                painted: place,
-                index,
-                color,
-            },
-            false,
-        ));
-    }
     if count == 0 {
         return None;
     }
     window.pass(modes.group.first_width(count));
     tick_times(ticks, 2 * count);
-    let color = next_color(row);
-    Some((
-        Stroke {
-            painted,
-            index,
-            color,
-        },
-        true,
-    ))
+    Some(Stroke {
+        painted,
+        index: stroke.index + count,
+        color: next_color(row),
+    })
 }
 
 /// Draws the vertical modes of a group, as many as lead to places in the row, if b1 isn't the first change. Returns how far the
-/// row is drawn then, and whether it isn't full; or `None`, drawing nothing, if there is no such mode.
+/// row is drawn then; or `None`, drawing nothing, if there is no such mode.
 #[inline(always)]
 fn draw_group(
     window: &mut Window<'_>,
@@ -327,13 +255,12 @@ fn draw_group(
     stroke: Stroke,
     group: ModeGroup,
     ticks: &mut Ticks,
-) -> Option<(Stroke, bool)>
+) -> Option<Stroke>
     requires enough { 16 ≤ window.old.left }
     requires can { CanDraw line.now stroke window.old row.old }
     requires words { AreNextWords (words_of group) window.old.at }
-    ensures drawn { IfSome result
-        (λ next. DrawsMode line.now stroke window.old row.old ticks.old next.0 window.new row.new ticks.new) }
-    ensures open { IfSome result (λ next. IsTrue next.1 ↔ (next.0.painted < line.now.columns)) }
+    ensures drawn { IfSome result (λ next. DrawsMode line.now stroke window.old row.old ticks.old next window.new row.new ticks.new) }
+    ensures inside { IfSome result (λ next. next.painted < line.now.columns) }
     ensures left { IfNone result ((window.new ≡ window.old) × (row.new.items ≡ row.old.items) × (ticks.new ≡ ticks.old)) }
     ensures kept { KeepsRoom window.old row.old window.new row.new }
 {
@@ -345,53 +272,14 @@ fn draw_group(
     }
     let modes = modes_here(line, stroke, group);
     if are_regular(&modes) {
-        let next = draw_regular(window, row, line, stroke, &modes, ticks);
-        return Some((next, true));
+        return Some(draw_regular(window, row, line, stroke, &modes, ticks));
     }
     draw_first_modes(window, row, line, stroke, &modes, ticks)
 }
 
 /// Draws modes while they are of the usual kind, and there is room. Returns the stroke that is reached then.
 #[inline(always)]
-fn draw_by_groups(
-    window: &mut Window<'_>,
-    row: &mut Vec<u32>,
-    line: &CodingLine<'_>,
-    stroke: Stroke,
-    ticks: &mut Ticks,
-) -> Stroke
-    requires can { CanDraw line.now stroke window.old row.old }
-    ensures { DrawsOn line.now stroke window.old row.old ticks.old result window.new row.new ticks.new }
-{
-    let mut now = stroke;
-    'modes: loop {
-        if !refill_if_low(window, row) {
-            return recolored(row, now);
-        }
-        let group = group_at_hand(window);
-        if let Some((next, is_open)) = draw_group(window, row, line, now, group, ticks) {
-            if !is_open {
-                return next;
-            }
-            now = next;
-            continue;
-        }
-        let here = recolored(row, now);
-        match draw_mode_of_group(window, row, line, here, group, ticks) {
-            None => return here,
-            Some(next) => {
-                if next.painted == line.columns {
-                    return next;
-                }
-                now = next;
-            }
-        }
-    }
-}
-
-/// Draws modes by groups, as `draw_by_groups` does, with a copy of the window, so that its fields stay in registers.
-#[inline(always)]
-pub(crate) fn draw_groups(
+pub(crate) fn draw_by_groups(
     window: &mut Window<'_>,
     row: &mut Vec<u32>,
     line: &CodingLine<'_>,
@@ -402,7 +290,30 @@ pub(crate) fn draw_groups(
     ensures { DrawsOn line.now stroke window.old row.old ticks.old result window.new row.new ticks.new }
 {
     let mut bits = window.copy();
-    let reached = draw_by_groups(&mut bits, row, line, stroke, ticks);
-    *window = bits;
-    reached
+    let mut now = stroke;
+    'modes: loop {
+        if !refill_if_low(&mut bits, row) {
+            *window = bits;
+            return recolored(row, now);
+        }
+        let group = group_at_hand(&bits);
+        if let Some(next) = draw_group(&mut bits, row, line, now, group, ticks) {
+            now = next;
+            continue;
+        }
+        let here = recolored(row, now);
+        match draw_mode_of_group(&mut bits, row, line, here, group, ticks) {
+            None => {
+                *window = bits;
+                return here;
+            }
+            Some(next) => {
+                if next.painted == line.columns {
+                    *window = bits;
+                    return next;
+                }
+                now = next;
+            }
+        }
+    }
 }

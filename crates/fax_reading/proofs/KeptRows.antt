@@ -1,5 +1,5 @@
 pub mod EqualFronts
 pub mod RowsBeforeDamage
 pub mod RowsAfterDamage
-pub mod StepsTold
+pub mod StepsReported
 pub mod TurnsLeave

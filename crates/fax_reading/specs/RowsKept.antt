@@ -139,7 +139,7 @@ pub record IsInStepFrom (settings : DecodeSettings) (bits : Bits) (to place : �
   pub within : to ≤ length bits
   pub place_within : place ≤ length bits
   pub line : Bits
-  pub told : TellsStep settings (drop to bits) line (drop place bits)
+  pub reported : TellsStep settings (drop to bits) line (drop place bits)
 
 -- Whatever other data is the same from that EOL on has the same rows from that other position on, and ends alike, if EOLs
 -- are sought from the start of both, and what is before the line makes no RTC (T.4, 4.1.2 and 4.1.4).

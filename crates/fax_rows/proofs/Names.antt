@@ -25,7 +25,7 @@ pub use Rattle.fax_reading.specs.Rows.{pixels}
 pub use Rattle.fax_rows.specs.RowsRead.{DamageIsCounted, HasEnded, HasFailed, IsPaid, IsStanding, IsStandingAtLine, Misses}
 pub use Rattle.fax_rows.specs.RowsRead.{MissesAreCounted, MissesAfterRow, PaidAtLine, PaidAfterRow, ReachesNextLine}
 pub use Rattle.fax_rows.specs.RowsRead.{ReaderStands, ReadsNext, RowsRead, StandsAtLine, StandsAfterRow, WorkIsPaid, ended}
-pub use Rattle.fax_rows.specs.RowsRead.{is_at_line, line_after, IsWhole, MissIsTold, row_came, seen, stand_after}
+pub use Rattle.fax_rows.specs.RowsRead.{is_at_line, line_after, IsWhole, MissIsReported, row_came, seen, stand_after}
 pub use Rattle.fax_rows.specs.RowsRead.{start_after}
 pub use Rattle.fax_reading.specs.Space.{most_room, most_stored, room_for}
 pub use Rattle.fax_bits.specs.Ticks.{looked, looked_ahead, tag_tests}

@@ -252,11 +252,11 @@ pub record DamageIsCounted (stand : Stand) (settings : DecodeSettings) (bits : B
   pub misses : Misses stand settings bits held
 
 -- once a gap was passed, it is known where it lacked an EOL (T.4, 4.1.2)
-abbrev pub MissIsTold : Stand → DecodeSettings → Bits → ℕ → Option ℕ → Type 0
-MissIsTold AtLine settings bits taken missed = missed ≡ missed_before settings bits taken
-MissIsTold AfterRow settings bits taken missed = Unit {0}
-MissIsTold AtEnd settings bits taken missed = missed ≡ missed_before settings bits taken
-MissIsTold (AtFault error) settings bits taken missed = missed ≡ missed_before settings bits taken
+abbrev pub MissIsReported : Stand → DecodeSettings → Bits → ℕ → Option ℕ → Type 0
+MissIsReported AtLine settings bits taken missed = missed ≡ missed_before settings bits taken
+MissIsReported AfterRow settings bits taken missed = Unit {0}
+MissIsReported AtEnd settings bits taken missed = missed ≡ missed_before settings bits taken
+MissIsReported (AtFault error) settings bits taken missed = missed ≡ missed_before settings bits taken
 
 -- What was counted up to a line since a count is paid, from a first line before which this much was counted; where EOLs are
 -- sought, what ceasing to seek them costs is left. The row before has no more changes than columns, and but one more than bits.
@@ -302,7 +302,7 @@ IsStanding from rows ctx reader =
     ReaderStands rows.stand ctx.held.settings reader.bits ctx.held reader.place
     × DamageIsCounted rows.stand ctx.held.settings reader.bits ctx.held
     × WorkIsPaid from rows.stand ctx.held.settings reader.bits ctx.held reader.place ctx.ticks
-    × MissIsTold rows.stand ctx.held.settings reader.bits ctx.held.taken rows.missed
+    × MissIsReported rows.stand ctx.held.settings reader.bits ctx.held.taken rows.missed
 
 -- at the first bit of a line
 abbrev pub IsStandingAtLine : ℕ → RowState → Context → BitsAt → Type 0

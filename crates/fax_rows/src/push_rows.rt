@@ -129,8 +129,59 @@ fn push_white_by_call<D: Decoder>(
     push_white_in_order(white, rows, ctx, reader, decoder)
 }
 
-/// If a white row repeats whose line isn't short, reads lines and passes their rows as `push_white_words` does; of data in pieces
-/// also short lines.
+/// Reads white lines that aren't short as `push_white_words` does; of data in pieces also short ones.
+#[inline(always)]
+fn push_white_ahead<D: Decoder>(
+    white: WhiteLinesAhead<'_>,
+    rows: &mut RowState,
+    ctx: &mut DecoderContext,
+    reader: &mut BitReader<'_>,
+    decoder: &mut D,
+) -> Result<()>
+    requires follow { MayFollow ctx.old.held.settings ctx.old.held.has_eols ctx.old.held.reference white.lines.now }
+    requires fits { white.dropped + length reader.old.bits + 64 < 2 ^ 64 }
+    ensures width { D.width decoder.new ≡ D.width decoder.old }
+    ensures pushes { PushesWhite (D.step (D.width decoder.old)) white.entry.lines.now white.entry.dropped
+        (state_of D.Decoder decoder.old) (state_of D.Decoder decoder.new) rows.old rows.new ctx.old ctx.new reader.old
+        reader.new result }
+{
+    let least = if white.in_pieces { 0 } else { LEAST_BITS };
+    if !may_follow(white.lines, reader, least) {
+        return Ok(());
+    }
+    if white.in_pieces {
+        return push_white_by_call(white, rows, ctx, reader, decoder);
+    }
+    push_white_in_order(white, rows, ctx, reader, decoder)
+}
+
+/// Reads each line that is one of these white lines, one at a time, and passes its row to the sink, up to the row limit. After
+/// `Refused` that row was read.
+#[inline(always)]
+fn push_white_lines<D: Decoder>(
+    white: WhiteLinesAhead<'_>,
+    rows: &mut RowState,
+    ctx: &mut DecoderContext,
+    reader: &mut BitReader<'_>,
+    decoder: &mut D,
+) -> Result<()>
+    requires follow { MayFollow ctx.old.held.settings ctx.old.held.has_eols ctx.old.held.reference white.lines.now }
+    requires fits { white.dropped + length reader.old.bits + 64 < 2 ^ 64 }
+    ensures width { D.width decoder.new ≡ D.width decoder.old }
+    ensures pushes { PushesWhite (D.step (D.width decoder.old)) white.entry.lines.now white.entry.dropped
+        (state_of D.Decoder decoder.old) (state_of D.Decoder decoder.new) rows.old rows.new ctx.old ctx.new reader.old
+        reader.new result }
+{
+    'white: while rows.take_white_row(*white.lines, white.dropped + reader.bit_pos(), ctx, reader) {
+        if let Err(refusal) = decoder.push_row(&[]) {
+            return Err(refusal);
+        }
+    }
+    Ok(())
+}
+
+/// If a white row repeats, reads each line that is one of these white lines, and passes its row to the sink, up to the row limit.
+/// After `Refused` that row was read.
 #[inline(always)]
 pub fn push_white_rows<D: Decoder>(
     repeats: bool,
@@ -151,14 +202,10 @@ pub fn push_white_rows<D: Decoder>(
     if !repeats {
         return Ok(());
     }
-    let least = if white.in_pieces { 0 } else { LEAST_BITS };
-    if !may_follow(white.lines, reader, least) {
-        return Ok(());
+    if let Err(refusal) = push_white_ahead(white, rows, ctx, reader, decoder) {
+        return Err(refusal);
     }
-    if white.in_pieces {
-        return push_white_by_call(white, rows, ctx, reader, decoder);
-    }
-    push_white_in_order(white, rows, ctx, reader, decoder)
+    push_white_lines(white, rows, ctx, reader, decoder)
 }
 
 /// Reads the rows of an image and passes each to the sink, in every encoding, until EOFB or RTC (with `end_of_block`), the row
@@ -188,7 +235,9 @@ pub(crate) fn push_rows<D: Decoder>(
     'rows: loop {
         let damaged_rows = ctx.damaged_rows();
         let cut_rows = ctx.cut_rows();
-        rows.read_line(ctx, reader)?;
+        if !rows.next_row(ctx, reader)? {
+            return Ok(());
+        }
         if let Err(refusal) = decoder.push_row(reference_row(ctx)) {
             take_back_row(ctx, damaged_rows, cut_rows);
             *reader = at_bit(reader, rows.started_at);
@@ -209,19 +258,6 @@ pub(crate) fn push_rows<D: Decoder>(
             let begin = rows.started_at;
             *reader = at_bit(reader, begin);
             return Err(refusal);
-        }
-        'white: while rows.take_white_row(repeats, lines, reader.bit_pos(), ctx, reader) {
-            if let Err(refusal) = decoder.push_row(&[]) {
-                let damage = ctx.damaged_rows();
-                let cuts = ctx.cut_rows();
-                take_back_row(ctx, damage, cuts);
-                let start = rows.started_at;
-                *reader = at_bit(reader, start);
-                return Err(refusal);
-            }
-        }
-        if !rows.come_to_line(ctx, reader)? {
-            return Ok(());
         }
     }
 }

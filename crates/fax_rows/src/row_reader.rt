@@ -287,28 +287,22 @@ impl RowState {
         row
     }
 
-    /// If a white row repeats, reads one of these lines with its EOL, which are at this offset of the data, and returns whether one is
-    /// next; otherwise nothing is read. No data that follows can change such a row.
+    /// Reads one of these white lines with its EOL, which are at this offset of the data, and returns whether one is next; otherwise
+    /// nothing is read. No data that follows can change such a row.
     #[inline(always)]
-    pub fn take_white_row(
+    pub(crate) fn take_white_row(
         &mut self,
-        repeats: bool,
         lines: WhiteLines,
         start: usize,
         ctx: &mut DecoderContext,
         reader: &mut BitReader<'_>,
     ) -> bool
-        requires follow { repeats ≡ true
-            → MayFollow ctx.old.held.settings ctx.old.held.has_eols ctx.old.held.reference lines }
+        requires follow { MayFollow ctx.old.held.settings ctx.old.held.has_eols ctx.old.held.reference lines }
         requires fits { start + 64 < 2 ^ 64 }
-        ensures repeats { result ≡ true → repeats ≡ true }
         ensures taken { result ≡ true
             → TakesWhite lines start self.old self.new ctx.old ctx.new reader.old reader.new }
         ensures none { result ≡ false → (self.new ≡ self.old) × (ctx.new ≡ ctx.old) × (reader.new ≡ reader.old) }
     {
-        if !repeats {
-            return false;
-        }
         if ctx.decoded_rows() >= lines.limit {
             return false;
         }
@@ -345,18 +339,28 @@ impl RowState {
 
     /// Reads the next row, and returns whether there was one. It is `UnexpectedEof` if more rows were read than these bits
     /// have room for.
+    #[inline(always)]
     pub(crate) fn next_row(
         &mut self,
         ctx: &mut DecoderContext,
         reader: &mut BitReader<'_>,
     ) -> Result<bool>
         requires { ended self.old.stand ≡ None }
-        ensures reads { IsStanding 0 self.old ctx.old reader.old
+        ensures reads { (from : ℕ) → IsStanding from self.old ctx.old reader.old
             → ReadsNext (seen self.old ctx.old reader.old) (seen self.new ctx.new reader.new) result }
-        ensures stands { IsStanding 0 self.old ctx.old reader.old → IsStanding 0 self.new ctx.new reader.new }
+        ensures stands { (from : ℕ) → IsStanding from self.old ctx.old reader.old
+            → IsStanding from self.new ctx.new reader.new }
+        ensures starts { (from : ℕ) → IsStanding from self.old ctx.old reader.old → result ≡ Ok true
+            → self.new.started_at ≡ failed_at ctx.old.held.settings reader.old.bits ctx.old.held.taken }
+        ensures after { result ≡ Ok true → self.new.stand ≡ Stand.AfterRow }
+        ensures started { result ≡ Ok true → self.new.started_at ≤ length reader.old.bits }
+        ensures fails { (from : ℕ) → IsStanding from self.old ctx.old reader.old
+            → OnErr result (length reader.new.bits - length (here reader.new) ≡ self.new.started_at) }
         ensures settings { ctx.new.held.settings ≡ ctx.old.held.settings }
         ensures same_bits { reader.new.bits ≡ reader.old.bits }
-        ensures space { IsStanding 0 self.old ctx.old reader.old → GrowsForBits reader.old.bits ctx.old ctx.new }
+        ensures unsought { ctx.old.held.has_eols ≡ false → ctx.new.held.has_eols ≡ false }
+        ensures space { (from : ℕ) → IsStanding from self.old ctx.old reader.old
+            → GrowsForBits reader.old.bits ctx.old ctx.new }
         ensures most { ctx.new.space ≤ max ctx.old.space (2 * ctx.old.held.settings.columns + 66) }
     {
         if !self.come_to_line(ctx, reader)? {

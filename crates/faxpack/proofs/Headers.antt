@@ -10,7 +10,7 @@ use Rattle.std.proofs.lemmas.Bool.{and_parts}
 use Rattle.std.proofs.lemmas.Fmt.{IsAscii-from_digits}
 use Rattle.std.proofs.lemmas.Str.{IsUtf8-from_ascii}
 use Rattle.std.proofs.lemmas.Str.Parse.{numerals_by_value}
-use Rattle.fax_program.specs.Words.{are_digits, number_of}
+use Rattle.fax_program.specs.Arguments.{are_digits, number_of}
 use Rattle.faxpack.specs.Pictures.{digit_count, gap_length, is_space}
 
 -- one more digit

@@ -3,8 +3,7 @@ use Rattle.std.specs.Prelude.{ℕ, suc, ◌+◌, ◌-◌, ◌*◌, ◌%◌, Bool
 use Rattle.std.specs.Prelude.{◌∷◌, length, take, drop, get_or, Option, Some, None, Result, Ok, Err, if◌then◌else◌}
 use Rattle.std.specs.Char.{is_ascii_digit}
 use Rattle.fax_encode.specs.Packed.{bytes_of_row}
-use Rattle.fax_program.specs.Words.{number_of}
-use Rattle.faxpack.specs.Arguments.{◌>>=◌}
+use Rattle.fax_program.specs.Arguments.{number_of, ◌>>=◌}
 use Rattle.faxpack.specs.declared.arguments.Size.{Size}
 use Rattle.faxpack.specs.declared.picture.PictureFault.{PictureFault}
 use Rattle.faxpack.specs.declared.picture.PictureFault.TheVariants.{NoPicture, Cut, NoColumns}

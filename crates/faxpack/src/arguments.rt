@@ -1,13 +1,11 @@
 //! The arguments of the program, and what they mean.
 
 ghost use Rattle.std.specs.Prelude.{◌≡◌, true, IfSome, map, string_bytes};
-ghost use Rattle.std.specs.List.{list_all};
-ghost use Rattle.faxpack.specs.Arguments.{arguments_of_words, picture_words, rows_words, settings_of_words, k_of, are_flags};
-ghost use Rattle.faxpack.specs.Arguments.{are_apart, effort_with, is_flag};
+ghost use Rattle.faxpack.specs.Arguments.{arguments_of, picture_args, rows_args, settings_of_args, k_of, effort_with};
 ghost use Rattle.fax_encode.specs.Settings.{names_encoding};
 
 use fax_encode::{Effort, EncodeSettings, names_encoding};
-use fax_program::words::{has_flag, is_first_word, mode_of, number_of, order_with, times};
+use fax_program::arguments::{are_flags, has_flag, is_first_arg, mode_of, number_of, order_with};
 
 /// The size of rows without a header.
 #[derive(Debug, Clone, Copy)]
@@ -28,25 +26,25 @@ pub struct Arguments {
 }
 
 /// Returns what the arguments mean, or `None` if they are invalid or name no encoding.
-pub fn arguments_of(words: &[String]) -> Option<Arguments>
-    ensures arguments { result ≡ arguments_of_words (map string_bytes words.now) }
+pub fn arguments_of(args: &[String]) -> Option<Arguments>
+    ensures arguments { result ≡ arguments_of (map string_bytes args.now) }
     ensures names { IfSome result (λ arguments. names_encoding arguments.settings ≡ true) }
 {
-    if is_first_word(words, "-o") {
-        return rows_words(&words[1..]);
+    if is_first_arg(args, "-o") {
+        return rows_args(&args[1..]);
     }
-    picture_words(words)
+    picture_args(args)
 }
 
 /// Returns what a mode and flags mean, for a PBM picture.
-fn picture_words(words: &[String]) -> Option<Arguments>
-    ensures arguments { result ≡ picture_words (map string_bytes words.now) }
+fn picture_args(args: &[String]) -> Option<Arguments>
+    ensures arguments { result ≡ picture_args (map string_bytes args.now) }
     ensures names { IfSome result (λ arguments. names_encoding arguments.settings ≡ true) }
 {
-    let [mode, flags, more @ ..] = words else {
+    let [mode, flags, more @ ..] = args else {
         return None;
     };
-    let settings = settings_of_words(mode.as_str(), flags.as_str(), more)?;
+    let settings = settings_of_args(mode.as_str(), flags.as_str(), more)?;
     Some(Arguments {
         size: None,
         settings,
@@ -54,14 +52,14 @@ fn picture_words(words: &[String]) -> Option<Arguments>
 }
 
 /// Returns what a mode, the columns, the rows and flags mean, for rows without a header.
-fn rows_words(words: &[String]) -> Option<Arguments>
-    ensures arguments { result ≡ rows_words (map string_bytes words.now) }
+fn rows_args(args: &[String]) -> Option<Arguments>
+    ensures arguments { result ≡ rows_args (map string_bytes args.now) }
     ensures names { IfSome result (λ arguments. names_encoding arguments.settings ≡ true) }
 {
-    let [mode, columns, rows, flags, more @ ..] = words else {
+    let [mode, columns, rows, flags, more @ ..] = args else {
         return None;
     };
-    let settings = settings_of_words(mode.as_str(), flags.as_str(), more)?;
+    let settings = settings_of_args(mode.as_str(), flags.as_str(), more)?;
     let columns = number_of(columns.as_str())?;
     let rows = number_of(rows.as_str())?;
     Some(Arguments {
@@ -71,14 +69,14 @@ fn rows_words(words: &[String]) -> Option<Arguments>
 }
 
 /// Returns the settings that a mode, flags and the arguments after them mean, if they name an encoding.
-fn settings_of_words(mode: &str, flags: &str, more: &[String]) -> Option<EncodeSettings>
-    ensures settings { result ≡ settings_of_words mode.now flags.now (map string_bytes more.now) }
+fn settings_of_args(mode: &str, flags: &str, more: &[String]) -> Option<EncodeSettings>
+    ensures settings { result ≡ settings_of_args mode.now flags.now (map string_bytes more.now) }
     ensures names { IfSome result (λ settings. names_encoding settings ≡ true) }
 {
     let encoding = mode_of(mode)?;
     let k = k_of(more)?;
     let flags = flags.as_bytes();
-    if !are_flags(flags) {
+    if !are_flags(flags, b"blasrfm") {
         return None;
     }
     let settings = EncodeSettings {
@@ -110,41 +108,12 @@ fn effort_with(flags: &[u8]) -> Effort
 }
 
 /// Returns the K that the arguments after the flags mean: 4 without one.
-fn k_of(words: &[String]) -> Option<u32>
-    ensures { result ≡ k_of (map string_bytes words.now) }
+fn k_of(args: &[String]) -> Option<u32>
+    ensures { result ≡ k_of (map string_bytes args.now) }
 {
-    match words {
+    match args {
         [] => Some(4),
-        [word] => number_of(word.as_str()),
+        [arg] => number_of(arg.as_str()),
         _ => None,
     }
-}
-
-/// Returns whether an argument is `-`, or one or more of the letters b, l, a, s, r, f and m, none of them twice.
-#[tactic(auto, unfolding(crate::specs::Arguments::are_flags))]
-fn are_flags(word: &[u8]) -> bool
-    ensures { result ≡ are_flags word.now }
-{
-    let is_none = word == b"-".as_slice();
-    is_none || (!word.is_empty() && are_letters(word) && are_apart(word))
-}
-
-/// Returns whether an argument has only letters of flags.
-fn are_letters(word: &[u8]) -> bool
-    ensures { result ≡ list_all is_flag word.now }
-{
-    word.iter().all(|byte| matches!(*byte, b'b' | b'l' | b'a' | b's' | b'r' | b'f' | b'm'))
-}
-
-/// Returns whether no letter of a flag occurs twice in an argument.
-fn are_apart(word: &[u8]) -> bool
-    ensures { result ≡ are_apart word.now }
-{
-    times(word, b'b') <= 1
-        && times(word, b'l') <= 1
-        && times(word, b'a') <= 1
-        && times(word, b's') <= 1
-        && times(word, b'r') <= 1
-        && times(word, b'f') <= 1
-        && times(word, b'm') <= 1
 }

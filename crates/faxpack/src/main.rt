@@ -12,14 +12,14 @@ mod arguments;
 pub mod picture;
 pub mod program;
 
-use fax_program::words::is_only_word;
+use fax_program::arguments::is_only_arg;
 use fax_program::{Device, RunFault, Uninterrupted, args, print, status_of_fault};
 pub use picture::PictureFault;
 pub use program::run;
 use std::process::ExitCode;
 
 fn main(rt: HostRuntime) -> ExitCode {
-    match run_words(&rt) {
+    match run_args(&rt) {
         Ok(status) => ExitCode::from(status),
         Err(fault) => {
             let _ = eprintln!(rt; "faxpack: {fault}");
@@ -29,29 +29,29 @@ fn main(rt: HostRuntime) -> ExitCode {
 }
 
 /// Runs with the arguments of the program's run, and returns the exit status.
-fn run_words(rt: &HostRuntime) -> Result<u8, RunFault>
+fn run_args(rt: &HostRuntime) -> Result<u8, RunFault>
     ensures status { IfOk result IsStatusOfRun }
 {
-    let words = args(rt)?;
-    run_with(rt, words.as_slice())
+    let args = args(rt)?;
+    run_with(rt, args.as_slice())
 }
 
 /// Runs with these arguments, on standard input and output, and returns the exit status. It prints what is wrong with the
 /// picture.
-fn run_with(rt: &HostRuntime, words: &[String]) -> Result<u8, RunFault>
+fn run_with(rt: &HostRuntime, args: &[String]) -> Result<u8, RunFault>
     ensures status { IfOk result IsStatusOfRun }
 {
-    if is_only_word(words, "--help") {
+    if is_only_arg(args, "--help") {
         print(rt, USAGE)?;
         return Ok(0);
     }
-    if is_only_word(words, "--version") {
+    if is_only_arg(args, "--version") {
         print(rt, VERSION)?;
         return Ok(0);
     }
     let mut reader = Device::new(Uninterrupted(rt.stdin()));
     let mut writer = Device::new(Uninterrupted(rt.stdout()));
-    let answer = run(rt.alloc(), words, &mut reader, &mut writer)?;
+    let answer = run(rt.alloc(), args, &mut reader, &mut writer)?;
     if let Err(fault) = answer {
         let _ = eprintln!(rt; "faxpack: {fault}");
     }

@@ -1,12 +1,12 @@
 //! The bitmap of the input: that of a PBM picture (P4), or rows without a header.
 
 ghost use Rattle.std.specs.Prelude.{◌≡◌, ◌<◌, ◌≤◌, ◌+◌, ◌/◌, IfOk, IfSome, get_or, length, true, false};
-ghost use Rattle.fax_program.specs.Words.{number_of};
+ghost use Rattle.fax_program.specs.Arguments.{number_of};
 ghost use Rattle.faxpack.specs.Pictures.{digit_count, gap_length, header_of, is_space, number_at, pbm_place, place_of};
 ghost use Rattle.faxpack.specs.Pictures.{rows_place};
 
 use crate::arguments::Size;
-use fax_program::words::number_of;
+use fax_program::arguments::number_of;
 use std::{fmt, str};
 
 /// Why the input is not encoded.

@@ -3,7 +3,7 @@
 ghost use Rattle.std.specs.Prelude.{◌≡◌, ◌↔◌, ◌≢◌, ◌⊎◌, IfOk, IfErr, true, false, map, string_bytes, None, Ok, Err};
 ghost use Rattle.fax_encode.specs.Settings.{names_encoding};
 ghost use Rattle.fax_program.specs.Devices.{ReadsInput};
-ghost use Rattle.faxpack.specs.Arguments.{arguments_of_words};
+ghost use Rattle.faxpack.specs.Arguments.{arguments_of};
 ghost use Rattle.faxpack.specs.Runs.{IsAnswer, OnKnown};
 
 use crate::arguments::{Arguments, arguments_of};
@@ -22,23 +22,23 @@ use std::io::{Read, Write};
 /// `Write`.
 pub fn run<R: Read, W: Write>(
     alloc: Global,
-    words: &[String],
+    args: &[String],
     reader: &mut Device<R>,
     writer: &mut Device<W>,
 ) -> std::result::Result<std::result::Result<(), PictureFault>, RunFault>
     ensures bad_arguments { (result ≡ Err RunFault.BadArguments)
-        ↔ (arguments_of_words (map string_bytes words.now) ≡ None) }
+        ↔ (arguments_of (map string_bytes args.now) ≡ None) }
     ensures unread { result ≡ Err RunFault.BadArguments → reader.new ≡ reader.old }
     ensures unwritten { IfErr result (λ fault. fault ≢ RunFault.Write → writer.new ≡ writer.old) }
     ensures refused { IfOk result (λ answer. IfErr answer (λ _. writer.new ≡ writer.old)) }
     ensures answer { IfOk result (λ answer.
-        OnKnown (arguments_of_words (map string_bytes words.now)) (R.remaining reader.old.0) (λ arguments input.
+        OnKnown (arguments_of (map string_bytes args.now)) (R.remaining reader.old.0) (λ arguments input.
         IsAnswer arguments input answer (W.contents writer.old.0) (W.contents writer.new.0))) }
     ensures input { ReadsInput (R.remaining reader.old.0) (R.remaining reader.new.0) result }
     ensures read { reader.old.1 ≡ false → ((result ≡ Err RunFault.Read) ↔ (reader.new.1 ≡ true)) }
     ensures write { writer.old.1 ≡ false → ((result ≡ Err RunFault.Write) ↔ (writer.new.1 ≡ true)) }
 {
-    let Some(arguments) = arguments_of(words) else {
+    let Some(arguments) = arguments_of(args) else {
         return Err(RunFault::BadArguments);
     };
     let input = read_all(alloc, reader)?;

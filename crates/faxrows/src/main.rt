@@ -8,7 +8,7 @@
 ghost use Rattle.std.specs.Prelude.{◌≡◌, IfOk};
 ghost use Rattle.faxrows.specs.Statuses.{IsStatusOfRun, status_of_answer, status_of_done};
 
-use fax_program::words::{is_first_word, is_only_word};
+use fax_program::arguments::{is_first_arg, is_only_arg};
 use fax_program::{Uninterrupted, args, print, status_of_fault};
 pub use fax_program::{Device, Failed, RunFault};
 pub use faxrows_lib::{Done, TextSink, run, run_by_row, run_check, run_damage, run_packed};
@@ -16,7 +16,7 @@ use hayro_ccitt::DecodeError;
 use std::process::ExitCode;
 
 fn main(rt: HostRuntime) -> ExitCode {
-    match run_words(&rt) {
+    match run_args(&rt) {
         Ok(status) => ExitCode::from(status),
         Err(fault) => {
             let _ = eprintln!(rt; "faxrows: {fault}");
@@ -26,43 +26,43 @@ fn main(rt: HostRuntime) -> ExitCode {
 }
 
 /// Runs with the arguments of the program's run, and returns the exit status.
-fn run_words(rt: &HostRuntime) -> Result<u8, RunFault>
+fn run_args(rt: &HostRuntime) -> Result<u8, RunFault>
     ensures status { IfOk result IsStatusOfRun }
 {
-    let words = args(rt)?;
-    run_with(rt, words.as_slice())
+    let args = args(rt)?;
+    run_with(rt, args.as_slice())
 }
 
 /// Runs with these arguments, on standard input and output, and returns the exit status. It prints the error of a bitmap's
 /// decoding.
-fn run_with(rt: &HostRuntime, words: &[String]) -> Result<u8, RunFault>
+fn run_with(rt: &HostRuntime, args: &[String]) -> Result<u8, RunFault>
     ensures status { IfOk result IsStatusOfRun }
 {
-    if is_only_word(words, "--help") {
+    if is_only_arg(args, "--help") {
         print(rt, USAGE)?;
         return Ok(0);
     }
-    if is_only_word(words, "--version") {
+    if is_only_arg(args, "--version") {
         print(rt, VERSION)?;
         return Ok(0);
     }
     let mut reader = Device::new(Uninterrupted(rt.stdin()));
     let mut writer = Device::new(Uninterrupted(rt.stdout()));
-    if is_first_word(words, "-o") {
-        let answer = run_packed(rt.alloc(), &words[1..], &mut reader, &mut writer)?;
+    if is_first_arg(args, "-o") {
+        let answer = run_packed(rt.alloc(), &args[1..], &mut reader, &mut writer)?;
         if let Err(error) = answer {
             let _ = eprintln!(rt; "faxrows: {error}");
         }
         return Ok(status_of_answer(answer));
     }
-    let done = if is_first_word(words, "-i") {
-        run_by_row(rt.alloc(), &words[1..], &mut reader, &mut writer)?
-    } else if is_first_word(words, "-d") {
-        run_damage(rt.alloc(), &words[1..], &mut reader, &mut writer)?
-    } else if is_first_word(words, "-c") {
-        run_check(rt.alloc(), &words[1..], &mut reader, &mut writer)?
+    let done = if is_first_arg(args, "-i") {
+        run_by_row(rt.alloc(), &args[1..], &mut reader, &mut writer)?
+    } else if is_first_arg(args, "-d") {
+        run_damage(rt.alloc(), &args[1..], &mut reader, &mut writer)?
+    } else if is_first_arg(args, "-c") {
+        run_check(rt.alloc(), &args[1..], &mut reader, &mut writer)?
     } else {
-        run(rt.alloc(), words, &mut reader, &mut writer)?
+        run(rt.alloc(), args, &mut reader, &mut writer)?
     };
     Ok(status_of_done(done))
 }

@@ -68,10 +68,10 @@ miss_added settings bits (suc row) =
     ∙ append_assoc (damage_lines settings bits row) (repair_of_row settings bits row) (miss_of_row settings bits row)
 
 -- a call reports it
-pub miss_told : (settings : DecodeSettings) (bits : Bits) (old new : RowsRead) (result : Result Bool DecodeError)
+pub miss_reported : (settings : DecodeSettings) (bits : Bits) (old new : RowsRead) (result : Result Bool DecodeError)
     → old.settings ≡ settings → old.bits ≡ bits → ReadsNext old new result → damage_so_far settings bits old.taken
     ++ line_of_miss (old.taken - 1) new.missed ≡ damage_lines settings bits old.taken
-miss_told settings bits old new result of_settings of_bits reads =
+miss_reported settings bits old new result of_settings of_bits reads =
     let missed : new.missed ≡ missed_before settings bits old.taken
     = reads.missed ∙ ap (λ (s : DecodeSettings). missed_before s old.bits old.taken) of_settings
     ∙ ap (λ (b : Bits). missed_before settings b old.taken) of_bits in

@@ -2,7 +2,7 @@
 pub use Rattle.fax_encode.specs.Laws.{RowsArePacked}
 pub use Rattle.fax_encode.specs.Packed.{Bitmap, packed, with_packed_row}
 pub use Rattle.fax_program.specs.Devices.{AppendsFront, WasRead}
-pub use Rattle.faxrows_lib.specs.Arguments.{arguments_of_words}
+pub use Rattle.faxrows_lib.specs.Arguments.{arguments_of}
 pub use Rattle.fax_program.specs.declared.fault.RunFault.{RunFault}
 pub use Rattle.fax_program.specs.declared.fault.RunFault.TheVariants.{BadArguments, Read, TooLong, Write, Memory as FaultOfMemory}
 pub use Rattle.fax_conforms.specs.Conforming.{Conforms}

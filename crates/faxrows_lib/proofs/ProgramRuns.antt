@@ -2,7 +2,7 @@
 use Rattle.faxrows_lib.proofs.Names.{◌≡◌, true, false, List, ℕ, Option, Result, Ok, Err, IfErr, OnOk, OnErr, refl, sym, ap}
 use Rattle.faxrows_lib.proofs.Names.{subst}
 use Rattle.faxrows_lib.proofs.Names.{◌∙◌, Arguments, Appends, AppendsFront, Bits, BitsFit, DecodeSettings, IfSome, RunFault}
-use Rattle.faxrows_lib.proofs.Names.{Write, arguments_of_words, bits_in}
+use Rattle.faxrows_lib.proofs.Names.{Write, arguments_of, bits_in}
 use Rattle.faxrows_lib.proofs.Names.{HasInput, OnKnown, RunsProgram, Used, WritesText, bytes_after, bytes_before}
 use Rattle.faxrows_lib.proofs.Texts.{on_input, on_known}
 
@@ -42,27 +42,27 @@ writes_weaker IsText IsOther writer (Err fault) on writes = wrote_front IsOther 
 
 -- ---- A run
 
-module _ {R W T : Type 0} (IsText : DecodeSettings → Bits → T → List ℕ → Type 0) (words : List (List ℕ)) (reader : Used R)
+module _ {R W T : Type 0} (IsText : DecodeSettings → Bits → T → List ℕ → Type 0) (args : List (List ℕ)) (reader : Used R)
     (writer : Used W) where
-  module _ (arguments : Arguments) (input : List ℕ) (has : HasInput words reader arguments input) where
+  module _ (arguments : Arguments) (input : List ℕ) (has : HasInput args reader arguments input) where
     -- there are at most as many bits as offsets
     fits : IfSome (bytes_before reader) BitsFit
     fits = on_input _ input BitsFit has.all has.fit
 
     -- its arguments mean something
-    meant : arguments_of_words words ≡ Option.None → ⊥
+    meant : arguments_of args ≡ Option.None → ⊥
     meant none = let e : Option.Some arguments ≡ Option.None = sym has.arguments_are ∙ none in cc
 
     -- a statement about what was read is one about what is known
     known : (P : DecodeSettings → Bits → Type 0) (settings : DecodeSettings) (bits : Bits) → settings ≡ arguments.settings
-        → bits ≡ bits_in arguments.order input → P settings bits → OnKnown (arguments_of_words words) (bytes_before reader) P
+        → bits ≡ bits_in arguments.order input → P settings bits → OnKnown (arguments_of args) (bytes_before reader) P
     known P settings bits kept same holds =
         on_known _ arguments settings _ input P has.arguments_are kept has.all (subst (P settings) same holds)
 
     -- it wrote a text of the settings and the bits, or a front of one
     pub with_text : (settings : DecodeSettings) (bits : Bits) (result : Result T RunFault) → settings ≡ arguments.settings
         → bits ≡ bits_in arguments.order input → WritesText (IsText settings bits) writer result
-        → RunsProgram IsText words reader writer result
+        → RunsProgram IsText args reader writer result
     with_text settings bits (Ok value) kept same writes = record {
       bad_arguments = (λ e. cc, λ none. absurd (meant none));
       unread = λ e. cc;

@@ -12,7 +12,7 @@ use Rattle.std.proofs.KnownBytes.{Appends-nil, Consumes-nil, Consumes-trans}
 use Rattle.std.proofs.Math.Seq.{drop-append_seam}
 use Rattle.std.proofs.lemmas.List.Concat.{flat_map-append}
 use Rattle.std.specs.Io.KnownBytes.{Consumes, IsAtEnd}
-use Rattle.faxrows_lib.proofs.Names.{Arguments, RunsAsRead, arguments_of_words}
+use Rattle.faxrows_lib.proofs.Names.{Arguments, RunsAsRead, arguments_of}
 use Rattle.hayro_ccitt.specs.Bits.{AreWholeBytes, bits_of_byte}
 use Rattle.hayro_ccitt.proofs.BitReading.BitLists.{bits_are_whole, length-bits_in}
 
@@ -367,13 +367,13 @@ way_begun bytes reader start {feed} {waits} new empty = record {
 
 -- ---- A run
 
-module _ {R W T : Type 0} (IsText : DecodeSettings → Bits → T → List ℕ → Type 0) (words : List (List ℕ)) (reader : Used R)
+module _ {R W T : Type 0} (IsText : DecodeSettings → Bits → T → List ℕ → Type 0) (args : List (List ℕ)) (reader : Used R)
     (writer : Used W) where
-  -- whose words mean these arguments
-  pub good_words : (arguments : Arguments) (result : Result T RunFault) → arguments_of_words words ≡ Some arguments
+  -- whose args mean these arguments
+  pub good_args : (arguments : Arguments) (result : Result T RunFault) → arguments_of args ≡ Some arguments
       → WritesAsRead IsText arguments.settings arguments.order reader writer result
-      → RunsAsRead IsText words reader writer result
-  good_words arguments result e writes = record {
+      → RunsAsRead IsText args reader writer result
+  good_args arguments result e writes = record {
     bad_arguments = (λ is. absurd (writes.not_arguments is), λ none. let never = sym e ∙ none in cc);
     unused = λ is. absurd (writes.not_arguments is);
     writes = subst (λ (meant : Option Arguments). IfSome meant (λ meant. WritesAsRead IsText meant.settings meant.order

@@ -7,7 +7,7 @@ use Rattle.hayro_ccitt.specs.DecodeSettings.{DecodeSettings}
 use Rattle.fax_program.specs.Devices.{AppendsFront, WasRead}
 use Rattle.fax_program.specs.declared.fault.RunFault.{RunFault}
 use Rattle.fax_program.specs.declared.fault.RunFault.TheVariants.{BadArguments, Read, TooLong, Write}
-use Rattle.faxrows_lib.specs.Arguments.{arguments_of_words}
+use Rattle.faxrows_lib.specs.Arguments.{arguments_of}
 use Rattle.faxrows_lib.specs.Output.{Used, bytes_before, bytes_after}
 use Rattle.faxrows_lib.specs.Runs.{rows_of}
 use Rattle.faxrows_lib.specs.Text.{lines_of_rows}
@@ -43,9 +43,9 @@ pub record WritesAsRead {R W T : Type 0} (IsText : DecodeSettings → Bits → T
   pub not_arguments : result ≢ Err BadArguments
 
 -- a run with these arguments
-pub record RunsAsRead {R W T : Type 0} (IsText : DecodeSettings → Bits → T → List ℕ → Type 0) (words : List (List ℕ))
+pub record RunsAsRead {R W T : Type 0} (IsText : DecodeSettings → Bits → T → List ℕ → Type 0) (args : List (List ℕ))
     (reader : Used R) (writer : Used W) (result : Result T RunFault) : Type 0 where
-  pub bad_arguments : (result ≡ Err BadArguments) ↔ (arguments_of_words words ≡ None)
+  pub bad_arguments : (result ≡ Err BadArguments) ↔ (arguments_of args ≡ None)
   pub unused : result ≡ Err BadArguments → (reader.after ≡ reader.before) × (writer.after ≡ writer.before)
-  pub writes : IfSome (arguments_of_words words) (λ meant.
+  pub writes : IfSome (arguments_of args) (λ meant.
       WritesAsRead IsText meant.settings meant.order reader writer result)

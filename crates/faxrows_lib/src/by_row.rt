@@ -26,14 +26,14 @@ use std::io::{Read, Write};
 /// text if the writer failed. A fault of the data is no error of the run: it is written, and `Done::Faulty` returned.
 pub fn run_by_row<R: Read, W: Write>(
     alloc: Global,
-    words: &[String],
+    args: &[String],
     reader: &mut Device<R>,
     writer: &mut Device<W>,
 ) -> std::result::Result<Done, RunFault>
-    ensures runs { RunsAsRead IsTextByRow (map string_bytes words.now) (used R.remaining reader.old reader.new)
+    ensures runs { RunsAsRead IsTextByRow (map string_bytes args.now) (used R.remaining reader.old reader.new)
         (used W.contents writer.old writer.new) result }
 {
-    let Some(arguments) = arguments_of(words) else {
+    let Some(arguments) = arguments_of(args) else {
         return Err(RunFault::BadArguments);
     };
     let Ok(mut rows) = RowFeed::new(alloc, arguments.order, arguments.settings) else {

@@ -24,14 +24,14 @@ use std::io::{Read, Write};
 /// Those of [`run`](crate::run). An allocation that fails during the check is `Memory`; nothing is written then.
 pub fn run_check<R: Read, W: Write>(
     alloc: Global,
-    words: &[String],
+    args: &[String],
     reader: &mut Device<R>,
     writer: &mut Device<W>,
 ) -> std::result::Result<Done, RunFault>
-    ensures runs { RunsProgram IsCheck (map string_bytes words.now) (used R.remaining reader.old reader.new)
+    ensures runs { RunsProgram IsCheck (map string_bytes args.now) (used R.remaining reader.old reader.new)
         (used W.contents writer.old writer.new) result }
 {
-    let (arguments, input) = read_input(alloc, words, reader)?;
+    let (arguments, input) = read_input(alloc, args, reader)?;
     let Ok(found) = first_violation(alloc, arguments.settings, arguments.order, input.as_slice())
     else {
         return Err(RunFault::Memory);

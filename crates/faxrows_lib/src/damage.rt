@@ -35,14 +35,14 @@ use std::io::{Read, Write};
 /// Those of [`run`](crate::run).
 pub fn run_damage<R: Read, W: Write>(
     alloc: Global,
-    words: &[String],
+    args: &[String],
     reader: &mut Device<R>,
     writer: &mut Device<W>,
 ) -> std::result::Result<Done, RunFault>
-    ensures runs { RunsProgram IsDamageText (map string_bytes words.now) (used R.remaining reader.old reader.new)
+    ensures runs { RunsProgram IsDamageText (map string_bytes args.now) (used R.remaining reader.old reader.new)
         (used W.contents writer.old writer.new) result }
 {
-    let (arguments, input) = read_input(alloc, words, reader)?;
+    let (arguments, input) = read_input(alloc, args, reader)?;
     let Ok(mut rows) = RowReader::new(alloc, input.as_slice(), arguments.order, arguments.settings)
     else {
         return Err(RunFault::Memory);

@@ -16,14 +16,14 @@ use std::io::Read;
 /// `BadArguments` if the arguments mean nothing; nothing is read then. Otherwise those of [`read_all`].
 pub(crate) fn read_input<R: Read>(
     alloc: Global,
-    words: &[String],
+    args: &[String],
     reader: &mut Device<R>,
 ) -> std::result::Result<(Arguments, Vec<u8>), RunFault>
-    ensures has { IfOk result (λ input. HasInput (map string_bytes words.now) (used R.remaining reader.old reader.new)
+    ensures has { IfOk result (λ input. HasInput (map string_bytes args.now) (used R.remaining reader.old reader.new)
         input.0 input.1.items) }
-    ensures lacks { IfErr result (LacksInput (map string_bytes words.now) (used R.remaining reader.old reader.new)) }
+    ensures lacks { IfErr result (LacksInput (map string_bytes args.now) (used R.remaining reader.old reader.new)) }
 {
-    let Some(arguments) = arguments_of(words) else {
+    let Some(arguments) = arguments_of(args) else {
         return Err(RunFault::BadArguments);
     };
     let input = read_all(alloc, reader)?;

@@ -25,14 +25,14 @@ use std::io::{Read, Write};
 /// `OutOfMemory` and `Refused` the rows that were accepted.
 pub fn run_packed<R: Read, W: Write>(
     alloc: Global,
-    words: &[String],
+    args: &[String],
     reader: &mut Device<R>,
     writer: &mut Device<W>,
 ) -> std::result::Result<std::result::Result<(), DecodeError>, RunFault>
-    ensures runs { RunsProgram IsPackedOf (map string_bytes words.now) (used R.remaining reader.old reader.new)
+    ensures runs { RunsProgram IsPackedOf (map string_bytes args.now) (used R.remaining reader.old reader.new)
         (used W.contents writer.old writer.new) result }
 {
-    let (arguments, input) = read_input(alloc, words, reader)?;
+    let (arguments, input) = read_input(alloc, args, reader)?;
     let Ok(mut ctx) = DecoderContext::new(alloc, arguments.settings) else {
         return Err(RunFault::Memory);
     };

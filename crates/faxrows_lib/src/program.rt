@@ -36,14 +36,14 @@ pub enum Done {
 /// is written, and `Done::Faulty` returned.
 pub fn run<R: Read, W: Write>(
     alloc: Global,
-    words: &[String],
+    args: &[String],
     reader: &mut Device<R>,
     writer: &mut Device<W>,
 ) -> std::result::Result<Done, RunFault>
-    ensures runs { RunsProgram IsRowsText (map string_bytes words.now) (used R.remaining reader.old reader.new)
+    ensures runs { RunsProgram IsRowsText (map string_bytes args.now) (used R.remaining reader.old reader.new)
         (used W.contents writer.old writer.new) result }
 {
-    let (arguments, input) = read_input(alloc, words, reader)?;
+    let (arguments, input) = read_input(alloc, args, reader)?;
     let Ok(mut ctx) = DecoderContext::new(alloc, arguments.settings) else {
         return Err(RunFault::Memory);
     };

@@ -30,7 +30,7 @@ pub use Rattle.hayro_ccitt.specs.Rows.{opposite, pixel, pixel_before, pixels, re
 pub use Rattle.hayro_ccitt.specs.RowsKept.{EndsByWords, IsInStepFrom, RowsBeforeStay, RowsAfterStay, RowsFollow, TellsStep}
 pub use Rattle.fax_rows.specs.RowsRead.{HasEnded, HasFailed}
 pub use Rattle.fax_rows.specs.RowsRead.{ReaderStands, ReadsNext, RowsRead, StandsAtLine, StandsAfterRow, ended}
-pub use Rattle.fax_rows.specs.RowsRead.{MissIsTold}
+pub use Rattle.fax_rows.specs.RowsRead.{MissIsReported}
 pub use Rattle.hayro_ccitt.specs.Runs.{codes_of, read_run, run_from}
 pub use Rattle.hayro_ccitt.specs.Settings.{AreSettings}
 pub use Rattle.hayro_ccitt.specs.Space.{most_room}

@@ -26,7 +26,7 @@ reading_of old rows same = record {
   rows = rows;
   is_kept = false;
   layout = old.layout;
-  told = None;
+  reported = None;
   reaches = subst (λ (s : DecodeSettings). bytes_of_row s.columns ≤ old.layout.stride) (sym same) old.reaches;
   tells = λ x e. cc;
 }
@@ -229,10 +229,10 @@ module _ {M : Type 0} {step : M → List ℕ → M} {start final : SinkState M} 
       → (final.refused ≡ true → final.refuses (changes new.rows.ctx.held.reference)
       → length after < need left (rows_given passes.given))
       → status ≡ status_after answer count left.is_kept → GivesRows AreWritten need old left before after count status
-  gives_rows before after count status many written room told = elim passes.ends [
+  gives_rows before after count status many written room reported = elim passes.ends [
     | inl end ↦
         let status_is : status ≡ status_of_fed answer =
-        told ∙ ap (status_after answer count) (flag ∙ end.flag) in
+        reported ∙ ap (status_after answer count) (flag ∙ end.flag) in
         record {
           given = passes.given;
           each = passes.each;
@@ -248,7 +248,7 @@ module _ {M : Type 0} {step : M → List ℕ → M} {start final : SinkState M} 
         }
     | inr end ↦
         let status_is : status ≡ status_after answer count true =
-        told ∙ ap (status_after answer count) (flag ∙ end.flag) in
+        reported ∙ ap (status_after answer count) (flag ∙ end.flag) in
         record {
           given = passes.given;
           each = passes.each;

@@ -8,5 +8,5 @@ pub mod Reports
 pub mod RowsFed
 pub mod RowsGiven
 pub mod RowsTaken
-pub mod RowsTold
+pub mod RowsReported
 pub mod Settings

@@ -67,8 +67,8 @@ pub record IsPacked (black_is_0 : Bool) (columns : ℕ) (row : Row) (before afte
   pub rest : drop (bytes_of_row columns) after ≡ drop (bytes_of_row columns) before
 
 -- zeros
-abbrev pub told_nothing : RowOutcome
-told_nothing = record {
+abbrev pub reported_nothing : RowOutcome
+reported_nothing = record {
   rows = 0;
   changes = 0;
   line_start = 0;
@@ -82,34 +82,34 @@ told_nothing = record {
 }
 
 -- the status of the fault of a row that was repaired, 0 for one that was whole
-abbrev pub damage_told : Option DecodeError → ℕ
-damage_told None = 0
-damage_told (Some error) = status_of_row (Err error)
+abbrev pub damage_reported : Option DecodeError → ℕ
+damage_reported None = 0
+damage_reported (Some error) = status_of_row (Err error)
 
 -- 1 if a run of a row was cut, else 0
-abbrev pub cut_told : Bool → ℕ
-cut_told true = 1
-cut_told false = 0
+abbrev pub cut_reported : Bool → ℕ
+cut_reported true = 1
+cut_reported false = 0
 
 -- the offset of an EOL that was missed, 0 if none was
-abbrev pub miss_told : Option ℕ → ℕ
-miss_told None = 0
-miss_told (Some place) = place
+abbrev pub miss_reported : Option ℕ → ℕ
+miss_reported None = 0
+miss_reported (Some place) = place
 
 -- What C gets of a reading: the number of rows read, the number of changes of the last one, the offset of its line, the bytes
 -- consumed so far, the number of repaired rows, the fault of the last one, the number of missed EOLs, the number of rows in
 -- which a run was cut, whether one was in the last row, and the offset at which the last gap lacked an EOL.
-pub record TellsOf (paused : Paused) (told : RowOutcome) : Type 0 where
-  pub rows : told.rows ≡ paused.ctx.held.taken
-  pub changes : told.changes ≡ length (changes paused.ctx.held.reference)
-  pub line_start : told.line_start ≡ paused.rows.started_at
-  pub bytes_read : told.bytes_read ≡ (paused.place + 7) / 8
-  pub damaged_rows : told.damaged_rows ≡ paused.ctx.held.repairs.rows
-  pub damage : told.damage ≡ damage_told paused.rows.damage
-  pub missed_eols : told.missed_eols ≡ paused.ctx.held.repairs.missed
-  pub cut_rows : told.cut_rows ≡ paused.ctx.held.repairs.cut
-  pub is_cut : told.is_cut ≡ cut_told paused.rows.cut
-  pub missed_eol : told.missed_eol ≡ miss_told paused.rows.missed
+pub record TellsOf (paused : Paused) (reported : RowOutcome) : Type 0 where
+  pub rows : reported.rows ≡ paused.ctx.held.taken
+  pub changes : reported.changes ≡ length (changes paused.ctx.held.reference)
+  pub line_start : reported.line_start ≡ paused.rows.started_at
+  pub bytes_read : reported.bytes_read ≡ (paused.place + 7) / 8
+  pub damaged_rows : reported.damaged_rows ≡ paused.ctx.held.repairs.rows
+  pub damage : reported.damage ≡ damage_reported paused.rows.damage
+  pub missed_eols : reported.missed_eols ≡ paused.ctx.held.repairs.missed
+  pub cut_rows : reported.cut_rows ≡ paused.ctx.held.repairs.cut
+  pub is_cut : reported.is_cut ≡ cut_reported paused.rows.cut
+  pub missed_eol : reported.missed_eol ≡ miss_reported paused.rows.missed
 
 -- A reading of these bits by these settings before the first row, whose packed rows have 0 for black if it says so.
 pub record IsOpened (settings : DecodeSettings) (bits : Bits) (order : BitOrder) (black_is_0 : Bool) (opened : Reading)

@@ -80,7 +80,7 @@ pub record IsGiven (bytes before after : List ℕ) : Type 0 where
   pub rest : drop (length bytes) after ≡ drop (length bytes) before
 
 -- the outcome: the number of rows and of bytes of a strip that is finished, else zeros
-abbrev pub strip_told : Strip → EncodeOutcome
-strip_told (Rows rows) = record { rows = 0; bytes = 0 }
-strip_told (Whole finished) = record { rows = finished.rows; bytes = length finished.bytes.items }
-strip_told OutOfMemory = record { rows = 0; bytes = 0 }
+abbrev pub strip_reported : Strip → EncodeOutcome
+strip_reported (Rows rows) = record { rows = 0; bytes = 0 }
+strip_reported (Whole finished) = record { rows = finished.rows; bytes = length finished.bytes.items }
+strip_reported OutOfMemory = record { rows = 0; bytes = 0 }

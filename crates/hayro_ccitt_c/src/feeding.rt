@@ -2,13 +2,13 @@
 
 ghost use Rattle.std.specs.Prelude.{◌≤◌};
 ghost use Rattle.hayro_ccitt_c.specs.Packing.{bytes_of_row};
-ghost use Rattle.hayro_ccitt_c.specs.RowsTold.{IsToldStill};
+ghost use Rattle.hayro_ccitt_c.specs.RowsReported.{IsReportedStill};
 ghost use Rattle.hayro_ccitt.specs.SinkStates.{state_of};
 
 use crate::fed_status::{is_fed_row, needs_more, status_after, status_of_fed};
 use crate::listed_rows::ListedRows;
 use crate::packed_rows::{Layout, PackedRows, spaced};
-use crate::row_outcome::{RowOutcome, damage_told, miss_told};
+use crate::row_outcome::{RowOutcome, damage_reported, miss_reported};
 use crate::row_room::{list_over, pack_over};
 use crate::status;
 use hayro_ccitt::bit_reader::BitOrder;
@@ -22,9 +22,9 @@ pub struct Feeding {
     pub(crate) rows: RowFeed,
     pub(crate) is_kept: bool,
     pub(crate) layout: Layout,
-    pub(crate) told: Option<RowOutcome>,
+    pub(crate) reported: Option<RowOutcome>,
     ghost reaches: { bytes_of_row rows.ctx.held.settings.columns ≤ layout.stride },
-    ghost tells: { IsToldStill rows told },
+    ghost tells: { IsReportedStill rows reported },
 }
 
 impl Feeding {
@@ -34,7 +34,7 @@ impl Feeding {
     ghost use Rattle.hayro_ccitt_c.specs.Encoding.{AreEncoded, HaveNoRoom};
     ghost use Rattle.hayro_ccitt_c.specs.Packing.{bytes_of_row};
     ghost use Rattle.hayro_ccitt_c.specs.RowsFed.{FinishesFeed, GivesFed, IsFeedOpened, TakesBytes, TurnsToFed};
-    ghost use Rattle.hayro_ccitt_c.specs.RowsTold.{as_paused};
+    ghost use Rattle.hayro_ccitt_c.specs.RowsReported.{as_paused};
     ghost use Rattle.hayro_ccitt_c.specs.GivenRows.{ListsRows, PacksRows, PassesAll, columns_of};
     ghost use Rattle.hayro_ccitt_c.specs.RowsGiven.{IsListed, IsPacked, TellsOf};
     ghost use Rattle.hayro_ccitt_c.specs.declared.status.TheConstants.{OK, REFUSED};
@@ -54,7 +54,7 @@ impl Feeding {
             rows,
             is_kept: false,
             layout,
-            told: None,
+            reported: None,
         })
     }
 
@@ -103,7 +103,7 @@ impl Feeding {
         let was_within_line = self.rows.is_within_line();
         let answer = self.rows.next_row();
         if !was_within_line || !needs_more(answer) {
-            self.told = None;
+            self.reported = None;
         }
         answer
     }
@@ -200,7 +200,7 @@ impl Feeding {
         ensures passes { PassesAll (D.step (D.width sink.old)) (state_of D.Decoder sink.old) (state_of D.Decoder sink.new)
             self.old self.new result }
     {
-        self.told = None;
+        self.reported = None;
         if !self.is_kept {
             return self.rows.push_rows(sink);
         }
@@ -308,22 +308,22 @@ impl Feeding {
     /// Reports the last row to C: what was reported before, if that still holds.
     #[inline(always)]
     pub(crate) fn tell(&mut self, outcome: &mut RowOutcome)
-        ensures told { TellsOf (as_paused self.new.rows) outcome.new }
+        ensures reported { TellsOf (as_paused self.new.rows) outcome.new }
         ensures rows { self.new.rows ≡ self.old.rows }
         ensures kept { self.new.is_kept ≡ self.old.is_kept }
         ensures layout { self.new.layout ≡ self.old.layout }
     {
-        if let Some(told) = self.told {
-            *outcome = told;
+        if let Some(reported) = self.reported {
+            *outcome = reported;
             return;
         }
-        let told = self.told_anew();
-        self.told = Some(told);
-        *outcome = told;
+        let reported = self.reported_anew();
+        self.reported = Some(reported);
+        *outcome = reported;
     }
 
     /// Returns what C gets of the last row.
-    fn told_anew(&self) -> RowOutcome
+    fn reported_anew(&self) -> RowOutcome
         ensures { TellsOf (as_paused self.now.rows) result }
     {
         RowOutcome {
@@ -332,11 +332,11 @@ impl Feeding {
             line_start: self.rows.line_start() as u64,
             bytes_read: self.rows.bytes_read() as u64,
             damaged_rows: self.rows.damaged_rows(),
-            damage: damage_told(self.rows.damage()),
+            damage: damage_reported(self.rows.damage()),
             missed_eols: self.rows.missed_eols(),
             cut_rows: self.rows.cut_rows(),
             is_cut: u64::from(self.rows.is_cut()),
-            missed_eol: miss_told(self.rows.missed_eol()),
+            missed_eol: miss_reported(self.rows.missed_eol()),
         }
     }
 }

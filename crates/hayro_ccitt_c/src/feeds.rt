@@ -7,15 +7,15 @@ ghost use Rattle.hayro_ccitt_c.specs.Encoding.{AreEncoded, HaveNoRoom};
 ghost use Rattle.hayro_ccitt_c.specs.Owned.{OnFeeding, OnFeedings};
 ghost use Rattle.hayro_ccitt_c.specs.Packing.{bytes_of_row};
 ghost use Rattle.hayro_ccitt_c.specs.RowsFed.{FinishesFeed, GivesFed, IsFeedOpened, TakesBytes};
-ghost use Rattle.hayro_ccitt_c.specs.RowsTold.{as_paused};
+ghost use Rattle.hayro_ccitt_c.specs.RowsReported.{as_paused};
 ghost use Rattle.hayro_ccitt_c.specs.GivenRows.{ListsRows, PacksRows};
-ghost use Rattle.hayro_ccitt_c.specs.RowsGiven.{IsListed, IsPacked, TellsOf, told_nothing};
+ghost use Rattle.hayro_ccitt_c.specs.RowsGiven.{IsListed, IsPacked, TellsOf, reported_nothing};
 ghost use Rattle.hayro_ccitt_c.specs.Settings.{layout_of, order_of, settings_of};
 ghost use Rattle.hayro_ccitt_c.specs.declared.status.TheConstants.{OK, OUT_OF_MEMORY, REFUSED, NOT_TAKEN};
 
 use crate::feed_handle::Feed;
 use crate::owned::Owned;
-use crate::row_outcome::{RowOutcome, nothing_told};
+use crate::row_outcome::{RowOutcome, nothing_reported};
 use crate::settings::{Settings, layout_of, order_of, settings_of};
 use crate::status;
 use std::alloc::Global;
@@ -124,14 +124,14 @@ pub extern "C" fn hayro_ccitt_feed_next_changes(
     ensures refused { result ≡ REFUSED → OnFeeding feed.new.handle.value (λ feeding.
         length list.new < length (changes feeding.rows.ctx.held.reference)) }
     ensures unwritten { result ≢ OK → list.new ≡ list.old }
-    ensures told { feed.old.is_open ≡ true → OnFeeding feed.new.handle.value (λ feeding.
+    ensures reported { feed.old.is_open ≡ true → OnFeeding feed.new.handle.value (λ feeding.
         TellsOf (as_paused feeding.rows) outcome.new) }
     ensures is_open { feed.new.is_open ≡ feed.old.is_open }
     ensures untaken { feed.old.is_open ≡ false
-        → (result ≡ NOT_TAKEN) × (feed.new ≡ feed.old) × (outcome.new ≡ told_nothing) }
+        → (result ≡ NOT_TAKEN) × (feed.new ≡ feed.old) × (outcome.new ≡ reported_nothing) }
 {
     if !feed.is_open {
-        *outcome = nothing_told();
+        *outcome = nothing_reported();
         return status::NOT_TAKEN;
     }
     let mut feeding = feed.take(alloc);
@@ -158,14 +158,14 @@ pub extern "C" fn hayro_ccitt_feed_next_packed(
     ensures refused { result ≡ REFUSED → OnFeeding feed.new.handle.value (λ feeding.
         length bytes.new < bytes_of_row feeding.rows.ctx.held.settings.columns) }
     ensures unwritten { result ≢ OK → bytes.new ≡ bytes.old }
-    ensures told { feed.old.is_open ≡ true → OnFeeding feed.new.handle.value (λ feeding.
+    ensures reported { feed.old.is_open ≡ true → OnFeeding feed.new.handle.value (λ feeding.
         TellsOf (as_paused feeding.rows) outcome.new) }
     ensures is_open { feed.new.is_open ≡ feed.old.is_open }
     ensures untaken { feed.old.is_open ≡ false
-        → (result ≡ NOT_TAKEN) × (feed.new ≡ feed.old) × (outcome.new ≡ told_nothing) }
+        → (result ≡ NOT_TAKEN) × (feed.new ≡ feed.old) × (outcome.new ≡ reported_nothing) }
 {
     if !feed.is_open {
-        *outcome = nothing_told();
+        *outcome = nothing_reported();
         return status::NOT_TAKEN;
     }
     let mut feeding = feed.take(alloc);
@@ -178,10 +178,10 @@ pub extern "C" fn hayro_ccitt_feed_next_packed(
 fn nothing_given(count: &mut usize, outcome: &mut RowOutcome) -> u32
     ensures status { result ≡ NOT_TAKEN }
     ensures none { count.new ≡ 0 }
-    ensures told { outcome.new ≡ told_nothing }
+    ensures reported { outcome.new ≡ reported_nothing }
 {
     *count = 0;
-    *outcome = nothing_told();
+    *outcome = nothing_reported();
     status::NOT_TAKEN
 }
 
@@ -201,11 +201,11 @@ pub extern "C" fn hayro_ccitt_feed_rows_packed(
 ) -> u32
     ensures packs { feed.old.is_open ≡ true → OnFeedings feed.old.handle.value feed.new.handle.value
         (λ old new. PacksRows old new bitmap.old bitmap.new count.new result) }
-    ensures told { feed.old.is_open ≡ true → OnFeeding feed.new.handle.value (λ feeding.
+    ensures reported { feed.old.is_open ≡ true → OnFeeding feed.new.handle.value (λ feeding.
         TellsOf (as_paused feeding.rows) outcome.new) }
     ensures is_open { feed.new.is_open ≡ feed.old.is_open }
     ensures untaken { feed.old.is_open ≡ false → (result ≡ NOT_TAKEN) × (feed.new ≡ feed.old) × (bitmap.new ≡ bitmap.old)
-        × (count.new ≡ 0) × (outcome.new ≡ told_nothing) }
+        × (count.new ≡ 0) × (outcome.new ≡ reported_nothing) }
 {
     if !feed.is_open {
         return nothing_given(count, outcome);
@@ -232,11 +232,11 @@ pub extern "C" fn hayro_ccitt_feed_rows_changes(
 ) -> u32
     ensures lists { feed.old.is_open ≡ true → OnFeedings feed.old.handle.value feed.new.handle.value
         (λ old new. ListsRows old new lists.old lists.new count.new result) }
-    ensures told { feed.old.is_open ≡ true → OnFeeding feed.new.handle.value (λ feeding.
+    ensures reported { feed.old.is_open ≡ true → OnFeeding feed.new.handle.value (λ feeding.
         TellsOf (as_paused feeding.rows) outcome.new) }
     ensures is_open { feed.new.is_open ≡ feed.old.is_open }
     ensures untaken { feed.old.is_open ≡ false → (result ≡ NOT_TAKEN) × (feed.new ≡ feed.old) × (lists.new ≡ lists.old)
-        × (count.new ≡ 0) × (outcome.new ≡ told_nothing) }
+        × (count.new ≡ 0) × (outcome.new ≡ reported_nothing) }
 {
     if !feed.is_open {
         return nothing_given(count, outcome);
@@ -268,7 +268,7 @@ pub extern "C" fn hayro_ccitt_feed_unused(
     ensures unchanged { feed.new.handle.value ≡ feed.old.handle.value }
     ensures is_open { feed.new.is_open ≡ feed.old.is_open }
     ensures untaken { (result ≡ NOT_TAKEN) ↔ (feed.old.is_open ≡ false) }
-    ensures none_told { feed.old.is_open ≡ false → (count.new ≡ 0) × (feed.new ≡ feed.old) }
+    ensures none_reported { feed.old.is_open ≡ false → (count.new ≡ 0) × (feed.new ≡ feed.old) }
 {
     if !feed.is_open {
         *count = 0;

@@ -18,8 +18,8 @@ ghost use Rattle.hayro_ccitt_c.specs.Packing.{bytes_of_row, row_read, together};
 ghost use Rattle.hayro_ccitt_c.specs.Reports.{OnSettings, IsReport, TellsDamage, changes_taken};
 ghost use Rattle.hayro_ccitt_c.specs.Reports.{outcome_of};
 ghost use Rattle.hayro_ccitt_c.specs.Reports.{ArePacked, AreListed, AreTogether, numbers_taken};
-ghost use Rattle.hayro_ccitt_c.specs.RowsGiven.{GivesRow, IsListed, IsOpened, IsPacked, TellsOf, told_nothing};
-ghost use Rattle.hayro_ccitt_c.specs.RowsTaken.{Finishes, IfFinished, IsGiven, TakesRow, strip_told};
+ghost use Rattle.hayro_ccitt_c.specs.RowsGiven.{GivesRow, IsListed, IsOpened, IsPacked, TellsOf, reported_nothing};
+ghost use Rattle.hayro_ccitt_c.specs.RowsTaken.{Finishes, IfFinished, IsGiven, TakesRow, strip_reported};
 ghost use Rattle.hayro_ccitt_c.specs.Settings.{layout_of, order_of, settings_of};
 ghost use Rattle.hayro_ccitt_c.specs.declared.strip.Strip.TheVariants.{Rows};
 ghost use Rattle.hayro_ccitt_c.specs.declared.status.TheConstants.{OK, OUT_OF_MEMORY, REFUSED, NOT_TAKEN};
@@ -58,10 +58,10 @@ use listed_rows::ListedRows;
 use owned::Owned;
 use packed_rows::PackedRows;
 pub use report::Outcome;
-use report::{decoded, told, untaken};
+use report::{decoded, reported, untaken};
 pub use row_handle::{Reader, Writer};
 pub use row_outcome::RowOutcome;
-use row_outcome::nothing_told;
+use row_outcome::nothing_reported;
 pub use settings::Settings;
 use settings::{layout_of, order_of, settings_for};
 use std::alloc::Global;
@@ -93,7 +93,7 @@ pub extern "C" fn hayro_ccitt_measure(
     };
     let mut count = ChangeCount::new();
     let report = decoded(alloc, data, order_of(settings), meant, &mut count);
-    told(&report, count.changes(), outcome)
+    reported(&report, count.changes(), outcome)
 }
 
 /// Packs the rows of the data into `bitmap`, one below the other: a row occupies (columns + 7) / 8 bytes, the leftmost pixel in
@@ -134,7 +134,7 @@ pub extern "C" fn hayro_ccitt_decode_packed(
     let mut rows = PackedRows::new(bitmap, meant.columns, layout_of(settings));
     let report = decoded(alloc, data, order_of(settings), meant, &mut rows);
     rows.write_white();
-    told(&report, rows.changes(), outcome)
+    reported(&report, rows.changes(), outcome)
 }
 
 /// Lists the changes of the rows of the data in `lists`, row after row: of each row the number of its changes, and then the
@@ -171,7 +171,7 @@ pub extern "C" fn hayro_ccitt_decode_changes(
     };
     let mut rows = ListedRows::new(lists, meant.columns);
     let report = decoded(alloc, data, order_of(settings), meant, &mut rows);
-    told(&report, rows.changes(), outcome)
+    reported(&report, rows.changes(), outcome)
 }
 
 /// Opens a reader of the rows of the data before the first row. The reader must be closed: all zeros, or as
@@ -228,14 +228,14 @@ pub extern "C" fn hayro_ccitt_next_changes(
     ensures refused { result ≡ REFUSED → OnReading reader.new.handle.value (λ reading.
         length list.new < length (changes reading.rows.ctx.held.reference)) }
     ensures unwritten { result ≢ OK → list.new ≡ list.old }
-    ensures told { reader.old.is_open ≡ true → BitsFit «data».now → OnReading reader.new.handle.value (λ reading.
+    ensures reported { reader.old.is_open ≡ true → BitsFit «data».now → OnReading reader.new.handle.value (λ reading.
         TellsOf reading.rows outcome.new) }
     ensures is_open { reader.new.is_open ≡ reader.old.is_open }
     ensures untaken { (reader.old.is_open ≡ false) ⊎ (¬ (BitsFit «data».now))
-        → (result ≡ NOT_TAKEN) × (reader.new ≡ reader.old) × (outcome.new ≡ told_nothing) }
+        → (result ≡ NOT_TAKEN) × (reader.new ≡ reader.old) × (outcome.new ≡ reported_nothing) }
 {
     if !reader.is_open || !bits_fit(data) {
-        *outcome = nothing_told();
+        *outcome = nothing_reported();
         return status::NOT_TAKEN;
     }
     let mut reading = reader.take(alloc);
@@ -266,14 +266,14 @@ pub extern "C" fn hayro_ccitt_next_packed(
     ensures refused { result ≡ REFUSED → OnReading reader.new.handle.value (λ reading.
         length bytes.new < bytes_of_row reading.rows.ctx.held.settings.columns) }
     ensures unwritten { result ≢ OK → bytes.new ≡ bytes.old }
-    ensures told { reader.old.is_open ≡ true → BitsFit «data».now → OnReading reader.new.handle.value (λ reading.
+    ensures reported { reader.old.is_open ≡ true → BitsFit «data».now → OnReading reader.new.handle.value (λ reading.
         TellsOf reading.rows outcome.new) }
     ensures is_open { reader.new.is_open ≡ reader.old.is_open }
     ensures untaken { (reader.old.is_open ≡ false) ⊎ (¬ (BitsFit «data».now))
-        → (result ≡ NOT_TAKEN) × (reader.new ≡ reader.old) × (outcome.new ≡ told_nothing) }
+        → (result ≡ NOT_TAKEN) × (reader.new ≡ reader.old) × (outcome.new ≡ reported_nothing) }
 {
     if !reader.is_open || !bits_fit(data) {
-        *outcome = nothing_told();
+        *outcome = nothing_reported();
         return status::NOT_TAKEN;
     }
     let mut reading = reader.take(alloc);
@@ -323,7 +323,7 @@ pub extern "C" fn fax_encode_bitmap(
     ensures together { layout_asked settings.now ≡ together settings.now.columns → 0 < settings.now.columns
         → rows_asked settings.now bitmap.now ≡ shown settings.now.columns bitmap.now }
     ensures kept { result ≢ OK → «data».new ≡ «data».old }
-    ensures nothing_told { (result ≡ OUT_OF_MEMORY) ⊎ (result ≡ NOT_TAKEN) → outcome.new ≡ record { rows = 0; bytes = 0 } }
+    ensures nothing_reported { (result ≡ OUT_OF_MEMORY) ⊎ (result ≡ NOT_TAKEN) → outcome.new ≡ record { rows = 0; bytes = 0 } }
 {
     *outcome = EncodeOutcome { rows: 0, bytes: 0 };
     let bytes = match encoded(alloc, bitmap, settings) {
@@ -443,8 +443,8 @@ pub extern "C" fn fax_encode_finish(
     ensures refused { result ≡ REFUSED → OnStrip writer.new.handle.value (λ strip.
         IfFinished strip (λ bytes. length «data».new < length bytes)) }
     ensures unwritten { result ≢ OK → «data».new ≡ «data».old }
-    ensures told { writer.old.is_open ≡ true
-        → OnStrip writer.new.handle.value (λ strip. outcome.new ≡ strip_told strip) }
+    ensures reported { writer.old.is_open ≡ true
+        → OnStrip writer.new.handle.value (λ strip. outcome.new ≡ strip_reported strip) }
     ensures is_open { writer.new.is_open ≡ writer.old.is_open }
     ensures black { writer.new.black_is_0 ≡ writer.old.black_is_0 }
     ensures untaken { writer.old.is_open ≡ false

@@ -9,13 +9,13 @@ ghost use Rattle.hayro_ccitt_c.specs.declared.strip.Strip.TheVariants.{Rows};
 ghost use Rattle.hayro_ccitt_c.specs.Owned.{IfReading, IfReadings, IfStrip, IfStrips, is_reading, is_strip};
 ghost use Rattle.hayro_ccitt_c.specs.Packing.{bytes_of_row, row_read};
 ghost use Rattle.hayro_ccitt_c.specs.RowsGiven.{GivesRow, IsListed, IsOpened, IsPacked, TellsOf};
-ghost use Rattle.hayro_ccitt_c.specs.RowsTaken.{Finishes, IfFinished, IsGiven, TakesRow, strip_told};
+ghost use Rattle.hayro_ccitt_c.specs.RowsTaken.{Finishes, IfFinished, IsGiven, TakesRow, strip_reported};
 ghost use Rattle.hayro_ccitt_c.specs.declared.status.TheConstants.{OK, REFUSED};
 
 use crate::encoding::EncodeOutcome;
 use crate::feeding::Feeding;
 use crate::reading::Reading;
-use crate::row_outcome::{RowOutcome, told_of};
+use crate::row_outcome::{RowOutcome, reported_of};
 use crate::status;
 use crate::strip::Strip;
 use fax_encode::{EncodeError, EncodeSettings, Encoder};
@@ -80,13 +80,13 @@ impl Owned {
         ensures refused { result ≡ REFUSED → IfReading self.new (λ reading.
             length list.new < length (changes reading.rows.ctx.held.reference)) }
         ensures unwritten { result ≢ OK → list.new ≡ list.old }
-        ensures told { IfReading self.new (λ reading. TellsOf reading.rows outcome.new) }
+        ensures reported { IfReading self.new (λ reading. TellsOf reading.rows outcome.new) }
         ensures reads { is_reading self.new ≡ true }
     {
         match self {
             Owned::Reading(reading) => {
                 let status = reading.list_next(data, list);
-                *outcome = told_of(reading);
+                *outcome = reported_of(reading);
                 status
             }
             Owned::Strip(_) | Owned::Feeding(_) => status::NOT_TAKEN,
@@ -108,13 +108,13 @@ impl Owned {
         ensures refused { result ≡ REFUSED → IfReading self.new (λ reading.
             length bytes.new < bytes_of_row reading.rows.ctx.held.settings.columns) }
         ensures unwritten { result ≢ OK → bytes.new ≡ bytes.old }
-        ensures told { IfReading self.new (λ reading. TellsOf reading.rows outcome.new) }
+        ensures reported { IfReading self.new (λ reading. TellsOf reading.rows outcome.new) }
         ensures reads { is_reading self.new ≡ true }
     {
         match self {
             Owned::Reading(reading) => {
                 let status = reading.pack_next(data, bytes);
-                *outcome = told_of(reading);
+                *outcome = reported_of(reading);
                 status
             }
             Owned::Strip(_) | Owned::Feeding(_) => status::NOT_TAKEN,
@@ -157,7 +157,7 @@ impl Owned {
         ensures refused { result ≡ REFUSED → IfStrip self.new (λ strip.
             IfFinished strip (λ bytes. length «data».new < length bytes)) }
         ensures unwritten { result ≢ OK → «data».new ≡ «data».old }
-        ensures told { IfStrip self.new (λ strip. outcome.new ≡ strip_told strip) }
+        ensures reported { IfStrip self.new (λ strip. outcome.new ≡ strip_reported strip) }
         ensures strip { is_strip self.new ≡ true }
     {
         match self {

@@ -7,7 +7,7 @@ ghost use Rattle.hayro_ccitt_c.specs.Encoding.{AreEncoded, HaveNoRoom};
 ghost use Rattle.hayro_ccitt_c.specs.Owned.{IfFeeding, IfFeedings, is_feeding};
 ghost use Rattle.hayro_ccitt_c.specs.Packing.{bytes_of_row};
 ghost use Rattle.hayro_ccitt_c.specs.RowsFed.{FinishesFeed, GivesFed, IsFeedOpened, TakesBytes};
-ghost use Rattle.hayro_ccitt_c.specs.RowsTold.{as_paused};
+ghost use Rattle.hayro_ccitt_c.specs.RowsReported.{as_paused};
 ghost use Rattle.hayro_ccitt_c.specs.GivenRows.{ListsRows, PacksRows};
 ghost use Rattle.hayro_ccitt_c.specs.RowsGiven.{IsListed, IsPacked, TellsOf};
 ghost use Rattle.hayro_ccitt_c.specs.declared.status.TheConstants.{OK, REFUSED};
@@ -90,7 +90,7 @@ impl Owned {
         ensures refused { result ≡ REFUSED → IfFeeding self.new (λ feeding.
             length list.new < length (changes feeding.rows.ctx.held.reference)) }
         ensures unwritten { result ≢ OK → list.new ≡ list.old }
-        ensures told { IfFeeding self.new (λ feeding. TellsOf (as_paused feeding.rows) outcome.new) }
+        ensures reported { IfFeeding self.new (λ feeding. TellsOf (as_paused feeding.rows) outcome.new) }
         ensures feeds { is_feeding self.new ≡ true }
     {
         match self {
@@ -113,7 +113,7 @@ impl Owned {
         ensures refused { result ≡ REFUSED → IfFeeding self.new (λ feeding.
             length bytes.new < bytes_of_row feeding.rows.ctx.held.settings.columns) }
         ensures unwritten { result ≢ OK → bytes.new ≡ bytes.old }
-        ensures told { IfFeeding self.new (λ feeding. TellsOf (as_paused feeding.rows) outcome.new) }
+        ensures reported { IfFeeding self.new (λ feeding. TellsOf (as_paused feeding.rows) outcome.new) }
         ensures feeds { is_feeding self.new ≡ true }
     {
         match self {
@@ -135,7 +135,7 @@ impl Owned {
     ) -> u32
         requires feeds { is_feeding self.old ≡ true }
         ensures packs { IfFeedings self.old self.new (λ old new. PacksRows old new bytes.old bytes.new count.new result) }
-        ensures told { IfFeeding self.new (λ feeding. TellsOf (as_paused feeding.rows) outcome.new) }
+        ensures reported { IfFeeding self.new (λ feeding. TellsOf (as_paused feeding.rows) outcome.new) }
         ensures feeds { is_feeding self.new ≡ true }
     {
         match self {
@@ -157,7 +157,7 @@ impl Owned {
     ) -> u32
         requires feeds { is_feeding self.old ≡ true }
         ensures lists { IfFeedings self.old self.new (λ old new. ListsRows old new lists.old lists.new count.new result) }
-        ensures told { IfFeeding self.new (λ feeding. TellsOf (as_paused feeding.rows) outcome.new) }
+        ensures reported { IfFeeding self.new (λ feeding. TellsOf (as_paused feeding.rows) outcome.new) }
         ensures feeds { is_feeding self.new ≡ true }
     {
         match self {

@@ -358,7 +358,7 @@ impl<'a> PackedRows<'a> {
         ensures only_refused { IsOkUnless result DecodeError.Refused }
         ensures columns { self.new.columns ≡ self.old.columns }
     {
-        if self.bitmap.len() < self.start + self.bytes {
+        if self.bitmap.len() < self.start.saturating_add(self.bytes) {
             self.has_refused = true;
             return Err(DecodeError::Refused);
         }
@@ -403,7 +403,7 @@ impl Decoder for PackedRows<'_> {
             return self.push_white();
         }
         let bytes = self.bytes;
-        if self.bitmap.len() < self.start + bytes {
+        if self.bitmap.len() < self.start.saturating_add(bytes) {
             self.has_refused = true;
             return Err(DecodeError::Refused);
         }

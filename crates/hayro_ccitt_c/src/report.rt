@@ -71,7 +71,7 @@ pub(crate) fn untaken(outcome: &mut Outcome) -> u32
 }
 
 /// Returns the status of a decoding, and sets `outcome` to what it reports and the number of changes.
-pub(crate) fn told(report: &Report, changes: u64, outcome: &mut Outcome) -> u32
+pub(crate) fn reported(report: &Report, changes: u64, outcome: &mut Outcome) -> u32
     ensures status { result ≡ report.now.status }
     ensures outcome { outcome.new
         ≡ outcome_of report.now.rows changes report.now.bytes_read report.now.damaged_rows report.now.fault_start

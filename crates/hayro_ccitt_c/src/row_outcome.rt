@@ -2,7 +2,7 @@
 
 ghost use Rattle.std.specs.Prelude.{◌≡◌, ◌+◌, ◌/◌, length};
 ghost use Rattle.hayro_ccitt.specs.Rows.{changes};
-ghost use Rattle.hayro_ccitt_c.specs.RowsGiven.{TellsOf, damage_told, miss_told, told_nothing};
+ghost use Rattle.hayro_ccitt_c.specs.RowsGiven.{TellsOf, damage_reported, miss_reported, reported_nothing};
 
 use crate::reading::{Reading, status_of_row};
 use hayro_ccitt::DecodeError;
@@ -34,8 +34,8 @@ pub struct RowOutcome {
 }
 
 /// Returns an outcome of zeros.
-pub(crate) fn nothing_told() -> RowOutcome
-    ensures { result ≡ told_nothing }
+pub(crate) fn nothing_reported() -> RowOutcome
+    ensures { result ≡ reported_nothing }
 {
     RowOutcome {
         rows: 0,
@@ -52,8 +52,8 @@ pub(crate) fn nothing_told() -> RowOutcome
 }
 
 /// Returns the status of the fault of a row that was repaired, 0 for one that was whole.
-pub(crate) fn damage_told(damage: Option<DecodeError>) -> u64
-    ensures { result ≡ damage_told damage }
+pub(crate) fn damage_reported(damage: Option<DecodeError>) -> u64
+    ensures { result ≡ damage_reported damage }
 {
     match damage {
         None => 0,
@@ -62,8 +62,8 @@ pub(crate) fn damage_told(damage: Option<DecodeError>) -> u64
 }
 
 /// Returns the offset of an EOL that was missed, 0 if none was.
-pub(crate) fn miss_told(missed: Option<usize>) -> u64
-    ensures { result ≡ miss_told missed }
+pub(crate) fn miss_reported(missed: Option<usize>) -> u64
+    ensures { result ≡ miss_reported missed }
 {
     match missed {
         None => 0,
@@ -72,7 +72,7 @@ pub(crate) fn miss_told(missed: Option<usize>) -> u64
 }
 
 /// Returns the outcome of a reading.
-pub(crate) fn told_of(reading: &Reading) -> RowOutcome
+pub(crate) fn reported_of(reading: &Reading) -> RowOutcome
     ensures { TellsOf reading.now.rows result }
 {
     RowOutcome {
@@ -81,10 +81,10 @@ pub(crate) fn told_of(reading: &Reading) -> RowOutcome
         line_start: reading.rows.line_start() as u64,
         bytes_read: reading.rows.bytes_read() as u64,
         damaged_rows: reading.rows.damaged_rows(),
-        damage: damage_told(reading.rows.damage()),
+        damage: damage_reported(reading.rows.damage()),
         missed_eols: reading.rows.missed_eols(),
         cut_rows: reading.rows.cut_rows(),
         is_cut: u64::from(reading.rows.is_cut()),
-        missed_eol: miss_told(reading.rows.missed_eol()),
+        missed_eol: miss_reported(reading.rows.missed_eol()),
     }
 }

@@ -4,7 +4,7 @@ ghost use Rattle.std.specs.Prelude.{◌≡◌, ◌≢◌, ◌<◌, ◌≤◌, �
 ghost use Rattle.hayro_ccitt.specs.Bits.{bits_of};
 ghost use Rattle.hayro_ccitt.specs.Rows.{AreChanges, pixels};
 ghost use Rattle.hayro_ccitt_c.specs.Packing.{bytes_of_row, row_read};
-ghost use Rattle.hayro_ccitt_c.specs.RowsTaken.{Finishes, IfFinished, IsGiven, TakesRow, status_of_adding, strip_told};
+ghost use Rattle.hayro_ccitt_c.specs.RowsTaken.{Finishes, IfFinished, IsGiven, TakesRow, status_of_adding, strip_reported};
 ghost use Rattle.hayro_ccitt_c.specs.declared.status.TheConstants.{OK, REFUSED};
 
 use crate::encoding::EncodeOutcome;
@@ -26,7 +26,7 @@ impl Finished {
         ensures given { result ≡ OK → IsGiven self.now.bytes.items «data».old «data».new }
         ensures refused { result ≡ REFUSED → length «data».new < length self.now.bytes.items }
         ensures unwritten { result ≢ OK → «data».new ≡ «data».old }
-        ensures told { outcome.new ≡ record { rows = self.now.rows; bytes = length self.now.bytes.items } }
+        ensures reported { outcome.new ≡ record { rows = self.now.rows; bytes = length self.now.bytes.items } }
     {
         let count = self.bytes.len();
         *outcome = EncodeOutcome {
@@ -128,7 +128,7 @@ impl Strip {
         ensures given { result ≡ OK → IfFinished self.new (λ bytes. IsGiven bytes «data».old «data».new) }
         ensures refused { result ≡ REFUSED → IfFinished self.new (λ bytes. length «data».new < length bytes) }
         ensures unwritten { result ≢ OK → «data».new ≡ «data».old }
-        ensures told { outcome.new ≡ strip_told self.new }
+        ensures reported { outcome.new ≡ strip_reported self.new }
     {
         *outcome = EncodeOutcome { rows: 0, bytes: 0 };
         let status = self.finish();

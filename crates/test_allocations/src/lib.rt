@@ -1,5 +1,5 @@
-//! For tests: allocations that are numbered, and refused if `checks/refuse_named.c` is loaded before the test, as
-//! `checks/built_tests.py` does. Elsewhere none is refused.
+//! For tests: allocations that are numbered, and refused if `checks/programs/refuse_named.c` is loaded before the test, as
+//! `checks/programs/built_tests.py` does. Elsewhere none is refused.
 #![tactic(auto)]
 
 ghost use Rattle.std.specs.Prelude.{◌<◌};

@@ -155,7 +155,11 @@ fn made<R: Read, W: Write>(
 }
 
 /// Writes how a run ended, and what it wrote, as `Debug` writes them.
-fn told(rt: &(impl Abort + AllocGlobal), answer: Result<Done, RunFault>, written: &[u8]) -> String {
+fn reported(
+    rt: &(impl Abort + AllocGlobal),
+    answer: Result<Done, RunFault>,
+    written: &[u8],
+) -> String {
     let text = str::from_utf8(written).expect(rt, "no text was written");
     format!(in rt.alloc(); "{answer:?} {text:?}").expect(rt, "memory")
 }
@@ -166,7 +170,7 @@ fn ran(rt: &(impl Abort + AllocGlobal), name: &str, line: &str, input: &[u8]) ->
     let mut reader = Device::new(input);
     let mut writer = Device::new(Vec::new(rt.alloc()));
     let answer = made(rt, name, &words, &mut reader, &mut writer);
-    told(rt, answer, &writer.into_inner())
+    reported(rt, answer, &writer.into_inner())
 }
 
 /// Makes the run of this name for each line of a text: the arguments, a colon, the input in hexadecimal digits, a colon, and how
@@ -354,7 +358,7 @@ fn reads(
     });
     let mut writer = Device::new(Vec::new(rt.alloc()));
     let answer = made(rt, name, &words, &mut reader, &mut writer);
-    let found = told(rt, answer, &writer.into_inner());
+    let found = reported(rt, answer, &writer.into_inner());
     same(rt, (found.as_str(), reader.into_inner().place), expected);
 }
 
@@ -423,7 +427,7 @@ fn reads_no_more_than_the_image(rt: HostRuntime) {
     for case in READ_SO_FAR.trim().lines() {
         let (line, rest) = case.trim_start().split_once(": ").expect(&rt, case);
         let (digits, rest) = rest.split_once(": ").expect(&rt, case);
-        let (told, read) = rest.rsplit_once(": ").expect(&rt, case);
+        let (reported, read) = rest.rsplit_once(": ").expect(&rt, case);
         let read = read.parse().expect(&rt, case);
         let input = bytes_of(&rt, digits);
         reads(
@@ -432,7 +436,7 @@ fn reads_no_more_than_the_image(rt: HostRuntime) {
             line,
             input,
             (usize::MAX, usize::MAX),
-            (told, read),
+            (reported, read),
         );
     }
 }
@@ -452,7 +456,7 @@ fn writes(
     let mut writer = writer;
     let answer = made(rt, name, &words, &mut reader, &mut writer);
     let writer: Choking = writer.into_inner();
-    let found = told(rt, answer, &writer.bytes);
+    let found = reported(rt, answer, &writer.bytes);
     same(
         rt,
         (name, line, found.as_str(), writer.calls.made),
@@ -476,8 +480,8 @@ fn fails_at_writes(
         } else {
             Ok(Done::Good)
         };
-        let told = told(rt, answer, front);
-        let expected = (told.as_str(), text.len().min(from + 1));
+        let reported = reported(rt, answer, front);
+        let expected = (reported.as_str(), text.len().min(from + 1));
         writes(
             rt,
             name,
@@ -552,7 +556,7 @@ fn in_want(rt: &(impl Abort + AllocGlobal), name: &str, line: &str, digits: &str
         refuse_request(rt.alloc(), number);
         let answer = made(rt, name, &words, &mut reader, &mut writer);
         let _ = was_refused(rt.alloc());
-        let found = told(rt, answer, &writer.into_inner().bytes);
+        let found = reported(rt, answer, &writer.into_inner().bytes);
         assert!(rt; outcomes.contains(found.as_str()), "{number}: {found}");
     }
 }

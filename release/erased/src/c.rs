@@ -1,11 +1,12 @@
 //! What the calls of `bindings/rust/src/c.rs` do, by the sources that the calls for C are made of.
 
 use crate::lists::Global;
+use crate::proved::hayro_ccitt::bits_fit;
 use crate::proved::hayro_ccitt_c::encoding::{Unencoded, encoded};
 use crate::proved::hayro_ccitt_c::feeding::Feeding;
 use crate::proved::hayro_ccitt_c::reading::Reading;
-use crate::proved::hayro_ccitt_c::row_outcome::{nothing_told, told_of};
-use crate::proved::hayro_ccitt_c::settings::{layout_of, order_of, settings_for, settings_of};
+use crate::proved::hayro_ccitt_c::row_outcome::{nothing_reported, reported_of};
+use crate::proved::hayro_ccitt_c::settings::{layout_of, order_of, settings_of};
 use crate::proved::hayro_ccitt_c::{hayro_ccitt_decode_packed, status};
 use alloc::vec::Vec;
 
@@ -57,26 +58,33 @@ pub(crate) struct Rows<'a> {
 impl<'a> Rows<'a> {
     /// Opens a reader, or returns the status.
     pub(crate) fn open(data: &'a [u8], settings: &Settings) -> Result<Self, u32> {
-        let meant = settings_for(data, settings).ok_or(NOT_TAKEN)?;
+        let meant = settings_of(settings).ok_or(NOT_TAKEN)?;
         let black_is_0 = layout_of(settings).black_is_0;
-        let reading = Reading::new(Global, data, order_of(settings), meant, black_is_0)
+        let read = if bits_fit(data) { data } else { &[] };
+        let reading = Reading::new(Global, read, order_of(settings), meant, black_is_0)
             .map_err(|_| OUT_OF_MEMORY)?;
-        let row = nothing_told();
+        let row = nothing_reported();
         Ok(Self { data, reading, row })
     }
 
-    /// Lists the changes of the next row, and returns the status.
+    /// Lists the changes of the next row, and returns the status. Data that is too long isn't taken.
     #[inline]
     pub(crate) fn next_changes(&mut self, changes: &mut [u32]) -> u32 {
+        if !bits_fit(self.data) {
+            return NOT_TAKEN;
+        }
         let status = self.reading.list_next(self.data, changes);
-        self.row = told_of(&self.reading);
+        self.row = reported_of(&self.reading);
         status
     }
 
-    /// Packs the next row, and returns the status.
+    /// Packs the next row, and returns the status. Data that is too long isn't taken.
     pub(crate) fn next_packed(&mut self, packed: &mut [u8]) -> u32 {
+        if !bits_fit(self.data) {
+            return NOT_TAKEN;
+        }
         let status = self.reading.pack_next(self.data, packed);
-        self.row = told_of(&self.reading);
+        self.row = reported_of(&self.reading);
         status
     }
 }
@@ -94,7 +102,7 @@ impl Feed {
         let meant = settings_of(settings).ok_or(NOT_TAKEN)?;
         let feeding = Feeding::new(Global, order_of(settings), meant, layout_of(settings))
             .map_err(|_| OUT_OF_MEMORY)?;
-        let row = nothing_told();
+        let row = nothing_reported();
         Ok(Self { feeding, row })
     }
 

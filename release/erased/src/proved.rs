@@ -3,5 +3,3 @@
 #![allow(clippy::style, clippy::complexity, clippy::manual_unwrap_or_default, reason = "the prover takes some forms and not others")]
 #![allow(rustdoc::broken_intra_doc_links, rustdoc::private_intra_doc_links, reason = "what a link names may be erased")]
 
-pub use crate::lists::Global;
-

@@ -2,7 +2,7 @@
 
 use crate::lists::Global;
 use crate::proved::hayro_ccitt as decoder;
-use crate::proved::hayro_ccitt_c::report::{decoded, told};
+use crate::proved::hayro_ccitt_c::report::{decoded, reported};
 use crate::proved::hayro_ccitt_c::settings::{order_of, settings_for};
 use crate::{DecodeError, Decoder, DecoderContext, Result, c, error_of};
 
@@ -30,7 +30,7 @@ pub(crate) fn push_rows(
     };
     let report = decoded(Global, data, order_of(settings), meant, &mut Sink(decoder));
     let mut outcome = c::no_outcome();
-    let status = told(&report, 0, &mut outcome);
+    let status = reported(&report, 0, &mut outcome);
     ctx.tell(&outcome, status != c::OK);
     match status {
         // It is at most the length of the data.

@@ -12,7 +12,6 @@ use Rattle.fax_feeds.proofs.Readings.PartsFed.{none_kept}
 use Rattle.fax_feeds.proofs.Readings.RowsPassed.{counts_row}
 use Rattle.fax_feeds.specs.GapsSeen.{IsSeen, nothing_seen, rules_for}
 use Rattle.fax_feeds.specs.declared.gap_look.GapLook.{GapLook}
-use Rattle.fax_feeds.specs.declared.row_feed.Fed.{Fed}
 use Rattle.fax_feeds.specs.declared.row_feed.RowFeed.TheInside.{Inside}
 use Rattle.fax_rows.specs.declared.row_reader.RowState.{RowState}
 use Rattle.fax_feeds.specs.RowFeeds.{ComesInFeed, ComesOn, Feeding, FeedsRow, IsKept, KeepsBits}
@@ -57,12 +56,6 @@ read_on_by {f} {before} {after} {ctx} by there same within seen line =
 
 -- ---- The gap
 
--- no row is read where a line isn't
-pub unread_row : (row : Result Bool DecodeError) → row ≢ Ok true → fed_row row ≢ Ok Fed.Row
-unread_row (Ok true) other e = other refl
-unread_row (Ok false) other e = cc
-unread_row (Err error) other e = cc
-
 module _ {f : Inside} {before after : BitsAt} {rows : RowState} {ctx : Context} {look : GapLook} {place : ℕ}
     {line : Result (Option Bool) DecodeError} (by : IsReadBy f before) (there : place ≡ after.place)
     (on : ComesOn f.is_last (f.dropped + f.place) f.rows rows f.look look f.ctx ctx before after line) where
@@ -97,7 +90,13 @@ module _ {f : Inside} {before after : BitsAt} {rows : RowState} {ctx : Context} 
         (λ none. let never = sym is ∙ none in absurd cc) feed) in absurd (full fits.0 fits.1);
     keeps = keeps_gap;
     over = λ end e. let never = sym unended ∙ e in absurd cc;
-    counts = record { settings = ap (λ (h : Held). h.settings) on.frame; taken = λ e. cc; stands = λ e. cc; width = λ e. cc };
+    counts = record {
+      settings = ap (λ (h : Held). h.settings) on.frame;
+      taken = λ e. cc;
+      stands = λ e. cc;
+      width = λ e. cc;
+      unlooked = λ e. cc;
+    };
   }
 
   -- its row is read, or it is left
@@ -111,7 +110,8 @@ module _ {f : Inside} {before after : BitsAt} {rows : RowState} {ctx : Context} 
         (λ tried mid. line_feeds answer reads (λ e none. unread e) by.begun (turn_comes.line is) mid) by.begun feed;
     keeps = grind (arith, common_steps);
     over = λ end e. let never = sym unended ∙ e in absurd cc;
-    counts = counts_row answer (ap (λ (h : Held). h.settings) on.frame) (ap (λ (h : Held). h.taken) on.frame) room reads;
+    counts = counts_row answer (ap (λ (h : Held). h.settings) on.frame) (ap (λ (h : Held). h.taken) on.frame) room
+        (ap (λ (l : GapLook). l.bits) (on.none_looked (λ none. let never = sym is ∙ none in absurd cc))) reads;
   }
 
 -- ---- The line

@@ -118,6 +118,7 @@ module _ {old mid : Feeding} (begun : old.begun ≡ true) (line : is_at_line old
       taken = λ e. cc;
       width = λ e. cc;
       stands = λ e. cc;
+      unlooked = λ e. cc;
     };
   }
 
@@ -169,6 +170,7 @@ module _ {old mid : Feeding} (begun : old.begun ≡ true) (line : is_at_line old
         taken = counts.taken;
         width = counts.width;
         stands = counts.stands;
+        unlooked = counts.unlooked;
       };
     }
 

@@ -1,10 +1,11 @@
 -- What is kept of a gap that was looked at, from step to step.
 use Rattle.fax_feeds.proofs.Names.{arith, common_steps}
-use Rattle.fax_feeds.proofs.Names.{◌≡◌, ◌≤◌, ◌++◌, ℕ, Bool, true, Option, None, Some, Result, Ok, Err, sym}
+use Rattle.fax_feeds.proofs.Names.{◌≡◌, ◌≤◌, ◌++◌, ◌∷◌, [], ℕ, Bool, true, Option, None, Some, Result, Ok, Err, sym}
 use Rattle.fax_feeds.proofs.Names.{subst, drop, length, Bits, BitsAt, Held, Context, DecodeError, false≢true}
 use Rattle.fax_feeds.proofs.Names.{here, is_at_line}
 use Rattle.std.proofs.lemmas.List.{drop-append-le}
-use Rattle.fax_feeds.specs.GapsSeen.{IsSeen, nothing_seen, rules_for}
+use Rattle.fax_feeds.specs.GapsSeen.{IsSeen, nothing_seen, rules_for, stage_following, zeros_after}
+use Rattle.fax_feeds.specs.declared.gap_look.GapStage.{GapStage}
 use Rattle.fax_feeds.specs.RowFeeds.{ComesOn}
 use Rattle.fax_feeds.specs.declared.gap_look.GapLook.{GapLook}
 use Rattle.fax_feeds.specs.declared.gap_look.GapRules.{GapRules}
@@ -20,6 +21,17 @@ seen_begun held {look = look} {gap = gap} is seen = subst (λ (b : Bool). IsSeen
 pub seen_there : {rules : GapRules} {look : GapLook} {gap same : Bits} → gap ≡ same → IsSeen rules look gap
     → IsSeen rules look same
 seen_there {rules} {look} is seen = subst (IsSeen rules look) is seen
+
+-- where no bit was looked at, nothing was seen
+none_seen_of : (rules : GapRules) (look : GapLook) (looked : Bits) → length looked ≡ 0
+    → look.stage ≡ stage_following rules GapStage.Start 0 looked → look.zeros ≡ zeros_after 0 looked → look.bits ≡ 0
+    → look ≡ nothing_seen
+none_seen_of rules look [] none stage zeros bits = grind (arith, common_steps)
+none_seen_of rules look (bit ∷ looked) none stage zeros bits = absurd (omega (arith, none))
+
+pub unlooked : {rules : GapRules} {look : GapLook} {gap : Bits} → IsSeen rules look gap → look.bits ≡ 0 → look ≡ nothing_seen
+unlooked {rules} {look} seen none =
+    none_seen_of rules look seen.1.looked (omega (arith, none, seen.1.bits)) seen.1.stage seen.1.zeros none
 
 -- nothing was seen of any gap
 pub fresh_look : {look : GapLook} (rules : GapRules) (gap : Bits) → look ≡ nothing_seen → IsSeen rules look gap

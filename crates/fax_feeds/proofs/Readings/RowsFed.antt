@@ -12,7 +12,7 @@ use Rattle.fax_feeds.proofs.Names.{on_err_weaker, not, ◌&&◌, stand_after, ro
 use Rattle.fax_feeds.proofs.Names.{IsFault}
 use Rattle.std.proofs.lemmas.List.{drop-append-le}
 use Rattle.fax_rows.proofs.Readings.GapsPassed.{gap_stays, gap_reaches}
-use Rattle.fax_rows.proofs.Readings.RowByRow.{told_at_line}
+use Rattle.fax_rows.proofs.Readings.RowByRow.{reported_at_line}
 use Rattle.fax_rows.specs.declared.row_reader.RowState.{RowState}
 use Rattle.fax_reading.specs.GapsContinued.{gap_is_settled}
 use Rattle.fax_rows.specs.RowsTried.{CanCome, IsLeft, PassesGap, PassesGapHere, ReadsRow, TriesRow, rows_after_line}
@@ -75,7 +75,7 @@ stands_later from more rows old new at held ticks stands = grind (arith, common_
 -- at a line there is none
 pub stays_at_line : (from : ℕ) (rows : RowState) (ctx : Context) (at : BitsAt) → is_at_line rows.stand ≡ true
     → IsStanding from rows ctx at → ReachesNextLine (seen rows ctx at) (seen rows ctx at) (Ok true)
-stays_at_line from rows ctx at line stands = grind (arith, common_steps, told_at_line, false≢true)
+stays_at_line from rows ctx at line stands = grind (arith, common_steps, reported_at_line, false≢true)
 
 -- where it is passed, that is so in the whole data
 module _ (is_last : Bool) (gap_start : ℕ) (rows kept : RowState) (old mid new : Context) (before after : BitsAt)

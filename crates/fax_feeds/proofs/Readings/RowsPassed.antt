@@ -1,7 +1,7 @@
 -- Rows of data in pieces that are passed to a sink.
 use Rattle.fax_feeds.proofs.Names.{common_steps}
 use Rattle.fax_feeds.proofs.Names.{◌≡◌, ◌∙◌, ◌++◌, ◌∷◌, [], refl, sym, ap, subst, ℕ, List, Ok, Err, changes, meaning_after}
-use Rattle.fax_feeds.proofs.Names.{◌+◌, ◌<◌, ◌≢◌, Bool, true, false, Result, DecodeError, arith}
+use Rattle.fax_feeds.proofs.Names.{◌+◌, ◌<◌, ◌≤◌, Bool, true, false, Result, DecodeError, arith}
 use Rattle.std.specs.Prelude.{◌^◌}
 use Rattle.fax_feeds.specs.RowFeeds.{CountsRow, Feeding, FeedsRow, FeedsRows, KeepsBits, PassesRows, ReadsInFeed, fed_row}
 use Rattle.fax_feeds.specs.RowFeeds.{PushesRows, last_left, rows_left}
@@ -17,24 +17,24 @@ line_was_read (Err error) e = absurd cc
 -- a row is counted whose line is read after a gap
 pub counts_row : {old mid new : Feeding} (answer : Result Bool DecodeError)
     → mid.ctx.held.settings ≡ old.ctx.held.settings → mid.ctx.held.taken ≡ old.ctx.held.taken
-    → mid.ctx.held.taken + 1 < 2 ^ 64 → ReadsInFeed mid new answer → CountsRow old new (fed_row answer)
-counts_row answer settings taken room reads = grind (arith, common_steps, line_was_read)
+    → mid.ctx.held.taken + 1 < 2 ^ 64 → mid.looked ≡ 0 → ReadsInFeed mid new answer → CountsRow old new (fed_row answer)
+counts_row answer settings taken room unlooked reads = grind (arith, common_steps, line_was_read)
 
--- one more row was read
-more_read : (old new : Feeding) (rows : List Feeding) → FeedsRows old rows → FeedsRow (last_left old rows) new (Ok Fed.Row)
-    → FeedsRows old (rows ++ new ∷ [])
-more_read old new [] reads call = (call, tt)
-more_read old new (next ∷ rows) reads call = (reads.0, more_read next new rows reads.1 call)
+-- some rows were read, and then others
+all_read : (old : Feeding) (first then : List Feeding) → FeedsRows old first → FeedsRows (last_left old first) then
+    → FeedsRows old (first ++ then)
+all_read old [] then reads more = more
+all_read old (next ∷ first) then reads more = (reads.0, all_read next first then reads.1 more)
 
-more_last : (old new : Feeding) (rows : List Feeding) → last_left old (rows ++ new ∷ []) ≡ new
-more_last old new [] = refl
-more_last old new (next ∷ rows) = more_last next new rows
+all_last : (old : Feeding) (first then : List Feeding) → last_left old (first ++ then) ≡ last_left (last_left old first) then
+all_last old [] then = refl
+all_last old (next ∷ first) then = all_last next first then
 
-more_means : {M : Type 0} (step : M → List ℕ → M) (before : M) (new : Feeding) (rows : List Feeding)
-    → meaning_after step before (rows_left (rows ++ new ∷ []))
-    ≡ step (meaning_after step before (rows_left rows)) (changes new.ctx.held.reference)
-more_means step before new [] = refl
-more_means step before new (next ∷ rows) = more_means step (step before (changes next.ctx.held.reference)) new rows
+all_means : {M : Type 0} (step : M → List ℕ → M) (before : M) (first then : List Feeding)
+    → meaning_after step before (rows_left (first ++ then))
+    ≡ meaning_after step (meaning_after step before (rows_left first)) (rows_left then)
+all_means step before [] then = refl
+all_means step before (next ∷ first) then = all_means step (step before (changes next.ctx.held.reference)) first then
 
 -- no row was passed
 pub passes_none : {M : Type 0} {step : M → List ℕ → M} {before after : M} {old : Feeding} → after ≡ before
@@ -44,18 +44,23 @@ passes_none same = record { rows = []; reads = tt; last = refl; meaning = same }
 pub keeps_all : {feed : Feeding} → KeepsBits feed feed
 keeps_all = record { order = refl; finished = refl; kept = refl; dropped = refl; room = refl }
 
--- and passed
+-- some were passed, and then others
+pub passes_on : {M : Type 0} {step : M → List ℕ → M} {before mid after : M} {old last new : Feeding}
+    → PassesRows step before mid old last → PassesRows step mid after last new → PassesRows step before after old new
+passes_on {M} {step} {before} {mid} {after} {old} {last} {new} first then = record {
+  rows = first.rows ++ then.rows;
+  reads = all_read old first.rows then.rows first.reads (subst (λ (f : Feeding). FeedsRows f then.rows) first.last then.reads);
+  last = then.last ∙ ap (λ (f : Feeding). last_left f then.rows) first.last ∙ sym (all_last old first.rows then.rows);
+  meaning = then.meaning ∙ ap (λ (m : M). meaning_after step m (rows_left then.rows)) first.meaning
+      ∙ sym (all_means step before first.rows then.rows);
+}
+
+-- one more was
 pub passes_more : {M : Type 0} {step : M → List ℕ → M} {before mid after : M} {old last new : Feeding}
     → PassesRows step before mid old last → FeedsRow last new (Ok Fed.Row) → after ≡ step mid (changes new.ctx.held.reference)
     → PassesRows step before after old new
-passes_more {M} {step} {before} {mid} {after} {old} {last} {new} passes call means = record {
-  rows = passes.rows ++ new ∷ [];
-  reads = more_read old new passes.rows passes.reads
-      (subst (λ (f : Feeding). FeedsRow f new (Ok Fed.Row)) passes.last call);
-  last = sym (more_last old new passes.rows);
-  meaning = means ∙ ap (λ (m : M). step m (changes new.ctx.held.reference)) passes.meaning
-      ∙ sym (more_means step before new passes.rows);
-}
+passes_more {new = new} passes call means =
+    passes_on passes (record { rows = new ∷ []; reads = (call, tt); last = refl; meaning = means })
 
 pub keeps_on : {old mid new : Feeding} → KeepsBits old mid → KeepsBits mid new → KeepsBits old new
 keeps_on first then = grind (arith, common_steps)
@@ -63,30 +68,40 @@ keeps_on first then = grind (arith, common_steps)
 module _ {M : Type 0} {step : M → List ℕ → M} {before after : SinkState M} {old mid new : Feeding}
     {answer : Result Fed DecodeError} (passes : PassesRows step before.meaning after.meaning old mid) (keeps : KeepsBits old mid)
     (settings : mid.ctx.held.settings ≡ old.ctx.held.settings) where
-  -- no row is next
-  pub pushed_to_end : FeedsRow mid new answer → answer ≢ Ok Fed.Row → after.refused ≡ before.refused
-      → PushesRows step before after old new answer
-  pushed_to_end call no_row flag = grind (arith, common_steps, keeps_on)
-
   -- the sink refuses the row that is next
   pub pushed_to_refusal : FeedsRow mid new (Ok Fed.Row) → answer ≡ Err Refused → after.refused ≡ true
       → after.refuses (changes new.ctx.held.reference) → PushesRows step before after old new answer
   pushed_to_refusal call is flag row = grind (arith, common_steps, keeps_on)
 
--- the first row was passed, and then others
-pub pushed_on : {M : Type 0} {step : M → List ℕ → M} {before mid after : SinkState M} {old first new : Feeding}
-    {answer : Result Fed DecodeError} → FeedsRow old first (Ok Fed.Row)
-    → mid.meaning ≡ step before.meaning (changes first.ctx.held.reference) → mid.refused ≡ before.refused
-    → PushesRows step mid after first new answer → PushesRows step before after old new answer
-pushed_on {step = step} call means flag pushes = record {
+-- what is so after rows that were read
+pub record GoesOn (old new : Feeding) : Type 0 where
+  pub keeps : KeepsBits old new
+  pub settings : new.ctx.held.settings ≡ old.ctx.held.settings
+  pub more : old.ctx.held.taken ≤ new.ctx.held.taken
+
+read_goes_on : (old : Feeding) (rows : List Feeding) → FeedsRows old rows → GoesOn old (last_left old rows)
+read_goes_on old [] reads = record { keeps = keeps_all; settings = refl; more = omega arith }
+read_goes_on old (next ∷ rows) reads =
+    let then = read_goes_on next rows reads.1 in
+    record {
+      keeps = keeps_on reads.0.keeps then.keeps;
+      settings = then.settings ∙ reads.0.counts.settings;
+      more = omega (arith, then.more, (reads.0.counts.taken refl).0);
+    }
+
+pub passed_goes_on : {M : Type 0} {step : M → List ℕ → M} {before after : M} {old new : Feeding}
+    → PassesRows step before after old new → GoesOn old new
+passed_goes_on {old = old} passes = subst (GoesOn old) (sym passes.last) (read_goes_on old passes.rows passes.reads)
+
+-- some were passed, and then others
+pub then_pushed : {M : Type 0} {step : M → List ℕ → M} {before mid after : SinkState M} {old last new : Feeding}
+    {answer : Result Fed DecodeError} → PassesRows step before.meaning mid.meaning old last → KeepsBits old last
+    → last.ctx.held.settings ≡ old.ctx.held.settings → mid.refused ≡ before.refused
+    → PushesRows step mid after last new answer → PushesRows step before after old new answer
+then_pushed passes keeps settings flag pushes = record {
   mid = pushes.mid;
-  passes = record {
-    rows = _ ∷ pushes.passes.rows;
-    reads = (call, pushes.passes.reads);
-    last = pushes.passes.last;
-    meaning = pushes.passes.meaning ∙ ap (λ m. meaning_after step m (rows_left pushes.passes.rows)) means;
-  };
+  passes = passes_on passes pushes.passes;
   ends = grind (arith, common_steps);
-  keeps = keeps_on call.keeps pushes.keeps;
-  settings = pushes.settings ∙ call.counts.settings;
+  keeps = keeps_on keeps pushes.keeps;
+  settings = pushes.settings ∙ settings;
 }

@@ -9,11 +9,11 @@ use Rattle.fax_lines.proofs.Names.{BitsAt, AreChanges, pixels, IsB1, IsStroke, G
 use Rattle.fax_lines.proofs.Names.{pen_at, moved}
 use Rattle.fax_lines.proofs.Names.{AtHand, CanDraw, CodingLine, Stroke, changes_in, row_in, zero, ◌∙◌, get_or_default_zero}
 use Rattle.std.proofs.lemmas.List.{get_or-append-add, get_or-take, length-take-le}
-use Rattle.fax_lines.specs.DrawnModes.{AreModesHere, DrawsMode, IsNextMode, pen_here}
+use Rattle.fax_lines.specs.DrawnModes.{AreModesHere, DrawsMode, pen_here}
 use Rattle.fax_bits.specs.ModeGroups.{VerticalWord, AreNextWords, IsNextWord, width_of, distance_of, offset_at, words_of}
 use Rattle.fax_lines.specs.RegularModes.{AreSet, IsRegular}
 use Rattle.fax_lines.specs.declared.vertical_groups.ModesHere.{ModesHere}
-use Rattle.fax_lines.proofs.DrawingLines.UsualModes.{vertical_on, left_stroke, full_stroke, b2_within, twice_2d, draws_mode}
+use Rattle.fax_lines.proofs.DrawingLines.UsualModes.{vertical_on, left_stroke, b2_within, twice_2d, draws_mode}
 use Rattle.fax_lines.proofs.DrawingLines.UsualStrokes.{pixels-pending}
 use Rattle.std.proofs.Math.Seq.{take-suc}
 use Rattle.fax_reading.proofs.PixelRows.ReferencePlaces.{end_within}
@@ -201,12 +201,6 @@ next_word (word ∷ words) (suc n) at next few =
     let sum : width_of (take n words) + on.0.width ≡ width_of (take (suc n) words) = on.2 in
     (on.0, on.1, omega (arith, sum), rw (sym (moved_on word.width (width_of (take n words)) at)) on.3)
 
--- the first of them is next
-pub first_word : (words : List VerticalWord) {window : AtHand} {width : ℕ} → AreNextWords words window.at → 0 < length words
-    → 16 ≤ window.left → width ≡ width_of (take 1 words) → IsNextMode (Vertical (distance_of (offset_at words 0))) width window
-first_word [] next some enough is = absurd (omega (arith, some))
-first_word (word ∷ words) {window} {width} next some enough is = grind (arith, common_steps)
-
 module _ {A : Type 0} {line : CodingLine} {stroke : Stroke} {window : AtHand} {row : Vec ℕ A} {modes : ModesHere}
     (can : CanDraw line stroke window row) (here : AreModesHere line stroke window modes) (n : ℕ)
     (within : n ≤ length (words_of modes.group)) (set : AreSet modes.regular n) where
@@ -321,13 +315,3 @@ module _ {A : Type 0} {line : CodingLine} {stroke : Stroke} {window : AtHand} {r
           (next_drawn next.index color more is (omega (arith, right)) (omega (arith, inside)) colored least most))
           (left_stroke can.ended.lawful first_inside (first_reached color colored) right inside longer_is turned b1) (rw at
           some) room
-
-      -- the next mode, at the row's end
-      pub draws_full : get_or modes.places n 0 ≡ line.columns → next.painted ≡ line.columns → next.index ≡ stroke.index + n
-          → longer.items ≡ row.items ++ take n modes.places → DrawsMode line stroke window row ticks next rest longer now
-      draws_full is painted index items =
-          let some : window.at.place < window.at.place + width_of (take (suc n) (words_of modes.group)) =
-          omega (arith, bits_at_least (words_of modes.group) (suc n) window.at here.next more) in
-          draws_mode (rw (at, turned, painted, items)
-          (next_drawn next.index color more (sym is) (omega (arith, first_inside)) (omega arith) colored least most))
-          (rw (painted, index, items) (full_stroke can.ended.lawful first_inside (first_reached color colored))) (rw at some) room

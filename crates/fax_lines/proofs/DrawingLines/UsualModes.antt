@@ -82,6 +82,13 @@ pub recolored : {color : Color} (stroke : Stroke) (P : Stroke → Type 0) → st
     → P (record stroke { color = color })
 recolored stroke P e p = subst (λ (c : Color). P (record stroke { color = c })) e p
 
+-- drawing goes on from a stroke with its colour by another name
+pub goes_on_in : {A : Type 0} {line : CodingLine} {a next : Stroke} {window here rest : AtHand} {row row2 longer : Vec ℕ A}
+    {m n o : ℕ} {color : Color} (now : Stroke) → now.color ≡ color → DrawsOn line a window row m now here row2 n
+    → DrawsOn line (record now { color = color }) here row2 n next rest longer o → DrawsOn line a window row m next rest longer o
+goes_on_in {line = line} {a} {window = window} {here} {row = row} {row2} {m = m} {n} now e first second =
+    goes_on (recolored now (λ (s : Stroke). DrawsOn line a window row m s here row2 n) e first) refl refl second.drawn second.kept
+
 -- a mode that is read and drawn
 mode_on : {strict : Bool} {columns : ℕ} {reference : Row} (pen next : Pen) {mode : Mode} {rest : Bits} (words : ℕ)
     {ticks now passed later : ℕ} → length pen.front < columns → read_code mode_codes pen.rest ≡ Ok (mode, rest)

@@ -16,7 +16,8 @@ use Rattle.std.proofs.Math.Bool.{or-true}
 pub paint_cuts : (strict : Bool) (columns : ℕ) (front : Row) (color : Color) (n : ℕ) (row : Row) (go_on : Row → Step) (pen : Pen)
     (before now : Bool) → paint strict columns front color n ≡ Ok row → now ≡ (before || ltb (columns - length front) n)
     → go_on row ≡ Turn.next pen → TellsCut (try front (paint true columns front color n) go_on) pen before now
-paint_cuts strict columns front color n row go_on pen before now paints told on = grind (arith, common_steps, false≢true, or-true)
+paint_cuts strict columns front color n row go_on pen before now paints reported on
+    = grind (arith, common_steps, false≢true, or-true)
 
 -- two steps, one after the other
 pub two_cut : (first : Step) (middle : Pen) (after : Pen → Step) (last : Pen) (a b c : Bool) → TellsCut first middle a b
@@ -46,7 +47,7 @@ strict_same line now next cut so_far is = grind arith
 pub run_cuts : (held new : Held) (n : ℕ) (rest after : Bits) (before now : Bool) → run_from held.color (0, rest) ≡ Ok (n, after)
     → painted_front held n ≡ Ok new.front → new.color ≡ opposite held.color → now ≡ (before || exceeds held n)
     → TellsCut (strict_step_of_run held rest) (pen_of new after) before now
-run_cuts held new n rest after before now reads paints color told =
+run_cuts held new n rest after before now reads paints color reported =
     grind (arith, common_steps, paint_cuts held.settings.strict held.settings.columns held.front held.color n new.front)
 
 -- pass mode

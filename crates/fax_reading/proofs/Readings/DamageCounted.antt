@@ -22,9 +22,9 @@ pub cut_once : (line strict : Line) (x : Damaged) → length (cond {A = List Dam
 cut_once line strict x = grind (arith, common_steps)
 
 -- and it is reported
-pub cut_is_told : (cut : Bool) (x : Damaged) (now : Repairs) (before : ℕ) → now.cut ≡ before + length
+pub cut_is_reported : (cut : Bool) (x : Damaged) (now : Repairs) (before : ℕ) → now.cut ≡ before + length
     (cond {A = List Damaged} cut (x ∷ []) []) → cut_since now before ≡ cut_in (cond {A = List Damaged} cut (x ∷ []) [])
-cut_is_told cut x now before more = grind (arith, ne_eqb, eq-eqb)
+cut_is_reported cut x now before more = grind (arith, ne_eqb, eq-eqb)
 
 -- where there is no row, none is cut
 pub cut_none : (settings : DecodeSettings) (has_eols : Bool) (start : Bits) (line strict : Line) (e : DecodeError)

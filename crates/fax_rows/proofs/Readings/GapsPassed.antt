@@ -13,7 +13,7 @@ use Rattle.fax_reading.proofs.GapsContinued.SettledGaps.{gap_settled, repairs_af
 use Rattle.fax_reading.proofs.Readings.DamageCounted.{repaired_after}
 use Rattle.fax_rows.proofs.Work.CallsPaid.{after_row_paid, gap_paid}
 use Rattle.fax_rows.proofs.Readings.RowByRow.{starts_following, after_row_stands, damage_stays, misses_after_row, misses_passed}
-use Rattle.fax_rows.proofs.Readings.RowByRow.{misses_after, miss_told, told_after, gap_stands, comes_to_line}
+use Rattle.fax_rows.proofs.Readings.RowByRow.{misses_after, miss_reported, reported_after, gap_stands, comes_to_line}
 use Rattle.fax_rows.specs.declared.row_reader.RowState.{RowState}
 use Rattle.fax_rows.specs.RowsTried.{PassesGap, rows_after_gap}
 
@@ -56,8 +56,8 @@ module _ (from : ℕ) (rows : RowState) (old new : Context) (bits : Bits) (place
   started = grind (arith, common_steps, starts_following, held, here_now, is_after_row, last, gap_start)
 
   -- where its EOL was missed
-  told : missed_since last.repairs held.repairs.missed place ≡ missed_before held.settings bits held.taken
-  told = grind (arith, common_steps, miss_told, misses_after_row, held, here_now, is_after_row, last, gap_start)
+  reported : missed_since last.repairs held.repairs.missed place ≡ missed_before held.settings bits held.taken
+  reported = grind (arith, common_steps, miss_reported, misses_after_row, held, here_now, is_after_row, last, gap_start)
 
   -- what was counted is paid
   paid : WorkIsPaid from (stand_after over) held.settings bits last next new.ticks
@@ -86,14 +86,14 @@ module _ (from : ℕ) (rows : RowState) (old new : Context) (bits : Bits) (place
         subst (λ (s : DecodeSettings). ReaderStands stand s bits last next) (sym same) passed,
         counted,
         subst (λ (s : DecodeSettings). WorkIsPaid from stand s bits last next new.ticks) (sym same) paid,
-        told_after over last.settings bits last.taken now
+        reported_after over last.settings bits last.taken now
             (subst (λ (n : ℕ). now ≡ missed_before last.settings bits n) (sym taken)
-            (subst (λ (s : DecodeSettings). now ≡ missed_before s bits held.taken) (sym same) told)),
+            (subst (λ (s : DecodeSettings). now ≡ missed_before s bits held.taken) (sym same) reported)),
       )
 
   pub gap_reaches : ReachesNextLine (seen rows old (record { bits = bits; place = place }))
       (seen (rows_after_gap rows over place old new) new (record { bits = bits; place = next })) (line_after over)
-  gap_reaches = grind (arith, common_steps, comes_to_line, last, held, start_kept, passed, started, told)
+  gap_reaches = grind (arith, common_steps, comes_to_line, last, held, start_kept, passed, started, reported)
 
 -- ---- A gap that no data that follows changes
 

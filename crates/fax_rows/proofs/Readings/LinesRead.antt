@@ -5,7 +5,7 @@ use Rattle.fax_rows.proofs.Names.{arith, length-drop, Bits, Held, DecodeError, C
 use Rattle.fax_rows.proofs.Names.{StandsAtLine, ReaderStands, IsStandingAtLine, IsStanding, ReadsNext, seen, row_came}
 use Rattle.fax_rows.proofs.Names.{WorkIsPaid, AfterRow, AtFault}
 use Rattle.fax_rows.proofs.Readings.RowByRow.{IsRead, at_line_stands, reader_fails_at_line, damage_stays, misses_at_line}
-use Rattle.fax_rows.proofs.Readings.RowByRow.{is_read, isnt_read, told_at_line}
+use Rattle.fax_rows.proofs.Readings.RowByRow.{is_read, isnt_read, reported_at_line}
 use Rattle.fax_rows.proofs.Work.CallsPaid.{at_line_paid, failed_most}
 use Rattle.fax_lines.proofs.Work.RoomTaken.{row_short}
 use Rattle.fax_rows.specs.declared.row_reader.RowState.{RowState}
@@ -41,7 +41,7 @@ module _ (from : ℕ) (rows : RowState) (old new : Context) (bits : Bits) (place
     row_is_next : ReadsNext (seen rows old (record { bits = bits; place = place }))
         (seen (rows_after_line rows (Ok tt) place held.repairs.rows held.repairs.cut left.repairs) new
         (record { bits = bits; place = next })) (Ok true)
-    row_is_next = grind (arith, common_steps, told_at_line, read, line_start_of, held)
+    row_is_next = grind (arith, common_steps, reported_at_line, read, line_start_of, held)
 
   -- or it wasn't
   module _ (e : DecodeError) (reads : ReadsRow old new (Err e) (drop place bits) (drop next bits)) where
@@ -74,7 +74,7 @@ module _ (from : ℕ) (rows : RowState) (old new : Context) (bits : Bits) (place
           common_steps,
           damage_stays,
           misses_at_line,
-          told_at_line,
+          reported_at_line,
           left,
           settings_left,
           unread,
@@ -92,7 +92,7 @@ module _ (from : ℕ) (rows : RowState) (old new : Context) (bits : Bits) (place
           arith,
           common_steps,
           reader_fails_at_line,
-          told_at_line,
+          reported_at_line,
           settings_left,
           taken_left,
           unread,

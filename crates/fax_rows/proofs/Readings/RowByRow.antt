@@ -21,14 +21,14 @@ use Rattle.fax_rows.proofs.Names.{redrawn, White, end_of, ends_with, add_row}
 use Rattle.fax_rows.proofs.Names.{IsWhole, IsFault, cut_by_turn, cuts_by_line, cut_in, cut_since}
 use Rattle.fax_rows.proofs.Names.{cuts_run}
 use Rattle.fax_rows.proofs.Names.{strict_line_of_turn}
-use Rattle.fax_rows.proofs.Names.{HasEnded, HasFailed, MissIsTold, context_at, missed_before, missed_since, start_in}
+use Rattle.fax_rows.proofs.Names.{HasEnded, HasFailed, MissIsReported, context_at, missed_before, missed_since, start_in}
 use Rattle.fax_reading.specs.Answers.{HasBlack, PaintsBlack}
 use Rattle.fax_rows.specs.declared.row_reader.RowState.{RowState}
 use Rattle.fax_rows.proofs.Names.{front_of}
 use Rattle.fax_reading.proofs.Readings.GapsAndRows.{first_gap_t4}
 use Rattle.fax_bits.proofs.Repetition.Repeated.{reaches_on}
 use Rattle.fax_reading.proofs.Readings.DamageCounted.{repaired_counts, repaired_none, missed_counts, missed_none, missed_starts}
-use Rattle.fax_reading.proofs.Readings.DamageCounted.{few_after, last_after, cuts_keep, cut_counts, cut_once, cut_is_told}
+use Rattle.fax_reading.proofs.Readings.DamageCounted.{few_after, last_after, cuts_keep, cut_counts, cut_once, cut_is_reported}
 use Rattle.fax_reading.proofs.Readings.DamageCounted.{cut_none}
 use Rattle.fax_reading.proofs.Readings.PlainAnswers.{some_columns, bytes_before-place}
 use Rattle.fax_reading.proofs.Readings.RowsAndGaps.{unmissed}
@@ -164,13 +164,13 @@ module _ {settings : DecodeSettings} {bits : Bits} {held : Held} {here : Bits}
     takes_turn = grind (arith, common_steps)
 
 -- what is repaired of a line is reported
-repaired_told : (settings : DecodeSettings) (has_eols : Bool) (index offset : ℕ) (start : Bits) (line strict : Line)
+repaired_reported : (settings : DecodeSettings) (has_eols : Bool) (index offset : ℕ) (start : Bits) (line strict : Line)
     (row : Row) (rest : Bits) (taken : ℕ) (before : Repairs) → row_of_line settings has_eols start line ≡ Ok (row, rest)
     → damage_since (repairs_with line strict taken before) before.rows ≡ fault_in
     (repaired_in settings has_eols index offset line)
-repaired_told settings has_eols index offset start (Line.whole pixels after) strict row rest taken before is =
+repaired_reported settings has_eols index offset start (Line.whole pixels after) strict row rest taken before is =
     grind (arith, common_steps, cond-true, eq-eqb, cuts_keep)
-repaired_told settings has_eols index offset start (Line.broken front fault) strict row rest taken before is =
+repaired_reported settings has_eols index offset start (Line.broken front fault) strict row rest taken before is =
     grind (arith, common_steps, cond-true, cond-false, ne_eqb)
 
 -- it is one row at most
@@ -249,12 +249,12 @@ is_read {settings} {bits} {held} {here} stands {new} {left_over} takes =
       row_end = sym (ap (λ (n : ℕ). get_or (row_ends settings bits) n 0) before
           ∙ given_is settings stands.wide bits stands.begins stands.reaches (end_of_turn settings bits) 0
           ∙ ap (end_of_row bits so_far) taken.is);
-      damage = ap (λ (r : Repairs). damage_since r held.repairs.rows) repaired ∙ repaired_told settings so_far.has_eols
+      damage = ap (λ (r : Repairs). damage_since r held.repairs.rows) repaired ∙ repaired_reported settings so_far.has_eols
           (length so_far.rows) offset so_far.rest line strict taken.taken left_over
           (length so_far.rows) held.repairs taken.is ∙ sym (ap
           fault_in (given_at settings stands.wide bits stands.begins stands.reaches (repaired_by_turn settings bits) before));
       few = λ so. grind (arith, common_steps, one, repaired_once, so_far);
-      cut = λ so. cut_is_told (cuts_run line strict) its new.repairs held.repairs.cut
+      cut = λ so. cut_is_reported (cuts_run line strict) its new.repairs held.repairs.cut
           (ap (λ (r : Repairs). r.cut) repaired ∙ one_cut so)
           ∙ sym (ap cut_in (given_at settings stands.wide bits stands.begins stands.reaches (cut_by_turn settings bits) before));
       few_cut = λ so. grind (arith, common_steps, cut_once);
@@ -584,9 +584,9 @@ module _ (settings : DecodeSettings) (bits : Bits) (held : Held) (here : Bits) (
       }
 
   -- and its offset is reported
-  pub miss_told : (place : ℕ) → place ≡ length bits - length here
+  pub miss_reported : (place : ℕ) → place ≡ length bits - length here
       → missed_since last.repairs held.repairs.missed place ≡ missed_before settings bits held.taken
-  miss_told place is =
+  miss_reported place is =
       let next : held.taken ≡ suc read = omega (arith, one_more) in
       let before = ap (λ (r : Repairs). r.missed) read_with ∙ repairs_with_missed its_line misses.strict read misses.before in
       ap (missed_since last.repairs held.repairs.missed) is
@@ -624,18 +624,18 @@ misses_after (Ok false) settings bits held misses = misses
 misses_after (Err error) settings bits held misses = misses
 
 -- the offset of a missed EOL at a line, and after a gap
-pub told_at_line : (stand : Stand) (settings : DecodeSettings) (bits : Bits) (taken : ℕ) (missed : Option ℕ)
-    → is_at_line stand ≡ true → MissIsTold stand settings bits taken missed → missed ≡ missed_before settings bits taken
-told_at_line AtLine settings bits taken missed is told = told
-told_at_line AfterRow settings bits taken missed is told = absurd (false≢true is)
-told_at_line AtEnd settings bits taken missed is told = told
-told_at_line (AtFault error) settings bits taken missed is told = told
+pub reported_at_line : (stand : Stand) (settings : DecodeSettings) (bits : Bits) (taken : ℕ) (missed : Option ℕ)
+    → is_at_line stand ≡ true → MissIsReported stand settings bits taken missed → missed ≡ missed_before settings bits taken
+reported_at_line AtLine settings bits taken missed is reported = reported
+reported_at_line AfterRow settings bits taken missed is reported = absurd (false≢true is)
+reported_at_line AtEnd settings bits taken missed is reported = reported
+reported_at_line (AtFault error) settings bits taken missed is reported = reported
 
-pub told_after : (answer : Result Bool DecodeError) (settings : DecodeSettings) (bits : Bits) (taken : ℕ) (missed : Option ℕ)
-    → missed ≡ missed_before settings bits taken → MissIsTold (stand_after answer) settings bits taken missed
-told_after (Ok true) settings bits taken missed told = told
-told_after (Ok false) settings bits taken missed told = told
-told_after (Err error) settings bits taken missed told = told
+pub reported_after : (answer : Result Bool DecodeError) (settings : DecodeSettings) (bits : Bits) (taken : ℕ) (missed : Option ℕ)
+    → missed ≡ missed_before settings bits taken → MissIsReported (stand_after answer) settings bits taken missed
+reported_after (Ok true) settings bits taken missed reported = reported
+reported_after (Ok false) settings bits taken missed reported = reported
+reported_after (Err error) settings bits taken missed reported = reported
 
 -- before the first row there are none
 pub none_damaged : (stand : Stand) (settings : DecodeSettings) (bits : Bits) (held : Held)
@@ -664,9 +664,10 @@ pub comes_to_line : (old : RowsRead) (rows : RowState) (ctx : Context) (at : Bit
     → ReaderStands (stand_after answer) old.settings old.bits ctx.held at.place
     → OnErr answer (rows.started_at ≡ failed_at old.settings old.bits old.taken)
     → rows.missed ≡ missed_before old.settings old.bits old.taken → ReachesNextLine old (seen rows ctx at) (line_after answer)
-comes_to_line old rows ctx at (Ok true) stand same are taken counts row begun stands start told = grind (arith, common_steps)
-comes_to_line old rows ctx at (Ok false) stand same are taken counts row begun stands start told = grind (arith, common_steps)
-comes_to_line old rows ctx at (Err error) stand same are taken counts row begun stands start told = grind (arith, common_steps)
+comes_to_line old rows ctx at (Ok true) stand same are taken counts row begun stands start reported = grind (arith, common_steps)
+comes_to_line old rows ctx at (Ok false) stand same are taken counts row begun stands start reported = grind (arith, common_steps)
+comes_to_line old rows ctx at (Err error) stand same are taken counts row begun stands start reported
+    = grind (arith, common_steps)
 
 -- the result of a call that passes a gap, and then reads the line there
 pub reads_on : (old mid new : RowsRead) (result : Result Bool DecodeError) → ReachesNextLine old mid (Ok true)

@@ -12,7 +12,7 @@ use Rattle.fax_rows.proofs.Names.{Row, changes, pixels, found_here}
 use Rattle.fax_rows.proofs.Names.{Stand, AtLine, AfterRow, ReadsNext, seen}
 use Rattle.fax_rows.proofs.Names.{StandsAtLine, StandsAfterRow, ReaderStands, DamageIsCounted, MissesAreCounted}
 use Rattle.fax_rows.proofs.Names.{MissesAfterRow}
-use Rattle.fax_rows.proofs.Names.{Misses, MissIsTold, WorkIsPaid, PaidAtLine, PaidAfterRow, IsPaid, IsStanding, missed_before}
+use Rattle.fax_rows.proofs.Names.{Misses, MissIsReported, WorkIsPaid, PaidAtLine, PaidAfterRow, IsPaid, IsStanding, missed_before}
 use Rattle.fax_rows.proofs.Names.{failed_at, tag_tests, looked_ahead}
 use Rattle.fax_rows.specs.declared.row_reader.RowState.{RowState}
 use Rattle.fax_rows.proofs.Names.{Group3_1D, Group3_2D, at_end, ne_eqb, ◌<◌, ◌≢◌}
@@ -27,7 +27,7 @@ use Rattle.fax_bits.proofs.BitReading.PlainEols.{single_tagged_eol}
 use Rattle.fax_reading.proofs.EncodedPictures.PicturesT4.{eol_stands, one_eol}
 use Rattle.std.proofs.Math.Seq.{drop-append_seam}
 use Rattle.fax_reading.proofs.PixelRows.ChangesAndPixels.{changes-pixels}
-use Rattle.fax_rows.proofs.Readings.RowByRow.{IsRead, gap_stands, is_read, miss_told, misses_passed, reads_on}
+use Rattle.fax_rows.proofs.Readings.RowByRow.{IsRead, gap_stands, is_read, miss_reported, misses_passed, reads_on}
 use Rattle.fax_rows.proofs.Readings.RowByRow.{reader_fails_at_line}
 use Rattle.fax_rows.proofs.Work.CallsPaid.{gap_paid}
 
@@ -66,12 +66,12 @@ module _ (from : ℕ) (rows : RowState) (ctx : Context) (at : BitsAt) (stands : 
   counted : MissesAreCounted settings bits held.repairs held.taken
   counted = misses_passed settings bits held (here at) stands_after misses held kept refl
 
-  told : None ≡ missed_before settings bits held.taken
-  told =
+  reported : None ≡ missed_before settings bits held.taken
+  reported =
       let offset = length bits - length (here at) in
       sym (cond-true (eqb held.repairs.missed held.repairs.missed) None (Some offset)
       (eq-eqb held.repairs.missed held.repairs.missed refl))
-      ∙ miss_told settings bits held (here at) stands_after misses held kept offset refl
+      ∙ miss_reported settings bits held (here at) stands_after misses held kept offset refl
 
   line_paid : PaidAtLine from settings bits held line now
   line_paid = gap_paid from settings stands_after.wide bits held (here at) ctx.ticks is_paid held place now refl (Ok false) said
@@ -110,7 +110,7 @@ module _ (from : ℕ) (rows : RowState) (ctx : Context) (at : BitsAt) (stands : 
     after_at = record { bits = bits; place = end }
 
     reads_line : ReadsNext (seen mid mid_ctx mid_at) (seen after after_ctx after_at) (Ok true)
-    reads_line = grind (arith, common_steps, length-drop, cond-true, eq-eqb, place, bits, line, held, settings, read, told)
+    reads_line = grind (arith, common_steps, length-drop, cond-true, eq-eqb, place, bits, line, held, settings, read, reported)
 
     -- the row is the next one of the plain reading
     pub reads_again : ReadsNext (seen rows ctx at) (seen after after_ctx after_at) (Ok true)
@@ -118,7 +118,7 @@ module _ (from : ℕ) (rows : RowState) (ctx : Context) (at : BitsAt) (stands : 
 
     abbrev Standing : DecodeSettings → Type 0
     Standing s = StandsAfterRow s bits new (drop end bits) × DamageIsCounted AfterRow s bits new
-        × WorkIsPaid from AfterRow s bits new end last × MissIsTold AfterRow s bits new.taken None
+        × WorkIsPaid from AfterRow s bits new end last × MissIsReported AfterRow s bits new.taken None
 
     standing : Standing settings
     standing = grind (arith, common_steps, read, counted, misses, held, line, at_line, line_paid, bits, most)

@@ -9,7 +9,7 @@ use Rattle.fax_rows.proofs.Names.{cuts_by_line}
 use Rattle.fax_rows.proofs.Names.{repairs_by_line, misses_by_line, words_of}
 use Rattle.fax_rows.proofs.Names.{most_counted, Row, changes, is_some, ReadsNext}
 use Rattle.fax_rows.proofs.Names.{map-append, fold-append}
-use Rattle.fax_rows.proofs.Names.{IsStanding, IsWhole, MissesAfterRow, MissIsTold, Stand, AtLine, AfterRow}
+use Rattle.fax_rows.proofs.Names.{IsStanding, IsWhole, MissesAfterRow, MissIsReported, Stand, AtLine, AfterRow}
 use Rattle.fax_rows.proofs.Names.{AtEnd, AtFault, ended, missed_before, seen}
 use Rattle.fax_rows.specs.declared.row_reader.RowState.{RowState}
 use Rattle.fax_reading.proofs.DrawingLines.CountedLines.{on_answer_weaker}
@@ -77,7 +77,7 @@ ends_unfailed (AtFault error) unfailed is = absurd (unfailed error refl)
 
 -- no EOL was missed
 pub none_missed : (stand : Stand) (settings : DecodeSettings) (bits : Bits) {taken : ℕ} → taken ≡ 0
-    → MissIsTold stand settings bits taken None
+    → MissIsReported stand settings bits taken None
 none_missed AtLine settings bits none = sym (ap (missed_before settings bits) none)
 none_missed AfterRow settings bits none = tt
 none_missed AtEnd settings bits none = sym (ap (missed_before settings bits) none)

@@ -1,11 +1,11 @@
 -- White rows that are read one after another, and passed to a sink.
 use Rattle.fax_rows.proofs.Names.{common_steps}
 use Rattle.fax_rows.proofs.Names.{◌≡◌, ◌+◌, ◌-◌, ◌<◌, ◌≤◌, ◌∙◌, ℕ, zero, suc, List, [], Ok, Err, ap, arith, refl, subst, sym}
-use Rattle.fax_rows.proofs.Names.{BitsAt, AfterRow, Context, DecodeError, None, Refused, SinkState, false, true}
+use Rattle.fax_rows.proofs.Names.{BitsAt, AfterRow, Context, DecodeError, None, Refused, Result, SinkState, false, true}
 use Rattle.fax_rows.proofs.Readings.RowsAgain.{not_at_limit}
 use Rattle.fax_rows.specs.WhiteRows.{TakesWhite}
 use Rattle.fax_lines.specs.WhiteLines.{MayFollow, PassesLine}
-use Rattle.fax_rows.specs.WhiteRows.{PassWhite, Pushed, PushesWhite, ReadsWhite}
+use Rattle.fax_rows.specs.WhiteRows.{PassWhite, Pushed, PushesWhite, ReadsWhite, WhiteEnds}
 use Rattle.fax_rows.specs.declared.row_reader.RowState.{RowState}
 use Rattle.fax_lines.specs.declared.white_lines.WhiteLines.{WhiteLines}
 
@@ -148,3 +148,69 @@ no_white_read {sink = sink} {rows} {ctx} {at} = record {
   pass = refl;
   ends = (refl, refl);
 }
+
+-- ---- One after another
+
+-- rows passed first, and then others
+more_pass : {M : Type 0} (step : M → List ℕ → M) (lines : WhiteLines) (dropped first count : ℕ) (old mid new : Pushed M)
+    → PassWhite step lines dropped first old mid → PassWhite step lines dropped count mid new
+    → (all : ℕ) × PassWhite step lines dropped all old new
+more_pass step lines dropped first zero old mid new before then =
+    (first, subst (PassWhite step lines dropped first old) (sym then) before)
+more_pass step lines dropped first (suc count) old mid new before then =
+    let so_far = more_pass step lines dropped first count old mid then.0 before then.1 in
+    (suc so_far.0, (then.0, so_far.1, then.2))
+
+module _ {M : Type 0} {step : M → List ℕ → M} {lines : WhiteLines} {dropped : ℕ} {first mid : SinkState M}
+    {rows kept : RowState} {old ctx : Context} {at next : BitsAt}
+    (pushes : PushesWhite step lines dropped first mid rows kept old ctx at next (Ok tt)) where
+  abbrev so_far_pushed : Pushed M
+  so_far_pushed = record { rows = kept; ctx = ctx; at = next; meaning = mid.meaning }
+
+  passed_so_far : PassWhite step lines dropped pushes.count
+      (record { rows = rows; ctx = old; at = at; meaning = first.meaning }) so_far_pushed
+  passed_so_far = subst (PassWhite step lines dropped pushes.count
+      (record { rows = rows; ctx = old; at = at; meaning = first.meaning })) (sym pushes.ends.0) pushes.pass
+
+  -- more were read, and passed
+  pub then_pushed : {last : SinkState M} {end : RowState} {new : Context} {then : BitsAt}
+      {answer : Result (Unit {0}) DecodeError} → PushesWhite step lines dropped mid last kept end ctx new next then answer
+      → PushesWhite step lines dropped first last rows end old new at then answer
+  then_pushed {last} {end} {new} {then} {answer} more =
+      let all = more_pass step lines dropped pushes.count more.count _ so_far_pushed more.mid passed_so_far more.pass in
+      record {
+        count = all.0;
+        mid = more.mid;
+        pass = all.1;
+        ends = flag_before answer more.ends;
+      }
+    where
+      flag_before : (answer : Result (Unit {0}) DecodeError)
+          → WhiteEnds lines dropped mid last more.mid (record { rows = end; ctx = new; at = then; meaning = last.meaning }) answer
+          → WhiteEnds lines dropped first last more.mid (record { rows = end; ctx = new; at = then; meaning = last.meaning })
+          answer
+      flag_before (Ok x) ends = (ends.0, ends.1 ∙ pushes.ends.1)
+      flag_before (Err error) ends = ends
+
+  module _ {last : SinkState M} {end : RowState} {new : Context} {then : BitsAt}
+      (reads : ReadsWhite lines dropped so_far_pushed
+      (record { rows = end; ctx = new; at = then; meaning = last.meaning })) where
+    -- one more was
+    pub then_one : last.meaning ≡ step mid.meaning [] → last.refused ≡ mid.refused
+        → PushesWhite step lines dropped first last rows end old new at then (Ok tt)
+    then_one means flag = record {
+      count = suc pushes.count;
+      mid = record { rows = end; ctx = new; at = then; meaning = last.meaning };
+      pass = (so_far_pushed, passed_so_far, record { reads = reads; meaning = means });
+      ends = (refl, flag ∙ pushes.ends.1);
+    }
+
+    -- or the sink refuses its row
+    pub then_refused : {error : DecodeError} → last.meaning ≡ mid.meaning → error ≡ Refused → last.refused ≡ true
+        → last.refuses [] → PushesWhite step lines dropped first last rows end old new at then (Err error)
+    then_refused means is flag row = record {
+      count = pushes.count;
+      mid = so_far_pushed;
+      pass = passed_so_far;
+      ends = record { reads = reads; meaning = means; is = is; flag = flag; row = row };
+    }

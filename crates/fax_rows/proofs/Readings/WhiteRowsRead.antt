@@ -30,6 +30,13 @@ counts_rows {M} step lines dropped old new zero pass = grind (arith, common_step
 counts_rows step lines dropped old new (suc count) pass =
     grind (arith, common_steps, counts_rows step lines dropped old pass.0 count pass.1)
 
+-- the bits are the same
+passed_bits : {M : Type 0} (step : M → List ℕ → M) (lines : WhiteLines) (dropped : ℕ) (old new : Pushed M) (count : ℕ)
+    → PassWhite step lines dropped count old new → new.at.bits ≡ old.at.bits
+passed_bits {M} step lines dropped old new zero pass = ap (λ (p : Pushed M). p.at.bits) pass
+passed_bits step lines dropped old new (suc count) pass = ap (λ (b : BitsAt). b.bits) pass.2.reads.takes.passes.moved_on
+    ∙ passed_bits step lines dropped old pass.0 count pass.1
+
 -- the reading is after a row, and the sink means the rows so far
 pub record IsAfterRows {M : Type 0} (step : M → List ℕ → M) (from : ℕ) (settings : DecodeSettings) (bits : Bits) (start : M)
     (now : Pushed M) : Type 0 where
@@ -128,6 +135,11 @@ module _ {M : Type 0} {step : M → List ℕ → M} {lines : WhiteLines} {droppe
 
     pub counted_now : CountsRows old new
     counted_now = subst (λ (p : Pushed M). CountsRows old p.ctx) (sym came_after.0) counted_mid
+
+    pub bits_now : next.bits ≡ at.bits
+    bits_now = ap (λ (p : Pushed M). p.at.bits) came_after.0
+        ∙ passed_bits step lines dropped (record { rows = rows; ctx = old; at = at; meaning = before.meaning }) pushes.mid
+        pushes.count pushes.pass
 
 -- where the sink refused the row of a white line, and it was taken back
 module _ {M : Type 0} {step : M → List ℕ → M} {lines : WhiteLines} {before after : SinkState M} {old last : Context} {bits : Bits}

@@ -10,7 +10,7 @@ use Rattle.hayro_ccitt_c.proofs.StandingRows.{AreFromStart, lists_from_start}
 use Rattle.hayro_ccitt_c.proofs.Reporting.{on_settings}
 use Rattle.hayro_ccitt_c.proofs.hayro_ccitt_decode_changes.Goals as goal
 
-module _ (c : goal.After-told) where
+module _ (c : goal.After-reported) where
   -- the settings that C passes
   meant : settings_of c.args.settings.now ≡ Some c.in-Some.meant
   meant = sym (c.settings_for.ensures.meant c.in-Some.ensures.fit) ∙ c.in-Some.is
@@ -28,21 +28,21 @@ module _ (c : goal.After-told) where
   are_listed = record { rows = lists.stand.rows_are; rest = lists.stand.rest }
 
 -- a statement about what was decoded, and about the memory afterwards, is one about what C gets
-on_changes : (c : goal.After-told) (P : DecodeSettings → Bits → List ℕ → Type 0) (memory : List ℕ)
+on_changes : (c : goal.After-reported) (P : DecodeSettings → Bits → List ℕ → Type 0) (memory : List ℕ)
     → P c.in-Some.meant (bits_in c.order_of.result c.args.«data».now) memory → BitsFit c.args.«data».now
     → IfSome (settings_of c.args.settings.now) (λ s. P s (bits_in (order_of c.args.settings.now) c.args.«data».now) memory)
 on_changes c P memory = on_settings c.args.settings.now c.in-Some.meant c.args.«data».now c.order_of.result
     (λ s bits. P s bits memory) (meant c) c.order_of.ensures
 
 pub returns-clause-changes : goal.returns-clause-changes
-returns-clause-changes c = rw c.told.ensures.outcome (λ fit. on_changes c (λ s bits memory.
+returns-clause-changes c = rw c.reported.ensures.outcome (λ fit. on_changes c (λ s bits memory.
     c.changes.result ≡ changes_taken s bits c.decoded-report.result.rows) [] (c.changes.ensures ∙ (lists c).counted) fit)
 
 pub returns-clause-listed : goal.returns-clause-listed
 returns-clause-listed c =
     let are = are_listed c in
     let name = sym c.new-rows.ensures.same_reference ∙ (lists c).same in
-    rw c.told.ensures.outcome
+    rw c.reported.ensures.outcome
     (λ fit. on_changes c (λ s bits memory. AreListed s bits c.decoded-report.result.rows c.args.lists.now memory) _ (search rules)
     fit)
 
@@ -51,8 +51,8 @@ returns-clause-refused c = λ full.
     let few : length c.decoded-report.new.sink.lists.now < numbers_taken c.in-Some.meant
     (bits_in c.order_of.result c.args.«data».now) c.decoded-report.result.rows + 1 + length (changes
     (get_or (plain c.in-Some.meant (bits_in c.order_of.result c.args.«data».now)).rows c.decoded-report.result.rows [])) =
-    omega (arith, c.decoded-report.ensures.refused_row (sym c.told.ensures.status ∙ full), (lists c).end_is) in
+    omega (arith, c.decoded-report.ensures.refused_row (sym c.reported.ensures.status ∙ full), (lists c).end_is) in
     let name = sym c.new-rows.ensures.same_reference ∙ (lists c).same in
-    rw c.told.ensures.outcome (λ fit. on_changes c (λ s bits memory. length memory < numbers_taken s bits
+    rw c.reported.ensures.outcome (λ fit. on_changes c (λ s bits memory. length memory < numbers_taken s bits
     c.decoded-report.result.rows + 1 + length (changes (get_or (plain s bits).rows c.decoded-report.result.rows []))) _
     (search rules) fit)

@@ -12,14 +12,14 @@ use Rattle.hayro_ccitt_c.proofs.PackedMemory.{all_fit, are_packed, changes_are, 
 use Rattle.hayro_ccitt_c.proofs.PackedTogether.{are_together}
 use Rattle.hayro_ccitt_c.proofs.WhiteRows.{all_in_memory}
 use Rattle.hayro_ccitt_c.proofs.Reporting.{on_settings, taken_within}
-use Rattle.hayro_ccitt_c.proofs.hayro_ccitt_decode_packed.Goals.{After-told}
+use Rattle.hayro_ccitt_c.proofs.hayro_ccitt_decode_packed.Goals.{After-reported}
 use Rattle.hayro_ccitt_c.proofs.hayro_ccitt_decode_packed.Goals as goal
 
 pub new-rows-requires : goal.new-rows-requires
 new-rows-requires c =
     subst (λ (l : Layout). bytes_of_row c.in-Some.meant.columns ≤ l.stride) (sym c.layout_of.ensures) c.in-Some.ensures.reaches
 
-module _ (c : After-told) where
+module _ (c : After-reported) where
   -- the settings that C passes
   meant : settings_of c.args.settings.now ≡ Some c.in-Some.meant
   meant = sym (c.settings_for.ensures.meant c.in-Some.ensures.fit) ∙ c.in-Some.is
@@ -98,28 +98,28 @@ module _ (c : After-told) where
       meaning
 
 -- a statement about what was decoded, and about the memory afterwards, is one about what C gets
-on_packed : (c : After-told) (P : DecodeSettings → Bits → List ℕ → Type 0) (memory : List ℕ)
+on_packed : (c : After-reported) (P : DecodeSettings → Bits → List ℕ → Type 0) (memory : List ℕ)
     → P c.in-Some.meant (bits_in c.order_of.result c.args.«data».now) memory → BitsFit c.args.«data».now
     → IfSome (settings_of c.args.settings.now) (λ s. P s (bits_in (order_of c.args.settings.now) c.args.«data».now) memory)
 on_packed c P memory = on_settings c.args.settings.now c.in-Some.meant c.args.«data».now c.order_of.result
     (λ s bits. P s bits memory) (meant c) c.order_of.ensures
 
 -- the same of one that holds of bytes
-on_bytes : (c : After-told) (P : DecodeSettings → Bits → List ℕ → Type 0) (memory : List ℕ)
+on_bytes : (c : After-reported) (P : DecodeSettings → Bits → List ℕ → Type 0) (memory : List ℕ)
     → (All (λ byte. byte < 256) memory → P c.in-Some.meant (bits_in c.order_of.result c.args.«data».now) memory)
     → ((k : ℕ) → Fits w8 (get_or memory k 0)) → BitsFit c.args.«data».now
     → IfSome (settings_of c.args.settings.now) (λ s. P s (bits_in (order_of c.args.settings.now) c.args.«data».now) memory)
 on_bytes c P memory holds fits = on_packed c P memory (holds (all_fit memory fits))
 
 pub returns-clause-changes : goal.returns-clause-changes
-returns-clause-changes c = rw c.told.ensures.outcome (λ fit. on_packed c (λ s bits memory.
+returns-clause-changes c = rw c.reported.ensures.outcome (λ fit. on_packed c (λ s bits memory.
     c.changes.result ≡ changes_taken s bits c.decoded-report.result.rows) [] (c.changes.ensures ∙ counted c) fit)
 
 pub returns-clause-packed : goal.returns-clause-packed
 returns-clause-packed c =
     let are = packed c in
     let name = sym c.new-rows.ensures.same_reference ∙ same c in
-    rw c.told.ensures.outcome
+    rw c.reported.ensures.outcome
     (λ fit. on_bytes c (λ s bits memory. ArePacked (layout_of c.args.settings.now) s bits c.decoded-report.result.rows
     c.args.bitmap.now memory) _ (search rules) c.type_inv.bitmap fit)
 
@@ -132,7 +132,7 @@ returns-clause-together c =
     (bits_in c.order_of.result c.args.«data».now) c.decoded-report.result.rows c.args.bitmap.now
     c.write_white.new.self.bitmap.now) is (packed c fits)) in
     let name = sym c.new-rows.ensures.same_reference ∙ same c in
-    rw c.told.ensures.outcome
+    rw c.reported.ensures.outcome
     (λ fit. on_bytes c (λ s bits memory. layout_of c.args.settings.now ≡ together s.columns
     → AreTogether s bits c.decoded-report.result.rows c.args.bitmap.now memory) _ (search rules) c.type_inv.bitmap fit)
 
@@ -146,8 +146,8 @@ returns-clause-refused c = λ full.
       wide c,
       c.new-rows.ensures.columns,
       c.write_white.new.self.full
-          (c.write_white.ensures.has_refused ∙ c.decoded-report.ensures.flag (sym c.told.ensures.status ∙ full)),
+          (c.write_white.ensures.has_refused ∙ c.decoded-report.ensures.flag (sym c.reported.ensures.status ∙ full)),
     ) in
     let name = sym c.new-rows.ensures.same_reference ∙ same c in
-    rw c.told.ensures.outcome (λ fit. on_packed c (λ s bits memory. length memory
+    rw c.reported.ensures.outcome (λ fit. on_packed c (λ s bits memory. length memory
     < c.decoded-report.result.rows * (layout_of c.args.settings.now).stride + bytes_of_row s.columns) _ (search rules) fit)

@@ -11,6 +11,6 @@ returns-clause-changes c =
     let rows = take c.decoded-report.result.rows (plain c.in-Some.meant (bits_in c.order_of.result c.args.«data».now)).rows in
     let counted = c.changes.ensures ∙ c.decoded-report.ensures.meaning
     ∙ ap (λ count. meaning_after counts count.changes rows) c.new-count.ensures ∙ changes_counted 0 rows in
-    rw c.told.ensures.outcome (on_settings c.args.settings.now c.in-Some.meant c.args.«data».now c.order_of.result
+    rw c.reported.ensures.outcome (on_settings c.args.settings.now c.in-Some.meant c.args.«data».now c.order_of.result
     (λ s bits. c.changes.result ≡ changes_taken s bits c.decoded-report.result.rows)
     (sym (c.settings_for.ensures.meant c.in-Some.ensures.fit) ∙ c.in-Some.is) c.order_of.ensures counted)

@@ -84,7 +84,7 @@ pub(super) fn cases_of<'a>(
 
 /// Writes what a context says after it decoded: the offset of a fault, the damaged rows, the missed EOLs, and whether EOLs are
 /// sought.
-fn told(rt: &(impl Abort + AllocGlobal), ctx: &DecoderContext) -> String {
+fn reported(rt: &(impl Abort + AllocGlobal), ctx: &DecoderContext) -> String {
     let fault = ctx.fault_start();
     let (damaged, missed) = (ctx.damaged_rows(), ctx.missed_eols());
     let has_eols = ctx.has_eols();
@@ -111,7 +111,7 @@ fn decodes(
 ) {
     if digits == "reset" {
         ctx.reset();
-        same_text(rt, digits, told(rt, ctx).as_str(), expected);
+        same_text(rt, digits, reported(rt, ctx).as_str(), expected);
         return;
     }
     let data = bytes_of(rt, digits);
@@ -120,7 +120,7 @@ fn decodes(
     let found = decoded(rt, ctx, &data, limit);
     same_text(rt, digits, found.as_str(), wanted.as_str());
     if !says.is_empty() {
-        let found = told(rt, ctx);
+        let found = reported(rt, ctx);
         same_text(rt, digits, found.as_str(), says.trim());
     }
     let found = decoded_low_first(rt, ctx, &mirrored(rt, &data), limit);

@@ -1,5 +1,5 @@
-//! Allocations that are refused. A test names the allocation that is to be refused; if `checks/refuse_named.c` is
-//! loaded before it, as `checks/built_tests.py` does, that one alone is refused, and else none is.
+//! Allocations that are refused. A test names the allocation that is to be refused; if `checks/programs/refuse_named.c` is
+//! loaded before it, as `checks/programs/built_tests.py` does, that one alone is refused, and else none is.
 
 ghost use Rattle.std.specs.Prelude.{◌<◌};
 

@@ -272,7 +272,7 @@ fn rows_one_at_a_time(rt: HostRuntime) {
 
 /// Bits stand after a whole line, and then an EOL, which is missed once the second line is read; or no EOL is left.
 #[test]
-fn missed_eols_are_told(rt: HostRuntime) {
+fn missed_eols_are_reported(rt: HostRuntime) {
     reads_each(
         &rt,
         "Group3_1D 8 columns 2 rows l | 0019F800CC | Ok(true) ([], 12, None, [1, 0, 0], 3) None; \
@@ -287,7 +287,7 @@ fn missed_eols_are_told(rt: HostRuntime) {
 
 /// An EOL, and a run of ten in eight columns, which is cut.
 #[test]
-fn cut_rows_are_told(rt: HostRuntime) {
+fn cut_rows_are_reported(rt: HostRuntime) {
     let settings = settings_in(&rt, "Group3_1D 8 columns 1 rows l");
     let data = &bytes_of(&rt, "001380");
     let mut reader = reader_of(&rt, data, settings);
@@ -387,9 +387,9 @@ fn a_line_goes_on_where_it_stopped(rt: HostRuntime) {
     for byte in &line {
         assert!(rt; !feed.is_finished());
         same(&rt, feed.feed(&[*byte]), Ok(()));
-        let is_told = feed.stays_within_line();
+        let is_reported = feed.stays_within_line();
         let fed = feed.next_row();
-        if is_told {
+        if is_reported {
             same(&rt, fed, Ok(Fed::NeedsMore));
             stays = stays.saturating_add(1);
         }

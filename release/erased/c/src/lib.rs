@@ -10,7 +10,7 @@
 mod heap;
 
 use core::slice;
-use decoder::proved::{Global, hayro_ccitt_c as calls};
+use decoder::{lists::Global, proved::hayro_ccitt_c as calls};
 
 /// Returns the items that a caller lends; of a length of 0 the pointer may be null.
 unsafe fn lent<'a, T>(items: *const T, length: usize) -> &'a [T] {

@@ -40,8 +40,9 @@ word-preserved c =
     record {
       painted = run_at_hand c.args.columns c.args.changes.now c.word.done c.word.brush c.turned.result
           c.turned-brush-in-word.result c.move_to-in-runs.new.row c.word-test.true
-          (omega (arith, is.room, c.requires.fits.room)) is.painted c.if-changes-done.true one.start one.color one.word two.start
-          two.color two.word;
+          (omega (arith, is.room, c.requires.fits.room)) is.painted
+          (omega (arith, is.painted.stands.begun, c.if-changes-done.true)) one.start one.color one.word two.start two.color
+          two.word;
       within = omega (arith, c.word-test.true);
       further = omega (arith, is.further);
       room = is.room;

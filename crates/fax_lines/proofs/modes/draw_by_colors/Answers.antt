@@ -1,37 +1,36 @@
-use Rattle.fax_lines.proofs.Names.{◌∙◌, refl, ap, opposite, Stroke, CanDraw}
-use Rattle.fax_lines.proofs.DrawingLines.UsualModes.{goes_on, recolored}
-use Rattle.fax_lines.specs.DrawnModes.{DrawsOn}
+use Rattle.fax_lines.proofs.Names.{Stroke, CanDraw}
+use Rattle.fax_lines.proofs.DrawingLines.UsualModes.{goes_on_in, recolored}
+use Rattle.fax_lines.proofs.modes.draw_by_colors.Goals.{in-White, in-Black}
 use Rattle.fax_lines.proofs.modes.draw_by_colors.Goals as goal
 
-pub returns-then-is_over : goal.returns-then-is_over
-returns-then-is_over c =
-    let on = c.draw_run_of_modes-is_over.ensures.on in
-    goes_on c.turns.invariant.on refl refl on.drawn on.kept
+pub draw_run_of_modes-requires : goal.draw_run_of_modes-requires
+draw_run_of_modes-requires c = record {
+  can = recolored c.turns.now (λ (s : Stroke). CanDraw c.args.line.now s c.turns.bits c.turns.row) c.in-White.is
+      c.turns.invariant.can;
+}
 
-pub returns-then-is_over-2 : goal.returns-then-is_over-2
-returns-then-is_over-2 c =
-    let a = c.args in
-    let first = c.draw_run_of_modes-is_over in
-    let on = c.draw_run_of_modes-is_over-in-turns.ensures.on in
-    let turned = first.ensures.turned c.if-is_over.false in
-    goes_on (recolored first.result.0 (λ (s : Stroke). DrawsOn a.line.now a.stroke a.window.now a.row.now a.ticks.now s
-    first.new.window first.new.row first.new.ticks) (turned.0 ∙ ap opposite c.turns.invariant.color)
-    (goes_on c.turns.invariant.on refl refl first.ensures.on.drawn first.ensures.on.kept)) refl refl on.drawn on.kept
+pub draw_run_of_modes-requires-in-Black : goal.draw_run_of_modes-requires-in-Black
+draw_run_of_modes-requires-in-Black c = record {
+  can = recolored c.turns.now (λ (s : Stroke). CanDraw c.args.line.now s c.turns.bits c.turns.row) c.in-Black.is
+      c.turns.invariant.can;
+}
+
+pub returns-then-is_over : goal.returns-then-is_over
+returns-then-is_over c = elim c.match-now.branch [
+  | in-White w ↦ rw (w.row-is, w.ticks-is, w.bits-is, w.is_over-is)
+      (goes_on_in c.turns.now w.in-White.is c.turns.invariant.on w.draw_run_of_modes.ensures.on)
+  | in-Black w ↦ rw (w.row-is, w.ticks-is, w.bits-is, w.is_over-is)
+      (goes_on_in c.turns.now w.in-Black.is c.turns.invariant.on w.draw_run_of_modes-in-Black.ensures.on)
+]
 
 pub turns-preserved : goal.turns-preserved
-turns-preserved c =
-    let a = c.args in
-    let first = c.draw_run_of_modes-is_over in
-    let second = c.draw_run_of_modes-is_over-in-turns in
-    let turned = first.ensures.turned c.if-is_over.false in
-    let turned2 = second.ensures.turned c.if-is_over-2.false in
-    let half = recolored first.result.0 (λ (s : Stroke). DrawsOn a.line.now a.stroke a.window.now a.row.now a.ticks.now s
-    first.new.window first.new.row first.new.ticks) (turned.0 ∙ ap opposite c.turns.invariant.color)
-    (goes_on c.turns.invariant.on refl refl first.ensures.on.drawn first.ensures.on.kept) in
-    record {
-      on = recolored second.result.0 (λ (s : Stroke). DrawsOn a.line.now a.stroke a.window.now a.row.now a.ticks.now s
-          second.new.window second.new.row second.new.ticks) turned2.0
-          (goes_on half refl refl second.ensures.on.drawn second.ensures.on.kept);
-      can = recolored second.result.0 (λ (s : Stroke). CanDraw a.line.now s second.new.window second.new.row) turned2.0 turned2.1;
-      color = refl;
-    }
+turns-preserved c = elim c.match-now.branch [
+  | in-White w ↦ let run = w.draw_run_of_modes.ensures in rw (w.row-is, w.ticks-is, w.bits-is, w.is_over-is) (record {
+    on = goes_on_in c.turns.now w.in-White.is c.turns.invariant.on run.on;
+    can = (run.turned (rw w.is_over-is at c.if-is_over.false)).1;
+  })
+  | in-Black w ↦ let run = w.draw_run_of_modes-in-Black.ensures in rw (w.row-is, w.ticks-is, w.bits-is, w.is_over-is) (record {
+    on = goes_on_in c.turns.now w.in-Black.is c.turns.invariant.on run.on;
+    can = (run.turned (rw w.is_over-is at c.if-is_over.false)).1;
+  })
+]

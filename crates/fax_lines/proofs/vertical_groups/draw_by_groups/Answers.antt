@@ -9,7 +9,7 @@ modes-preserved-in-Some c =
     let same = c.refill_if_low.ensures.same in
     record {
       on = goes_on c.modes.invariant.on same refl c.in-Some.ensures.drawn.drawn c.in-Some.ensures.kept;
-      can = grind (arith, common_steps, c.in-Some.ensures.open.0 c.if-not-is_open.false);
+      can = grind (arith, common_steps, c.in-Some.ensures.inside);
     }
 
 pub modes-preserved : goal.modes-preserved
@@ -24,11 +24,6 @@ modes-preserved c =
           (keeps_on first refl c.in-Some-draw_mode_of_group.ensures.kept);
       can = grind (arith, common_steps);
     }
-
-pub returns-then-not-is_open : goal.returns-then-not-is_open
-returns-then-not-is_open c =
-    let same = c.refill_if_low.ensures.same in
-    goes_on c.modes.invariant.on same refl c.in-Some.ensures.drawn.drawn c.in-Some.ensures.kept
 
 pub returns-then-next-line : goal.returns-then-next-line
 returns-then-next-line c =

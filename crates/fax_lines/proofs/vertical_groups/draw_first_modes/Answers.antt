@@ -5,7 +5,7 @@ use Rattle.fax_lines.proofs.Names.{◌≡◌, ◌∙◌, ◌+◌, ℕ, List, Col
 use Rattle.fax_lines.proofs.Names.{BitsAt, length-append, moved}
 use Rattle.std.proofs.lemmas.List.{length-take-le}
 use Rattle.fax_lines.proofs.DrawingLines.GroupMasks.{set_before_first}
-use Rattle.fax_lines.proofs.DrawingLines.RegularModes.{draws_first, draws_next, draws_full, first_inside, first_reached}
+use Rattle.fax_lines.proofs.DrawingLines.RegularModes.{draws_first, draws_next, first_inside, first_reached}
 use Rattle.fax_lines.proofs.DrawingLines.RegularModes.{one_color, stored_at}
 use Rattle.fax_reading.proofs.PixelRows.B1ByParity.{turns_before}
 use Rattle.fax_reading.proofs.PixelRows.ReferencePlaces.{opposite_twice}
@@ -98,20 +98,6 @@ returns-then-place-line-clause-drawn c =
     (omega (arith, painted_is at, c.if-painted-place.true)) (omega (arith, c.if-place-line.true))
     (rw c.opposite.ensures at c.b1_after-index.ensures.at) items
 
-pub returns-then-place-line-2-clause-drawn : goal.returns-then-place-line-2-clause-drawn
-returns-then-place-line-2-clause-drawn c =
-    let at = (goal.at.returns-then-place-line-2-clause-drawn c).After-painted_by-painted in
-    let items = kept at (n at) c.truncate-2.ensures.items refl in
-    let ticks = c.tick_times-then-place-line-2.ensures in
-    let width = c.first_width-then-place-line-2.ensures in
-    let bits = c.pass-then-place-line-2.ensures in
-    draws_full c.requires.can c.requires.here (n at) (within at) (set at)
-    (omega (arith, room at, c.truncate-2.ensures.len, c.truncate-2.ensures.capacity, bits.left, width.some))
-    c.next_color-then-place-line-2.result c.requires.some
-    (rw (c.truncate-2.new.self.ok.0, items) at c.next_color-then-place-line-2.ensures.turns) c.opposite-color.ensures
-    (passed at width.value bits.moved) (omega (arith, ticks)) (omega (arith, ticks))
-    (omega (arith, place_is at, c.if-place-line-2.true)) (omega (arith, c.if-place-line-2.true)) refl items
-
 pub returns-clause-drawn : goal.returns-clause-drawn
 returns-clause-drawn c =
     let at = (goal.at.returns-clause-drawn c).After-painted_by-painted in
@@ -119,10 +105,10 @@ returns-clause-drawn c =
     let width = c.first_width-2.ensures in
     draws_first c.requires.can c.requires.here (n at) (within at) (set at)
     (omega (arith, room at, c.truncate-2.ensures.len, c.truncate-2.ensures.capacity, c.pass-2.ensures.left, width.some))
-    (omega (arith, c.if-count-eq0.false)) (painted_is at) refl c.next_color-color-2.ensures.turns items
+    (omega (arith, c.if-count-eq0.false)) (painted_is at) refl c.next_color-2.ensures.turns items
     (c.pass-2.ensures.moved ∙ ap (λ (w : ℕ). moved w c.args.window.now.at) width.value) (omega (arith, c.tick_times-2.ensures))
 
-pub returns-clause-open : goal.returns-clause-open
-returns-clause-open c =
-    let at = (goal.at.returns-clause-open c).After-painted_by-painted in
-    ((λ _. omega (arith, painted_is at, first_inside c.requires.can c.requires.here (n at) (within at) (set at))), λ _. refl)
+pub returns-clause-inside : goal.returns-clause-inside
+returns-clause-inside c =
+    let at = (goal.at.returns-clause-inside c).After-painted_by-painted in
+    omega (arith, painted_is at, first_inside c.requires.can c.requires.here (n at) (within at) (set at))

@@ -1,14 +1,13 @@
-use Rattle.fax_rows.proofs.Names.{◌≡◌, ◌≤◌, ◌-◌, false, length, take, Group4, meaning_after, plain, IsStanding, is_at_line}
-use Rattle.fax_rows.proofs.Names.{true, max, most_room}
-use Rattle.fax_lines.specs.WhiteLines.{AreKnown, MayFollow}
+use Rattle.fax_rows.proofs.Names.{◌≡◌, ◌≤◌, ◌-◌, false, length, take, Group4, meaning_after, plain, IsStanding, ended}
+use Rattle.fax_rows.proofs.Names.{None, max, most_room}
+use Rattle.fax_lines.specs.WhiteLines.{AreKnown}
 use Rattle.fax_rows.proofs.push_rows.push_rows.Given as goal
-use Rattle.fax_rows.proofs.Readings.WhiteRowsRead.{IsAfterRows}
 
 -- the rows so far were read, and the sink means them
 abbrev pub invariant-rows : goal.invariant-rows
 invariant-rows g l = record {
   stands : IsStanding l.fn.ctx.ticks l.rows l.ctx l.reader;
-  at_line : is_at_line l.rows.stand ≡ true;
+  unended : ended l.rows.stand ≡ None;
   settings : l.ctx.held.settings ≡ l.fn.ctx.held.settings;
   bits : l.reader.bits ≡ l.fn.reader.bits;
   within : l.ctx.held.taken ≤ length (plain l.fn.ctx.held.settings l.fn.reader.bits).rows;
@@ -21,24 +20,6 @@ invariant-rows g l = record {
   known : AreKnown l.fn.ctx.held.settings l.lines;
 }
 
--- so they were with the white rows after them
-abbrev pub invariant-white : goal.invariant-white
-invariant-white g l = record {
-  after : IsAfterRows (g.D.Decoder.step (g.D.Decoder.width l.fn.decoder)) l.fn.ctx.ticks l.fn.ctx.held.settings l.fn.reader.bits
-      (g.D.Decoder.meaning l.fn.decoder)
-      (record { rows = l.rows; ctx = l.ctx; at = l.reader; meaning = g.D.Decoder.meaning l.decoder });
-  more : l.initial.ctx.held.taken ≤ l.ctx.held.taken;
-  width : g.D.Decoder.width l.decoder ≡ g.D.Decoder.width l.fn.decoder;
-  unrefused : g.D.Decoder.has_refused l.decoder ≡ g.D.Decoder.has_refused l.fn.decoder;
-  space : l.ctx.space ≤ max l.fn.ctx.space (most_room l.fn.ctx.held.settings l.fn.reader.bits);
-  unsought : l.fn.ctx.held.settings.encoding ≡ Group4 → l.ctx.held.has_eols ≡ false;
-  known : AreKnown l.fn.ctx.held.settings l.lines;
-  follow : l.repeats ≡ true → MayFollow l.ctx.held.settings l.ctx.held.has_eols l.ctx.held.reference l.lines;
-}
-
 -- the rows that are left
 abbrev pub decreases-rows : goal.decreases-rows
 decreases-rows g l = length (plain l.fn.ctx.held.settings l.fn.reader.bits).rows - l.ctx.held.taken
-
-abbrev pub decreases-white : goal.decreases-white
-decreases-white g l = length (plain l.fn.ctx.held.settings l.fn.reader.bits).rows - l.ctx.held.taken

@@ -5,7 +5,7 @@ use Rattle.faxrows_lib.proofs.Names.{line_of_miss, PassesOn, rows_of}
 use Rattle.faxrows_lib.proofs.{Outputs.front_following, Outputs.passes_both, RowsInTurn.Came, RowsInTurn.came}
 use Rattle.faxrows_lib.proofs.{damage.put_damage.Given.Over, damage.put_damage.Goals.After-put_last_row}
 use Rattle.faxrows_lib.proofs.{damage.put_damage.Goals.After-put_missed}
-use Rattle.faxrows_lib.proofs.DamageTexts.{damage_more, damage_so_far, failed_there, front_of_damage, front_so_far, miss_told}
+use Rattle.faxrows_lib.proofs.DamageTexts.{damage_more, damage_so_far, failed_there, front_of_damage, front_so_far, miss_reported}
 use Rattle.faxrows_lib.proofs.DamageTexts.{unended_before}
 use Rattle.faxrows_lib.proofs.damage.put_damage.Goals as goal
 
@@ -18,7 +18,7 @@ miss g c =
     let so_far = damage_so_far c.args.rows.now.settings c.args.rows.now.bits c.loop-rows.rows.taken in
     ap (λ (n : ℕ). so_far ++ line_of_miss (n - 1) c.missed_eol.result) c.rows_read-read.ensures
     ∙ ap (λ (m : Option ℕ). so_far ++ line_of_miss (c.loop-rows.rows.taken - 1) m) c.missed_eol.ensures
-    ∙ miss_told c.args.rows.now.settings c.args.rows.now.bits c.loop-rows.rows c.next_row-answer.new.self
+    ∙ miss_reported c.args.rows.now.settings c.args.rows.now.bits c.loop-rows.rows c.next_row-answer.new.self
     c.next_row-answer.result c.loop-rows.invariant.settings c.loop-rows.invariant.bits c.next_row-answer.ensures.reads
 
 -- with it the lines of these rows came

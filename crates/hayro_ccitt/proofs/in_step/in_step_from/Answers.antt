@@ -3,7 +3,7 @@ use Rattle.hayro_ccitt.proofs.Names.{◌≡◌, ℕ, length, drop, sym, ap, subs
 use Rattle.hayro_ccitt.proofs.Names.{here, TellsStep, IsInStepFrom, ◌⊎◌, ◌<◌, false, Group3_1D, Group3_2D, refl, Some, ◌↔◌}
 use Rattle.hayro_ccitt.proofs.Names.{HighestFirst}
 use Rattle.hayro_ccitt.proofs.BitReading.BitLists.{bits_are_whole, length-bits_of}
-use Rattle.hayro_ccitt.proofs.KeptRows.StepsTold.{step_found, no_step_found, rows_follow}
+use Rattle.hayro_ccitt.proofs.KeptRows.StepsReported.{step_found, no_step_found, rows_follow}
 use Rattle.hayro_ccitt.proofs.in_step.in_step_from.Goals.{After-bit_pos}
 use Rattle.hayro_ccitt.proofs.in_step.in_step_from.Goals as goal
 
@@ -17,7 +17,7 @@ returns-then-not-pass_to_step-clause-place c =
     no_step_found settings bits c.args.to (λ place given.
     c.pass_to_step.ensures.no_step c.if-not-pass_to_step.true given.line (drop place bits)
     (subst (λ (at : BitsAt). TellsStep settings (here at) given.line (drop place bits)) (sym c.starting_at-reader.ensures)
-    given.told))
+    given.reported))
 
 -- the offset that is returned is the only one
 place_found : (c : After-bit_pos) (place : ℕ) → (Some c.bit_pos.result ≡ Some place)
@@ -32,12 +32,12 @@ place_found c =
     let same : at.bits ≡ bits = c.pass_to_step.ensures.same_bits ∙ ap (λ (at : BitsAt). at.bits) c.starting_at-reader.ensures in
     let after : here at ≡ drop c.bit_pos.result bits =
     ap (λ (b : Bits). drop at.place b) same ∙ ap (λ (n : ℕ). drop n bits) (sym c.bit_pos.ensures.place) in
-    let told = c.pass_to_step.ensures.step c.if-not-pass_to_step.false in
-    step_found settings bits told.0 c.args.to c.bit_pos.result set.0 set.1 set.2 set.3
+    let reported = c.pass_to_step.ensures.step c.if-not-pass_to_step.false in
+    step_found settings bits reported.0 c.args.to c.bit_pos.result set.0 set.1 set.2 set.3
     (omega (arith, c.if-to-data.false, length-bits_of c.args.data.now))
     (omega (arith, c.bit_pos.ensures.within, ap length same))
-    (subst (λ (at : BitsAt). TellsStep settings (here at) told.0 (drop c.bit_pos.result bits)) c.starting_at-reader.ensures
-    (subst (λ (b : Bits). TellsStep settings (here c.starting_at-reader.result) told.0 b) after told.1))
+    (subst (λ (at : BitsAt). TellsStep settings (here at) reported.0 (drop c.bit_pos.result bits)) c.starting_at-reader.ensures
+    (subst (λ (b : Bits). TellsStep settings (here c.starting_at-reader.result) reported.0 b) after reported.1))
 
 pub returns-clause-place : goal.returns-clause-place
 returns-clause-place c = place_found (goal.at.returns-clause-place c).After-bit_pos

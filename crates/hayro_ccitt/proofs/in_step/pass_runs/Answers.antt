@@ -1,7 +1,7 @@
 use Rattle.hayro_ccitt.proofs.Names.{◌≡◌, ℕ, ◌+◌, ◌-◌, false, min, refl, sym, subst, ◌∙◌, arith, here, Color, Row, Line, line_1d}
 use Rattle.hayro_ccitt.proofs.Names.{read_run, Ok, Bits}
-use Rattle.hayro_ccitt.proofs.KeptRows.StepsTold.{RunsPassed, run_passed, runs_whole, runs_broken, run_work}
-use Rattle.hayro_ccitt.proofs.KeptRows.StepsTold.{no_run_work}
+use Rattle.hayro_ccitt.proofs.KeptRows.StepsReported.{RunsPassed, run_passed, runs_whole, runs_broken, run_work}
+use Rattle.hayro_ccitt.proofs.KeptRows.StepsReported.{no_run_work}
 use Rattle.hayro_ccitt.proofs.CodeWords.ReadRuns.{run_shorter}
 use Rattle.hayro_ccitt.proofs.in_step.pass_runs.Goals as goal
 

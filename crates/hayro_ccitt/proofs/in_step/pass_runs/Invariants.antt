@@ -1,5 +1,5 @@
 use Rattle.hayro_ccitt.proofs.Names.{◌≡◌, ◌+◌, ◌≤◌, length, here}
-use Rattle.hayro_ccitt.proofs.KeptRows.StepsTold.{RunsPassed}
+use Rattle.hayro_ccitt.proofs.KeptRows.StepsReported.{RunsPassed}
 use Rattle.hayro_ccitt.proofs.in_step.pass_runs.Given as goal
 
 -- the runs so far are those of the line, and each word took a bit

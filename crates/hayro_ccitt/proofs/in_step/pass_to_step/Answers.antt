@@ -3,7 +3,7 @@ use Rattle.hayro_ccitt.proofs.Names.{rules, ◌≡◌, ◌+◌, ◌*◌, ◌≤�
 use Rattle.hayro_ccitt.proofs.Names.{BitsAt, here, after_eol, next_eol, eols_here, EndsByWords, looked}
 use Rattle.hayro_ccitt.proofs.Names.{most_for_lines, Group3_2D, ComesBefore1D, false≢true}
 use Rattle.hayro_ccitt.proofs.DamagedLines.LinesPassed.{eol_passed}
-use Rattle.hayro_ccitt.proofs.KeptRows.StepsTold.{told_by, no_step_beyond, step_next, eols_work, line_test_work}
+use Rattle.hayro_ccitt.proofs.KeptRows.StepsReported.{reported_by, no_step_beyond, step_next, eols_work, line_test_work}
 use Rattle.fax_bits.proofs.BitReading.ConsecutiveEols.{next_eol_found}
 use Rattle.fax_reading.proofs.DamagedLines.EolsAlike.{one_alone}
 use Rattle.hayro_ccitt.proofs.in_step.pass_to_step.Goals.{After-line_ends_before, After-needs_no_reference}
@@ -69,7 +69,7 @@ returns-then-not-is_alone-clause-at_most c =
     )
 
 pub returns-then-not-is_alone-clause-no_step : goal.returns-then-not-is_alone-clause-no_step
-returns-then-not-is_alone-clause-no_step c = λ e line rest told. grind (arith, common_steps, false≢true)
+returns-then-not-is_alone-clause-no_step c = λ e line rest reported. grind (arith, common_steps, false≢true)
 
 pub returns-then-not-skip_to_eol-clause-at_most : goal.returns-then-not-skip_to_eol-clause-at_most
 returns-then-not-skip_to_eol-clause-at_most c =
@@ -123,7 +123,7 @@ returns-clause-step c = λ e.
     let at = (goal.at.returns-clause-step c).After-line_ends_before in
     let last = (goal.at.returns-clause-step c).After-needs_no_reference in (
       here c.copy-line.result,
-      told_by c.args.ctx.now.held.settings (here c.args.reader.now) (here c.copy-line.result) (here c.skip_to_eol.new.self)
+      reported_by c.args.ctx.now.held.settings (here c.args.reader.now) (here c.copy-line.result) (here c.skip_to_eol.new.self)
           (here c.pass_eol.new.reader) (here c.read_eols-count.new.reader) c.read_eols-count.result c.requires.group3
           c.requires.lenient (alone at) (next at).0 (next at).1 ((ends at).0 c.if-not-line_ends_before.false) (after last)
           ((unreferred last (next at).1).0 e),
@@ -131,7 +131,7 @@ returns-clause-step c = λ e.
 
 pub returns-clause-no_step : goal.returns-clause-no_step
 returns-clause-no_step c =
-    λ e line rest told. grind (
+    λ e line rest reported. grind (
       arith,
       common_steps,
       false≢true,

@@ -1,6 +1,6 @@
 use Rattle.hayro_ccitt.proofs.Names.{◌≡◌, false, length, drop, sym, ap, subst, ◌∙◌, arith, BitsAt, Bits, Row, Line}
 use Rattle.hayro_ccitt.proofs.Names.{here, line_1d}
-use Rattle.hayro_ccitt.proofs.KeptRows.StepsTold.{whole_before, broken_before, places_before}
+use Rattle.hayro_ccitt.proofs.KeptRows.StepsReported.{whole_before, broken_before, places_before}
 use Rattle.hayro_ccitt.proofs.in_step.runs_end_before.Goals as goal
 
 pub returns-then-not-pass_runs-clause-before : goal.returns-then-not-pass_runs-clause-before

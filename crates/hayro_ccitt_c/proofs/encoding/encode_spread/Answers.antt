@@ -23,9 +23,9 @@ returns c =
     record {
       no_rows = (
         λ refused.
-            let told = c.finish.ensures.no_rows.0 refused in
-            let none = none_counted settings columns rows now is told.1 in (
-              subst (λ (s : EncoderSettings). needs_row s.encoding s.end_of_block ≡ true) same told.2,
+            let reported = c.finish.ensures.no_rows.0 refused in
+            let none = none_counted settings columns rows now is reported.1 in (
+              subst (λ (s : EncoderSettings). needs_row s.encoding s.end_of_block ≡ true) same reported.2,
               few_if_none c.args.layout columns c.args.bitmap.now c.requires.some c.requires.reaches none,
             ),
         λ given.

@@ -6,7 +6,7 @@ use Rattle.fax_rows.proofs.row_reader.RowReader.next_row.Goals as goal
 
 -- what was counted so far is within the bound
 pub returns-in-AtLine-clause-work : goal.returns-in-AtLine-clause-work
-returns-in-AtLine-clause-work c = grind (arith, common_steps, work_is_counted, c.next_row.ensures.stands c.self.invariant.0)
+returns-in-AtLine-clause-work c = grind (arith, common_steps, work_is_counted, c.next_row.ensures.stands 0 c.self.invariant.0)
 
 pub returns-in-AtFault-clause-ended : goal.returns-in-AtFault-clause-ended
 returns-in-AtFault-clause-ended c = search rules

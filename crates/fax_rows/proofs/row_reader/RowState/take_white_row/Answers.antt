@@ -4,7 +4,7 @@ use Rattle.fax_rows.proofs.Readings.RowsAgain.{not_at_limit}
 use Rattle.fax_rows.proofs.row_reader.RowState.take_white_row.Goals as goal
 
 pub take_row_again-requires : goal.take_row_again-requires
-take_row_again-requires c = grind (arith, common_steps, c.requires.follow c.if-not-repeats.false)
+take_row_again-requires c = grind (arith, common_steps, c.requires.follow)
 
 pub returns-clause-taken : goal.returns-clause-taken
 returns-clause-taken c e =
@@ -12,6 +12,6 @@ returns-clause-taken c e =
       arith,
       common_steps,
       not_at_limit,
-      c.requires.follow c.if-not-repeats.false,
+      c.requires.follow,
       c.pass_line.ensures.passed c.if-not-pass_line.false,
     )

@@ -14,7 +14,16 @@ returns-clause-taken c =
     let row : List ℕ = c.fill_bytes.new.bytes in
     let bytes : s.bytes ≡ bytes_of_row s.columns = omega (arith, s.whole) in
     let room : s.start + s.bytes ≤ length s.bitmap.now =
-    omega (arith, c.if-self.false, c.args.self.now.whole, s.whole, same.shape.columns, same.start, same.size) in
+    omega (
+      arith,
+      c.saturating_add.ensures,
+      c.if-self-saturating_add.false,
+      c.args.self.now.whole,
+      s.whole,
+      same.shape.columns,
+      same.start,
+      same.size,
+    ) in
     let long : length old ≡ bytes_of_row s.columns =
     omega (arith, length-take (end - s.start) (drop s.start s.bitmap.now), length-drop s.start s.bitmap.now, bytes, room) in
     same_up_to _ s.layout _ _ _ _ _ _ _ _ _ s.bitmap.ghost_name on.shape.layout on.start (on.written ∙ on.start) on.memory

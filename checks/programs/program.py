@@ -1,0 +1,470 @@
+"""Checks of the built program `faxrows`: real strips, cases with known results, devices, allocation failures."""
+import os
+import random
+import re
+import select
+import subprocess
+import tempfile
+from pathlib import Path
+
+import corpus
+from gate.built import loading, preload
+
+PROGRAM = os.path.abspath("crates/faxrows/out/faxrows")
+
+
+def run(words, data, **more):
+    return subprocess.run([PROGRAM, *words], input=data, capture_output=True, check=False, timeout=60, **more)
+
+
+TURNED = bytes(int(f"{byte:08b}"[::-1], 2) for byte in range(256))
+
+
+def in_both_orders(mode, columns, limit, flags, data):
+    """The arguments and the data, and those that mean the same with the bits of each byte reversed: with `r`, or without."""
+    letters = flags.replace("-", "").replace("r", "")
+    other = letters + "r" if "r" not in flags else letters or "-"
+    return [([mode, columns, limit, flags], data), ([mode, columns, limit, other], data.translate(TURNED))]
+
+
+def row_text(picture, columns, row):
+    """A row of a packed picture, 1 for black, as a line of the program."""
+    width = (columns + 7) // 8
+    bits = int.from_bytes(picture[row * width : (row + 1) * width], "big") if width else 0
+    pixels = [bits >> (8 * width - 1 - place) & 1 for place in range(columns)]
+    changes = [place for place in range(columns) if pixels[place] != (pixels[place - 1] if place else 0)]
+    return " ".join(["r", *map(str, changes)]), len(changes)
+
+
+def assert_same_by_row(words, data, done):
+    """With `-i` the program writes and returns what it did without."""
+    by_row = run(["-i", *words], data)
+    assert (by_row.returncode, by_row.stdout, by_row.stderr) == (done.returncode, done.stdout, done.stderr), ("-i", words, by_row)
+
+
+def assert_damage(words, data, lines, status):
+    """With `-d` the program reads as many rows, and ends in the same way. Only lenient data of Group 3 are repaired. A strict reading
+    ends well exactly if this one does and tells of no damage; else it fails at the first line."""
+    done = run(["-d", *words], data)
+    *reported, last = done.stdout.decode().splitlines()
+    damaged = [line for line in reported if line.startswith("damaged ")]
+    missed = [line for line in reported if line.startswith("missed ")]
+    cut = [line for line in reported if line.startswith("cut ")]
+    if "r" not in words[3] and "s" not in words[3]:
+        found = run(["-d", *words[:3], words[3].replace("-", "") + "s"], data).stdout.decode().splitlines()
+        assert len(found) == 1, ("-d", words, found)
+        kind, first, at = (reported + [last])[0].split()[:3]
+        place = (str(int(first) + (kind == "missed")), at)
+        clean = not reported and last.startswith("ok ")
+        assert found == [last] if clean else tuple(found[0].split()[1:3]) == place, ("-d", words, reported, last, found)
+        assert clean == found[0].startswith("ok "), ("-d", words, reported, last, found)
+    rows, (end, _, told) = len(lines) - 1, lines[-1].partition(" ")
+    place = last.split()[2]
+    expected = f"ok {rows} {len(damaged)} {told}" if end == "ok" else f"error {rows} {place} {told}"
+    assert (done.returncode, last, done.stderr) == (status, expected, b""), ("-d", words, done)
+    assert end == "ok" or int(place) <= 8 * len(data), ("-d", words, done)
+    numbers = [int(line.split()[1]) for line in reported]
+    places = [int(line.split()[2]) for line in reported]
+    assert len(reported) == len(damaged) + len(missed) + len(cut), ("-d", words, reported)
+    assert numbers == sorted(numbers) and all(number < rows for number in numbers), ("-d", words, reported)
+    assert places == sorted(places) and all(place <= 8 * len(data) for place in places), ("-d", words, reported)
+    assert not reported or "s" not in words[3], ("-d", words, reported)
+    assert len(reported) == len(cut) or words[0] != "g4", ("-d", words, reported)
+
+
+def real_strips(each=1):
+    """Each strip, or one in so many, is decoded to exactly the picture that it was made from, with each of its settings; with the first ones also with
+    the bits of each byte reversed."""
+    strips = runs_seen = rows_seen = changes_seen = 0
+    lines = corpus.lines_of("manifest.tsv")
+    for name, strip, mode, columns, rows, runs, picture, first, end, *_ in lines[::each]:
+        data = Path(f"corpus/{strip}").read_bytes()
+        packed = Path(f"corpus/{picture}").read_bytes()
+        expected = [row_text(packed, int(columns), int(first) + row) for row in range(int(rows))]
+        for setting in runs.split(","):
+            limit, flags = setting.split(":")
+            here, there = in_both_orders(mode, columns, limit, flags, data)
+            done = run(*here)
+            text = done.stdout.decode().splitlines()
+            assert text[:-1] == [line for line, _ in expected], f"{name} {setting}: other rows"
+            assert re.fullmatch(r"ok \d+", text[-1]) and done.returncode == 0, f"{name} {setting}: {text[-1]}"
+            assert done.stderr == b"", f"{name} {setting}: {done.stderr!r} on standard error"
+            if limit == "0" and end != "-":
+                assert text[-1] == f"ok {end}", f"{name} {setting}: {text[-1]}, not {end}"
+            assert_same_by_row(*here, done)
+            if setting == runs.split(",")[0]:
+                turned = run(*there)
+                assert (turned.returncode, turned.stdout, turned.stderr) == (0, done.stdout, b""), f"{name} {setting}: in the other order"
+            runs_seen += 1
+            rows_seen += len(expected)
+            changes_seen += sum(count for _, count in expected)
+        strips += 1
+    assert strips > 0
+    print(f"  {strips} strips, {runs_seen} runs, {rows_seen} rows and {changes_seen} changes compared")
+
+
+def known_cases(each=1):
+    """Small data of every kind, all of them or one in so many, with the results of the standard's rules worked out apart from this program; and the same with the
+    bits of each byte reversed."""
+    seen = 0
+    lines = corpus.lines_of("cases.tsv")
+    for settings, data, answer in lines[::each]:
+        for words, read in in_both_orders(*settings.split(), corpus.bytes_of(data)):
+            done = run(words, read)
+            text = done.stdout.decode()
+            assert text == answer.replace("/", "\n") + "\n", f"{words} {data}: {text!r}, not {answer}"
+            assert done.stderr == b"", f"{words} {data}: {done.stderr!r} on standard error"
+            assert done.returncode == (0 if answer.split("/")[-1].startswith("ok") else 1), words
+            assert_same_by_row(words, read, done)
+            assert_damage(words, read, text.splitlines(), done.returncode)
+        seen += 1
+    assert seen > 0
+    print(f"  {seen} cases, each in both orders of bits")
+
+
+# Arguments and data, what the program writes, and its status: 0 for ok, 1 for a fault of the data, 2 for invalid arguments.
+RUNS = [
+    ("g4 8 1 -", "31C0", b"r 3 5\nok 2\n", 0),
+    ("g4 0000000008 1 -", "31C0", b"r 3 5\nok 2\n", 0),
+    ("g4 0 0 -", "31C0", b"ok 0\n", 0),
+    ("g4 8 0 -", "80", b"r\nerror: invalid CCITT code sequence\n", 1),
+    ("1d 8 0 l", "0019800C700033", b"r\nr 3 5\nr\nok 7\n", 0),
+    ("1d 8 0 s", "001980", b"r\nerror: invalid CCITT code sequence\n", 1),
+    ("2d 8 1 sal", "CC", b"r\nok 1\n", 0),
+    ("g4 8 1 r", "8C03", b"r 3 5\nok 2\n", 0),
+    ("g4 8 1 r", "31C0", b"r\nok 1\n", 0),
+    ("g4 8 1 -", "8C03", b"r\nok 1\n", 0),
+    ("1d 8 0 sr", "009801", b"r\nerror: invalid CCITT code sequence\n", 1),
+    ("g4 8 1 rr", "8C03", b"", 2),
+    ("g4 8 1 rbr", "8C03", b"", 2),
+    ("g4 8 1 R", "8C03", b"", 2),
+    ("", "31C0", b"", 2),
+    ("g4 8 1", "31C0", b"", 2),
+    ("g4 8 1 - -", "31C0", b"", 2),
+    ("g4 8 1 bb", "31C0", b"", 2),
+    ("3d 8 1 -", "31C0", b"", 2),
+    ("g4 00000000008 1 -", "31C0", b"", 2),
+    ("g4 4294967296 1 -", "31C0", b"", 2),
+]
+
+
+def statuses():
+    for words, data, text, status in RUNS:
+        done = run(words.split(), bytes.fromhex(data))
+        error = b"faxrows: bad arguments\n" if status == 2 else b""
+        assert (done.returncode, done.stdout, done.stderr) == (status, text, error), (words, done)
+        assert_same_by_row(words.split(), bytes.fromhex(data), done)
+    for words in ("-i", "-i -i g4 8 1 -", "-i -o g4 8 1 -", "-o -i g4 8 1 -", "-i --help", "--help -i", "--version -i"):
+        done = run(words.split(), bytes.fromhex("31C0"))
+        assert (done.returncode, done.stdout, done.stderr) == (2, b"", b"faxrows: bad arguments\n"), (words, done)
+
+
+USAGE = """\
+usage: faxrows [-o | -i | -d | -c] MODE COLUMNS ROWS FLAGS
+       faxrows --help | --version
+
+Decodes a strip of CCITT fax data from standard input, and writes to standard output:
+      each row as a line: r, and the positions at which its colour changes
+  -o  the rows as a bitmap: one bit for each pixel, 1 for black
+  -i  the same lines as without an option, each as soon as it is known
+  -d  the damage: the rows that were repaired or cut, and the EOLs that were missed
+  -c  ok if every decoder must read the data back as the same rows, or a rule that it breaks
+
+MODE is g4 (Group 4), 1d or 2d (Group 3). COLUMNS is the width in pixels, ROWS the largest
+number of rows, 0 for no limit. FLAGS are letters, or - for none:
+  b  EOFB or RTC may end the data
+  l  an EOL precedes each line
+  a  rows are aligned to bytes
+  s  strict: data that breaks a rule is an error
+  r  the lowest bit of each byte comes first
+"""
+
+
+def version():
+    """The version that the C header has."""
+    with open("c/hayro_ccitt.h", encoding="utf-8") as file:
+        return re.search(r'^#define HAYRO_CCITT_VERSION_TEXT "(.*)"$', file.read(), re.MULTILINE).group(1)
+
+
+def words_alone():
+    """`--help` and `--version` read nothing, and print: the arguments, each explained; the name, and the version of the C header."""
+    done = run(["--version"], b"")
+    assert (done.returncode, done.stdout, done.stderr) == (0, f"faxrows {version()}\n".encode(), b""), done
+    done = run(["--help"], b"")
+    assert (done.returncode, done.stdout.decode(), done.stderr) == (0, USAGE, b""), done
+    with open("/dev/full", "wb") as full:
+        for word in ("--help", "--version"):
+            done = subprocess.run([PROGRAM, word], stdout=full, stderr=subprocess.PIPE, timeout=60, check=False)
+            assert (done.returncode, done.stderr) == (3, b"faxrows: cannot write\n"), done
+
+
+# Arguments after `-o` and data, the bytes that the program writes, its standard error, and its status.
+BITMAPS = [
+    ("-o g4 8 0 b", "31C0040040", b"\x18", b"", 0),
+    ("-o g4 8 0 -", "80", b"\x00", b"faxrows: invalid CCITT code sequence\n", 1),
+    ("-o g4 8 1 r", "8C03", b"\x18", b"", 0),
+    ("-o g4 8 1 r", "31C0", b"\x00", b"", 0),
+    ("-o g4 8 1 rr", "8C03", b"", b"faxrows: bad arguments\n", 2),
+    ("-o", "31C0", b"", b"faxrows: bad arguments\n", 2),
+    ("-o -o g4 8 1 -", "31C0", b"", b"faxrows: bad arguments\n", 2),
+]
+
+
+def bitmaps():
+    for words, data, text, error, status in BITMAPS:
+        done = run(words.split(), bytes.fromhex(data))
+        assert (done.returncode, done.stdout, done.stderr) == (status, text, error), (words, done)
+
+
+INVALID, CUT = "invalid CCITT code sequence", "unexpected end of input"
+# Arguments after `-d` and data, the lines that the program writes, and its status: data without damage; an EOL that is missed, also
+# before a fault, before RTC and after a damaged line; a run that is cut; in a strict reading the EOL that is missing at 17; a damaged
+# second line, which begins after its EOL at 17 to 29; the same in a strict reading; a tag that is missing; a fault where nothing is
+# repaired; and a thousand EOLs with a line of four ones after each, the last of which is cut and read again.
+DAMAGE = [
+    ("g4 8 1 -", "31C0", ["ok 1 0 2"], 0),
+    ("g4 8 1 r", "8C03", ["ok 1 0 2"], 0),
+    ("1d 8 2 l", "0019F800CC", ["missed 0 17", "ok 2 0 5"], 0),
+    ("1d 8 0 l", "0019CC", ["missed 0 17", f"error 2 22 {CUT}"], 1),
+    ("1d 8 0 lb", "0019C0040040040040040040", ["missed 0 17", "ok 1 0 12"], 0),
+    ("1d 8 4 l", "0019800C400033800CC0", [f"damaged 1 29 {INVALID}", "missed 2 56", "ok 4 1 10"], 0),
+    ("1d 8 1 l", "001380", ["cut 0 12", "ok 1 0 3"], 0),
+    ("1d 8 0 sl", "0019CC", [f"error 1 17 {INVALID}"], 1),
+    ("1d 8 0 l", "0019800C400033", [f"damaged 1 29 {INVALID}", "ok 3 1 7"], 0),
+    ("1d 8 0 sl", "0019800C400033", [f"error 1 29 {INVALID}"], 1),
+    ("2d 8 0 l", "", [f"damaged 0 0 {CUT}", "ok 1 1 0"], 0),
+    ("g4 8 0 -", "31C000", [f"error 1 10 {INVALID}"], 1),
+    (
+        "1d 8 0 l",
+        "001F" * 1000,
+        [
+            *[f"damaged {row} {12 + 16 * row} {INVALID}" for row in range(999)],
+            *[f"damaged 999 15996 {CUT}", f"error 1000 15996 {CUT}"],
+        ],
+        1,
+    ),
+]
+
+
+def damage():
+    for words, data, lines, status in DAMAGE:
+        done = run(["-d", *words.split()], bytes.fromhex(data))
+        assert (done.returncode, done.stdout.decode().splitlines(), done.stderr) == (status, lines, b""), (words, done)
+    for words in ("-d", "-d -i g4 8 1 -", "-i -d g4 8 1 -", "-d g4 8 1 -d"):
+        done = run(words.split(), bytes.fromhex("31C0"))
+        assert (done.returncode, done.stdout, done.stderr) == (2, b"", b"faxrows: bad arguments\n"), (words, done)
+
+
+MODE, RUN = "a mode is expected (T.4, 4.2.1.3)", "a run is expected (T.4, 4.1.1)"
+# Arguments after `-c` and data, the line that the program writes, and its status: EOFB closes it, in either order, and with `s`, which
+# has no effect; the row limit closes it, and what follows is ignored; nothing closes it; pass mode to the end of a row of one pixel,
+# which is read strictly without a fault; five EOLs in place of RTC; and nothing at all.
+CHECKED = [
+    ("g4 8 0 b", "31C0040040", "ok", 0),
+    ("g4 8 0 br", "8C03200002", "ok", 0),
+    ("g4 8 0 bs", "31C0040040", "ok", 0),
+    ("g4 8 1 -", "31C0FF", "ok", 0),
+    ("g4 8 0 -", "31C0", f"violation 10 {MODE}", 1),
+    ("g4 1 0 b", "10010010", "violation 0 pass mode to the row's end (T.4, 4.2.1.3.2)", 1),
+    ("1d 8 0 b", "00198008008008008008", f"violation 29 {RUN}", 1),
+    ("1d 8 1 -", "", f"violation 0 {RUN}", 1),
+    # What T.4 and T.6 prescribe to an encoder, and no decoder can tell from the rows, isn't checked: a run of 128 as 64 + 64 + 0 (T.4,
+    # 4.1.1), horizontal mode in place of V0 (T.6, 2.2.5), no one-dimensional line first, and none among three (T.4, 4.2.1), fill
+    # before the first EOL and in RTC (T.4, 4.1.3 and 4.1.4).
+    ("1d 128 1 -", "DECD40", "ok", 0),
+    ("g4 8 1 -", "330DC0", "ok", 0),
+    ("2d 8 1 -", "40", "ok", 0),
+    ("2d 8 3 l", "001400500140", "ok", 0),
+    ("1d 8 0 b", "000330001000100010001000100010", "ok", 0),
+]
+
+
+def conforming():
+    for words, data, line, status in CHECKED:
+        done = run(["-c", *words.split()], bytes.fromhex(data))
+        assert (done.returncode, done.stdout.decode(), done.stderr) == (status, f"{line}\n", b""), (words, done)
+    for words in ("-c", "-c -d g4 8 1 -", "-d -c g4 8 1 -", "-c g4 8 1 -c", "-c --help"):
+        done = run(words.split(), bytes.fromhex("31C0"))
+        assert (done.returncode, done.stdout, done.stderr) == (2, b"", b"faxrows: bad arguments\n"), (words, done)
+
+
+def conforming_strips(each=1):
+    """Each strip, or one in so many, conforms, in both orders of bits, unless nothing closes it, as there is no row limit, and no flag `b` or no EOFB or
+    RTC; or it is one of mgetty, whose rows that end black are followed by a white run of no pixels."""
+    lines = corpus.lines_of("manifest.tsv")
+    seen = unclosed = of_mgetty = 0
+    for name, strip, mode, columns, _, runs, *_ in lines[::each]:
+        data = Path(f"corpus/{strip}").read_bytes()
+        for setting in runs.split(","):
+            limit, flags = setting.split(":")
+            both = [run(["-c", *words], read) for words, read in in_both_orders(mode, columns, limit, flags, data)]
+            here, there = ((done.returncode, done.stdout.decode(), done.stderr) for done in both)
+            assert here == there and here[2] == b"", (name, setting, here, there)
+            seen += 1
+            if here[:2] == (0, "ok\n"):
+                continue
+            place = re.fullmatch(r"violation (\d+) [^\n]*\n", here[1]).group(1)
+            assert here[0] == 1 and int(place) <= 8 * len(data), (name, setting, here)
+            assert ".mg-" in name or limit == "0", (name, setting, here)
+            unclosed += ".mg-" not in name
+            of_mgetty += ".mg-" in name
+    assert seen > unclosed + of_mgetty
+    print(f"  {seen} runs, of which {seen - unclosed - of_mgetty} conform, {unclosed} are not closed, and {of_mgetty} are mgetty's")
+
+
+def flips_are_reported():
+    """A bit of a small strip of Group 3 with EOLs is flipped, at 300 places: `-d` tells of damage, or ends in an error, exactly where
+    a strict run fails. Of how many of the pictures that differ it tells is printed."""
+    lines = corpus.lines_of("manifest.tsv")
+    strips = {line[1]: line[2:5] for line in lines if line[2] == "1d" and f"{line[4]}:l" in line[5].split(",")}
+    smallest = sorted(strips, key=lambda name: (os.path.getsize(f"corpus/{name}"), name))[:3]
+    chosen = random.Random(4)
+    differ = told = seen = 0
+    for name in smallest:
+        data = Path(f"corpus/{name}").read_bytes()
+        whole = run([*strips[name], "l"], data).stdout
+        for bit in (chosen.randrange(8 * len(data)) for _ in range(100)):
+            flipped = bytearray(data)
+            flipped[bit // 8] ^= 128 >> bit % 8
+            fails = run([*strips[name], "ls"], flipped).returncode == 1
+            tells = not run(["-d", *strips[name], "l"], flipped).stdout.startswith(b"ok ")
+            assert tells == fails, (name, bit)
+            if run([*strips[name], "l"], flipped).stdout != whole:
+                differ += 1
+                told += tells
+            seen += 1
+    assert 0 < told <= differ <= seen
+    print(f"  of {differ} pictures that differ by a flipped bit -d and a strict run tell {told}")
+
+
+def devices_that_fail():
+    with open("/dev/full", "wb") as full:
+        done = subprocess.run([PROGRAM, "g4", "8", "1", "-"], input=bytes.fromhex("31C0"), stdout=full, stderr=subprocess.PIPE, timeout=60, check=False)
+        assert (done.returncode, done.stderr) == (3, b"faxrows: cannot write\n"), done
+    folder = os.open("/", os.O_RDONLY)
+    try:
+        done = subprocess.run([PROGRAM, "g4", "8", "1", "-"], stdin=folder, capture_output=True, timeout=60, check=False)
+        assert (done.returncode, done.stdout, done.stderr) == (3, b"", b"faxrows: cannot read\n"), done
+    finally:
+        os.close(folder)
+
+
+def a_file_and_a_pipe():
+    with tempfile.NamedTemporaryFile() as file:
+        file.write(bytes.fromhex("31C0"))
+        file.flush()
+        with open(file.name, "rb") as stdin:
+            done = subprocess.run([PROGRAM, "g4", "8", "1", "-"], stdin=stdin, capture_output=True, timeout=60, check=False)
+        assert done.stdout == b"r 3 5\nok 2\n", done
+    piped = subprocess.run(["sh", "-c", f"(printf '\\061'; sleep 0.2; printf '\\300') | '{PROGRAM}' g4 8 1 -"], capture_output=True, timeout=60, check=False)
+    assert piped.stdout == b"r 3 5\nok 2\n", piped
+
+
+def rows_of_an_open_pipe():
+    """With `-i` a row is written while the pipe with its data is open, and the run ends with the image though it still is."""
+    with subprocess.Popen([PROGRAM, "-i", "g4", "8", "0", "b"], stdin=subprocess.PIPE, stdout=subprocess.PIPE, bufsize=0) as done:
+        for data, line in (("31C0", b"r 3 5\n"), ("040040", b"ok 5\n")):
+            done.stdin.write(bytes.fromhex(data))
+            assert select.select([done.stdout], [], [], 60)[0], f"no line after {data}"
+            assert done.stdout.readline() == line, data
+        assert done.wait(timeout=60) == 0
+    # Without columns there are no rows, whatever the data is.
+    with subprocess.Popen([PROGRAM, "-i", "1d", "0", "0", "l"], stdin=subprocess.PIPE, stdout=subprocess.PIPE, bufsize=0) as done:
+        assert select.select([done.stdout], [], [], 60)[0], "no line without columns"
+        assert done.stdout.read() == b"ok 0\n" and done.wait(timeout=60) == 0
+
+
+def closed_streams():
+    """Where standard input is closed the program can't read, and where standard output is it can't write, nor where nobody reads what
+    it writes."""
+    for closed, error in (("<&-", b"faxrows: cannot read\n"), (">&-", b"faxrows: cannot write\n")):
+        done = run_closed(closed, "g4", "8", "1", "-")
+        assert (done.returncode, done.stdout, done.stderr) == (3, b"", error), (closed, done)
+    done = run_closed("2>&-", "nothing")
+    assert (done.returncode, done.stdout, done.stderr) == (2, b"", b""), done
+    reader, writer = os.pipe()
+    os.close(reader)
+    done = run_closed("", "g4", "8", "1", "-", stdout=writer, stderr=subprocess.PIPE)
+    os.close(writer)
+    assert (done.returncode, done.stderr) == (3, b"faxrows: cannot write\n"), done
+
+
+def run_closed(closed, *words, **streams):
+    streams = streams or {"capture_output": True}
+    return subprocess.run(["sh", "-c", f'exec "$0" "$@" {closed}', PROGRAM, *words], input=b"\x31\xc0", check=False, timeout=60, **streams)
+
+
+def long_data():
+    """A hundred thousand rows, and a wide one."""
+    for first in ([], ["-i"]):
+        done = run([*first, "g4", "8", "0", "a"], b"\x80" * 100000)
+        assert done.stdout == b"r\n" * 100000 + b"ok 100000\n", done.stdout[-40:]
+        done = run([*first, "g4", "4294967295", "1", "-"], b"\x50")
+        assert done.stdout == b"r 4294967294\nok 1\n", done
+
+
+# The result of a run if one allocation is refused: of the arguments, and before decoding, with status and standard error ..
+HARMLESS = 1
+NO_ARGUMENTS = (2, b"", b"faxrows: bad arguments\n")
+BEFORE_DECODING = (3, b"", b"faxrows: out of memory\n")
+# .. and while decoding: the whole text, and each text that ends in an allocation failure or a refusal. The second row of the
+# second run is damaged: an allocation failure there isn't repaired.
+WHILE_DECODING = [
+    (
+        "g4 8 2 -",
+        "31F8",
+        b"r 3 5\nr 3 5\nok 2\n",
+        [b"error: out of memory\n", b"error: row refused\n", b"r 3 5\nerror: out of memory\n", b"r 3 5\nerror: row refused\n"],
+    ),
+    (
+        "1d 8 0 l",
+        "0019800C400033",
+        b"r\nr 3 6\nr\nok 7\n",
+        [b"error: row refused\n", b"r\nerror: out of memory\n", b"r\nr 3 6\nerror: row refused\n"],
+    ),
+]
+
+
+def refused_in_turn(words, data, shim):
+    """The results of a run whose first allocation is refused, whose second one is, and so on, and of one without."""
+    answers = []
+    for number in range(1, 1000):
+        done = run(words.split(), bytes.fromhex(data), env=loading(shim, REFUSE=number))
+        answers.append((done.returncode, done.stdout, done.stderr.replace(b"refused\n", b"", 1)))
+        if b"refused\n" not in done.stderr:
+            return answers
+    raise AssertionError("it never ran without a refusal")
+
+
+def refused_memory():
+    """Each allocation refused in turn: the result is one of those above, and each of them occurs."""
+    with tempfile.TemporaryDirectory() as folder:
+        shim = preload(folder, "c/refuse")
+        for words, data, text, ended in WHILE_DECODING:
+            whole = (0, text, b"")
+            expected = [*[whole] * HARMLESS, NO_ARGUMENTS, BEFORE_DECODING, *[(3, text, b"") for text in ended]]
+            *answers, last = refused_in_turn(words, data, shim)
+            assert last == whole, (words, last)
+            assert all(answer in expected for answer in answers), (words, [a for a in answers if a not in expected])
+            assert all(answer in answers for answer in expected), (words, [e for e in expected if e not in answers])
+            assert answers.count(whole) == HARMLESS, f"{words}: only the refusal of a buffer of the C library does no harm"
+            print(f"  {words}: {len(answers)} allocations refused in turn, {len(expected)} answers")
+
+
+CHECKS = [
+    real_strips,
+    known_cases,
+    statuses,
+    words_alone,
+    bitmaps,
+    damage,
+    conforming,
+    conforming_strips,
+    flips_are_reported,
+    devices_that_fail,
+    a_file_and_a_pipe,
+    rows_of_an_open_pipe,
+    closed_streams,
+    long_data,
+    refused_memory,
+]

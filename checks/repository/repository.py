@@ -1,0 +1,467 @@
+"""Checks of the repository's files: what must be there, and what must not."""
+import collections
+import os
+import re
+import subprocess
+from pathlib import Path
+
+from gate.edit import edits_in, kit
+from gate.source import Source
+from repository import places
+
+
+def tracked():
+    """The files that git knows, or would know."""
+    listed = subprocess.run(
+        ["git", "ls-files", "--cached", "--others", "--exclude-standard"], capture_output=True, text=True, check=True
+    )
+    return [name for name in listed.stdout.splitlines() if os.path.isfile(name)]
+
+
+def handles_are_none():
+    assert Path("HANDLES").read_text(encoding="utf-8") == "Handles allowed: none.\n", "HANDLES was changed"
+
+
+# The functions that are proved by hand: privacy ties the count of work to the code, and a handle for C owns what its pointer points
+# to.
+BY_HAND = [
+    "crates/fax_bits/proofs/codes/Ticks/after",
+    "crates/fax_bits/proofs/codes/Ticks/new",
+    "crates/hayro_ccitt_c/proofs/handle/Handle/from_unboxed",
+    "crates/hayro_ccitt_c/proofs/handle/Handle/into_unboxed",
+    "crates/hayro_ccitt_c/proofs/handle/Handle/nowhere",
+    "crates/hayro_ccitt_c/proofs/handle/Unboxed/from_box",
+    "crates/hayro_ccitt_c/proofs/handle/Unboxed/into_box",
+]
+
+
+def seven_proofs_by_hand():
+    """No other function may be proved by hand."""
+    by_hand = sorted(name.removesuffix("/Proof.antt") for name in tracked() if name.endswith("/Proof.antt"))
+    assert by_hand == BY_HAND, by_hand
+
+
+# A requirement cited by a word and a number, or by a letter and a number. T.4 and T.6 are the standards.
+NUMBERED = re.compile(
+    r"\b(?:[Dd]ocument|[Pp]aper|[Dd]emand)s? \d+\b|\bthe[ ]papers?\b|\b(?:[DLRW]\d{1,2}(?:\.\d+)?|T[1-5]\.\d)\b"
+)
+# Bytes in hexadecimal, which may look like a letter and a number.
+BYTES = re.compile(r"0x[0-9A-Fa-f_]+|\b[0-9A-F]{2}(?: [0-9A-F]{2})+\b|\"[0-9A-F]+\"")
+
+
+def nothing_is_cited_by_number():
+    """The repository is self-contained: it cites no requirement by a number."""
+    found = []
+    for name in tracked():
+        if name == "HANDLES" or (name.startswith("corpus/") and not name.endswith(".md")):
+            continue
+        with open(name, encoding="utf-8", errors="ignore") as file:
+            for number, line in enumerate(file, 1):
+                if NUMBERED.search(BYTES.sub("", line)):
+                    found.append(f"{name}:{number}: {line.strip()}")
+    assert not found, "\n".join(found[:10])
+
+
+LINK = re.compile(r"\]\(([^)#]*)(?:#([^)]*))?\)")
+
+
+def anchors(name):
+    """The anchors of a page's headings: small letters, without other signs, with dashes for spaces."""
+    headings = re.findall(r"^#+ +(.*)$", Path(name).read_text(encoding="utf-8"), re.MULTILINE)
+    return [re.sub(r"[^\w\- ]", "", heading.strip().lower()).replace(" ", "-") for heading in headings]
+
+
+def links_lead_somewhere():
+    broken = []
+    for name in tracked():
+        if not name.endswith(".md"):
+            continue
+        links = LINK.findall(Path(name).read_text(encoding="utf-8"))
+        for target, anchor in links:
+            page = os.path.join(os.path.dirname(name), target) if target else name
+            if "://" not in target and (not os.path.exists(page) or (anchor and anchor not in anchors(page))):
+                broken.append(f"{name}: {target}#{anchor}")
+    assert not broken, "\n".join(broken)
+
+
+def readme_names_the_kit():
+    version = subprocess.run(["rt", "version"], capture_output=True, text=True, check=True).stdout.strip()
+    assert version in Path("README.md").read_text(encoding="utf-8"), f"the README doesn't name {version}"
+
+
+def lines_of_code(ending, comment):
+    """The lines of the files with this ending, without comments and texts."""
+    for name in tracked():
+        if name.endswith(ending):
+            with open(name, encoding="utf-8") as file:
+                for number, line in enumerate(file, 1):
+                    yield f"{name}:{number}", re.sub(r'"[^"]*"', "", line).split(comment)[0]
+
+
+def no_proof_has_a_hole():
+    found = [place for place, line in lines_of_code(".antt", "--") if "?" in line]
+    assert not found, found
+
+
+# Where a count of work is made, or made from another one: a context has one, which `decode` restarts, and a reader of rows
+# keeps a context.
+COUNTS = {
+    "crates/fax_bits/src/codes.rt": {"new", "after", "tick"},
+    "crates/fax_lines/src/context.rt": {"new"},
+    "crates/fax_lines/src/context/counts.rt": {"restart"},
+    "crates/fax_rows/src/row_reader.rt": {"new"},  # a reader's own context, which no call of `decode` has
+    "crates/fax_rows/src/row_cursor.rt": {"new"},  # the same
+    "crates/fax_feeds/src/row_feed.rt": {"new"},  # the same
+}
+MAKES_A_COUNT = re.compile(
+    r"\bTicks>?\s*::|\bTicks\s*\{\s*\}|\bTicks\s+as\b|\btype\b.*\bTicks\b"
+    r"|\bSelf\s*(?:::\s*new\b|\{\s*\})|\bDecoderContext\s*::\s*new\b"
+)
+
+
+def is_test(place):
+    return re.search(r"(^|[/_])tests(\.rt|/)", place) is not None
+
+
+def no_work_is_thrown_away():
+    """Contracts bound only the count of the context. So inside the decoder's crates no other count may be made, into which work
+    would be counted and lost: only the functions named above make one. Tests may."""
+    found = []
+    function = {}
+    for place, line in lines_of_code(".rt", "//"):
+        name = place.rsplit(":", 1)[0]
+        if not name.startswith(tuple(f"crates/{crate}/src/" for crate in places.DECODER)) or is_test(name):
+            continue
+        begun = re.search(r"\bfn (\w+)", line)
+        if begun:
+            function[name] = begun[1]
+        if MAKES_A_COUNT.search(line) and function.get(name) not in COUNTS.get(name, ()):
+            found.append(f"{place}: {line.strip()}")
+    assert not found, "\n".join(found)
+
+
+def one_line_is_unsafe():
+    """Only the box of a handle is made of a pointer, in a function that is proved by hand. The names that C calls are declared by an
+    attribute with that word."""
+    lines = ((place, line.replace("#[unsafe(no_mangle)]", "")) for place, line in lines_of_code(".rt", "//"))
+    found = [f"{place.rsplit(':', 1)[0]}: {line.strip()}" for place, line in lines if re.search(r"\bunsafe\b", line)]
+    assert found == ["crates/hayro_ccitt_c/src/handle.rt: unsafe { Box::from_raw(alloc, at) }"], found
+
+
+# The files of Rust that have unsafe code, and how many places of it: each says above it why it is sound.
+UNSAFE = {
+    "bindings/rust/src/c.rs": 20,
+    "release/erased/c/src/heap.rs": 5,
+    "release/erased/c/src/lib.rs": 4,
+    "release/erased/programs/src/system.rs": 5,
+}
+
+
+def rust_is_unsafe_in_few_files():
+    """The package of proved machine code calls C from one file; the library for C of the erased sources has two, and their programs
+    one, apart from the safe package. Each says above such a place why it is sound."""
+    found = [place for place, line in lines_of_code(".rs", "//") if re.search(r"\bunsafe\s*(\{|extern|fn|impl)", line)]
+    others = [place for place in found if not place.startswith(("bench/", "checks/releases/erased/", *(f"{name}:" for name in UNSAFE)))]
+    assert not others, others
+    for name, count in UNSAFE.items():
+        text = Path(name).read_text(encoding="utf-8")
+        places = len(re.findall(r"\bunsafe\s*(?:\{ |\{$|impl|extern \"C\" \{)", re.sub(r"//.*", "", text), re.MULTILINE))
+        assert places == text.count("// SAFETY: ") == count, (name, places)
+
+
+# Public functions with a contract that no edit of a body can break.
+NO_WRONG_BODY = {
+    # A count has no bytes, so its body stores nothing: the number is only in the proof by hand.
+    "fax_bits": {"codes::Ticks::new"},
+    # The trait's declaration. Each impl has edits of its own.
+    "fax_lines": {"Decoder::push_row"},
+    # It returns the only value of a type parameter that it has.
+    "fax_program": {"device::Device::into_inner"},
+}
+
+
+# What `hayro_ccitt` passes on of the crates below it, which no other crate names: nothing of the window, nor of a reader's offset, nor
+# anything that counts more than a tick; and of a context no function that changes what a row is, or counts it.
+PASSED_ON = {
+    "fax_bits": {
+        "DecodeError",
+        "DecodeSettings",
+        "EncodingMode",
+        "Result",
+        "bit_reader::BitOrder",
+        "bit_reader::BitReader",
+        "bits_fit",
+        "codes::Color",
+        "codes::Mode",
+        "codes::Ticks",
+        "tables",
+    },
+    "fax_lines": {
+        "Decoder",
+        "changes::append_pixels",
+        "changes::b1_index",
+        "changes::change_or_end",
+        "context::DecoderContext",
+        "context::decode_1d_line",
+        "context::decode_2d_line",
+    },
+    "fax_rows": {
+        "group3::check_eob",
+        "group3::decode_1d",
+        "group3::decode_2d",
+        "group3::recover",
+        "group4::decode",
+        "row_cursor::RowCursor",
+        "row_reader::RowReader",
+    },
+    "fax_feeds": {"row_feed::Fed", "row_feed::RowFeed"},
+}
+
+
+# The crates below the decoder: the file of `hayro_ccitt` that passes their items on, which, and the crates that may depend on them.
+def below():
+    laws = {item.name for item in Source("crates/fax_reading").public()}
+    assert all(name.startswith("laws::") for name in laws), laws
+    for place, crate in enumerate(places.DECODER[:-1]):
+        name, items = ("laws", laws) if crate == "fax_reading" else ("lib", PASSED_ON[crate])
+        yield crate, f"crates/hayro_ccitt/src/{name}.rt", items, places.DECODER[place + 1 :]
+
+
+def only_what_users_call_is_passed_on():
+    """Of the crates below `hayro_ccitt` what is listed above, and of `fax_reading`, which has laws alone, each of them."""
+    for crate, name, items, crates in below():
+        with open(name, encoding="utf-8") as file:
+            found = re.findall(rf"^ *pub use {crate}::(?:([\w:]+)::)?(\{{[^}}]*\}}|\w+);", file.read(), re.MULTILINE)
+        passed = {f"{path}::{item}".removeprefix("::") for path, names in found for item in re.findall(r"\w+", names)}
+        assert passed == items, passed ^ items
+        others = [place for place, line in lines_of_code(".rt", "//") if re.search(rf"\bpub(?:\([a-z]+\))? use {crate}\b", line)]
+        assert len(others) == len(found) and all(place.startswith(f"{name}:") for place in others), others
+        with open("crates.txt", encoding="utf-8") as file:
+            above = [line.split(":")[0] for line in file if not line.startswith("#") and crate in line.partition(":")[2].split()]
+        assert above == crates, above
+
+
+def is_for_users(crate, item):
+    """Whether a function is more than a part of the library: of the crates below the decoder only what is passed on is."""
+    above = item.name.split("::")
+    return crate not in PASSED_ON or bool(PASSED_ON[crate] & {"::".join(above[:length]) for length in range(1, len(above) + 1)})
+
+
+def each_public_function_has_an_edit():
+    """Each function that a user can name, and each sink's `push_row`, is broken by an edit, unless it only states a law."""
+    lacking = []
+    for crate in sorted(os.listdir("crates")):
+        source = Source(f"crates/{crate}")
+        touched = {item.name for edit in edits_in(f"crates/{crate}", crate, source) for item in edit.touched}
+        for item in source.public():
+            is_tried = item.name in touched | NO_WRONG_BODY.get(crate, set())
+            if item.has_contract and item.has_body and is_for_users(crate, item) and not is_tried:
+                lacking.append(f"{crate}: {item.name}")
+    assert not lacking, f"no edit breaks {lacking}"
+
+
+def each_edit_can_be_applied():
+    """Each edit's old texts occur once in the file, in an item, it says what it breaks, and no goal that it names has an answer."""
+    rt, found = kit(), []
+    for crate in sorted(os.listdir("crates")):
+        source = Source(f"crates/{crate}")
+        for edit in edits_in(f"crates/{crate}", crate, source):
+            _, why = rt.read_edit(edit.file, f"crates/{crate}")
+            if why or not edit.changed:
+                found.append(f"{edit.label}: {why or 'it changes no item'}")
+            elif not edit.function:
+                found.append(f"{edit.label}: it has no line 'breaks: FUNCTION: CLAUSE'")
+            elif edit.lacks_twin():
+                found.append(f"{edit.label}: {edit.lacks_twin()}")
+            answers = f"crates/{crate}/proofs/{edit.function.replace('::', '/')}/Answers.antt"
+            if edit.goals and os.path.exists(answers):
+                answered = set(re.findall(r"^pub (\S+) :", Path(answers).read_text(encoding="utf-8"), re.MULTILINE))
+                found += [f"{edit.label}: {goal} has a written answer" for goal in edit.goals if goal in answered]
+    assert not found, "\n".join(found)
+
+
+# A name of a proof: anything but spaces, brackets, commas, semicolons, colons and points.
+NAME = r"[^\s(){}\[\],;:.]+"
+# The goals of functions, which the checker names.
+NOT_CITED = ("/Answers.antt", "/Invariants.antt", "/Proof.antt")
+DECLARED = re.compile(rf"^( *)((?:pub |abbrev |unfoldable )*)({NAME}) :(?=\s)", re.MULTILINE)
+
+
+def is_field(text, start, indent):
+    """Whether what is declared there is a record's field: the tactics use fields without naming them."""
+    above = [line for line in text[:start].split("\n") if line.strip() and len(line) - len(line.lstrip()) < len(indent)]
+    return bool(above) and re.match(r" *(pub )?record ", above[-1]) is not None
+
+
+IMPORT = re.compile(r"^(?:pub |ghost )?use (Rattle\.[^\s{]*)\.\{(.*)\};?$", re.MULTILINE)
+
+
+# The lemmas that a function gives to the search.
+GIVEN = re.compile(r"\busing\(([^)]*)\)")
+
+
+def imported_names(name, text):
+    """The whole names that a file imports."""
+    for path, names in IMPORT.findall(text):
+        for lemma in names.split(","):
+            yield f"{path}.{lemma.split(' as ')[0].strip()}"
+    for given in GIVEN.findall(text):
+        for lemma in given.split(","):
+            yield f"Rattle.{lemma.strip().replace('crate', name.split('/')[1], 1).replace('::', '.')}"
+
+
+def module_of(name):
+    """The module of a file, as `use` lines write it: that of `Lib.antt` is its folder's."""
+    return "Rattle." + name.removeprefix("crates/").removesuffix(".antt").removesuffix("/Lib").replace("/", ".")
+
+
+# A file of lemmas, or a folder of them, that a crate passes on.
+PASSES_ON = re.compile(r"^pub use (Rattle\.\w+\.proofs(?:\.\w+)*?\.(\w+))$", re.MULTILINE)
+
+
+def each_lemma_is_cited():
+    """A lemma that nothing cites is useless: each is named besides its declaration, or another file imports it. Examples aren't
+    cited."""
+    texts = {}
+    for name in tracked():
+        if name.endswith((".antt", ".rt")):
+            texts[name] = re.sub(r"--.*" if name.endswith(".antt") else r"//.*", "", Path(name).read_text(encoding="utf-8"))
+    imported = {whole for name, text in texts.items() for whole in imported_names(name, text)}
+    for name, text in texts.items():
+        for of, last in PASSES_ON.findall(text):
+            passed = f"{module_of(name)}.{last}."
+            imported |= {whole.replace(passed, f"{of}.", 1) for whole in imported if whole.startswith(passed)}
+    dead = []
+    for name, text in texts.items():
+        if "/proofs/" not in name or not name.endswith(".antt") or name.endswith((*NOT_CITED, "/Examples.antt")):
+            continue
+        words = collections.Counter(re.findall(NAME, text))
+        module = module_of(name)
+        for found in DECLARED.finditer(text):
+            indent, modifiers, lemma = found.groups()
+            if is_field(text, found.start(), indent):
+                continue
+            head = rf"^{indent}(?:(?:pub|abbrev|unfoldable) )*{re.escape(lemma)} (?::|[^\n]*=$|[^\n]* = |=)"
+            given = len(re.findall(head, text, re.MULTILINE))
+            if words[lemma] <= given and f"{module}.{lemma}" not in imported:
+                dead.append(f"{name}: {lemma}")
+    assert not dead, "\n".join(dead)
+
+
+# A declaration at the margin, or the public one of a module, which stands further in.
+TOP_LEVEL = re.compile(
+    rf"^( *)((?:pub |abbrev |unfoldable )*)(?:(?:record|data) ({NAME})|({NAME}) :(?=\s)(?! *goal\.))", re.MULTILINE
+)
+
+
+def top_level_names(text):
+    """The names that a file declares for others: all at the margin, and the public ones in its modules. Those of goals are the
+    checker's, as are the names in a proof by hand."""
+    text = re.sub(r"--.*", "", text)
+    for found in TOP_LEVEL.finditer(text):
+        indent, modifiers, kind, lemma = found.groups()
+        if not indent or ("pub" in modifiers and is_in_module(text, found.start(), len(indent))):
+            yield kind or lemma
+
+
+def is_in_module(text, start, indent):
+    """Whether what stands there, so far in, is in modules alone: in no record, and not after a `where`."""
+    for line in reversed(text[:start].split("\n")):
+        inner = len(line) - len(line.lstrip())
+        if line.strip() and inner < indent:
+            if not line.lstrip().startswith("module _"):
+                return False
+            indent = inner
+    return True
+
+
+def no_name_stands_twice():
+    """In one crate no two files of proofs, and no proof and definition, have a name in common."""
+    places = collections.defaultdict(lambda: collections.defaultdict(set))
+    for name in tracked():
+        crate, _, path = name.removeprefix("crates/").partition("/")
+        if path.startswith(("proofs/", "specs/")) and path.endswith(".antt") and not path.endswith("/Proof.antt"):
+            with open(name, encoding="utf-8") as file:
+                for lemma in top_level_names(file.read()):
+                    places[crate][lemma].add(path)
+    found = [
+        f"{crate}: {lemma}: {sorted(files)}" for crate, names in places.items() for lemma, files in names.items() if len(files) > 1
+    ]
+    assert not found, "\n".join(found)
+
+
+WIDTH = 130
+
+
+def no_line_is_too_long():
+    """No line of a proof, of a definition, or of the imports of contracts has more than 130 columns."""
+    found = []
+    for name in tracked():
+        if name.startswith("crates/") and name.endswith((".antt", ".rt")):
+            with open(name, encoding="utf-8") as file:
+                for number, line in enumerate(file.read().split("\n"), 1):
+                    if len(line) > WIDTH and (name.endswith(".antt") or line.startswith("ghost use ")):
+                        found.append(f"{name}:{number}: {len(line)} columns")
+    assert not found, "\n".join(found)
+
+
+MOST_CLAUSES = 8
+# the functions that have more
+LONGER = {
+    "fax_rows": {"decode", "next_row", "read_line"},
+    "fax_feeds": {"feed", "feed_all", "read_whole_line"},
+    "hayro_ccitt": {"decode", "decode_low_first", "line_ends_before"},
+}
+CLAUSE = re.compile(r"\b(?:requires|ensures)\s+(?:\w+\s*)?\{")
+
+
+def clauses_of(text):
+    """How many clauses a function's text has before its body."""
+    count, at = 0, text.index("fn ")
+    while at < len(text) and text[at] not in "{;":
+        found = CLAUSE.match(text, at)
+        if not found:
+            at += 1
+            continue
+        count, at, depth = count + 1, found.end(), 1
+        while depth:
+            depth += {"{": 1, "}": -1}.get(text[at], 0)
+            at += 1
+    return count
+
+
+def no_contract_is_too_long():
+    """No function but nine has more than eight clauses, `requires` counted. A list of examples or laws, which has no body, may have
+    as many as it likes."""
+    found = []
+    for crate in sorted(os.listdir("crates")):
+        source = Source(f"crates/{crate}")
+        for item in source.items:
+            if item.kind == "fn":
+                text = re.sub(r"//.*", "", source.texts[item.path][item.begin : item.end])
+                is_longer = item.name.split("::")[-1] in LONGER.get(crate, ())
+                if clauses_of(text) > MOST_CLAUSES and not is_longer and not re.search(r"\{\s*\}\s*$", text):
+                    found.append(f"{crate}: {item.name}: {clauses_of(text)} clauses")
+    assert not found, "\n".join(found)
+
+
+CHECKS = [
+    handles_are_none,
+    seven_proofs_by_hand,
+    nothing_is_cited_by_number,
+    links_lead_somewhere,
+    readme_names_the_kit,
+    no_proof_has_a_hole,
+    no_work_is_thrown_away,
+    *places.CHECKS,
+    each_lemma_is_cited,
+    no_name_stands_twice,
+    one_line_is_unsafe,
+    rust_is_unsafe_in_few_files,
+    only_what_users_call_is_passed_on,
+    each_public_function_has_an_edit,
+    each_edit_can_be_applied,
+    no_line_is_too_long,
+    no_contract_is_too_long,
+]
+COMMANDS = {"--write": places.write}
