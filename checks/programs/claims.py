@@ -1,10 +1,11 @@
-"""Checks what the pages say is proved: each row of README's table stands in docs/CLAIMS.tsv with clauses that exist, each part of
-docs/PROVED.md names clauses or definitions that exist, and each premise in CLAIMS.tsv is needed. The results for its data are
-those of corpus/cases.tsv, which a model worked out apart from this program."""
+"""Checks what the pages say is proved: each row of README's table stands in docs/CLAIMS.tsv with clauses that exist, and links to a part
+of a page that has its premises; each part of docs/PROVED.md names clauses or definitions that exist; and each premise in CLAIMS.tsv is
+needed. The results for its data are those of corpus/cases.tsv, which a model worked out apart from this program."""
 import glob
 import re
 
 from programs import program
+from repository.repository import LINK, anchors
 
 COLUMNS = ["row", "behind", "premise", "data", "within", "without"]
 
@@ -24,6 +25,17 @@ def rows_of_readme():
     """README's rows of what is proved: what each is about, and what it says."""
     table = read("README.md").split("\n## What is proved\n")[1].split("\n| what | proved |\n|---|---|\n")[1].split("\n\n")[0]
     return dict(line.strip("| ").split(" | ", 1) for line in table.splitlines())
+
+
+def linked(said):
+    """The parts of pages that a row links to, each line end of them a space: what is below a heading, up to one of no lower level."""
+    for page, anchor in LINK.findall(said):
+        text = read(page)
+        headings = list(re.finditer(r"^(#+) .*$", text, re.MULTILINE))
+        first = anchors(page).index(anchor) if anchor else 0
+        level = len(headings[first][1])
+        end = next((it.start() for it in headings[first + 1 :] if len(it[1]) <= level), len(text))
+        yield " ".join(text[headings[first].end() : end].split())
 
 
 def sources(crate, part):
@@ -55,15 +67,17 @@ def stands(place):
 
 
 def rows_are_claims():
-    """Each row of README's table has a line with clauses that exist, each line is about a row of it, and each premise stands
-    there in these words."""
+    """Each row of README's table has a line with clauses that exist, each line is about a row of it, and each premise stands in these
+    words where the row links to."""
     rows, listed = rows_of_readme(), claims()
     claimed = {claim["row"] for claim in listed if claim["behind"] != "-"}
     assert rows and claimed == set(rows), set(rows) ^ claimed
     behind = [place for claim in listed if claim["behind"] != "-" for place in claim["behind"].split() if place != "kit"]
     missing = [place for place in behind if not stands(place)]
     assert behind and not missing, missing
-    lost = [claim["premise"] for claim in listed if claim["premise"] != "-" and claim["premise"] not in rows[claim["row"]]]
+    parts = {row: " ".join(linked(said)) for row, said in rows.items()}
+    assert all(parts.values()), [row for row, part in parts.items() if not part]
+    lost = [claim["premise"] for claim in listed if claim["premise"] != "-" and claim["premise"] not in parts[claim["row"]]]
     assert not lost, lost
     print(f"  {len(rows)} rows, {len(behind)} clauses")
 
@@ -81,7 +95,7 @@ def proved_names_clauses():
     the crates; all that stands in parentheses after a title does."""
     texts = [*sources("*", "src/**/*.rt").values(), *sources("*", "specs/*.antt").values()]
     names = {name for text in texts for found in NAMED.findall(text) for name in found if name}
-    page = read("docs/PROVED.md").split("\n## What is only tested")[0].split("\n## ", 1)[1]
+    page = read("docs/PROVED.md").split("\n## ", 1)[1]
     parts = [part for part in re.split(r"\n\n|\n(?=- )", page) if not part.startswith(("#", "```", "|")) and part.strip()]
     titled = 0
     for part in parts[1:]:

@@ -289,9 +289,9 @@ def cargo_without_the_library():
         assert done.returncode != 0 and "libhayro_ccitt_c.a: run `make`" in done.stderr and "panicked" not in done.stderr, done.stderr
 
 
-def commands_of_the_readme():
-    """The README has the commands that install the packages."""
-    with open("README.md", encoding="utf-8") as file:
+def commands_of_the_page():
+    """INSTALL has the commands that install the packages."""
+    with open("docs/INSTALL.md", encoding="utf-8") as file:
         text = file.read()
     lacking = [install for install, _ in PACKAGES.values() if f"$ {install}\n" not in text]
     assert not lacking, lacking
@@ -350,4 +350,4 @@ def python_package():
         leave_out("tests of the Python package", module or tools, is_listed=bool(module) or tools in ("libtiff-tools", "tiffset", "qpdf"))
 
 
-CHECKS = [packages_where_the_kit_is_not, cargo_without_the_library, commands_of_the_readme, crates_in_another_repository, python_package]
+CHECKS = [packages_where_the_kit_is_not, cargo_without_the_library, commands_of_the_page, crates_in_another_repository, python_package]

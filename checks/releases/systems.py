@@ -267,15 +267,15 @@ def needs(at):
 
 
 def says_what_it_needs(packages, folder, machine="x86_64", names=tuple(PACKAGES)):
-    """The C library that the programs and the library ask for is the one that the README, PROVENANCE and the Debian package name."""
+    """The C library that the programs and the library ask for is the one that INSTALL, PROVENANCE and the Debian package name."""
     at = unpacked(packages, folder, names)
     asked = {name: f"{major}.{minor}" for name, (major, minor) in needs(at).items()}
-    with open("README.md", encoding="utf-8") as file:
+    with open("docs/INSTALL.md", encoding="utf-8") as file:
         install = re.search(r"^## Packages.*?(?=^## )", file.read(), re.MULTILINE | re.DOTALL)[0]
     said = dict(re.findall(r"\b(programs|library)[^.;|]*?\bglibc (\d+\.\d+)", install))
     if machine == "aarch64":
         said["library"] = re.search(r"\bon\s+ARM64\s+(\d+\.\d+)", install)[1]
-    assert said == asked, f"the README says {said}, and the files ask for {asked}"
+    assert said == asked, f"INSTALL says {said}, and the files ask for {asked}"
     for path in [*glob.glob(f"{folder}/**/PROVENANCE", recursive=True)]:
         with open(path, encoding="utf-8") as file:
             said = dict(re.findall(r"\b(programs|library)[^.;|]*?\bglibc (\d+\.\d+)", file.read()))
