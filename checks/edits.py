@@ -10,7 +10,7 @@
     python3 checks/edits.py --ci FOLDER        takes libraries and programs from an `rt ci` that runs beside: see gate/ci_outputs.py
     python3 checks/edits.py --beside N         as many checks in parallel as other programs leave processors, at least N
 
-docs/GATE.md says what an edit is and when it is refused. More of that:
+checks/README.md says what an edit is and when it is refused. More of that:
 
 If the check's own searches gave up at a goal of the clause, it is tried once more by `search rules` alone, which ends. A line 'search:
 GOAL' has the goal tried so from the start, which takes half the time, since the check then prints no help. Of the unedited body that
