@@ -9,9 +9,16 @@ as this project has formalized them.
     (1, b'P4\\n8 1\\n\\x18')
     >>> hayro_ccitt.encode(picture.packed, 8, k=-1).hex()
     '31c0040040'
+
+`open` has the pages of a TIFF or PDF file. `Picture.image` is an image of Pillow, and `Picture.array` an array of NumPy:
+
+    >>> with hayro_ccitt.open("scan.tif") as document:  # doctest: +SKIP
+    ...     pixels = [page.picture().array() for page in document]
 """
+from ._pages import Page
 from .containers import decode_pdf, from_pdf, from_tiff
 from .decoding import Damage, Picture, Rows, decode, rows
+from .documents import Document, open
 from .encoding import encode
 from .errors import (
     DecodeError,
@@ -21,6 +28,7 @@ from .errors import (
     NoEncoding,
     NoRows,
     NotFax,
+    NotInstalled,
     NotWholeRows,
     Overflow,
     UnexpectedEof,
@@ -31,14 +39,17 @@ __version__ = "0.7.0"
 __all__ = [
     "Damage",
     "DecodeError",
+    "Document",
     "EncodeError",
     "Error",
     "InvalidCode",
     "NoEncoding",
     "NoRows",
     "NotFax",
+    "NotInstalled",
     "NotWholeRows",
     "Overflow",
+    "Page",
     "Picture",
     "RowFeed",
     "Rows",
@@ -49,6 +60,7 @@ __all__ = [
     "encode",
     "from_pdf",
     "from_tiff",
+    "open",
     "rows",
     "rows_from",
 ]

@@ -8,52 +8,16 @@ import resource
 import signal
 import sys
 import time
-from typing import Iterator, TextIO, Union
+from typing import TextIO
 
-from . import NotFax
-from ._pages import Page, Part, shown
-from ._pdf import images_of
-from ._tiff import STARTS, pages_of
-from .containers import encoded
+from .documents import open as open_document
+from .errors import NotFax, NotInstalled
 
 ABOUT = """Decodes the fax images of a TIFF file, or of a PDF file where pikepdf or pypdf is installed. It prints a line for each
 image: its number, its size and the result. With PICTURES, image 0 is written to PICTURES-0.pbm, and so on. A page of a TIFF file
 is turned as its Orientation says; an image of a PDF file is written as it is stored, however the page turns it, and once for each
 page. The exit status is 0 if all rows of all images were decoded, 1 if some weren't or an image isn't fax, or there is no image,
 and 2 if the file can't be read, or not within the time that an image may take."""
-
-
-def pdf_pages(path: str) -> Iterator[Union[Page, NotFax]]:
-    """The images of a PDF file, or why one isn't decoded."""
-    for image in images_of(path):
-        try:
-            if isinstance(image, NotFax):
-                raise image
-            data, arguments = encoded(image)
-            yield Page(arguments["columns"], arguments["rows"], 1, [Part(0, 0, data, arguments)])
-        except NotFax as why:
-            yield why
-        except MemoryError:
-            raise
-        except Exception as error:  # what pikepdf and pypdf raise for a damaged object is theirs
-            yield NotFax(f"not readable: {error or type(error).__name__}")
-
-
-def pages(path: str) -> Iterator[Union[Page, NotFax]]:
-    """The images of a file, or why one isn't decoded."""
-    with open(path, "rb") as opened:
-        file = opened.read()
-    if file[:4] in STARTS:
-        return pages_of(file)
-    if b"%PDF-" in file[:1024]:
-        return pdf_pages(path)
-    raise NotFax("neither TIFF nor PDF")
-
-
-def write(name: str, columns: int, rows: int, bits: bytes) -> None:
-    with open(name, "wb") as out:
-        out.write(b"P4\n%d %d\n" % (columns, rows))
-        out.write(bits)
 
 
 def say(text: str, to: TextIO) -> None:
@@ -73,12 +37,10 @@ def main(path: str, name: str | None = None, seconds: int = 0) -> int:
     """Decodes a file, each image within so many seconds of processor time, or without a limit. Returns the exit status."""
     number, status = -1, 0
     allow(seconds)
-    for number, page in enumerate(pages(path)):
+    for number, page in enumerate(open_document(path)):
         allow(seconds)
         try:
-            if isinstance(page, NotFax):
-                raise page
-            picture = shown(page)
+            picture = page.picture()
         except NotFax as why:
             say(f"image {number}: not decoded: {why}", sys.stdout)
             status = 1
@@ -86,7 +48,8 @@ def main(path: str, name: str | None = None, seconds: int = 0) -> int:
         say(f"image {number}: {picture.columns} x {picture.rows}: {picture.result}", sys.stdout)
         status = status if picture.result == "ok" else 1
         if name is not None:
-            write(f"{name}-{number}.pbm", picture.columns, picture.rows, picture.bits)
+            with open(f"{name}-{number}.pbm", "wb") as out:
+                out.write(picture.pbm())
     if number < 0:
         say("no images", sys.stdout)
         return 1
@@ -97,11 +60,9 @@ def run(path: str, name: str | None, seconds: int) -> int:
     """Decodes a file, and says why it can't be read. Returns the exit status."""
     try:
         return main(path, name, seconds)
-    except ImportError:
-        text = "a PDF file can be read where pikepdf or pypdf is installed; neither is"
     except MemoryError:
         text = "out of memory"
-    except (OSError, NotFax) as error:
+    except (OSError, NotFax, NotInstalled) as error:
         text = str(error)
     say(f"hayro_ccitt: {path}: {text}", sys.stderr)
     return 2

@@ -6,7 +6,7 @@ import importlib
 from decimal import Decimal
 from typing import Any, Iterator, Union
 
-from .errors import NotFax
+from .errors import NotFax, NotInstalled
 
 # A dictionary or stream of pikepdf or pypdf, or a mapping of the caller's.
 Dictionary = Any
@@ -161,9 +161,9 @@ def by_pypdf(data: bytes, filters: list[str], parameters: list[Any]) -> bytes:
 class ByPikepdf:
     """A file that pikepdf has opened."""
 
-    def __init__(self, path: str):
+    def __init__(self, file: Any):
         self.library = importlib.import_module("pikepdf")
-        self.file = self.library.open(path)
+        self.file = self.library.open(file)
 
     def pages(self) -> Iterator[Dictionary]:
         for page in self.file.pages:
@@ -189,8 +189,8 @@ class ByPikepdf:
 class ByPypdf:
     """A file that pypdf has opened."""
 
-    def __init__(self, path: str):
-        self.file = importlib.import_module("pypdf").PdfReader(path)
+    def __init__(self, file: Any):
+        self.file = importlib.import_module("pypdf").PdfReader(file)
         self.generic = importlib.import_module("pypdf.generic")
 
     def pages(self) -> Iterator[Dictionary]:
@@ -273,16 +273,24 @@ def is_fax(image: Dictionary) -> bool:
     return any(text_of(item) in FAX_FILTERS for item in items_of(entry(image, "/Filter")))
 
 
-def images_of(path: str) -> Iterator[Found]:
-    """The images of a PDF file's pages, by pikepdf, or else by pypdf."""
-    file: Union[ByPikepdf, ByPypdf]
+def opened(file: Any) -> Union[ByPikepdf, ByPypdf]:
+    """A file that has been opened for reading, read by pikepdf, or else by pypdf."""
     try:
-        try:
-            file = ByPikepdf(path)
-        except ImportError:
-            file = ByPypdf(path)
-        for page in file.pages():
-            yield from Images(file).of_page(page)
+        return ByPikepdf(file)
+    except ImportError:
+        pass
+    try:
+        return ByPypdf(file)
+    except ImportError:
+        raise NotInstalled("a PDF file can be read where pikepdf or pypdf is installed; neither is") from None
+
+
+def images_of(file: Any) -> Iterator[Found]:
+    """The images of a PDF file's pages."""
+    try:
+        reader = opened(file)
+        for page in reader.pages():
+            yield from Images(reader).of_page(page)
     except (ImportError, MemoryError, OSError):
         raise
     except Exception as error:  # what pikepdf and pypdf raise for a damaged file is theirs

@@ -3,9 +3,9 @@ from __future__ import annotations
 
 import bisect
 import struct
-from typing import Iterator, Union
+from typing import Iterator
 
-from ._pages import Page, Part
+from ._pages import Page, Part, not_fax
 from .containers import COMPRESSION, LENGTH, TILE_LENGTH, TILE_OFFSETS, TILE_WIDTH, WIDTH, from_tiff
 from .errors import NotFax
 
@@ -68,7 +68,7 @@ def page_of(file: bytes, tags: Tags) -> Page:
     counts = tags.get(TILE_BYTE_COUNTS if is_tiled else STRIP_BYTE_COUNTS)
     starts = sorted(offsets)
     across = -(-columns // first["columns"])
-    parts, lent = [], memoryview(file)
+    parts = []
     for number, start in enumerate(offsets):
         top = number // across * first["rows"]
         if top >= rows:
@@ -79,16 +79,17 @@ def page_of(file: bytes, tags: Tags) -> Page:
         else:
             length = counts[number] if number < len(counts) else 0
         arguments = {**first, "rows": min(first["rows"], rows - top)}
-        parts.append(Part(top, number % across * first["columns"], lent[start : start + max(length, 0)], arguments))
+        parts.append(Part(top, number % across * first["columns"], file[start : start + max(length, 0)], arguments))
     if not parts:
         raise NotFax("no strips or tiles")
     return Page(columns, rows, tags.get(ORIENTATION, (1,))[0], parts)
 
 
-def pages_of(file: bytes) -> Iterator[Union[Page, NotFax]]:
-    """The pages of a file, or why one isn't decoded."""
+def pages_of(file: bytes) -> Iterator[Page]:
+    """The pages of a file."""
     for tags in directories(file):
         try:
-            yield page_of(file, tags)
+            page = page_of(file, tags)
         except NotFax as why:
-            yield why
+            page = not_fax(why)
+        yield page

@@ -2,14 +2,20 @@
 from __future__ import annotations
 
 import ctypes
+import importlib
 import operator
 import threading
-from typing import Any, Callable, Iterator, NamedTuple, NoReturn, TypeVar, Union
+from typing import TYPE_CHECKING, Any, Callable, Iterator, NamedTuple, NoReturn, TypeVar, Union
 
 from . import _library as c
-from .errors import DecodeError, InvalidCode, Overflow, UnexpectedEof
+from .errors import DecodeError, InvalidCode, NotInstalled, Overflow, UnexpectedEof
 
-Data = Union[bytes, bytearray, memoryview]
+if TYPE_CHECKING:
+    from _typeshed import ReadableBuffer, WriteableBuffer
+else:
+    ReadableBuffer = WriteableBuffer = Any
+Data = ReadableBuffer
+Room = WriteableBuffer
 Self = TypeVar("Self", bound="Reading")
 FAULTS = {
     c.UNEXPECTED_EOF: (UnexpectedEof, "unexpected end of input"),
@@ -34,6 +40,11 @@ class Damage(NamedTuple):
     def __bool__(self) -> bool:
         return any(self)
 
+    def __str__(self) -> str:
+        if not self:
+            return "ok"
+        return f"{self.damaged_rows} rows repaired, {self.cut_rows} cut, {self.missed_eols} EOLs missed"
+
 
 class Picture(NamedTuple):
     """A decoded image."""
@@ -42,17 +53,45 @@ class Picture(NamedTuple):
     """The width in pixels."""
     rows: int
     """The number of rows that were decoded."""
-    packed: bytes
+    packed: Union[bytes, memoryview]
     """The samples of the rows from the top, as PDF's CCITTFaxDecode yields them: one bit per pixel, the leftmost in a byte's
     highest bit; `(columns + 7) // 8` bytes per row, or `stride` bytes, of which the last ones are zeros. A sample is 0 for a
-    black pixel, or 1 with `black_is_1`. Bits after a row's last pixel are those of white pixels. As sample 0 is shown black, the
-    picture is `PIL.Image.frombytes("1", (columns, rows), packed)`."""
+    black pixel, or 1 with `black_is_1`. Bits after a row's last pixel are those of white pixels. If `decode` was given `out`, it
+    is a `memoryview` of the rows there."""
     bytes_read: int
     """The number of bytes of the data that were consumed; 0 after a fault."""
     damage: Damage
     """What was repaired."""
     stride: int = 0
     """The number of bytes from the start of a row to the start of the next one, if `decode` was given one; else 0."""
+    result: str = "ok"
+    """`ok`, or what was repaired, or what is missing."""
+
+    def image(self) -> Any:
+        """The picture as an image of Pillow, of mode 1: samples of 0 are black.
+
+        Raises:
+            NotInstalled: Pillow isn't there.
+        """
+        images = optional("PIL.Image", "Pillow")
+        size = (self.columns, self.rows)
+        return images.frombytes("1", size, bytes(self.packed), "raw", "1", self.stride, 1) if all(size) else images.new("1", size)
+
+    def array(self, *, packed: bool = False) -> Any:
+        """The picture as an array of NumPy, of `rows` by `columns` booleans: false for samples of 0. It is
+        `numpy.asarray(picture.image())`.
+
+        Args:
+            packed: the array has instead the bytes of `Picture.packed`, `rows` by `(columns + 7) // 8`. It has no copy of them,
+                and can be written to if they lie in the `out` of `decode`.
+
+        Raises:
+            NotInstalled: NumPy isn't there.
+        """
+        numpy = optional("numpy", "NumPy")
+        width = (self.columns + 7) // 8
+        lines = numpy.ndarray((self.rows, width), numpy.uint8, self.packed, strides=(self.stride or width, 1))
+        return lines if packed else numpy.unpackbits(lines, axis=1, count=self.columns).view(bool)
 
     def pbm(self, rows: int = 0) -> bytes:
         """The picture as a PBM file (`P4`): samples of 0 are black, and white rows follow if there are fewer than `rows`."""
@@ -62,7 +101,7 @@ class Picture(NamedTuple):
     def black(self, rows: int = 0) -> bytes:
         """The rows of `pbm`, without its header: 1 for black, and zeros after a row's last pixel."""
         width = (self.columns + 7) // 8
-        bits = self.packed.translate(NEGATIVE)
+        bits = bytes(self.packed).translate(NEGATIVE)
         if self.stride:
             bits = b"".join(bits[start : start + width] for start in range(0, self.rows * self.stride, self.stride))
         if self.columns % 8:
@@ -85,11 +124,12 @@ def decode(
     low_first: bool = False,
     strict: bool = False,
     stride: int = 0,
+    out: Room | None = None,
 ) -> Picture:
     """Decodes an image, or a strip of one. The arguments are the keys of PDF's CCITTFaxDecode, with its defaults.
 
     Args:
-        data: the encoded bytes.
+        data: the encoded bytes, in any object with a buffer: `bytes`, an array of NumPy, a file in memory.
         columns: the width in pixels, below 2 ** 32.
         rows: the largest number of rows that are decoded, below 2 ** 32; 0 for no limit.
         k: below 0: Group 4 (T.6, MMR); 0: Group 3, one-dimensional (T.4, MH); above 0: Group 3, two-dimensional (T.4, MR).
@@ -101,11 +141,13 @@ def decode(
         strict: whether data that breaks a rule is a fault, rather than repaired or cut.
         stride: the bytes from the start of a row of `Picture.packed` to the start of the next one; 0 for those of a row,
             `(columns + 7) // 8`. With more, zeros follow each row.
+        out: what the rows are written to, without a copy: any object with a writable buffer, as a `bytearray` or an array of
+            NumPy whose items lie one after another. Its other bytes, also those between rows, keep their values.
 
     Raises:
         UnexpectedEof, InvalidCode, Overflow: there is a fault. The exception's `picture` has the rows before it.
-        TypeError: an argument has a wrong type.
-        ValueError: `columns`, `rows` or `stride` isn't in its range.
+        TypeError: an argument has a wrong type, or `out` can't be written to.
+        ValueError: `columns`, `rows` or `stride` isn't in its range, or `out` has too few bytes: those for fewer rows are written.
         MemoryError: an allocation failed, or the picture is too large.
     """
     data = bytes_of(data)
@@ -115,19 +157,30 @@ def decode(
     if width < (columns + 7) // 8:
         raise ValueError(f"stride is {stride}: a row has {(columns + 7) // 8} bytes")
     outcome = c.Outcome()
-    most = min(rows or len(data) * 8 + 1, len(data) * 8 + 1) * width
-    if most > max(USUAL_BYTES, 64 * len(data)):
-        check(c.LIBRARY.hayro_ccitt_measure(data, len(data), settings, outcome))
-        most = outcome.rows * width
-    bitmap = room_for(most)
-    status = c.LIBRARY.hayro_ccitt_decode_packed(data, len(data), settings, bitmap, most, outcome)
+    bitmap = room_of(out) if out is not None else room_for(most_bytes(data, settings, width))
+    status = c.LIBRARY.hayro_ccitt_decode_packed(data, len(data), settings, bitmap, len(bitmap), outcome)
+    if status == c.REFUSED:
+        raise ValueError(f"out has {len(bitmap)} bytes: too few for more than {outcome.rows} rows")
     check(status)
-    packed = memoryview(bitmap)[: outcome.rows * width].tobytes()
+    size = min(outcome.rows * width, len(bitmap))
+    packed = memoryview(bitmap)[:size]
     damage = Damage(outcome.damaged_rows, outcome.missed_eols, outcome.cut_rows)
-    picture = Picture(columns, outcome.rows, packed, outcome.bytes_read, damage, stride)
+    result = str(damage) if status == c.OK else FAULTS[status][1]
+    kept = packed.tobytes() if out is None or not size else packed.cast("B")
+    picture = Picture(columns, outcome.rows, kept, outcome.bytes_read, damage, stride, result)
     if status != c.OK:
         raise fault_of(status, outcome.fault_start, picture)
     return picture
+
+
+def most_bytes(data: bytes, settings: c.Settings, width: int) -> int:
+    """The bytes that the rows of this width need: as many as there may be, or where that is many, as there are."""
+    most: int = min(settings.rows or len(data) * 8 + 1, len(data) * 8 + 1) * width
+    if most > max(USUAL_BYTES, 64 * len(data)):
+        outcome = c.Outcome()
+        check(c.LIBRARY.hayro_ccitt_measure(data, len(data), settings, outcome))
+        most = outcome.rows * width
+    return most
 
 
 def rows(
@@ -305,6 +358,19 @@ def room_for(length: int) -> ctypes.Array[ctypes.c_char]:
         return ctypes.create_string_buffer(length)
     except (OverflowError, ValueError):
         raise MemoryError(f"a picture of {length} bytes") from None
+
+
+def room_of(out: Room) -> ctypes.Array[ctypes.c_char]:
+    """The bytes of a writable buffer."""
+    return (ctypes.c_char * memoryview(out).nbytes).from_buffer(out)
+
+
+def optional(module: str, title: str) -> Any:
+    """A module that this package can do without."""
+    try:
+        return importlib.import_module(module)
+    except ImportError as error:
+        raise NotInstalled(f"{title} isn't installed: {error}") from error
 
 
 def check(status: int) -> None:

@@ -51,5 +51,9 @@ class NoEncoding(EncodeError):
     """The arguments name no encoding: EOLs or fill in Group 4, fill or RTC without EOLs, or aligned rows with EOLs."""
 
 
+class NotInstalled(Error, ImportError):
+    """What the call needs isn't installed: NumPy, Pillow, or one of pikepdf and pypdf."""
+
+
 class NotFax(Error, ValueError):
     """The tags of a TIFF file, or the dictionary of a PDF image, are of no fax image that this package decodes."""

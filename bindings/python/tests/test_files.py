@@ -11,6 +11,7 @@ import pytest
 from conftest import ROOT
 from made import NARROW, PAGE
 
+import hayro_ccitt
 from hayro_ccitt import NotFax
 from hayro_ccitt.__main__ import main
 
@@ -75,6 +76,8 @@ def test_tiles_reach_over_the_edges(tmp_path):
     if not made.run(tmp_path, tiles) or not made.run(tmp_path, "tiffset -s 262 1 it.tif"):
         pytest.skip("no libtiff-tools")
     assert decoded(tmp_path / "it.tif", tmp_path) == (0, {0: NARROW.negative().pbm()})
+    packed = hayro_ccitt.open(tmp_path / "it.tif")[0].picture().packed
+    assert {byte & 0x7F for byte in packed[4::5]} == {0x7F}, "bits after the last pixel aren't white"
 
 
 @pytest.mark.parametrize("orientation", range(1, 9))

@@ -7,6 +7,8 @@ import pytest
 from conftest import ROOT
 
 USE = '''
+from typing import Any
+
 import hayro_ccitt
 from hayro_ccitt import DecodeError, RowFeed
 
@@ -17,6 +19,11 @@ for row in hayro_ccitt.rows(memoryview(b""), **hayro_ccitt.from_tiff({256: 8, 25
 with RowFeed(8, k=-1) as feed:
     feed.feed(b"")
     packed: bytes = feed.read_rows(1)
+room = bytearray(1)
+hayro_ccitt.decode(room, 8, 1, k=-1, out=memoryview(room))
+with hayro_ccitt.open("scan.tif") as document:
+    rows: int = sum(page.picture().rows for page in document)
+    settings: dict[str, Any] = document[0].parts[0].arguments
 try:
     data: bytes = hayro_ccitt.encode(packed, 8, k=-1)
 except DecodeError as fault:
