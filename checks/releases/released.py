@@ -1,7 +1,7 @@
 """Checks of what `make dist` makes: the same bytes in two folders, and each package, where the kit isn't: the command of the README
 installs it, and it decodes a page. Also of the Python package, by pytest.
 
-With PROVE=1 the crate of docs/SINKS.md is proved, which takes a minute.
+With PROVE=1 the crate of examples/rattle is proved, which takes a minute.
 """
 import os
 import re
@@ -304,12 +304,11 @@ def files_of(folder, crates):
 
 
 def crates_in_another_repository():
-    """The command of docs/SINKS.md copies the library as files into another repository, where the crate of that page names it; with PROVE
-    in the environment, which takes a minute, that crate is proved over what is stored of the library."""
+    """The command of docs/SINKS.md copies the library as files into another repository, where examples/rattle/my_viewer names it; with
+    PROVE in the environment, which takes a minute, that crate is proved over what is stored of the library."""
     with open("docs/SINKS.md", encoding="utf-8") as file:
         text = file.read()
     command, printed = re.search(r"^\$ python3 \.\./hayro_ccitt/(.* \. .*)\n((?:crates/.*\n)+)", text, re.MULTILINE).groups()
-    source = next(block for block in re.findall(r"^```rust\n(.*?)^```$", text, re.MULTILINE | re.DOTALL) if "#![tactic(auto)]" in block)
     with tempfile.TemporaryDirectory() as folder:
         for _ in range(2):
             assert run(f"python3 {os.path.abspath(command)}", cwd=folder) == printed
@@ -321,11 +320,9 @@ def crates_in_another_repository():
             lines = [": ".join([crate, " ".join(below[:place])]).strip() for place, crate in enumerate(below)]
             assert file.read().split("\n") == [*lines, ""]
         if not os.environ.get("PROVE"):
-            leave_out("the proof of the crate in docs/SINKS.md", "PROVE", is_listed=False)
+            leave_out("the proof of the crate in examples/rattle", "PROVE", is_listed=False)
             return
-        os.makedirs(f"{folder}/crates/my_viewer/src")
-        with open(f"{folder}/crates/my_viewer/src/lib.rt", "w", encoding="utf-8") as file:
-            file.write(source)
+        shutil.copytree("examples/rattle/my_viewer", f"{folder}/crates/my_viewer")
         with open(f"{folder}/crates.txt", "a", encoding="utf-8") as file:
             file.write("my_viewer: hayro_ccitt\n")
         shutil.copytree("crates/hayro_ccitt/out", f"{folder}/crates/hayro_ccitt/out")
