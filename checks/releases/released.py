@@ -291,7 +291,7 @@ def cargo_without_the_library():
 
 def commands_of_the_page():
     """INSTALL has the commands that install the packages."""
-    with open("docs/INSTALL.md", encoding="utf-8") as file:
+    with open("INSTALL.md", encoding="utf-8") as file:
         text = file.read()
     lacking = [install for install, _ in PACKAGES.values() if f"$ {install}\n" not in text]
     assert not lacking, lacking

@@ -270,7 +270,7 @@ def says_what_it_needs(packages, folder, machine="x86_64", names=tuple(PACKAGES)
     """The C library that the programs and the library ask for is the one that INSTALL, PROVENANCE and the Debian package name."""
     at = unpacked(packages, folder, names)
     asked = {name: f"{major}.{minor}" for name, (major, minor) in needs(at).items()}
-    with open("docs/INSTALL.md", encoding="utf-8") as file:
+    with open("INSTALL.md", encoding="utf-8") as file:
         install = re.search(r"^## Packages.*?(?=^## )", file.read(), re.MULTILINE | re.DOTALL)[0]
     said = dict(re.findall(r"\b(programs|library)[^.;|]*?\bglibc (\d+\.\d+)", install))
     if machine == "aarch64":

@@ -1,4 +1,4 @@
-"""Checks of what users are shown: each command of the README, of docs/INSTALL.md and of docs/USING.md, in the order of the page and in a
+"""Checks of what users are shown: each command of the README, of INSTALL.md and of docs/USING.md, in the order of the page and in a
 copy of the repository in which nothing is made yet but what is proved; the programs of examples/; and the Cargo package. What needs a
 tool that isn't installed is left out and reported."""
 import importlib.util
@@ -16,7 +16,7 @@ from c import c_library
 from gate.built import BUILT, made_by, place
 from gate.skipped import leave_out
 
-PAGES = ["README.md", "docs/INSTALL.md", "docs/USING.md"]
+PAGES = ["README.md", "INSTALL.md", "docs/USING.md"]
 # Tools that a command may need and that need not be installed.
 TOOLS = ["cargo", "dpkg-deb", "pkg-config", "ppm2tiff", "tiffcp", "tiffdump", "gs", "img2pdf", "pdfimages", "strings"]
 PACKAGE = "bindings/rust"

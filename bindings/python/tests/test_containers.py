@@ -173,7 +173,7 @@ def test_inline_images_of_pikepdf_and_pypdf_have_the_same_arguments(tmp_path):
 @pytest.mark.parametrize("reader", ["pypdf", "pikepdf"])
 def test_the_lines_of_the_page_decode_an_image(reader, tmp_path, monkeypatch):
     pytest.importorskip(reader)
-    blocks = (ROOT / "docs/INSTALL.md").read_text(encoding="utf-8").split("```python\n")[1:]
+    blocks = (ROOT / "INSTALL.md").read_text(encoding="utf-8").split("```python\n")[1:]
     lines = next(block.split("```")[0] for block in blocks if f"{reader}." in block)
     assert lines.count("\n") == 3
     monkeypatch.chdir(tmp_path)
