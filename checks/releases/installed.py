@@ -266,9 +266,23 @@ def versions_agree(version):
     for program in ("faxrows", "faxpack"):
         with open(f"crates/{program}/src/main.rt", encoding="utf-8") as file:
             assert f'const VERSION: &str = "{program} {version}";\n' in file.read(), version
-    for name in ("man/faxrows.1", "man/faxpack.1", "man/faxconv.1", "man/hayro_ccitt.3"):
-        assert f'"hayro_ccitt {version}"' in Path(name).read_text(encoding="utf-8"), name
+    for name in sorted(Path("man").iterdir()):
+        assert f'"hayro_ccitt {version}"' in name.read_text(encoding="utf-8"), name
     assert f'__version__ = "{version}"\n' in Path("bindings/python/hayro_ccitt/__init__.py").read_text(encoding="utf-8"), version
 
 
-CHECKS = [installed]
+def manual_pages_warn_of_nothing():
+    """`man`, and mandoc where it is installed, warn of nothing in a manual page."""
+    readers = [words for words in (["man", "--warnings", "-l"], ["mandoc", "-Tlint", "-W", "warning"]) if shutil.which(words[0])]
+    if not readers:
+        leave_out("the manual pages", "man", is_listed=False)
+        return
+    for page in sorted(Path("man").iterdir()):
+        for words in readers:
+            done = subprocess.run([*words, page], capture_output=True, text=True, check=False)
+            warned = done.stderr + (done.stdout if words[0] == "mandoc" else "")
+            assert done.returncode == 0 and not warned, f"{page}: {warned}"
+    print(f"  {len(list(Path('man').iterdir()))} pages")
+
+
+CHECKS = [installed, manual_pages_warn_of_nothing]
