@@ -150,7 +150,7 @@ fn paint_from_left(row: &mut [u8], columns: u32, changes: &[u32], are_far: bool)
         done += 2;
         // The black runs that lie within the word.
         'word: while done + 1 < changes.len()
-            && changes[done + 1] as usize / 64 * 8 <= brush.start
+            && (changes[done + 1] as u64) < 8 * brush.start as u64 + 64
         {
             brush = turned(turned(brush, changes[done]), changes[done + 1]);
             done += 2;
