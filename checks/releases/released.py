@@ -51,8 +51,8 @@ INSTEAD = {
 }
 
 
-def run(words, **more):
-    done = subprocess.run(words, capture_output=True, text=True, check=False, timeout=600, shell=isinstance(words, str), **more)
+def run(words, timeout=600, **more):
+    done = subprocess.run(words, capture_output=True, text=True, check=False, timeout=timeout, shell=isinstance(words, str), **more)
     assert done.returncode == 0, f"{words}\n{done.stdout[-2000:]}{done.stderr[-2000:]}"
     return done.stdout
 
@@ -340,7 +340,7 @@ def python_package():
     with tempfile.TemporaryDirectory() as folder:
         run(["make", "-s", "RT=true", f"BUILD={folder}", f"{folder}/libhayro_ccitt.so"])
         library = {**os.environ, "HAYRO_CCITT_LIBRARY": f"{folder}/libhayro_ccitt.so"}
-        told = run([found[0], "-m", "pytest", "-q", "-rs", "-p", "no:cacheprovider", "bindings/python/tests"], env=library)
+        told = run([found[0], "-m", "pytest", "-q", "-rs", "-p", "no:cacheprovider", "bindings/python/tests"], env=library, timeout=3600)
     print(f"  {told.strip().splitlines()[-1]}")
     lacking = re.findall(r"^SKIPPED .*?: (?:could not import '([\w.]+)|.*\bno ([\w, -]+)$)", told, re.MULTILINE)
     for module, tools in sorted(set(lacking)):

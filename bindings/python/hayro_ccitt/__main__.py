@@ -5,7 +5,7 @@ import argparse
 import sys
 
 from ._files import UNREADABLE, decoded, in_child, limit, say, text_of
-from ._many import main as many
+from .many import main as many
 
 ABOUT = """Decodes the fax images of a TIFF file, or of a PDF file where pikepdf or pypdf is installed. It prints a line for each
 image: its number, its size and the result. With PICTURES, image 0 is written to PICTURES-0.pbm, and so on. A page of a TIFF file
@@ -18,7 +18,7 @@ files."""
 def main(path: str, name: str | None = None, seconds: int = 0) -> int:
     """Decodes a file, each image within so many seconds of processor time, or without a limit. Returns the exit status."""
     number, status = -1, 0
-    for number, image in enumerate(decoded(path, None if name is None else f"{name}-", seconds)):
+    for number, image in enumerate(decoded(path, None if name is None else f"{name}-", "pbm", seconds)):
         size = "" if image["result"].startswith("not decoded") else f"{image['columns']} x {image['rows']}: "
         say(f"image {number}: {size}{image['result']}", sys.stdout)
         status = status if image["result"] == "ok" else 1

@@ -6,7 +6,10 @@ import struct
 from typing import Iterator
 
 from ._pages import Page, Part, not_fax
-from .containers import COMPRESSION, LENGTH, TILE_LENGTH, TILE_OFFSETS, TILE_WIDTH, WIDTH, from_tiff
+from .containers import BITS_PER_SAMPLE, COMPRESSION, LENGTH, PHOTOMETRIC, ROWS_PER_STRIP, SAMPLES_PER_PIXEL, TILE_LENGTH
+from .containers import TILE_OFFSETS, TILE_WIDTH, WIDTH, from_tiff
+from .decoding import Picture
+from .encoding import encode
 from .errors import NotFax
 
 Tags = dict[int, tuple[int, ...]]
@@ -93,3 +96,13 @@ def pages_of(file: bytes) -> Iterator[Page]:
         except NotFax as why:
             page = not_fax(why)
         yield page
+
+
+def file_of(picture: Picture) -> bytes:
+    """A TIFF file of a picture with pixels, in one strip of Group 4."""
+    data = encode(picture.packed, picture.columns, k=-1, stride=picture.stride)
+    values = {WIDTH: picture.columns, LENGTH: picture.rows, BITS_PER_SAMPLE: 1, COMPRESSION: 4, PHOTOMETRIC: 0, STRIP_OFFSETS: 0,
+              SAMPLES_PER_PIXEL: 1, ROWS_PER_STRIP: picture.rows, STRIP_BYTE_COUNTS: len(data)}
+    values[STRIP_OFFSETS] = 8 + 2 + 12 * len(values) + 4
+    entries = b"".join(struct.pack("<HHII", tag, 4, 1, value) for tag, value in values.items())
+    return struct.pack("<4sIH", b"II*\0", 8, len(values)) + entries + bytes(4) + data

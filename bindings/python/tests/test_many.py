@@ -53,7 +53,8 @@ def test_lines_are_json(folder):
     found = [json.loads(line) for line in done.stdout.splitlines()]
     assert [it["file"] for it in found] == [str(folder / name) for name in NAMES]
     assert [it["status"] for it in found] == [0, 2, 0, 1, 1]
-    assert found[2] == {"file": str(folder / "page.tif"), "status": 0, "images": [{"columns": 1240, "rows": 1754, "result": "ok"}], "error": ""}
+    whole = {"columns": 1240, "rows": 1754, "result": "ok", "damaged_rows": 0, "missed_eols": 0, "cut_rows": 0}
+    assert found[2] == {"file": str(folder / "page.tif"), "status": 0, "images": [whole], "error": ""}
     assert (done.stderr, done.returncode) == ("5 files: 2 ok, 2 not whole, 1 not read\n", 2)
 
 
@@ -83,10 +84,10 @@ def test_pictures_are_written_once(folder, tmp_path):
     for path in out.rglob("*.pbm"):
         path.write_bytes(b"mine")
     shutil.rmtree(out / "page.tif")
-    (out / "a.tif.part").mkdir()  # what a run that was ended has left
+    (out / "page.tif.0123.part").mkdir()  # what a run that was ended has left
     second = many(folder, "-o", out)
     assert (second.stdout, second.returncode) == (first.stdout, 2)
-    assert written(out) == {**dict.fromkeys(expected, b"mine"), "page.tif/0.pbm": PAGE.pbm()}
+    assert written(out) == {**dict.fromkeys(expected, b"mine"), "page.tif/0.pbm": PAGE.pbm()} and not [*out.rglob("*.part")]
     third = many(folder, "-o", out, "--overwrite")
     assert third.stdout == first.stdout and written(out) == expected
 
@@ -151,3 +152,17 @@ def test_a_run_that_is_ended_is_continued(tmp_path):
     assert done.stdout.splitlines()[-1] == "120 files: 120 ok, 0 not whole, 0 not read" and done.returncode == 0
     assert written(out) == {f"{number:03}.tif/0.pbm": NARROW.pbm() for number in range(120)}
     assert all(path.stat().st_mtime_ns == at for path, at in times.items()), "a file was decoded twice"
+
+
+@pytest.mark.parametrize("form", ["png", "tif"])
+def test_pictures_are_what_pillow_reads(folder, tmp_path, form):
+    images = pytest.importorskip("PIL.Image")
+    (folder / "empty.tif").write_bytes(tiff_of({}, [b""]))
+    done = many(folder, "-o", tmp_path / "out", "--to", form)
+    assert done.stdout.splitlines()[-1] == "6 files: 2 ok, 3 not whole, 1 not read"
+    for name, bitmap in {"a.tif": NARROW, "page.tif": PAGE}.items():
+        with images.open(tmp_path / "out" / name / f"0.{form}") as found:
+            assert (found.format, found.mode, found.size) == ({"png": "PNG", "tif": "TIFF"}[form], "1", (bitmap.columns, bitmap.rows))
+            assert found.tobytes() == images.frombytes("1", found.size, bitmap.bits, "raw", "1;I").tobytes()
+            assert form == "png" or found.info["compression"] == "group4"
+    assert [it.name for it in (tmp_path / "out" / "empty.tif").iterdir()] == ["result.json"]

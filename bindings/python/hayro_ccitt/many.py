@@ -1,4 +1,8 @@
-"""`python3 -m hayro_ccitt many`: decodes the fax images of many files, several at a time."""
+"""`python3 -m hayro_ccitt many`: decodes the fax images of many files, several at a time.
+
+`tasks_of` and `result_of` are for a scheduler of the caller, which calls `result_of` for each task wherever it likes: a file is
+decoded once, also where its task is run again.
+"""
 from __future__ import annotations
 
 import argparse
@@ -10,11 +14,13 @@ import shutil
 import signal
 import sys
 import tempfile
+import uuid
 from concurrent.futures import ProcessPoolExecutor
 from concurrent.futures.process import BrokenProcessPool
-from typing import Iterable, Iterator, NamedTuple, TypedDict
+from glob import escape, glob
+from typing import Iterable, Iterator, NamedTuple, Sequence, TypedDict
 
-from ._files import UNREADABLE, Image, decoded, in_child, limit, say, text_of
+from ._files import FORMS, UNREADABLE, Image, decoded, in_child, limit, say, text_of
 
 ABOUT = """Decodes the fax images of many TIFF and PDF files, several files at a time, and prints a line for each file, in order: its
 name, the number of its images and the result. NAME is a file, or a folder, whose files .tif, .tiff and .pdf are taken, also those in
@@ -44,7 +50,10 @@ class Task(NamedTuple):
     path: str
     folder: str | None
     """Of its pictures, if they are written."""
+    form: str
+    """The form of its pictures: `pbm`, `png` or `tif`."""
     seconds: int
+    """Of processor time that an image may take, in a process of its own; 0: without a limit, in this process."""
     again: bool
     """Whether what an earlier run wrote is replaced."""
 
@@ -60,28 +69,43 @@ def files_of(names: Iterable[str]) -> Iterator[str]:
             yield from (os.path.join(at, file) for file in sorted(files) if file.lower().endswith(ENDINGS))
 
 
+def tasks_of(
+    names: Sequence[str], output: str | None = None, form: str = "pbm", seconds: int = 0, again: bool = False
+) -> list[Task]:
+    """The tasks of the files of these names, and of those in the folders of these names, in order. `output` is the folder of all
+    pictures: those of a/b.tif, of the folder a, belong in its folder b.tif."""
+    paths = [os.path.abspath(name) for name in names]
+    top = os.path.commonpath([path if os.path.isdir(path) else os.path.dirname(path) for path in paths])
+    return [
+        Task(path, output and os.path.join(output, os.path.relpath(path, top)), form, seconds, again)
+        for path in dict.fromkeys(files_of(names))
+    ]
+
+
 def not_read(path: str, why: str) -> Result:
     return {"file": path, "status": 2, "images": [], "error": why}
 
 
-def read(path: str, pictures: str | None, seconds: int) -> Result:
+def read(task: Task, pictures: str | None) -> Result:
     """Decodes a file in this process."""
     images: list[Image] = []
     try:
-        for image in decoded(path, pictures, seconds):
+        for image in decoded(task.path, pictures, task.form, task.seconds):
             images.append(image)
     except UNREADABLE as error:
-        return {"file": path, "status": 2, "images": images, "error": text_of(error)}
+        return {"file": task.path, "status": 2, "images": images, "error": text_of(error)}
     is_ok = {image["result"] for image in images} == {"ok"}
-    return {"file": path, "status": 0 if is_ok else 1, "images": images, "error": ""}
+    return {"file": task.path, "status": 0 if is_ok else 1, "images": images, "error": ""}
 
 
-def read_in_child(task: Task, pictures: str | None) -> Result:
-    """Decodes a file in a process of its own."""
+def read_apart(task: Task, pictures: str | None) -> Result:
+    """Decodes a file in a process of its own, if it has a limit."""
+    if not task.seconds:
+        return read(task, pictures)
     with tempfile.TemporaryFile("w+") as told:
 
         def work() -> int:
-            json.dump(read(task.path, pictures, task.seconds), told)
+            json.dump(read(task, pictures), told)
             told.flush()
             return 0
 
@@ -94,7 +118,7 @@ def read_in_child(task: Task, pictures: str | None) -> Result:
 def result_of(task: Task) -> Result:
     """Decodes a file, and writes its pictures, if an earlier run hasn't."""
     try:
-        return written(task, task.folder) if task.folder else read_in_child(task, None)
+        return written(task, task.folder) if task.folder else read_apart(task, None)
     except OSError as error:
         return not_read(task.path, str(error))
 
@@ -102,22 +126,23 @@ def result_of(task: Task) -> Result:
 def written(task: Task, folder: str) -> Result:
     """Decodes a file, and writes its pictures. They are in their folder once all are: the folder is renamed. There are none of a file
     that can't be read, and the next run tries it again."""
-    part = f"{folder}.part"
     kept = kept_result(task.path, folder)
     if kept and (kept["error"] or not task.again):
         return kept
-    shutil.rmtree(part, ignore_errors=True)
+    part = f"{folder}.{uuid.uuid4().hex}.part"
     os.makedirs(part)
-    result = read_in_child(task, f"{part}/")
-    if result["error"]:
-        shutil.rmtree(part)
+    try:
+        result = read_apart(task, f"{part}/")
+        if not result["error"]:
+            with open(f"{part}/{RESULT}", "w", encoding="utf-8") as file:
+                json.dump(result, file)
+            if kept:
+                shutil.rmtree(folder)
+            os.rename(part, folder)
         return result
-    with open(f"{part}/{RESULT}", "w", encoding="utf-8") as file:
-        json.dump(result, file)
-    if kept:
-        shutil.rmtree(folder)
-    os.rename(part, folder)
-    return result
+    finally:  # also what a process that was killed has left
+        for left in glob(f"{escape(folder)}.*.part"):
+            shutil.rmtree(left, ignore_errors=True)
 
 
 def kept_result(path: str, folder: str) -> Result | None:
@@ -170,19 +195,15 @@ def main(words: list[str]) -> int:
     parser.add_argument("-j", "--jobs", type=limit, default=len(os.sched_getaffinity(0)), help="files at a time (default: one for each processor)")
     parser.add_argument(
         "-o", "--output", metavar="FOLDER",
-        help="where pictures are written: those of a/b.tif, of the folder a, to FOLDER/b.tif/0.pbm and so on. Files that an earlier run "
+        help="where pictures are written: those of a/b.tif, of the folder a, to FOLDER/b.tif/0.pbm and so on; files that an earlier run "
         "has read aren't read again",
     )
+    parser.add_argument("--to", choices=FORMS, default="pbm", help="the form of pictures; tif is a TIFF file of Group 4 (default: pbm)")
     parser.add_argument("--overwrite", action="store_true", help="reads all files again, and replaces the pictures of an earlier run")
     parser.add_argument("--json", action="store_true", help="prints the line of a file as JSON, and the counts to the standard error")
     parser.add_argument("--seconds", type=limit, default=60, help="of processor time that an image may take (default: 60)")
     chosen = parser.parse_args(words)
-    paths: list[str] = list(map(os.path.abspath, chosen.names))
-    top = os.path.commonpath([path if os.path.isdir(path) else os.path.dirname(path) for path in paths])
-    tasks = [
-        Task(path, chosen.output and os.path.join(chosen.output, os.path.relpath(path, top)), chosen.seconds, chosen.overwrite)
-        for path in dict.fromkeys(files_of(chosen.names))
-    ]
+    tasks = tasks_of(chosen.names, chosen.output, chosen.to, chosen.seconds, chosen.overwrite)
     statuses = [0, 0, 0]
     for result in results(tasks, chosen.jobs):
         say(json.dumps(result) if chosen.json else line_of(result), sys.stdout)
