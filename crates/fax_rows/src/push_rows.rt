@@ -172,7 +172,8 @@ fn push_white_lines<D: Decoder>(
         (state_of D.Decoder decoder.old) (state_of D.Decoder decoder.new) rows.old rows.new ctx.old ctx.new reader.old
         reader.new result }
 {
-    'white: while rows.take_white_row(*white.lines, white.dropped + reader.bit_pos(), ctx, reader) {
+    let lines = *white.lines;
+    'white: while rows.take_white_row(lines, white.dropped + reader.bit_pos(), ctx, reader) {
         if let Err(refusal) = decoder.push_row(&[]) {
             return Err(refusal);
         }
