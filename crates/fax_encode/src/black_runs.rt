@@ -85,7 +85,7 @@ fn paint_long_run(row: &mut [u8], from: usize, to: u32, is_cleared: bool)
     ensures length { length row.new ≡ length row.old }
 {
     let first = from / 8;
-    let last = (to as usize).div_ceil(8) - 8;
+    let last = (to as usize - 1) / 8 - 7;
     paint_in_word(row, first, from % 8, 64, is_cleared);
     put_pixels(row, last, ones_before(((8 - to % 8) % 8) as usize));
     paint_bytes(row, first + 8, last);
