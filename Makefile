@@ -43,6 +43,7 @@ BINDIR ?= $(PREFIX)/bin
 LIBDIR ?= $(PREFIX)/lib
 INCLUDEDIR ?= $(PREFIX)/include
 MANDIR ?= $(PREFIX)/share/man
+CMAKEDIR ?= $(LIBDIR)/cmake/hayro_ccitt
 
 BUILD = build$(TARGET:%=/%)
 PROVED = crates/hayro_ccitt_c/out/libhayro_ccitt_c$(TARGET:%=-%).a
@@ -193,7 +194,7 @@ install: $(if $(wildcard $(BUILD)/faxrows),,all) install-library
 	$(INSTALL) -m 644 tools/fax/faxconv.bash $(DESTDIR)$(COMPLETIONS)/faxconv
 	$(INSTALL) -m 644 man/faxrows.1 man/faxpack.1 man/faxconv.1 man/fax2pbm.1 $(DESTDIR)$(MANDIR)/man1
 install-library: $(if $(wildcard $(BUILD)/libhayro_ccitt.so),,library)
-	$(INSTALL) -d $(DESTDIR)$(LIBDIR)/pkgconfig $(DESTDIR)$(INCLUDEDIR) $(DESTDIR)$(MANDIR)/man3
+	$(INSTALL) -d $(DESTDIR)$(LIBDIR)/pkgconfig $(DESTDIR)$(CMAKEDIR) $(DESTDIR)$(INCLUDEDIR) $(DESTDIR)$(MANDIR)/man3
 	rm -f $(BUILD)/hayro_ccitt.pc
 	$(MAKE) --no-print-directory $(BUILD)/hayro_ccitt.pc
 	$(INSTALL) -m 644 $(HEADERS) $(DESTDIR)$(INCLUDEDIR)
@@ -202,11 +203,15 @@ install-library: $(if $(wildcard $(BUILD)/libhayro_ccitt.so),,library)
 	ln -sf $(SHARED) $(DESTDIR)$(LIBDIR)/$(SONAME)
 	ln -sf $(SONAME) $(DESTDIR)$(LIBDIR)/libhayro_ccitt.so
 	$(INSTALL) -m 644 $(BUILD)/hayro_ccitt.pc $(DESTDIR)$(LIBDIR)/pkgconfig
+	for it in config config-version; do sed -e "s|@HEADERS@|$$(realpath -ms --relative-to=$(CMAKEDIR) $(INCLUDEDIR))|" \
+		-e 's|@INTERFACE@|$(INTERFACE)|' -e 's|@VERSION@|$(VERSION)|' c/hayro_ccitt-$$it.cmake.in | \
+		$(INSTALL) -m 644 /dev/stdin $(DESTDIR)$(CMAKEDIR)/hayro_ccitt-$$it.cmake || exit 1; done
 	$(INSTALL) -m 644 man/hayro_ccitt.3 $(DESTDIR)$(MANDIR)/man3
 
 uninstall:
 	cd $(DESTDIR)$(INCLUDEDIR) && rm -f $(notdir $(HEADERS))
 	cd $(DESTDIR)$(LIBDIR) && rm -f libhayro_ccitt.a $(SHARED) $(SONAME) libhayro_ccitt.so pkgconfig/hayro_ccitt.pc
+	rm -rf $(DESTDIR)$(CMAKEDIR)
 	cd $(DESTDIR)$(BINDIR) && rm -f faxrows faxpack faxconv fax2pbm
 	cd $(DESTDIR)$(COMPLETIONS) && rm -f faxconv
 	cd $(DESTDIR)$(MANDIR) && rm -f man1/faxrows.1 man1/faxpack.1 man1/faxconv.1 man1/fax2pbm.1 man3/hayro_ccitt.3

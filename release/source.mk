@@ -23,6 +23,7 @@ BINDIR ?= $(PREFIX)/bin
 LIBDIR ?= $(PREFIX)/lib
 INCLUDEDIR ?= $(PREFIX)/include
 MANDIR ?= $(PREFIX)/share/man
+CMAKEDIR ?= $(LIBDIR)/cmake/hayro_ccitt
 
 # The loader refuses the shared library in one line on a processor below the level x86-64-v2, where the linker can say so.
 LEVEL := $(shell $(CC) -shared -nostdlib -Wl,-z,x86-64-v2 -Wl,--fatal-warnings -o /dev/null -x c /dev/null 2>/dev/null && echo -Wl,-z,x86-64-v2)
@@ -69,7 +70,7 @@ check: all
 
 install: all
 	$(INSTALL) -d $(DESTDIR)$(BINDIR) $(DESTDIR)$(LIBDIR)/pkgconfig $(DESTDIR)$(INCLUDEDIR) $(DESTDIR)$(MANDIR)/man1 $(DESTDIR)$(MANDIR)/man3 \
-		$(DESTDIR)$(COMPLETIONS)
+		$(DESTDIR)$(COMPLETIONS) $(DESTDIR)$(CMAKEDIR)
 	rm -f build/hayro_ccitt.pc
 	$(MAKE) --no-print-directory build/hayro_ccitt.pc
 	$(INSTALL) -m 644 $(HEADERS) $(DESTDIR)$(INCLUDEDIR)
@@ -78,6 +79,9 @@ install: all
 	ln -sf $(SHARED) $(DESTDIR)$(LIBDIR)/$(SONAME)
 	ln -sf $(SONAME) $(DESTDIR)$(LIBDIR)/libhayro_ccitt.so
 	$(INSTALL) -m 644 build/hayro_ccitt.pc $(DESTDIR)$(LIBDIR)/pkgconfig
+	for it in config config-version; do sed -e "s|@HEADERS@|$$(realpath -ms --relative-to=$(CMAKEDIR) $(INCLUDEDIR))|" \
+		-e 's|@INTERFACE@|$(INTERFACE)|' -e 's|@VERSION@|$(VERSION)|' c/hayro_ccitt-$$it.cmake.in | \
+		$(INSTALL) -m 644 /dev/stdin $(DESTDIR)$(CMAKEDIR)/hayro_ccitt-$$it.cmake || exit 1; done
 	$(INSTALL) -m 755 build/faxconv $(DESTDIR)$(BINDIR)
 	ln -sf faxconv $(DESTDIR)$(BINDIR)/fax2pbm
 	$(INSTALL) -m 644 tools/fax/faxconv.bash $(DESTDIR)$(COMPLETIONS)/faxconv

@@ -1,5 +1,5 @@
-"""Checks of what `make install` installs: the headers by C89 and C++98, both libraries by hayro_ccitt.pc, null pointers of
-length 0, a program's own allocator, the manual pages and the version."""
+"""Checks of what `make install` installs: the headers by C89 and C++98, both libraries by hayro_ccitt.pc and by CMake, what the shared
+one exports, null pointers of length 0, a program's own allocator, the manual pages and the version."""
 import filecmp
 import os
 import re
@@ -179,6 +179,16 @@ int main(void)
     return 0;
 }
 """
+# A program linked with each library of the package in a version.
+CMAKE_LISTS = """\
+cmake_minimum_required(VERSION 3.10)
+project(first C)
+find_package(hayro_ccitt {} REQUIRED)
+add_executable(with_shared first.c)
+target_link_libraries(with_shared hayro_ccitt::hayro_ccitt)
+add_executable(with_static first.c)
+target_link_libraries(with_static hayro_ccitt::static)
+"""
 HEADERS = "#include <fax_encode.h>\n#include <hayro_ccitt.h>\n#include <hayro_ccitt_heap.h>\nint main(void) { return HAYRO_CCITT_OK; }\n"
 
 
@@ -216,7 +226,7 @@ def installed():
         run("make", *words, "install")
         for root in (f"{folder}/prefix", f"{folder}/staged{folder}/prefix"):
             for name in ("bin/faxrows", "bin/faxpack", "bin/faxconv", "bin/fax2pbm", "share/man/man1/faxconv.1", "share/bash-completion/completions/faxconv", "lib/libhayro_ccitt.a", "lib/libhayro_ccitt.so", "include/hayro_ccitt_heap.h",
-                         "share/man/man1/faxrows.1", "share/man/man1/faxpack.1", "share/man/man3/hayro_ccitt.3", "lib/pkgconfig/hayro_ccitt.pc"):
+                         "share/man/man1/faxrows.1", "share/man/man1/faxpack.1", "share/man/man3/hayro_ccitt.3", "lib/pkgconfig/hayro_ccitt.pc", "lib/cmake/hayro_ccitt/hayro_ccitt-config.cmake"):
                 assert os.path.exists(f"{root}/{name}"), f"{root}/{name}"
         library = f"{folder}/prefix/lib"
         find = {**os.environ, "PKG_CONFIG_PATH": f"{library}/pkgconfig", "LD_LIBRARY_PATH": library}
@@ -236,12 +246,42 @@ def installed():
                     runs += 1
         for compiler, flags, name in (("gcc", C89, "heap"), ("g++", [*CXX98, "-x", "c++"], "heap"), ("gcc", C89, "calls"), ("g++", [*CXX98, "-x", "c++"], "calls")):
             run(compiler, *flags, "-c", f"c/{name}.c", "-o", f"{folder}/object")
-        exported = run("nm", "-D", "--defined-only", f"{library}/libhayro_ccitt.so").split()[2::3]
-        assert all(re.match(r"hayro_ccitt_|fax_encode_|rattle_(alloc|realloc|dealloc)$", name) for name in exported), exported
+        symbols_are_listed(f"{library}/libhayro_ccitt.so")
+        found_by_cmake(f"{folder}/staged{folder}/prefix", version, folder)
         run("make", *words, "uninstall")
         left = [name for _, _, names in os.walk(f"{folder}/prefix") for name in names]
         assert not left, left
     print(f"  version {version}; {runs} programs, by C89, C11 and C++98, with both libraries")
+
+
+def symbols_are_listed(library):
+    """The shared library exports the calls of symbols.txt, and no others."""
+    listed = Path("checks/releases/symbols.txt").read_text(encoding="utf-8").splitlines()[1:]
+    exported = run("nm", "-D", "--defined-only", library).split()[2::3]
+    assert exported == listed, f"added: {sorted({*exported} - {*listed})}; lost: {sorted({*listed} - {*exported})}"
+
+
+def found_by_cmake(prefix, version, folder):
+    """CMake finds the package in a folder other than that of PREFIX, in its version and older ones of its interface, and builds a
+    program with each of its targets."""
+    if not shutil.which("cmake"):
+        leave_out("the CMake package", "cmake")
+        return
+    major, minor, patch = map(int, version.split("."))
+    wanted = {version: True, f"{major}.{minor}": True, "": True, f"{major}.{minor}.{patch + 1}": False,
+              f"{major}.{minor + 1}": False, f"{major + 1}.{minor}": False, f"{major}.{minor - 1}": False}
+    for number, (asked, is_found) in enumerate(wanted.items()):
+        os.makedirs(f"{folder}/project{number}")
+        written(f"{folder}/project{number}/first.c", first_program())
+        written(f"{folder}/project{number}/CMakeLists.txt", CMAKE_LISTS.format(asked))
+        words = ["cmake", "-S", f"{folder}/project{number}", "-B", f"{folder}/cmake{number}", f"-DCMAKE_PREFIX_PATH={prefix}"]
+        done = subprocess.run(words, capture_output=True, text=True, check=False, timeout=600)
+        assert (done.returncode == 0) == is_found, f"version {asked}: {done.stdout}{done.stderr}"
+    run("cmake", "--build", f"{folder}/cmake0")
+    for program in ("with_shared", "with_static"):
+        assert run(f"{folder}/cmake0/{program}") == "18\n", program
+    needed = [run("objdump", "-p", f"{folder}/cmake0/{program}").count("libhayro_ccitt.so") for program in ("with_shared", "with_static")]
+    assert needed == [1, 0], needed
 
 
 def files_are_right(prefix, version):
