@@ -204,7 +204,7 @@ def binary_tarball(build, version, target, told, epoch, work):
 
 TARBALL_README = """\
 bin       programs, which run as they are: {top}/bin/faxconv -o page.pbm FILE.tif
-lib       the library, static and shared, and pkgconfig/hayro_ccitt.pc, which finds this folder wherever it is
+lib       the library, static and shared; pkgconfig/hayro_ccitt.pc and cmake/, which find this folder wherever it is
 include   the headers; the first page of hayro_ccitt.h is a complete program
 share     manual pages, examples, changes, what is promised, and PROVENANCE
 
