@@ -79,7 +79,7 @@ SHARED = libhayro_ccitt.so.$(VERSION)
 SONAME = libhayro_ccitt.so.$(INTERFACE)
 OBJECTS = $(BUILD)/proved.o $(BUILD)/calls.o $(BUILD)/heap.o
 
-.PHONY: all library programs first test tools check install install-library uninstall clean dist erased prove-library prove-programs prove-test-programs
+.PHONY: all library programs first test tools check install install-library uninstall clean dist erased prove-library prove-programs prove-test_streams prove-test_files
 
 # Ends with a line that names the programs that are missing.
 missing = $(strip $(foreach program,$(1),$(if $(shell command -v $(program)),,$(program))))
@@ -122,8 +122,8 @@ prove-programs:
 		cargo build -q --profile programs --offline --target $(TARGET) --target-dir $(abspath $(BUILD))/cargo
 endif
 
-prove-test-programs:
-	cd crates/test_streams && $(RT) run $(RT_JOBS) < stdin > /dev/null
+prove-test_streams prove-test_files: prove-%:
+	cd crates/$* && $(RT) run $(RT_JOBS) < stdin > /dev/null
 
 $(PROVED): prove-library ;
 $(FAXROWS) $(FAXPACK): prove-programs ;

@@ -7,8 +7,20 @@ import subprocess
 from pathlib import Path
 
 # The library for C and the programs, by their crates, and the Makefile's rules that build them.
-BUILT = {"hayro_ccitt_c": "libhayro_ccitt_c.a", "faxrows": "faxrows", "faxpack": "faxpack", "test_streams": "test_streams"}
-RULES = {"hayro_ccitt_c": "prove-library", "faxrows": "prove-programs", "faxpack": "prove-programs", "test_streams": "prove-test-programs"}
+BUILT = {
+    "hayro_ccitt_c": "libhayro_ccitt_c.a",
+    "faxrows": "faxrows",
+    "faxpack": "faxpack",
+    "test_streams": "test_streams",
+    "test_files": "test_files",
+}
+RULES = {
+    "hayro_ccitt_c": "prove-library",
+    "faxrows": "prove-programs",
+    "faxpack": "prove-programs",
+    "test_streams": "prove-test_streams",
+    "test_files": "prove-test_files",
+}
 # How many builds of each are kept on this machine.
 MOST = 6
 

@@ -1,0 +1,74 @@
+//! What a directory says of each tag.
+
+ghost use Rattle.std.specs.Prelude.{◌≡◌, ◌<◌, ◌≤◌, length, IfSome};
+
+/// The values of a tag: of which type, how many, and where in the file. There are none if the file lacks a part of them, or the type is unknown.
+#[derive(Clone, Copy, Debug, PartialEq, Eq)]
+pub struct Values {
+    /// The number of the type (TIFF 6.0, section 2): 1 is BYTE.
+    pub kind: u16,
+    /// How many there are.
+    pub count: u64,
+    /// How many bytes of the file come before them.
+    pub offset: u64,
+}
+
+/// The tags that a directory keeps: those from 254 to 328, and 33432.
+const KEPT_TAGS: usize = 76;
+
+/// The first tag that is kept.
+const FIRST_TAG: u16 = 254;
+
+/// The tag of a copyright notice.
+const COPYRIGHT: u16 = 33432;
+
+/// A directory.
+#[derive(Drop)]
+pub struct Directory {
+    /// How many entries were read.
+    pub entries: usize,
+    /// Whether the file ends within the directory.
+    pub is_cut: bool,
+    tags: [Option<Values>; 76],
+}
+
+impl Directory {
+    /// Creates a directory without tags.
+    pub(crate) fn new(entries: usize, is_cut: bool) -> Directory
+        ensures { result.entries ≡ entries }
+    {
+        Directory {
+            entries,
+            is_cut,
+            tags: [None; 76],
+        }
+    }
+
+    /// Sets the values of a tag, unless it has some: of a tag that occurs twice the first entry counts.
+    pub(crate) fn set(&mut self, tag: u16, values: Values)
+        ensures { self.new.entries ≡ self.old.entries }
+    {
+        let Some(slot) = slot_of(tag) else {
+            return;
+        };
+        if self.tags[slot].is_none() {
+            self.tags[slot] = Some(values);
+        }
+    }
+
+    /// Returns the values of a tag; `None` if the directory has no such entry, or the tag isn't one that is kept: from 254 to 328, and 33432.
+    pub fn find(&self, tag: u16) -> Option<Values> {
+        self.tags[slot_of(tag)?]
+    }
+}
+
+/// Returns where the values of a tag are kept.
+fn slot_of(tag: u16) -> Option<usize>
+    ensures { IfSome result (λ slot. slot < KEPT_TAGS) }
+{
+    match tag {
+        FIRST_TAG..=328 => Some(usize::from(tag - FIRST_TAG)),
+        COPYRIGHT => Some(KEPT_TAGS - 1),
+        _ => None,
+    }
+}

@@ -1,0 +1,224 @@
+//! A TIFF file, and the way to its next directory.
+
+ghost use Rattle.std.specs.Prelude.{◌≡◌, ◌+◌, ◌-◌, ◌*◌, ◌/◌, ◌<◌, ◌≤◌, length, IfOk, IfSome, OnOk, OnErr};
+ghost use Rattle.paid_cursor.specs.Places.{Place, IsSamePlace};
+ghost use Rattle.tiff_read.specs.Payments.{Costs, entries_of, room_for};
+
+use crate::directory::{Directory, Values};
+use crate::error::TiffError;
+use crate::form::Form;
+use crate::values::bytes_of_kind;
+use paid_cursor::Cursor;
+use std::alloc::Global;
+use std::marker::Model;
+
+/// A TIFF file, the way to its next directory, and what may still be paid.
+#[derive(Drop)]
+pub struct Tiff<'a> {
+    source: Cursor<'a>,
+    form: Form,
+    /// Where the next directory is; 0 after the last one.
+    next: u64,
+    /// A bit for each offset in the file, set where a directory was read.
+    seen: Vec<u8>,
+}
+
+impl<'a> Model for Tiff<'a> {
+    ghost use Rattle.paid_cursor.specs.Places.{Place};
+
+    ghost Value = { Place };
+
+    ghost view = { λ t. t.source };
+}
+
+/// Where the entries of a directory are.
+#[derive(Drop)]
+struct Table {
+    start: usize,
+    entries: usize,
+    is_cut: bool,
+    next: u64,
+}
+
+/// An entry of a directory.
+#[derive(Drop)]
+struct Entry {
+    tag: u16,
+    values: Values,
+}
+
+impl<'a> Tiff<'a> {
+    /// Opens the file that a cursor's bytes are. It pays for a list with a bit for each byte of the file.
+    ///
+    /// # Errors
+    ///
+    /// `NotTiff`, `Outside` if the file ends within its header, `Spent` or `OutOfMemory`.
+    pub fn open(alloc: Global, mut source: Cursor<'a>) -> Result<Tiff<'a>, TiffError>
+        ensures paid { IfOk result (λ tiff. Costs (room_for (length source.entry.bytes)) source.entry tiff) }
+    {
+        let bytes = source.bytes();
+        let Some(form) = bytes.get(..4).and_then(Form::of_head) else {
+            return Err(TiffError::NotTiff);
+        };
+        let first = if form.is_big_tiff { 8 } else { 4 };
+        let Some(next) = form.number_at(bytes, first, form.offset_bytes()) else {
+            return Err(TiffError::Outside);
+        };
+        let room = bytes.len() / 8 + 1;
+        source.pay(room)?;
+        let mut seen: Vec<u8> = Vec::new(alloc);
+        if seen.resize(room, 0).is_err() {
+            return Err(TiffError::OutOfMemory);
+        }
+        Ok(Tiff {
+            source,
+            form,
+            next,
+            seen,
+        })
+    }
+
+    /// Returns how many steps may still be taken.
+    pub fn left(&self) -> usize
+        ensures { result ≡ self.now.left }
+    {
+        self.source.left()
+    }
+
+    /// Returns the bytes of the file.
+    pub fn bytes(&self) -> &'a [u8]
+        ensures { result.now ≡ self.now.bytes }
+    {
+        self.source.bytes()
+    }
+
+    /// Pays some steps.
+    pub(crate) fn pay(&mut self, count: usize) -> Result<(), TiffError>
+        ensures paid { OnOk result (Costs count self.old self.new) }
+        ensures unchanged { OnErr result (self.new ≡ self.old) }
+    {
+        self.source.pay(count)?;
+        Ok(())
+    }
+
+    /// Reads the next directory, for a step and one for each of its entries; `None` after the last one. Where the file ends within
+    /// a directory, that is the last one, of the entries that are whole.
+    ///
+    /// # Errors
+    ///
+    /// `Outside` or `Loop`, after which no directory follows; `Spent`.
+    pub fn next_directory(&mut self) -> Result<Option<Directory>, TiffError>
+        ensures paid { IfOk result (λ found. Costs (1 + entries_of found) self.old self.new) }
+        ensures least { OnErr result (self.new.left ≤ self.old.left) }
+        ensures same { IsSamePlace self.old self.new }
+    {
+        self.pay(1)?;
+        let at = self.next;
+        if at == 0 {
+            return Ok(None);
+        }
+        self.next = 0;
+        self.mark(at)?;
+        let table = self.table_at(at);
+        self.pay(table.entries)?;
+        self.next = table.next;
+        Ok(Some(self.directory_of(&table)))
+    }
+
+    /// Reads the entries of a directory, unpaid.
+    fn directory_of(&self, table: &Table) -> Directory
+        ensures { result.entries ≡ table.now.entries }
+    {
+        let mut directory = Directory::new(table.entries, table.is_cut);
+        'entries: for index in 0..table.entries {
+            let place = table
+                .start
+                .saturating_add(index.saturating_mul(self.form.entry_bytes()));
+            if let Some(entry) = self.entry_at(place) {
+                directory.set(entry.tag, entry.values);
+            }
+        }
+        directory
+    }
+
+    /// Records that a directory is read at an offset.
+    fn mark(&mut self, at: u64) -> Result<(), TiffError>
+        ensures { self.new ≡ self.old }
+    {
+        if at >= self.bytes().len() as u64 {
+            return Err(TiffError::Outside);
+        }
+        let bit = 1u8 << (at % 8);
+        match self.seen.get_mut((at / 8) as usize) {
+            Some(bits) if *bits & bit == 0 => {
+                *bits |= bit;
+                Ok(())
+            }
+            _ => Err(TiffError::Loop),
+        }
+    }
+
+    /// Returns where the entries of the directory at an offset are, and the next directory.
+    fn table_at(&self, at: u64) -> Table {
+        let count_bytes = self.form.count_bytes();
+        let entry_bytes = self.form.entry_bytes();
+        let start = (at as usize).saturating_add(count_bytes);
+        let room = self.bytes().len().saturating_sub(start) / entry_bytes;
+        match self.number_at(at, count_bytes) {
+            Some(entries) if entries <= room as u64 => {
+                let end = start.saturating_add((entries as usize).saturating_mul(entry_bytes));
+                let next = self.number_at(end as u64, self.form.offset_bytes());
+                Table {
+                    start,
+                    entries: entries as usize,
+                    is_cut: next.is_none(),
+                    next: next.unwrap_or(0),
+                }
+            }
+            Some(_) => Table {
+                start,
+                entries: room,
+                is_cut: true,
+                next: 0,
+            },
+            None => Table {
+                start,
+                entries: 0,
+                is_cut: true,
+                next: 0,
+            },
+        }
+    }
+
+    /// Reads the entry at a place.
+    fn entry_at(&self, place: usize) -> Option<Entry> {
+        let bytes = self.bytes().get(place..)?.get(..self.form.entry_bytes())?;
+        let offset_bytes = self.form.offset_bytes();
+        let tag = self.form.short([bytes[0], bytes[1]]);
+        let kind = self.form.short([bytes[2], bytes[3]]);
+        let count = self.form.number(&bytes[4..4 + offset_bytes]);
+        let word = &bytes[4 + offset_bytes..];
+        let place_of_word = place.saturating_add(4 + offset_bytes) as u64;
+        let size = bytes_of_kind(kind);
+        let total = count.saturating_mul(size);
+        let offset = if total <= offset_bytes as u64 {
+            place_of_word
+        } else {
+            self.form.number(word)
+        };
+        let is_whole = size > 0 && offset.saturating_add(total) <= self.bytes().len() as u64;
+        Some(Entry {
+            tag,
+            values: Values {
+                kind,
+                count: if is_whole { count } else { 0 },
+                offset,
+            },
+        })
+    }
+
+    /// Returns the number of some bytes at an offset; `None` if the file doesn't have them.
+    pub(crate) fn number_at(&self, offset: u64, count: usize) -> Option<u64> {
+        self.form.number_at(self.bytes(), offset, count)
+    }
+}

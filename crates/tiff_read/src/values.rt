@@ -1,0 +1,181 @@
+//! The values of a tag: whole numbers, ratios and texts.
+
+ghost use Rattle.std.specs.Prelude.{◌≡◌, ◌+◌, ◌<◌, ◌≤◌, length, IfOk, IfSome, OnOk, OnErr, Ok, None};
+ghost use Rattle.paid_cursor.specs.Places.{IsSamePlace};
+ghost use Rattle.tiff_read.specs.Payments.{Costs};
+
+use crate::directory::{Directory, Values};
+use crate::error::TiffError;
+use crate::file::Tiff;
+
+/// A number as a ratio, as resolutions are.
+#[derive(Clone, Copy, Debug, PartialEq, Eq)]
+pub struct Ratio {
+    pub above: u64,
+    pub below: u64,
+}
+
+/// The type of a ratio of two numbers of four bytes.
+const RATIONAL: u16 = 5;
+
+impl<'a> Tiff<'a> {
+    /// Returns one of the numbers of a tag, for a step; `None` if there are fewer, or if it isn't a whole number, or is negative.
+    ///
+    /// # Errors
+    ///
+    /// `Spent`.
+    pub fn number(
+        &mut self,
+        directory: &Directory,
+        tag: u16,
+        index: u64,
+    ) -> Result<Option<u64>, TiffError>
+        ensures paid { OnOk result (Costs 1 self.old self.new) }
+        ensures unchanged { OnErr result (self.new ≡ self.old) }
+    {
+        self.pay(1)?;
+        Ok(self.number_of_tag(directory, tag, index))
+    }
+
+    /// Returns one of the ratios of a tag, for a step; a whole number is one over 1. `None` if there are fewer, or if it is negative
+    /// or of another type.
+    ///
+    /// # Errors
+    ///
+    /// `Spent`.
+    pub fn ratio(
+        &mut self,
+        directory: &Directory,
+        tag: u16,
+        index: u64,
+    ) -> Result<Option<Ratio>, TiffError>
+        ensures paid { OnOk result (Costs 1 self.old self.new) }
+        ensures unchanged { OnErr result (self.new ≡ self.old) }
+    {
+        self.pay(1)?;
+        Ok(self.ratio_of_tag(directory, tag, index))
+    }
+
+    /// Returns the text of a tag up to its first NUL, for a step and one for each byte; `None` if there is none of type ASCII, BYTE or
+    /// UNDEFINED.
+    ///
+    /// # Errors
+    ///
+    /// `Spent`.
+    pub fn text(&mut self, directory: &Directory, tag: u16) -> Result<Option<&'a [u8]>, TiffError>
+        ensures paid { IfOk result (λ found. IfSome found (λ text. Costs (1 + length text.now) self.old self.new)) }
+        ensures none { (result ≡ Ok None) → Costs 1 self.old self.new }
+        ensures least { OnErr result (self.new.left ≤ self.old.left) }
+        ensures same { IsSamePlace self.old self.new }
+    {
+        self.pay(1)?;
+        let Some(bytes) = self.text_of_tag(directory, tag) else {
+            return Ok(None);
+        };
+        let text = before_nul(bytes, self.left());
+        self.pay(text.len())?;
+        Ok(Some(text))
+    }
+
+    /// Returns one of the numbers of a tag, unpaid.
+    pub(crate) fn number_of_tag(&self, directory: &Directory, tag: u16, index: u64) -> Option<u64> {
+        self.number_among(directory.find(tag)?, index)
+    }
+
+    /// Returns one of some values, unpaid, if it is a whole number that isn't negative.
+    pub(crate) fn number_among(&self, values: Values, index: u64) -> Option<u64> {
+        if index >= values.count || !is_whole_kind(values.kind) {
+            return None;
+        }
+        let size = bytes_of_kind(values.kind);
+        let number = self.number_at(place_of(values, index), size as usize)?;
+        if is_signed_kind(values.kind) && is_negative(number, size) {
+            return None;
+        }
+        Some(number)
+    }
+
+    /// Returns one of the ratios of a tag, unpaid.
+    pub(crate) fn ratio_of_tag(
+        &self,
+        directory: &Directory,
+        tag: u16,
+        index: u64,
+    ) -> Option<Ratio> {
+        let values = directory.find(tag)?;
+        if values.kind != RATIONAL {
+            let above = self.number_among(values, index)?;
+            return Some(Ratio { above, below: 1 });
+        }
+        if index >= values.count {
+            return None;
+        }
+        let place = place_of(values, index);
+        Some(Ratio {
+            above: self.number_at(place, 4)?,
+            below: self.number_at(place.saturating_add(4), 4)?,
+        })
+    }
+
+    /// Returns the bytes of a tag of type ASCII, BYTE or UNDEFINED, unpaid.
+    fn text_of_tag(&self, directory: &Directory, tag: u16) -> Option<&'a [u8]> {
+        let values = directory.find(tag)?;
+        if !matches!(values.kind, 1 | 2 | 7) {
+            return None;
+        }
+        let start = values.offset as usize;
+        self.bytes()
+            .get(start..start.checked_add(values.count as usize)?)
+    }
+}
+
+/// Returns how many bytes a value of a type has (TIFF 6.0, section 2, and BigTIFF), 0 if there is no such type.
+pub(crate) fn bytes_of_kind(kind: u16) -> u64
+    ensures { result ≤ 8 }
+{
+    match kind {
+        1 | 2 | 6 | 7 => 1,
+        3 | 8 => 2,
+        4 | 9 | 11 | 13 => 4,
+        5 | 10 | 12 | 16 | 17 | 18 => 8,
+        _ => 0,
+    }
+}
+
+/// Returns whether the values of a type are whole numbers.
+fn is_whole_kind(kind: u16) -> bool {
+    matches!(kind, 1 | 3 | 4 | 13 | 16 | 18) || is_signed_kind(kind)
+}
+
+/// Returns whether the values of a type are whole numbers with a sign.
+fn is_signed_kind(kind: u16) -> bool {
+    matches!(kind, 6 | 8 | 9 | 17)
+}
+
+/// Returns whether the highest of the bits of some bytes is set.
+fn is_negative(number: u64, bytes: u64) -> bool {
+    match bytes {
+        1 => number >= 1 << 7,
+        2 => number >= 1 << 15,
+        4 => number >= 1 << 31,
+        _ => number >= 1 << 63,
+    }
+}
+
+/// Returns how many bytes of the file come before one of some values.
+fn place_of(values: Values, index: u64) -> u64 {
+    values
+        .offset
+        .saturating_add(index.saturating_mul(bytes_of_kind(values.kind)))
+}
+
+/// Returns the bytes before the first NUL; one more than `most` if there is none among them.
+fn before_nul(bytes: &[u8], most: usize) -> &[u8] {
+    let near = &bytes[..bytes.len().min(most.saturating_add(1))];
+    for index in 0..near.len() {
+        if near[index] == 0 {
+            return &near[..index];
+        }
+    }
+    near
+}
