@@ -8,6 +8,7 @@
 #   make install PREFIX=DIR   headers, libraries, hayro_ccitt.pc, manual pages and programs; DESTDIR is respected
 #   make uninstall PREFIX=DIR
 #   make erased               the Cargo package hayro-ccitt, in build/hayro-ccitt: the proved sources without contracts
+#   make javascript           the package for JavaScript, in build/javascript, by Debian's rustc-web, rust-web-src and lld
 #   make dist                 the packages of a release, in build/dist
 #   make TARGET=aarch64-unknown-linux-gnu
 #                             the same for ARM64, into build/aarch64-unknown-linux-gnu, by a cross compiler (Debian's
@@ -79,7 +80,7 @@ SHARED = libhayro_ccitt.so.$(VERSION)
 SONAME = libhayro_ccitt.so.$(INTERFACE)
 OBJECTS = $(BUILD)/proved.o $(BUILD)/calls.o $(BUILD)/heap.o
 
-.PHONY: all library programs first test tools check install install-library uninstall clean dist erased prove-library prove-programs prove-test_streams prove-test_files
+.PHONY: all library programs first test tools check install install-library uninstall clean dist erased javascript prove-library prove-programs prove-test_streams prove-test_files
 
 # Ends with a line that names the programs that are missing.
 missing = $(strip $(foreach program,$(1),$(if $(shell command -v $(program)),,$(program))))
@@ -229,3 +230,8 @@ erased:
 	cd $(ERASED) && cargo build -q --release --offline --all-features
 	cd $(ERASED)/c && cargo build -q --release --offline
 	cd $(ERASED)/programs && cargo build -q --profile programs --offline
+
+# The package for JavaScript: the library for C of the Cargo package as a module of WebAssembly, and what calls it.
+javascript:
+	python3 release/erased/erase.py $(ERASED)
+	python3 release/javascript.py $(ERASED) $(BUILD)/javascript

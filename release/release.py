@@ -2,8 +2,8 @@
 
     python3 release/release.py BUILD VERSION [TARGET]
 
-BUILD/dist gets the binary tarball, the Debian package, the two Cargo packages, the Python wheel, the source tarball and SHA256SUMS; for
-another target than x86-64 the tarball, the Debian package and the wheel, which are what differs. The same files give the same bytes in
+BUILD/dist gets the binary tarball, the Debian package, the two Cargo packages, the Python wheel, the source tarball, the package for
+JavaScript if `make javascript` made its module, and SHA256SUMS; for another target than x86-64 the tarball, the Debian package and the wheel, which are what differs. The same files give the same bytes in
 any folder. A version that CHANGELOG.md doesn't have is refused, and a file that is for another machine."""
 import base64
 import collections
@@ -11,6 +11,7 @@ import email.utils
 import gzip
 import hashlib
 import io
+import json
 import os
 import re
 import shutil
@@ -19,6 +20,8 @@ import sys
 import tarfile
 import tempfile
 import zipfile
+
+import javascript
 
 CRATE = "hayro-ccitt-0.5.0"
 PROVED_CRATE = "hayro-ccitt-proved-0.5.0"
@@ -113,7 +116,7 @@ def provenance(build, version, name):
     built = [f"{build}/proved.o"]
     if not name:
         built += [f"{build}/faxrows", f"{build}/faxpack", *(f"{build}/{other}/proved.o" for other in targets_in(build) if other)]
-    of_rust = f"{CRATE}.crate has none of these. It is" if not name else "The programs faxrows and faxpack have none of these. They are"
+    of_rust = f"{CRATE}.crate and the package for JavaScript have none of these. They are" if not name else "The programs faxrows and faxpack have none of these. They are"
     programs = dotted(newest_libc([f"{build}/{name}" for name in PROGRAMS]))
     library = dotted(newest_libc([f"{build}/libhayro_ccitt.so.{version}"]))
     return "\n".join(
@@ -135,6 +138,7 @@ def provenance(build, version, name):
             f"{of_rust} the proved sources, compiled by Rust: release/erased erased their contracts.",
             f"Laid out by: {said('rustfmt', '--version') or 'unknown'}",
             *([f"Compiled by: {said(os.environ.get('RUSTC', 'rustc'), '--version')}"] if name else []),
+            *([] if name else [f"That for JavaScript is compiled by: {said(f'{javascript.DEBIAN}/bin/rustc', '--version') or 'unknown'}"]),
             "",
             "The same bytes again, with this kit, compiler and linker: "
             f"`make{name and ' TARGET='}{name} && make dist{name and ' TARGET='}{name}` in a clone of this commit, in any folder.",
@@ -355,6 +359,14 @@ def wheel(build, version, target, told, epoch):
     return f"hayro_ccitt-{version}-{tag}.whl", packed.getvalue()
 
 
+def javascript_package(module, version, told, epoch):
+    """The package for JavaScript with this module, laid out as `npm pack` does it."""
+    files = {**javascript.sources(), javascript.MODULE: read(module), "PROVENANCE": told.encode()}
+    if json.loads(files["package.json"])["version"] != version:
+        fail(f"bindings/javascript/package.json isn't of version {version}")
+    return f"hayro-ccitt-{version}.tgz", packed_tar([(f"package/{name}", 0o644, data) for name, data in files.items()], epoch)
+
+
 def source_tarball(build, version, erased, told, epoch, work):
     """What a C compiler builds: the proved object as assembly, and the C files. And what Rust builds for other targets."""
     top = f"hayro_ccitt-{version}-src"
@@ -405,6 +417,8 @@ def main(build, version, name=""):
                 proved_cargo_package(build, told, epoch),
                 source_tarball(build, version, erased, told, epoch, work),
             ]
+            if os.path.exists(module := f"{build}/javascript/{javascript.MODULE}"):
+                packages.append(javascript_package(module, version, told, epoch))
     shutil.rmtree(f"{build}/dist", ignore_errors=True)
     for package, data in packages:
         write(f"{build}/dist/{package}", data)

@@ -13,8 +13,9 @@ import corpus
 from c import c_library, row_by_row
 from gate.skipped import leave_out
 
-sys.path.insert(0, os.path.abspath("release/erased"))
+sys.path[:0] = [os.path.abspath("release/erased"), os.path.abspath("release")]
 import erase  # noqa: E402
+from javascript import VENDORED, rustc_of_debian, with_sources_of_std  # noqa: E402
 
 PACKAGE = os.path.abspath("build/hayro-ccitt")
 # What cargo builds for these checks, kept from one run to the next.
@@ -39,8 +40,6 @@ debug-assertions = true
 SOURCES = os.path.abspath("checks/releases/erased/src")
 PROGRAMS = "".join(f'[[bin]]\nname = "{name}"\npath = "{SOURCES}/{file}.rs"\n' for name, file in (("cases", "main"), ("edges", "edges"), ("strips", "strips_main")))
 MODULE = f'[lib]\ncrate-type = ["cdylib"]\npath = "{SOURCES}/wasm.rs"\n'
-# Where Debian's rustc-web and rust-web-src are installed or unpacked: they have std's sources, which is built of them for each target.
-DEBIAN = os.environ.get("RUST_OF_DEBIAN", "/usr")
 # Each target, the linker, and what runs its programs.
 TARGETS = {
     "i686-unknown-linux-gnu": ("i686-linux-gnu-gcc", ["qemu-i386", "-L", "/usr/i686-linux-gnu"]),
@@ -271,27 +270,9 @@ def calls_for_c():
             check()
 
 
-def debian(*words):
-    """A command of cargo's, with Debian's compiler and its sources of std."""
-    vendor = f"{DEBIAN}/lib/rustlib/src/rust/library/vendor"
-    sources = ["source.crates-io.replace-with=\"debian\"", f"source.debian.directory=\"{vendor}\""]
-    return ["cargo", words[0], "-q", "--offline", "-Zbuild-std=std,panic_abort", *(word for it in sources for word in ("--config", it)), *words[1:]]
-
-
-def rustc_of_debian():
-    """A script that is Debian's compiler, with its own libraries."""
-    os.makedirs(BUILT, exist_ok=True)
-    path = f"{BUILT}/rustc"
-    with open(f"{path}.{os.getpid()}", "w", encoding="utf-8") as file:
-        file.write(f'#!/bin/sh\nLD_LIBRARY_PATH={DEBIAN}/lib/x86_64-linux-gnu exec {DEBIAN}/bin/rustc --sysroot {DEBIAN} "$@"\n')
-    os.chmod(file.name, 0o755)
-    os.replace(file.name, path)
-    return path
-
-
 def lacks_sources_of_std(what):
     """Whether Debian's compiler with the sources of std is missing; then the check is left out."""
-    is_lacking = not os.path.exists(f"{DEBIAN}/lib/rustlib/src/rust/library/vendor")
+    is_lacking = not os.path.exists(VENDORED)
     if is_lacking:
         leave_out(what, "rustc-web and rust-web-src")
     return is_lacking
@@ -309,8 +290,8 @@ def lacks_target(target):
 def made_for(target, folder, profile):
     """Where cargo puts what it makes of a package for a target, with std made of Debian's sources."""
     linker = f"CARGO_TARGET_{target.replace('-', '_').upper()}_LINKER"
-    named = {linker: TARGETS[target][0], "RUSTC": rustc_of_debian(), "RUSTC_BOOTSTRAP": "1", "STRIPS": list_of_strips()}
-    run(*debian("build", "--target", target, "--profile", profile), cwd=folder, CARGO_TARGET_DIR=f"{BUILT}/targets", **named)
+    named = {linker: TARGETS[target][0], "RUSTC": rustc_of_debian(BUILT), "RUSTC_BOOTSTRAP": "1", "STRIPS": list_of_strips()}
+    run(*with_sources_of_std("build", "--target", target, "--profile", profile), cwd=folder, CARGO_TARGET_DIR=f"{BUILT}/targets", **named)
     return f"{BUILT}/targets/{target}/{profile}"
 
 

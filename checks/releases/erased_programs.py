@@ -27,7 +27,7 @@ def rust_for(target):
     linker = {f"CARGO_TARGET_{target.replace('-', '_').upper()}_LINKER": erased.TARGETS[target][0]}
     if has_std("rustc", target):
         return linker
-    debian = erased.rustc_of_debian()
+    debian = erased.rustc_of_debian(erased.BUILT)
     return {**linker, "RUSTC": debian} if has_std(debian, target) else None
 
 

@@ -153,12 +153,13 @@ UNSAFE = {
     "bindings/rust/src/c.rs": 20,
     "release/erased/c/src/heap.rs": 5,
     "release/erased/c/src/lib.rs": 4,
+    "release/erased/c/src/room.rs": 2,
     "release/erased/programs/src/system.rs": 5,
 }
 
 
 def rust_is_unsafe_in_few_files():
-    """The package of proved machine code calls C from one file; the library for C of the erased sources has two, and their programs
+    """The package of proved machine code calls C from one file; the library for C of the erased sources has three, and their programs
     one, apart from the safe package. Each says above such a place why it is sound."""
     found = [place for place, line in lines_of_code(".rs", "//") if re.search(r"\bunsafe\s*(\{|extern|fn|impl)", line)]
     others = [place for place in found if not place.startswith(("bench/", "checks/releases/erased/", *(f"{name}:" for name in UNSAFE)))]

@@ -8,6 +8,8 @@
 
 #[cfg(feature = "heap")]
 mod heap;
+#[cfg(target_family = "wasm")]
+mod room;
 
 use core::slice;
 use decoder::{lists::Global, proved::hayro_ccitt_c as calls};
