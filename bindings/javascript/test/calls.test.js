@@ -56,6 +56,7 @@ test("data is a buffer, or a view of one", () => {
     for (const data of [DATA.buffer, inside.subarray(8, 14), new DataView(inside.buffer, 8, 6), new Uint16Array(inside.buffer, 8, 3), Buffer.from(DATA)]) {
         assert.deepEqual([...fax.decode(data, SETTINGS).packed], [0b11100111]);
     }
+    assert.deepEqual(fax.encode(inside.subarray(1, 2), SETTINGS), fax.encode(Uint8Array.of(2), SETTINGS));
     const shared = new Uint8Array(new SharedArrayBuffer(6));
     shared.set(DATA);
     assert.equal(fax.decode(shared.buffer, SETTINGS).rows, 1);
