@@ -3,8 +3,9 @@
     python3 release/release.py BUILD VERSION [TARGET]
 
 BUILD/dist gets the binary tarball, the Debian package, the two Cargo packages, the Python wheel, the source tarball, the package for
-JavaScript if `make javascript` made its module, and SHA256SUMS; for another target than x86-64 the tarball, the Debian package and the wheel, which are what differs. The same files give the same bytes in
-any folder. A version that CHANGELOG.md doesn't have is refused, and a file that is for another machine."""
+JavaScript if `make javascript` made its module, and SHA256SUMS; for another target than x86-64 the tarball, the Debian package and the
+wheel, which are what differs. The same files give the same bytes in any folder. A version that CHANGELOG.md doesn't have is refused, and
+a file that is for another machine."""
 import base64
 import collections
 import email.utils
