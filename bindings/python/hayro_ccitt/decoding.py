@@ -2,6 +2,7 @@
 from __future__ import annotations
 
 import ctypes
+import functools
 import importlib
 import operator
 import threading
@@ -38,7 +39,7 @@ class Damage(NamedTuple):
     """The number of rows in which a run was cut at the row's end."""
 
     def __bool__(self) -> bool:
-        return any(self)
+        return self != (0, 0, 0)
 
     def __str__(self) -> str:
         if not self:
@@ -151,11 +152,9 @@ def decode(
         MemoryError: an allocation failed, or the picture is too large.
     """
     data = bytes_of(data)
-    settings = settings_of(columns, rows, k, end_of_line, encoded_byte_align, end_of_block, black_is_1, low_first, strict)
-    settings.stride = number("stride", stride)
+    settings = settings_of(columns, rows, k, end_of_line, encoded_byte_align, end_of_block, black_is_1, low_first, strict, stride)
+    columns, stride = settings.columns, settings.stride
     width = stride or (columns + 7) // 8
-    if width < (columns + 7) // 8:
-        raise ValueError(f"stride is {stride}: a row has {(columns + 7) // 8} bytes")
     outcome = c.Outcome()
     bitmap = room_of(out) if out is not None else room_for(most_bytes(data, settings, width))
     status = c.LIBRARY.hayro_ccitt_decode_packed(data, len(data), settings, bitmap, len(bitmap), outcome)
@@ -331,6 +330,8 @@ def sum_of(*flags: tuple[bool, int]) -> int:
     return sum(flag for is_set, flag in flags if is_set)
 
 
+# Most calls have the settings of one before. They are `typed` since 8.0 is equal to 8, but no number of columns.
+@functools.lru_cache(typed=True)
 def settings_of(
     columns: int,
     rows: int,
@@ -341,7 +342,12 @@ def settings_of(
     black_is_1: bool,
     low_first: bool,
     strict: bool,
+    stride: int = 0,
 ) -> c.Settings:
+    columns, stride = number("columns", columns), number("stride", stride)
+    width = (columns + 7) // 8
+    if 0 < stride < width:
+        raise ValueError(f"stride is {stride}: a row has {width} bytes")
     flags = sum_of(
         (end_of_block, c.END_OF_BLOCK),
         (end_of_line, c.END_OF_LINE),
@@ -350,7 +356,7 @@ def settings_of(
         (low_first, c.LOW_FIRST),
         (not black_is_1, c.BLACK_IS_0),
     )
-    return c.Settings(number("columns", columns), number("rows", rows), encoding_of(k), flags)
+    return c.Settings(columns, number("rows", rows), encoding_of(k), flags, stride)
 
 
 def room_for(length: int) -> ctypes.Array[ctypes.c_char]:

@@ -163,6 +163,16 @@ def test_data_of_any_kind_is_read():
     assert hayro_ccitt.encode(numpy.frombuffer(NARROW.bits, numpy.uint8), 33, k=-1, black_is_1=True) == DATA
 
 
+def test_numbers_are_of_any_kind_of_integer():
+    picture = hayro_ccitt.decode(DATA, numpy.int32(33), numpy.uint8(NARROW.rows), k=numpy.int8(-1), stride=numpy.uint16(8))
+    assert picture.pbm() == NARROW.pbm()
+    settings = {"columns": 33, "rows": 1, "k": -1, "stride": 8}
+    assert hayro_ccitt.decode(DATA, **settings).rows == 1
+    for wrong in ({"columns": 33.0}, {"rows": 1.0}, {"rows": "1"}, {"k": None}, {"stride": 8.0}):
+        with pytest.raises(TypeError):
+            hayro_ccitt.decode(DATA, **{**settings, **wrong})
+
+
 def test_settings_pages_and_pictures_can_be_pickled():
     settings = hayro_ccitt.from_tiff({256: 33, 257: NARROW.rows, 259: 4})
     assert pickle.loads(pickle.dumps(settings)) == settings
