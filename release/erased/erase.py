@@ -29,7 +29,7 @@ LEFT_OUT = {
     "fax_conforms": ["laws"],
 }
 # The files of the API that are by hand here: the others are those of bindings/rust.
-API_BY_HAND = ["c.rs", "pushed.rs"]
+API_BY_HAND = ["calls.rs", "pushed.rs"]
 
 # The functions whose bodies are by hand, by their files, since Rust has no stable form of them, or another one that is faster.
 BY_HAND = {
@@ -53,12 +53,14 @@ REWRITTEN = [
     (r"\bpub extern \"C\" fn\b", "pub fn"),
     # what a program begins with
     (r"(?m)^fn main\(rt: HostRuntime\)", "pub fn main(rt: HostRuntime)"),
+    # what is all zeros before a call
+    (r"#\[repr\(C\)\]", "#[repr(C)]\n#[derive(Default)]"),
     # pointers that nothing is read by
     (r"\*mut u8\b", "usize"),
     # what Rust 1.85 doesn't have
     (rf"(?<=(?:if| =) )({PLACE})\.is_multiple_of\(2\)(?= \{{|;)", r"\1 % 2 == 0"),
     (rf"(?<=(?:if| =) )({PLACE})\.is_multiple_of\(2\)(?= [!=]= )", r"(\1 % 2 == 0)"),
-    (r"\.to_vec\(alloc\)", ".copied_to(alloc)"),
+    (rf"\b({PLACE})\.to_vec\(alloc\)", r"Vec::copied(alloc, \1)"),
     (r"\bvec!\[in alloc; value; count\]", "Vec::filled(alloc, value, count)"),
 ]
 # What `lists.rs` has in place of Rattle's std.
@@ -265,7 +267,6 @@ def imports_of(text):
     """The lines that take what the text names from `lists.rs` and `system.rs`."""
     code = code_of(text)
     from_lists, from_system = ([name for name in names if re.search(rf"\b{name}\b", code)] for names in (FROM_LISTS, FROM_SYSTEM))
-    from_lists += ["CopiedTo"] if ".copied_to(" in code else []
     lines = {"lists": from_lists, "system": from_system}
     return "".join(f"use crate::{of}::{{{', '.join(names)}}};\n" for of, names in lines.items() if names)
 
@@ -299,6 +300,52 @@ def module(crate, name, crates, used):
     erased = ", ".join(f"{count} {what}" for what, count in counts.items() if count) or "nothing"
     said = f"// {path} without contracts. Erased: {erased}." + "".join(f" By hand: {what}." for what in by_hand)
     return f"{said}\n\n{text[:front].strip()}\n\n{imports_of(text)}{text[front:]}"
+
+
+# A parameter of a call for C: its name and its type. A slice is for C a pointer and a length.
+PARAMETER = re.compile(r"(?P<name>\w+): (?P<type>&(?P<mut>mut )?(\[(?P<item>\w+)\]|\w+))$")
+
+
+def calls_for_c():
+    """The names of the calls for C, and of each its parameters without the allocator."""
+    found = {}
+    for name in modules_of(f"crates/{CALLS}/src"):
+        text, _ = erase(read(f"crates/{CALLS}/src/{name}.rt"))
+        calls = re.findall(r'\bpub extern "C" fn (\w+)\(\s*alloc: Global, ([^)]*?),?\s*\) -> u32\s*\{', re.sub(r"\s+", " ", text))
+        if len(calls) != code_of(text).count("extern"):
+            raise Refused(f"crates/{CALLS}/src/{name}.rt: a call for C of another form")
+        for call, parameters in calls:
+            found[call] = [PARAMETER.match(parameter) for parameter in parameters.split(", ")]
+            if None in found[call]:
+                raise Refused(f"a parameter of {call} that isn't known: {parameters}")
+    return dict(sorted(found.items()))
+
+
+def safe_calls(calls):
+    """Each call without its allocator."""
+    return "".join(
+        f"\n#[inline]\npub fn {name}({', '.join(it[0] for it in parameters)}) -> u32 {{\n"
+        f"proved::{name}(Global, {', '.join(it['name'] for it in parameters)})\n}}\n"
+        for name, parameters in calls.items()
+    )
+
+
+def lent_calls(calls):
+    """Each call as C calls it."""
+    text = "use crate::{lent, room};\nuse decoder::calls;\n"
+    for name, parameters in calls.items():
+        of_c, passed = [], []
+        for it in parameters:
+            if it["item"]:
+                of_c += [f"{it['name']}: *{'mut' if it['mut'] else 'const'} {it['item']}", f"{it['name']}_length: usize"]
+                passed.append(f"unsafe {{ {'room' if it['mut'] else 'lent'}({it['name']}, {it['name']}_length) }}")
+            else:
+                of_c.append(f"{it['name']}: {re.sub(r'(?=[A-Z])', 'calls::', it['type'], count=1)}")
+                passed.append(it["name"])
+        text += f'\n#[unsafe(no_mangle)]\npub unsafe extern "C" fn {name}({", ".join(of_c)}) -> u32 {{\n'
+        text += "// SAFETY: as the headers say.\n" if "unsafe" in "".join(passed) else ""
+        text += f"calls::{name}({', '.join(passed)})\n}}\n"
+    return text
 
 
 def crates_below(*tops):
@@ -362,7 +409,7 @@ def write_api(folder):
         text = read(f"{API}/src/{name}")
         if name == "lib.rs":
             text = once(text, "#![deny(unsafe_op_in_unsafe_fn)]", "#![forbid(unsafe_code)]")
-            text = once(text, "mod encoding;\n", "mod encoding;\n#[doc(hidden)]\npub mod lists;\n")
+            text = once(text, "mod calls;\nmod encoding;\n", "#[doc(hidden)]\npub mod calls;\nmod encoding;\n#[doc(hidden)]\npub mod lists;\n")
             text = once(text, "mod pushed;\n", "#[doc(hidden)]\npub mod proved;\nmod pushed;\n")
             text = re.sub(r"(?<=\n)//! What runs is a C.*?\n(?=//!\n)", read(f"{HERE}/src/what_runs.txt"), text, count=1, flags=re.DOTALL)
             text = once(text, ", and needs an allocator and a C compiler.", ", and needs an allocator.")
@@ -372,9 +419,18 @@ def write_api(folder):
         shutil.copytree(f"{API}/{of}", f"{folder}/{of}", ignore=shutil.ignore_patterns("__pycache__"))
 
 
+def write_calls(folder):
+    """Adds the calls for C to the modules for them, of the package and of the library for C."""
+    calls = calls_for_c()
+    with open(f"{folder}/src/calls.rs", "a", encoding="utf-8") as file:
+        file.write(safe_calls(calls))
+    write(f"{folder}/c/src/calls.rs", f"// crates/{CALLS}/src/lib.rt and feeds.rt: their calls, as C calls them.\n\n{lent_calls(calls)}")
+
+
 def write_package(folder):
     write_proved(folder)
     write_api(folder)
+    write_calls(folder)
     for name in ("Cargo.toml", "README.md", "c/Cargo.toml", "programs/Cargo.toml"):
         write(f"{folder}/{name}", read(f"{HERE}/{name}"))
     for name in ("hayro_ccitt.h", "fax_encode.h", "hayro_ccitt_heap.h"):

@@ -56,6 +56,7 @@ extern crate alloc;
 extern crate std;
 
 mod c;
+mod calls;
 mod encoding;
 mod packed_into;
 mod pushed;
@@ -189,7 +190,10 @@ fn room_for_all(data: &[u8], settings: &DecodeSettings, width: usize) -> Option<
         rows => rows as usize,
     };
     let rows = limit.min(data.len().saturating_mul(8).saturating_add(1));
-    let usual = data.len().saturating_mul(64).clamp(1 << 24, usize::MAX / 16);
+    let usual = data
+        .len()
+        .saturating_mul(64)
+        .clamp(1 << 24, usize::MAX / 16);
     rows.checked_mul(width).filter(|room| *room <= usual)
 }
 

@@ -1,5 +1,6 @@
 //! The rows of an image are passed to a sink: the calls list them, and the lists are passed on.
 
+use crate::calls::{decode_changes, hayro_ccitt_feed_rows_changes};
 use crate::{
     Decoder, DecoderContext, PIECE, Result, c, error_of, feed_next, open_feed, usize_of, zeros,
 };
@@ -36,7 +37,7 @@ fn push_at_once(
         return None;
     }
     let mut lists = Vec::with_capacity(data.len() * 8 + 1);
-    let (status, outcome) = c::decode_changes(data, settings, &mut lists);
+    let (status, outcome) = decode_changes(data, settings, &mut lists);
     if status == c::REFUSED {
         return None;
     }
@@ -60,7 +61,8 @@ fn push_as_they_come(
     let mut pieces = data.chunks(PIECE);
     let mut lists = zeros(LISTED);
     let status = loop {
-        let (status, count) = feed.rows_changes(&mut lists);
+        let (mut count, row) = (0, &mut feed.row);
+        let status = hayro_ccitt_feed_rows_changes(&mut feed.reader, &mut lists, &mut count, row);
         push_listed(&lists, count, decoder);
         match status {
             c::OK => {}

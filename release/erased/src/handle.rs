@@ -5,11 +5,12 @@ use crate::lists::{Box, Global};
 
 /// Nothing, or a box: for C a pointer, null for nothing.
 #[repr(transparent)]
+#[derive(Default)]
 pub struct Handle(Option<Box<Owned>>);
 
 impl Handle {
     pub(crate) fn nowhere(_at: usize, _alloc: Global) -> Self {
-        Self(None)
+        Self::default()
     }
 
     pub(crate) fn of(value: Box<Owned>) -> Self {

@@ -14,7 +14,7 @@ pub struct AllocError;
 /// An allocation for this value failed.
 pub struct AllocFailed<T>(pub T);
 
-/// A list that grows only where a call says so.
+/// A list, of which a call that allocates reports a failure. Its other calls are those of Rust's vectors.
 pub struct Vec<T>(vec::Vec<T>);
 
 impl<T> Vec<T> {
@@ -26,11 +26,6 @@ impl<T> Vec<T> {
     #[inline(always)]
     pub fn allocator(&self) -> &Global {
         &Global
-    }
-
-    #[inline(always)]
-    pub fn capacity(&self) -> usize {
-        self.0.capacity()
     }
 
     pub fn push(&mut self, item: T) -> Result<(), AllocError> {
@@ -63,21 +58,6 @@ impl<T> Vec<T> {
         self.0.try_reserve_exact(more).map_err(|_| AllocError)
     }
 
-    #[inline(always)]
-    pub fn clear(&mut self) {
-        self.0.clear();
-    }
-
-    #[inline(always)]
-    pub fn truncate(&mut self, length: usize) {
-        self.0.truncate(length);
-    }
-
-    #[inline(always)]
-    pub fn as_slice(&self) -> &[T] {
-        &self.0
-    }
-
     /// Returns the items as a vector of the standard library.
     pub fn into_inner(self) -> vec::Vec<T> {
         self.0
@@ -89,6 +69,13 @@ impl<T: Copy> Vec<T> {
     pub fn filled(alloc: Global, item: T, count: usize) -> Result<Self, AllocError> {
         let mut items = Self::new(alloc);
         items.resize(count, item)?;
+        Ok(items)
+    }
+
+    /// Creates a list of these items.
+    pub fn copied(alloc: Global, from: &[T]) -> Result<Self, AllocError> {
+        let mut items = Self::new(alloc);
+        items.extend_from_slice(from)?;
         Ok(items)
     }
 
@@ -106,31 +93,18 @@ impl<T: Copy> Vec<T> {
 }
 
 impl<T> Deref for Vec<T> {
-    type Target = [T];
+    type Target = vec::Vec<T>;
 
     #[inline(always)]
-    fn deref(&self) -> &[T] {
+    fn deref(&self) -> &vec::Vec<T> {
         &self.0
     }
 }
 
 impl<T> DerefMut for Vec<T> {
     #[inline(always)]
-    fn deref_mut(&mut self) -> &mut [T] {
+    fn deref_mut(&mut self) -> &mut vec::Vec<T> {
         &mut self.0
-    }
-}
-
-/// A slice that is copied to a list.
-pub trait CopiedTo<T> {
-    fn copied_to(&self, alloc: Global) -> Result<Vec<T>, AllocError>;
-}
-
-impl<T: Copy> CopiedTo<T> for [T] {
-    fn copied_to(&self, alloc: Global) -> Result<Vec<T>, AllocError> {
-        let mut items = Vec::new(alloc);
-        items.extend_from_slice(self)?;
-        Ok(items)
     }
 }
 
@@ -145,7 +119,7 @@ impl<T> Box<T> {
             return Err(AllocFailed(value));
         }
         items.push(value);
-        match items.into_boxed_slice().try_into() {
+        match items.try_into() {
             Ok(one) => Ok(Self(one)),
             Err(_) => unreachable!("one value"),
         }

@@ -29,7 +29,7 @@ pub(crate) fn push_rows(
         return Err(DecodeError::Overflow);
     };
     let report = decoded(Global, data, order_of(settings), meant, &mut Sink(decoder));
-    let mut outcome = c::no_outcome();
+    let mut outcome = c::Outcome::default();
     let status = reported(&report, 0, &mut outcome);
     ctx.tell(&outcome, status != c::OK);
     match status {
