@@ -4,6 +4,7 @@
 #include <stddef.h>
 #include <stdint.h>
 #include <stdlib.h>
+#include <string.h>
 
 typedef struct {
     bool ok;
@@ -36,9 +37,13 @@ tried rattle_alloc(size_t size, size_t align) {
     return tried_block(block);
 }
 
+/* The new block is another one, and has no byte of the old one but those that are to be kept. */
 tried rattle_realloc(void *block, size_t kept, size_t size, size_t align) {
-    (void)kept;
-    return tried_block(refuses(size) ? NULL : realloc(block, size ? size : align));
+    void *moved = refuses(size) ? NULL : malloc(size ? size : align);
+    if (!moved) return tried_block(NULL);
+    memcpy(moved, block, kept);
+    free(block);
+    return tried_block(moved);
 }
 
 void rattle_dealloc(void *block) {

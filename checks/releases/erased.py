@@ -1,6 +1,6 @@
 """Checks of the package `hayro-ccitt`, which is made of the proved sources by erasing their contracts (release/erased): what can't be
 erased is refused; the package is clean, and has one behaviour with the proved library; each refused allocation is reported; and the
-checks of the library for C pass over the one that it makes. Other targets are tried where their compilers are."""
+checks of the library for C pass over the one that it makes."""
 import functools
 import os
 import re
@@ -10,12 +10,11 @@ import sys
 import tempfile
 
 import corpus
-from c import c_library, row_by_row
+from c import c_library, refusals, row_by_row
 from gate.skipped import leave_out
 
-sys.path[:0] = [os.path.abspath("release/erased"), os.path.abspath("release")]
+sys.path.insert(0, os.path.abspath("release/erased"))
 import erase  # noqa: E402
-from javascript import VENDORED, rustc_of_debian, with_sources_of_std  # noqa: E402
 
 PACKAGE = os.path.abspath("build/hayro-ccitt")
 # What cargo builds for these checks, kept from one run to the next.
@@ -39,25 +38,6 @@ debug-assertions = true
 """
 SOURCES = os.path.abspath("checks/releases/erased/src")
 PROGRAMS = "".join(f'[[bin]]\nname = "{name}"\npath = "{SOURCES}/{file}.rs"\n' for name, file in (("cases", "main"), ("edges", "edges"), ("strips", "strips_main")))
-MODULE = f'[lib]\ncrate-type = ["cdylib"]\npath = "{SOURCES}/wasm.rs"\n'
-# Each target, the linker, and what runs its programs.
-TARGETS = {
-    "i686-unknown-linux-gnu": ("i686-linux-gnu-gcc", ["qemu-i386", "-L", "/usr/i686-linux-gnu"]),
-    "aarch64-unknown-linux-gnu": ("aarch64-linux-gnu-gcc", ["qemu-aarch64", "-L", "/usr/aarch64-linux-gnu"]),
-    "s390x-unknown-linux-gnu": ("s390x-linux-gnu-gcc", ["qemu-s390x", "-L", "/usr/s390x-linux-gnu"]),
-    "wasm32-unknown-unknown": ("wasm-ld", ["node"]),
-}
-IN_NODE = """
-const [file, seed, count] = process.argv.slice(1);
-const module = new WebAssembly.Module(require('fs').readFileSync(file));
-const calls = new WebAssembly.Instance(module, {}).exports;
-const show = (sum) => console.log(BigInt.asUintN(64, sum).toString(16).padStart(16, '0'));
-if (seed) {
-    show(calls.sum_of(BigInt(seed), BigInt(count)));
-} else {
-    for (let index = 0, sum; sum = calls.sum_of_strip(index); index += 1) show(sum);
-}
-"""
 # A seed and how many cases: each is decoded whole, row by row, and fed in pieces.
 SEED, COUNT = 1, 100_000
 TOOLS = ("cargo", "rustfmt")
@@ -117,6 +97,7 @@ def what_is_not_understood_is_refused():
         raise AssertionError("a body of no function")
     except erase.Refused:
         pass
+    assert not any(erase.PARAMETER.match(it) for it in ("a: u32", "a: *const u8", "a: &[&[u8]]", "a: &'a [u8]", "a: Option<&u8>"))
     source = "/// A.\nfn f(a: u8) -> u8\n    requires { a < 'λ }\n    ensures one { result ≡ { a } }\n{\n    a // requires { b }\n}\n"
     kept, counts = erase.erase(source)
     assert kept.split() == "/// A. fn f(a: u8) -> u8 { a // requires { b } }".split() and counts["clauses"] == 2, kept
@@ -126,10 +107,9 @@ def what_is_not_understood_is_refused():
 
 
 def lines_of_code(folder):
-    for name in sorted(os.listdir(folder)):
+    for name in sorted(erase.files_in(folder)):
         if name.endswith(".rs"):
-            with open(f"{folder}/{name}", encoding="utf-8") as file:
-                yield from (line for line in file if line.strip() and not line.strip().startswith("//"))
+            yield from (line for line in erase.read(f"{folder}/{name}").splitlines() if line.strip() and not line.strip().startswith("//"))
 
 
 def the_package_is_clean():
@@ -138,7 +118,7 @@ def the_package_is_clean():
     if lacks_tools("the erased package"):
         return
     make_package()
-    by_hand = sum(1 for _ in lines_of_code("release/erased/src"))
+    by_hand = sum(1 for _ in lines_of_code("release/erased"))
     assert by_hand <= 350, by_hand
     files = 0
     for folder, _, names in (found for of in ("src", "c/src", "programs/src") for found in os.walk(f"{PACKAGE}/{of}")):
@@ -242,13 +222,12 @@ def random_cases_beside_the_proved_library():
     print(f"  {COUNT} cases, one sum: {sums[0].strip()}")
 
 
-def library_for_c(folder):
+def library_for_c(folder, made):
     """The library for C of the erased sources, laid out as `make install` does, with the allocator that programs may replace."""
-    run("cargo", "build", "-q", "--offline", "--release", "--features", "heap", cwd=f"{PACKAGE}/c", CARGO_TARGET_DIR=f"{BUILT}/c")
     os.makedirs(f"{folder}/lib")
     shutil.copytree("c", f"{folder}/include")
     library = f"{folder}/lib/libhayro_ccitt"
-    shutil.copy(f"{BUILT}/c/release/libhayro_ccitt.a", f"{library}.a")
+    shutil.copy(f"{made}/libhayro_ccitt.a", f"{library}.a")
     run("gcc", "-O2", "-fPIC", "-c", "-o", f"{folder}/heap.o", "c/heap.c")
     whole = ["-Wl,--whole-archive", f"{library}.a", "-Wl,--no-whole-archive", f"{folder}/heap.o"]
     run("gcc", "-shared", "-Wl,--version-script=c/exports", "-o", f"{library}.so", *whole)
@@ -256,94 +235,20 @@ def library_for_c(folder):
 
 
 def calls_for_c():
-    """The checks of the library for C, over that of the erased sources: each call on the known cases, rows at strides, readers and
-    writers, each refused allocation; and no block is left."""
+    """The checks of the library for C, over that of the erased sources with Rust's assertions: each call on the known cases, rows at
+    strides, readers and writers, each refused allocation; and no block is left."""
     if lacks_tools("the library for C of the erased sources"):
         return
     make_package()
     with tempfile.TemporaryDirectory() as folder:
-        library_for_c(folder)
-        c_library.build, c_library.BUILDS, c_library.INSTALLED = lambda: None, {"erased": ["-O2"]}, {"erased": folder}
-        c_library.compiled.__defaults__ = ("erased",)
+        asserted = {f"CARGO_PROFILE_RELEASE_{it}": "true" for it in ("DEBUG_ASSERTIONS", "OVERFLOW_CHECKS")}
+        run("cargo", "build", "-q", "--offline", "--release", "--features", "heap", cwd=f"{PACKAGE}/c", CARGO_TARGET_DIR=f"{BUILT}/c", **asserted)
+        library_for_c(folder, f"{BUILT}/c/release")
+        c_library.build, c_library.BUILDS, c_library.INSTALLED = lambda: None, {"plain": ["-O2"]}, {"plain": folder}
         c_library.LIBRARY, c_library.SHARED = f"{folder}/lib/libhayro_ccitt.a", f"{folder}/lib/libhayro_ccitt.so"
         for check in (c_library.calls_on_known_cases, c_library.rows_are_spread, c_library.each_size, *row_by_row.CHECKS):
             check()
+        refusals.each_request_of_the_library()
 
 
-def lacks_sources_of_std(what):
-    """Whether Debian's compiler with the sources of std is missing; then the check is left out."""
-    is_lacking = not os.path.exists(VENDORED)
-    if is_lacking:
-        leave_out(what, "rustc-web and rust-web-src")
-    return is_lacking
-
-
-def lacks_target(target):
-    """Whether the linker of a target is missing, or what runs its programs; then the target is left out."""
-    linker, runner = TARGETS[target]
-    missing = [tool for tool in (linker, runner[0]) if not shutil.which(tool)]
-    if missing:
-        leave_out(f"the erased package on {target}", ", ".join(missing))
-    return missing
-
-
-def made_for(target, folder, profile):
-    """Where cargo puts what it makes of a package for a target, with std made of Debian's sources."""
-    linker = f"CARGO_TARGET_{target.replace('-', '_').upper()}_LINKER"
-    named = {linker: TARGETS[target][0], "RUSTC": rustc_of_debian(BUILT), "RUSTC_BOOTSTRAP": "1", "STRIPS": list_of_strips()}
-    run(*with_sources_of_std("build", "--target", target, "--profile", profile), cwd=folder, CARGO_TARGET_DIR=f"{BUILT}/targets", **named)
-    return f"{BUILT}/targets/{target}/{profile}"
-
-
-def built_for(target):
-    """The folder with the programs, or the module, of a target."""
-    folder = f"{BUILT}/cases-{target}"
-    os.makedirs(folder, exist_ok=True)
-    is_wasm = target.startswith("wasm")
-    text = CASES.format(name="hayro-ccitt", package=PACKAGE, made=MODULE if is_wasm else PROGRAMS)
-    with open(f"{folder}/Cargo.toml", "w", encoding="utf-8") as file:
-        file.write(text)
-    return made_for(target, folder, "checked")
-
-
-def told_on(target, name, *words):
-    """What a program prints on a target."""
-    runner, folder = TARGETS[target][1], built_for(target)
-    if target.startswith("wasm"):
-        return run(*runner, "-e", IN_NODE, "--", f"{folder}/cases.wasm", *words)
-    return run(*runner, f"{folder}/{name}", *words)
-
-
-def edges_of_32_bits():
-    """Where `usize` has 32 bits no call panics, and each does what its documentation says: at strides of nearly 2^32 bytes, in rows of
-    nearly 2^32 pixels, and for data of nearly 2^32 bits and more."""
-    if lacks_tools("the erased package at the edges of 32 bits") or lacks_sources_of_std("the erased package at the edges of 32 bits"):
-        return
-    target = "i686-unknown-linux-gnu"
-    if lacks_target(target):
-        return
-    make_package()
-    told = run(*TARGETS[target][1], f"{built_for(target)}/edges")
-    assert told.split() == ["strides", "rows", "data"], told
-    print("  strides, rows and data of nearly 2^32")
-
-
-def on_other_targets():
-    """On 32 bits, on ARM64, on a big-endian machine and in WebAssembly the sum of random cases is that on x86-64, with overflow checks, and
-    a program on the crate reads the corpus as its pictures are."""
-    if lacks_tools("the erased package on other targets"):
-        return
-    if lacks_sources_of_std("the erased package on other targets"):
-        return
-    make_package()
-    count = COUNT // 5
-    expected = run(program_of("hayro-ccitt", PACKAGE, "--profile", "checked"), str(SEED), str(count))
-    for target in TARGETS:
-        if lacks_target(target):
-            continue
-        assert told_on(target, "cases", str(SEED), str(count)) == expected, target
-        assert told_on(target, "strips").split() == [expected for *_, expected in strips()], target
-        print(f"  {target}: {count} cases, the sum of x86-64, and {len(strips())} readings of strips")
-
-
-CHECKS = [what_is_not_understood_is_refused, the_package_is_clean, one_suite_of_tests, random_cases_beside_the_proved_library, calls_for_c, edges_of_32_bits, on_other_targets]
+CHECKS = [what_is_not_understood_is_refused, the_package_is_clean, one_suite_of_tests, random_cases_beside_the_proved_library, calls_for_c]

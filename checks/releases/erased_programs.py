@@ -7,7 +7,7 @@ from c import arm64
 from gate import built
 from gate.skipped import leave_out
 from programs import devices, packing, program
-from releases import erased
+from releases import erased, erased_targets
 
 # one in so many strips and cases: in qemu each takes some ten times as long
 FEW, FEWER = 4, 40
@@ -24,10 +24,10 @@ def programs_for(target=None):
 
 def rust_for(target):
     """What cargo is told for a target: the linker, and Debian's compiler where the usual one lacks the target's std. None without either."""
-    linker = {f"CARGO_TARGET_{target.replace('-', '_').upper()}_LINKER": erased.TARGETS[target][0]}
+    linker = {f"CARGO_TARGET_{target.replace('-', '_').upper()}_LINKER": erased_targets.TARGETS[target][0]}
     if has_std("rustc", target):
         return linker
-    debian = erased.rustc_of_debian(erased.BUILT)
+    debian = erased_targets.rustc_of_debian(erased.BUILT)
     return {**linker, "RUSTC": debian} if has_std(debian, target) else None
 
 
