@@ -1,6 +1,7 @@
 -- Modes that are drawn with bits at hand. This is not part of the trusted specification: no contract of a public call cites it.
-use Rattle.std.specs.Prelude.{◌≡◌, ◌⊎◌, ℕ, ◌+◌, ◌-◌, ◌^◌, ◌<◌, ◌≤◌, ◌∷◌, [], Ok, Vec, vec_len, vec_capacity, length, get_or}
+use Rattle.std.specs.Prelude.{◌≡◌, ◌⊎◌, ℕ, ◌+◌, ◌-◌, ◌^◌, ◌<◌, ◌≤◌, ◌∷◌, [], Ok, vec_len, vec_capacity, length, get_or}
 use Rattle.std.specs.Prelude.{Option, None, Some}
+use Rattle.std.specs.Global.{Vec}
 use Rattle.std.specs.Int.{trailing_ones, w64}
 use Rattle.fax_bits.specs.declared.codes.Mode.{Mode}
 use Rattle.fax_bits.specs.declared.codes.Mode.TheVariants.{Horizontal, Pass}
@@ -8,6 +9,7 @@ use Rattle.fax_bits.specs.declared.codes.Color.TheVariants.{White}
 use Rattle.fax_lines.specs.declared.modes.CodingLine.{CodingLine}
 use Rattle.fax_lines.specs.declared.vertical_groups.ModesHere.{ModesHere}
 use Rattle.fax_lines.specs.declared.modes.Stroke.{Stroke}
+use Rattle.fax_lines.specs.declared.pen.RowPen.{RowPen}
 use Rattle.fax_lines.specs.declared.run_pairs.TwoRuns.{TwoRuns}
 use Rattle.fax_bits.specs.Bits.{here}
 use Rattle.fax_bits.specs.CodeLists.{mode_codes}
@@ -59,67 +61,72 @@ pub record AreModesHere (line : CodingLine) (stroke : Stroke) (window : AtHand) 
   pub after : 0 < stroke.index
   pub within : 16 ≤ window.left
 
-module _ {A : Type 0} where
-  -- a row of changes reaches the stroke
-  abbrev pub IsAtStroke : CodingLine → Stroke → Vec ℕ A → Type 0
-  IsAtStroke line stroke row =
-      IsStroke line.columns (changes_in line.places.now) stroke.painted stroke.index stroke.color row.items
+-- a pen, from what it has
+abbrev pub pen_with : AtHand → Vec ℕ → ℕ → RowPen
+pen_with window row ticks = record { window = window; row = row; ticks = ticks }
 
-  -- the pen of a stroke
-  abbrev pub pen_here : Stroke → AtHand → Vec ℕ A → Pen
-  pen_here stroke window row = pen_at stroke.painted row.items stroke.color window.at
+-- a row of changes reaches the stroke
+abbrev pub IsAtStroke : CodingLine → Stroke → RowPen → Type 0
+IsAtStroke line stroke pen =
+    IsStroke line.columns (changes_in line.places.now) stroke.painted stroke.index stroke.color pen.row.items
 
-  -- A mode can be drawn: the row isn't full, and has room for as many changes as bits are at hand.
-  pub record CanDraw (line : CodingLine) (stroke : Stroke) (window : AtHand) (row : Vec ℕ A) : Type 0 where
-    pub ended : AreEnded line.columns line.places.now
-    pub fits : line.columns + 3 < 2 ^ 31
-    pub inside : stroke.painted < line.columns
-    pub reached : IsAtStroke line stroke row
-    pub room : vec_len row + window.left ≤ vec_capacity row
+-- a pen at a stroke, as the definition of a line has it
+abbrev pub pen_here : Stroke → RowPen → Pen
+pen_here stroke pen = pen_at stroke.painted pen.row.items stroke.color pen.window.at
 
-  -- Two runs follow a stroke. The row isn't full, they end in it or with it, and it has room for their changes.
-  pub record CanFollowStroke (line : CodingLine) (stroke : Stroke) (row : Vec ℕ A) (runs : TwoRuns) : Type 0 where
-    pub ended : AreEnded line.columns line.places.now
-    pub inside : stroke.painted < line.columns
-    pub reached : IsAtStroke line stroke row
-    pub right : (0 < runs.first) ⊎ (row.items ≡ [])
-    pub some : 0 < runs.second
-    pub fits : runs.first + runs.second ≤ line.columns - stroke.painted
-    pub room : vec_len row + 2 ≤ vec_capacity row
+-- A mode can be drawn: the row isn't full, and has room for as many changes as bits are at hand.
+pub record CanDraw (line : CodingLine) (stroke : Stroke) (pen : RowPen) : Type 0 where
+  pub ended : AreEnded line.columns line.places.now
+  pub fits : line.columns + 3 < 2 ^ 31
+  pub inside : stroke.painted < line.columns
+  pub reached : IsAtStroke line stroke pen
+  pub room : vec_len pen.row + pen.window.left ≤ vec_capacity pen.row
 
-  -- Drawing goes on from one stroke to another, which the row reaches then.
-  pub record Draws (line : CodingLine) (stroke : Stroke) (window : AtHand) (row : Vec ℕ A) (ticks : ℕ)
-      (next : Stroke) (rest : AtHand) (longer : Vec ℕ A) (now : ℕ) : Type 0 where
-    pub drawn : GoesOn2d line.strict line.columns (row_in line.columns line.places.now)
-        (pen_here stroke window row) (pen_here next rest longer) ticks now (stroke.index - 1) (next.index - 1)
-    pub reached : IsAtStroke line next longer
+-- Two runs follow a stroke. The row isn't full, they end in it or with it, and it has room for their changes.
+pub record CanFollowStroke (line : CodingLine) (stroke : Stroke) (pen : RowPen) (runs : TwoRuns) : Type 0 where
+  pub ended : AreEnded line.columns line.places.now
+  pub inside : stroke.painted < line.columns
+  pub reached : IsAtStroke line stroke pen
+  pub right : (0 < runs.first) ⊎ (pen.row.items ≡ [])
+  pub some : 0 < runs.second
+  pub fits : runs.first + runs.second ≤ line.columns - stroke.painted
+  pub room : vec_len pen.row + 2 ≤ vec_capacity pen.row
 
-  -- A mode does so. It has bits, and leaves room for as many changes as bits are at hand.
-  pub record DrawsMode (line : CodingLine) (stroke : Stroke) (window : AtHand) (row : Vec ℕ A) (ticks : ℕ)
-      (next : Stroke) (rest : AtHand) (longer : Vec ℕ A) (now : ℕ) : Type 0 where
-    pub drawn : Draws line stroke window row ticks next rest longer now
-    pub onward : window.at.place < rest.at.place
-    pub room : vec_len longer + rest.left ≤ vec_capacity longer
+-- Drawing goes on from one stroke to another, which the row reaches then.
+pub record Draws (line : CodingLine) (stroke : Stroke) (before : RowPen) (next : Stroke) (after : RowPen) : Type 0 where
+  pub drawn : GoesOn2d line.strict line.columns (row_in line.columns line.places.now)
+      (pen_here stroke before) (pen_here next after) before.ticks after.ticks (stroke.index - 1) (next.index - 1)
+  pub reached : IsAtStroke line next after
 
-  -- nothing is drawn
-  pub record DrawsNothing (window : AtHand) (row : Vec ℕ A) (ticks : ℕ) (rest : AtHand) (same : Vec ℕ A) (now : ℕ) : Type 0 where
-    pub at : rest.at ≡ window.at
-    pub items : same.items ≡ row.items
-    pub count : now ≡ ticks
+-- A mode does so. It has bits, and leaves room for as many changes as bits are at hand.
+pub record DrawsMode (line : CodingLine) (stroke : Stroke) (before : RowPen) (next : Stroke) (after : RowPen) : Type 0 where
+  pub drawn : Draws line stroke before next after
+  pub onward : before.window.at.place < after.window.at.place
+  pub room : vec_len after.row + after.window.left ≤ vec_capacity after.row
 
-  -- the bits and the row's room stay, and the row doesn't get shorter
-  pub record KeepsRoom (window : AtHand) (row : Vec ℕ A) (rest : AtHand) (longer : Vec ℕ A) : Type 0 where
-    pub same_bits : rest.at.bits ≡ window.at.bits
-    pub capacity : vec_capacity longer ≡ vec_capacity row
-    pub count : vec_len row ≤ vec_len longer
+-- nothing is drawn
+pub record DrawsNothing (before after : RowPen) : Type 0 where
+  pub at : after.window.at ≡ before.window.at
+  pub items : after.row.items ≡ before.row.items
+  pub count : after.ticks ≡ before.ticks
 
-  -- Drawing goes on from one stroke to another, of the same bits, in the room that the row has.
-  pub record DrawsOn (line : CodingLine) (stroke : Stroke) (window : AtHand) (row : Vec ℕ A) (ticks : ℕ)
-      (next : Stroke) (rest : AtHand) (longer : Vec ℕ A) (now : ℕ) : Type 0 where
-    pub drawn : Draws line stroke window row ticks next rest longer now
-    pub kept : KeepsRoom window row rest longer
+-- nor is a bit loaded
+abbrev pub StaysAsItIs : RowPen → RowPen → Type 0
+StaysAsItIs before after =
+    (after.window ≡ before.window) × (after.row.items ≡ before.row.items) × (after.ticks ≡ before.ticks)
 
-  -- If there is a next stroke, a mode is drawn up to it; if there is none, nothing is drawn.
-  abbrev pub DrawsSome : CodingLine → Stroke → AtHand → Vec ℕ A → ℕ → Option Stroke → AtHand → Vec ℕ A → ℕ → Type 0
-  DrawsSome line stroke window row ticks None rest longer now = DrawsNothing window row ticks rest longer now
-  DrawsSome line stroke window row ticks (Some next) rest longer now = DrawsMode line stroke window row ticks next rest longer now
+-- the bits and the row's room stay, and the row doesn't get shorter
+pub record KeepsRoom (before after : RowPen) : Type 0 where
+  pub same_bits : after.window.at.bits ≡ before.window.at.bits
+  pub capacity : vec_capacity after.row ≡ vec_capacity before.row
+  pub count : vec_len before.row ≤ vec_len after.row
+
+-- Drawing goes on from one stroke to another, of the same bits, in the room that the row has.
+pub record DrawsOn (line : CodingLine) (stroke : Stroke) (before : RowPen) (next : Stroke) (after : RowPen) : Type 0 where
+  pub drawn : Draws line stroke before next after
+  pub kept : KeepsRoom before after
+
+-- If there is a next stroke, a mode is drawn up to it; if there is none, nothing is drawn.
+abbrev pub DrawsSome : CodingLine → Stroke → RowPen → Option Stroke → RowPen → Type 0
+DrawsSome line stroke before None after = DrawsNothing before after
+DrawsSome line stroke before (Some next) after = DrawsMode line stroke before next after

@@ -29,7 +29,7 @@ use crate::modes::{
     CodingLine, draw_modes, drop_open_change_in_row, ensure_bits_and_room, has_room_for_window,
     is_wide, next_color, put_ends, repeat_changes, take_ends,
 };
-use crate::run_pairs::{RunsOfLine, close_black_run, draw_long_pairs, draw_runs, drop_open_change};
+use crate::run_pairs::{RunsOfLine, close_black_run, draw_runs, drop_open_change};
 use fax_bits::bit_reader::{
     BitOrder, BitReader, Window, at_hand, go_on_with, go_to, pass_bits, window_at_hand,
 };
@@ -457,6 +457,7 @@ impl DecoderContext {
             settings: self.settings,
             tables: &self.tables,
             by_pairs,
+            has_long_runs: false,
         };
         let ticks = &mut self.ticks;
         let (place, color) = draw_runs(
@@ -513,9 +514,10 @@ impl DecoderContext {
             settings: self.settings,
             tables: &self.tables,
             by_pairs: false,
+            has_long_runs: true,
         };
         let ticks = &mut self.ticks;
-        let (place, color) = draw_long_pairs(
+        let (place, color) = draw_runs(
             &mut window,
             &mut self.coding_changes,
             self.pixels_decoded,

@@ -12,6 +12,7 @@ ghost use Rattle.fax_reading.specs.Rows.{AreChanges};
 pub mod changes;
 pub mod context;
 mod modes;
+mod pen;
 mod regular_places;
 mod run_pairs;
 mod vertical_groups;

@@ -5,7 +5,7 @@ ghost use Rattle.std.specs.Prelude.{vec_len, vec_capacity, get_or, ◌≡◌, �
 ghost use Rattle.std.specs.Prelude.{true, false, pos, negsuc, length, replicate};
 ghost use Rattle.std.specs.Prelude.{◌++◌, ◌^◌};
 ghost use Rattle.fax_lines.specs.DrawnModes.{IsNextMode, CanDraw, CanFollowStroke, Draws, DrawsMode};
-ghost use Rattle.fax_lines.specs.DrawnModes.{DrawsOn, DrawsSome, KeepsRoom, line_start};
+ghost use Rattle.fax_lines.specs.DrawnModes.{DrawsOn, DrawsSome, KeepsRoom, line_start, pen_with};
 ghost use Rattle.fax_reading.specs.Rows.{AreChanges, opposite};
 ghost use Rattle.fax_lines.specs.ContextSteps.{GrowsFor, ShowSame};
 ghost use Rattle.fax_reading.specs.UsualModes.{AreEnded, changes_in, IsNear, IsB1, TurnsFrom};
@@ -13,6 +13,7 @@ ghost use Rattle.fax_lines.specs.TwoRunsHere.{AreTwoRunsHere};
 ghost use Rattle.fax_bits.specs.Window.{moved, AtHand};
 
 use crate::changes::{change_or_end, make_room};
+use crate::pen::{RowPen, lay_down, take_up};
 use crate::run_pairs::{
     TwoRuns, drop_open_change, ensure_bits, is_next, pair_at_hand, push_change, push_two,
 };
@@ -161,26 +162,19 @@ fn b1_after_left(line: &CodingLine<'_>, stroke: Stroke, place: u32) -> usize
 
 /// Draws V0 inside the row: a change below b1, which is at this place.
 #[inline(always)]
-fn draw_v0_below(
-    window: &mut Window<'_>,
-    row: &mut Vec<u32>,
-    _line: &CodingLine<'_>,
-    stroke: Stroke,
-    place: u32,
-    ticks: &mut Ticks,
-) -> Stroke
-    requires mode { IsNextMode (Mode.Vertical (pos 0)) 1 window.old }
-    requires can { CanDraw _line.now stroke window.old row.old }
+fn draw_v0_below(pen: &mut RowPen<'_>, _line: &CodingLine<'_>, stroke: Stroke, place: u32) -> Stroke
+    requires mode { IsNextMode (Mode.Vertical (pos 0)) 1 pen.old.window }
+    requires can { CanDraw _line.now stroke pen.old }
     requires b1 { place ≡ get_or (changes_in _line.now.places.now) stroke.index _line.now.columns }
     requires inside { place < _line.now.columns }
-    ensures drawn { DrawsMode _line.now stroke window.old row.old ticks.old result window.new row.new ticks.new }
+    ensures drawn { DrawsMode _line.now stroke pen.old result pen.new }
     ensures below { (result.painted ≡ place) × (result.index ≡ stroke.index + 1) }
-    ensures passed { (window.new.at ≡ moved 1 window.old.at) × (window.new.left + 1 ≡ window.old.left) }
-    ensures kept { KeepsRoom window.old row.old window.new row.new }
+    ensures passed { (pen.new.window.at ≡ moved 1 pen.old.window.at) × (pen.new.window.left + 1 ≡ pen.old.window.left) }
+    ensures kept { KeepsRoom pen.old pen.new }
 {
-    window.pass(1);
-    tick_times(ticks, 2);
-    push_change(row, place);
+    pen.window.pass(1);
+    tick_times(&mut pen.ticks, 2);
+    push_change(&mut pen.row, place);
     Stroke {
         painted: place,
         index: stroke.index + 1,
@@ -200,62 +194,54 @@ fn has_two_v0(window: &Window<'_>) -> bool
 
 /// Draws V0: a change below b1, or the rest of the row; and V0 once more if it is next, and inside the row.
 #[inline(always)]
-fn draw_v0(
-    window: &mut Window<'_>,
-    row: &mut Vec<u32>,
-    line: &CodingLine<'_>,
-    stroke: Stroke,
-    ticks: &mut Ticks,
-) -> Stroke
-    requires mode { IsNextMode (Mode.Vertical (pos 0)) 1 window.old }
-    requires enough { 16 ≤ window.old.left }
-    requires can { CanDraw line.now stroke window.old row.old }
-    ensures drawn { DrawsMode line.now stroke window.old row.old ticks.old result window.new row.new ticks.new }
-    ensures kept { KeepsRoom window.old row.old window.new row.new }
+fn draw_v0(pen: &mut RowPen<'_>, line: &CodingLine<'_>, stroke: Stroke) -> Stroke
+    requires mode { IsNextMode (Mode.Vertical (pos 0)) 1 pen.old.window }
+    requires enough { 16 ≤ pen.old.window.left }
+    requires can { CanDraw line.now stroke pen.old }
+    ensures drawn { DrawsMode line.now stroke pen.old result pen.new }
+    ensures kept { KeepsRoom pen.old pen.new }
 {
     let place = change_at(line, stroke.index);
     if place >= line.columns {
-        window.pass(1);
-        tick_times(ticks, 2);
+        pen.window.pass(1);
+        tick_times(&mut pen.ticks, 2);
         return Stroke {
             painted: line.columns,
             color: stroke.color.opposite(),
             ..stroke
         };
     }
-    if has_two_v0(window) {
+    if has_two_v0(&pen.window) {
         let next = change_at(line, stroke.index + 1);
         if next < line.columns {
-            let first = draw_v0_below(window, row, line, stroke, place, ticks);
-            return draw_v0_below(window, row, line, first, next, ticks);
+            let first = draw_v0_below(pen, line, stroke, place);
+            return draw_v0_below(pen, line, first, next);
         }
     }
-    draw_v0_below(window, row, line, stroke, place, ticks)
+    draw_v0_below(pen, line, stroke, place)
 }
 
 /// Draws VR: a change right of b1, or the rest of the row. Returns `None`, and draws nothing, if that is after the row's end.
 #[inline(always)]
 fn draw_right(
-    window: &mut Window<'_>,
-    row: &mut Vec<u32>,
+    pen: &mut RowPen<'_>,
     line: &CodingLine<'_>,
     stroke: Stroke,
     mode: VerticalMode,
-    ticks: &mut Ticks,
 ) -> Option<Stroke>
-    requires mode { IsNextMode (Mode.Vertical (pos mode.distance)) mode.width window.old }
+    requires mode { IsNextMode (Mode.Vertical (pos mode.distance)) mode.width pen.old.window }
     requires some { 0 < mode.distance }
-    requires can { CanDraw line.now stroke window.old row.old }
-    ensures drawn { DrawsSome line.now stroke window.old row.old ticks.old result window.new row.new ticks.new }
-    ensures kept { KeepsRoom window.old row.old window.new row.new }
+    requires can { CanDraw line.now stroke pen.old }
+    ensures drawn { DrawsSome line.now stroke pen.old result pen.new }
+    ensures kept { KeepsRoom pen.old pen.new }
 {
     let b1 = change_at(line, stroke.index);
     let room = line.columns - b1;
     if room < mode.distance {
         return None;
     }
-    window.pass(mode.width);
-    tick_times(ticks, 2);
+    pen.window.pass(mode.width);
+    tick_times(&mut pen.ticks, 2);
     if room == mode.distance {
         return Some(Stroke {
             painted: line.columns,
@@ -264,8 +250,8 @@ fn draw_right(
         });
     }
     let place = b1 + mode.distance;
-    push_change(row, place);
-    let index = seek_b1(line, place, stroke.index + 1, ticks);
+    push_change(&mut pen.row, place);
+    let index = seek_b1(line, place, stroke.index + 1, &mut pen.ticks);
     Some(Stroke {
         painted: place,
         index,
@@ -277,18 +263,16 @@ fn draw_right(
 /// elsewhere.
 #[inline(always)]
 fn draw_to_edge(
-    window: &mut Window<'_>,
-    row: &mut Vec<u32>,
+    pen: &mut RowPen<'_>,
     line: &CodingLine<'_>,
     stroke: Stroke,
     mode: VerticalMode,
-    ticks: &mut Ticks,
 ) -> Option<Stroke>
-    requires mode { IsNextMode (Mode.Vertical (negsuc (mode.distance - 1))) mode.width window.old }
+    requires mode { IsNextMode (Mode.Vertical (negsuc (mode.distance - 1))) mode.width pen.old.window }
     requires some { 0 < mode.distance }
-    requires can { CanDraw line.now stroke window.old row.old }
-    ensures drawn { DrawsSome line.now stroke window.old row.old ticks.old result window.new row.new ticks.new }
-    ensures kept { KeepsRoom window.old row.old window.new row.new }
+    requires can { CanDraw line.now stroke pen.old }
+    ensures drawn { DrawsSome line.now stroke pen.old result pen.new }
+    ensures kept { KeepsRoom pen.old pen.new }
 {
     if stroke.painted > 0 {
         return None;
@@ -300,9 +284,9 @@ fn draw_to_edge(
     if b1 != mode.distance {
         return None;
     }
-    window.pass(mode.width);
-    tick_times(ticks, 2);
-    push_change(row, stroke.painted);
+    pen.window.pass(mode.width);
+    tick_times(&mut pen.ticks, 2);
+    push_change(&mut pen.row, stroke.painted);
     Some(Stroke {
         painted: stroke.painted,
         index: stroke.index + 1,
@@ -313,27 +297,25 @@ fn draw_to_edge(
 /// Draws VL: a change left of b1. Returns `None`, and draws nothing, if that is neither right of a0 nor at the row's left edge.
 #[inline(always)]
 fn draw_left(
-    window: &mut Window<'_>,
-    row: &mut Vec<u32>,
+    pen: &mut RowPen<'_>,
     line: &CodingLine<'_>,
     stroke: Stroke,
     mode: VerticalMode,
-    ticks: &mut Ticks,
 ) -> Option<Stroke>
-    requires mode { IsNextMode (Mode.Vertical (negsuc (mode.distance - 1))) mode.width window.old }
+    requires mode { IsNextMode (Mode.Vertical (negsuc (mode.distance - 1))) mode.width pen.old.window }
     requires some { 0 < mode.distance }
-    requires can { CanDraw line.now stroke window.old row.old }
-    ensures drawn { DrawsSome line.now stroke window.old row.old ticks.old result window.new row.new ticks.new }
-    ensures kept { KeepsRoom window.old row.old window.new row.new }
+    requires can { CanDraw line.now stroke pen.old }
+    ensures drawn { DrawsSome line.now stroke pen.old result pen.new }
+    ensures kept { KeepsRoom pen.old pen.new }
 {
     let b1 = change_at(line, stroke.index);
     if b1 - stroke.painted <= mode.distance {
-        return draw_to_edge(window, row, line, stroke, mode, ticks);
+        return draw_to_edge(pen, line, stroke, mode);
     }
     let place = b1 - mode.distance;
-    window.pass(mode.width);
-    tick_times(ticks, 3);
-    push_change(row, place);
+    pen.window.pass(mode.width);
+    tick_times(&mut pen.ticks, 3);
+    push_change(&mut pen.row, place);
     let index = b1_after_left(line, stroke, place);
     Some(Stroke {
         painted: place,
@@ -344,21 +326,15 @@ fn draw_left(
 
 /// Draws a pass: the colour continues to below b2.
 #[inline(always)]
-pub(crate) fn draw_pass(
-    window: &mut Window<'_>,
-    row: &mut Vec<u32>,
-    line: &CodingLine<'_>,
-    stroke: Stroke,
-    ticks: &mut Ticks,
-) -> Stroke
-    requires mode { IsNextMode Mode.Pass 4 window.old }
-    requires can { CanDraw line.now stroke window.old row.old }
-    ensures drawn { DrawsMode line.now stroke window.old row.old ticks.old result window.new row.new ticks.new }
-    ensures kept { KeepsRoom window.old row.old window.new row.new }
+pub(crate) fn draw_pass(pen: &mut RowPen<'_>, line: &CodingLine<'_>, stroke: Stroke) -> Stroke
+    requires mode { IsNextMode Mode.Pass 4 pen.old.window }
+    requires can { CanDraw line.now stroke pen.old }
+    ensures drawn { DrawsMode line.now stroke pen.old result pen.new }
+    ensures kept { KeepsRoom pen.old pen.new }
 {
     let b2 = change_or_end(line.places, stroke.index + 1, line.columns);
-    window.pass(4);
-    tick_times(ticks, 2);
+    pen.window.pass(4);
+    tick_times(&mut pen.ticks, 2);
     if b2 >= line.columns {
         return Stroke {
             painted: line.columns,
@@ -372,25 +348,25 @@ pub(crate) fn draw_pass(
     }
 }
 
-/// Draws two runs that end in the row or with it, whose bits are passed before or after this. Returns the stroke that is reached then.
+/// Draws two runs that end in the row or with it, whose bits are passed before or after this. Returns the stroke that is reached
+/// then.
 #[inline(always)]
 fn draw_runs_in_row(
-    row: &mut Vec<u32>,
+    pen: &mut RowPen<'_>,
     line: &CodingLine<'_>,
     stroke: Stroke,
     runs: TwoRuns,
-    ticks: &mut Ticks,
 ) -> Stroke
-    requires follow { CanFollowStroke line.now stroke row.old runs }
-    ensures drawn { (window rest : AtHand) → IsNextMode Mode.Horizontal 3 window → AreTwoRunsHere stroke.color (moved 3 window.at) runs
-        → rest.at ≡ moved runs.width (moved 3 window.at)
-        → Draws line.now stroke window row.old ticks.old result rest row.new ticks.new }
-    ensures count { (vec_len row.old ≤ vec_len row.new) × (vec_len row.new ≤ vec_len row.old + 2) }
-    ensures space { vec_capacity row.new ≡ vec_capacity row.old }
+    requires follow { CanFollowStroke line.now stroke pen.old runs }
+    ensures drawn { (window rest : AtHand) → IsNextMode Mode.Horizontal 3 window
+        → AreTwoRunsHere stroke.color (moved 3 window.at) runs → rest.at ≡ moved runs.width (moved 3 window.at)
+        → Draws line.now stroke (pen_with window pen.old.row pen.old.ticks) result (pen_with rest pen.new.row pen.new.ticks) }
+    ensures count { (vec_len pen.old.row ≤ vec_len pen.new.row) × (vec_len pen.new.row ≤ vec_len pen.old.row + 2) }
+    ensures space { vec_capacity pen.new.row ≡ vec_capacity pen.old.row }
 {
-    ticks.tick();
-    tick_times(ticks, runs.words);
-    match push_two(row, stroke.painted, line.columns, runs) {
+    pen.ticks.tick();
+    tick_times(&mut pen.ticks, runs.words);
+    match push_two(&mut pen.row, stroke.painted, line.columns, runs) {
         None => {
             Stroke {
                 painted: line.columns,
@@ -398,7 +374,7 @@ fn draw_runs_in_row(
             }
         }
         Some(place) => {
-            let index = seek_b1(line, place, stroke.index, ticks);
+            let index = seek_b1(line, place, stroke.index, &mut pen.ticks);
             Stroke {
                 painted: place,
                 index,
@@ -464,43 +440,41 @@ fn pass_runs(
 /// Draws two runs of any number of code words. Returns `None`, and draws nothing, if they aren't of the usual kind.
 #[inline(always)]
 pub(crate) fn draw_horizontal(
-    window: &mut Window<'_>,
-    row: &mut Vec<u32>,
+    pen: &mut RowPen<'_>,
     line: &CodingLine<'_>,
     stroke: Stroke,
-    ticks: &mut Ticks,
 ) -> Option<Stroke>
-    requires mode { IsNextMode Mode.Horizontal 3 window.old }
-    requires enough { 16 ≤ window.old.left }
-    requires can { CanDraw line.now stroke window.old row.old }
-    ensures drawn { DrawsSome line.now stroke window.old row.old ticks.old result window.new row.new ticks.new }
-    ensures kept { KeepsRoom window.old row.old window.new row.new }
+    requires mode { IsNextMode Mode.Horizontal 3 pen.old.window }
+    requires enough { 16 ≤ pen.old.window.left }
+    requires can { CanDraw line.now stroke pen.old }
+    ensures drawn { DrawsSome line.now stroke pen.old result pen.new }
+    ensures kept { KeepsRoom pen.old pen.new }
 {
-    let mut rest = window.copy();
-    let (runs, nonempty) = pass_runs(&mut rest, row, line, stroke.color)?;
+    let mut rest = pen.window.copy();
+    let (runs, nonempty) = pass_runs(&mut rest, &pen.row, line, stroke.color)?;
     let room = line.columns - stroke.painted;
     if !nonempty {
         if runs.second == 0 {
             if runs.first != room {
                 return None;
             }
-            *window = rest;
-            ticks.tick();
-            tick_times(ticks, runs.words);
+            pen.window = rest;
+            pen.ticks.tick();
+            tick_times(&mut pen.ticks, runs.words);
             return Some(Stroke {
                 painted: line.columns,
                 ..stroke
             });
         }
-        if !is_next(row, runs.first) {
+        if !is_next(&pen.row, runs.first) {
             return None;
         }
     }
     if runs.first + runs.second > room {
         return None;
     }
-    let reached = draw_runs_in_row(row, line, stroke, runs, ticks);
-    *window = rest;
+    let reached = draw_runs_in_row(pen, line, stroke, runs);
+    pen.window = rest;
     Some(reached)
 }
 
@@ -508,32 +482,30 @@ pub(crate) fn draw_horizontal(
 /// usual kind, or no vertical mode.
 #[inline(always)]
 pub(crate) fn draw_vertical(
-    window: &mut Window<'_>,
-    row: &mut Vec<u32>,
+    pen: &mut RowPen<'_>,
     line: &CodingLine<'_>,
     stroke: Stroke,
     read: (Mode, usize),
-    ticks: &mut Ticks,
 ) -> Option<Stroke>
-    requires mode { IsNextMode read.0 read.1 window.old }
+    requires mode { IsNextMode read.0 read.1 pen.old.window }
     requires v0 { read.0 ≡ Mode.Vertical (pos 0) → read.1 ≡ 1 }
-    requires enough { 16 ≤ window.old.left }
-    requires can { CanDraw line.now stroke window.old row.old }
-    ensures drawn { DrawsSome line.now stroke window.old row.old ticks.old result window.new row.new ticks.new }
-    ensures kept { KeepsRoom window.old row.old window.new row.new }
+    requires enough { 16 ≤ pen.old.window.left }
+    requires can { CanDraw line.now stroke pen.old }
+    ensures drawn { DrawsSome line.now stroke pen.old result pen.new }
+    ensures kept { KeepsRoom pen.old pen.new }
 {
     let (mode, width) = read;
     let by_one = VerticalMode { distance: 1, width };
     let by_two = VerticalMode { distance: 2, width };
     let by_three = VerticalMode { distance: 3, width };
     match mode {
-        Mode::Vertical(0) => Some(draw_v0(window, row, line, stroke, ticks)),
-        Mode::Vertical(1) => draw_right(window, row, line, stroke, by_one, ticks),
-        Mode::Vertical(2) => draw_right(window, row, line, stroke, by_two, ticks),
-        Mode::Vertical(3) => draw_right(window, row, line, stroke, by_three, ticks),
-        Mode::Vertical(-1) => draw_left(window, row, line, stroke, by_one, ticks),
-        Mode::Vertical(-2) => draw_left(window, row, line, stroke, by_two, ticks),
-        Mode::Vertical(-3) => draw_left(window, row, line, stroke, by_three, ticks),
+        Mode::Vertical(0) => Some(draw_v0(pen, line, stroke)),
+        Mode::Vertical(1) => draw_right(pen, line, stroke, by_one),
+        Mode::Vertical(2) => draw_right(pen, line, stroke, by_two),
+        Mode::Vertical(3) => draw_right(pen, line, stroke, by_three),
+        Mode::Vertical(-1) => draw_left(pen, line, stroke, by_one),
+        Mode::Vertical(-2) => draw_left(pen, line, stroke, by_two),
+        Mode::Vertical(-3) => draw_left(pen, line, stroke, by_three),
         _ => None,
     }
 }
@@ -552,24 +524,18 @@ pub(crate) fn next_color(row: &Vec<u32>) -> Color
 
 /// Draws the mode that is here, in a colour. Returns `None`, and draws nothing, if it isn't of the usual kind.
 #[inline(always)]
-fn draw_mode_at_hand(
-    window: &mut Window<'_>,
-    row: &mut Vec<u32>,
-    line: &CodingLine<'_>,
-    stroke: Stroke,
-    ticks: &mut Ticks,
-) -> Option<Stroke>
-    requires enough { 16 ≤ window.old.left }
-    requires can { CanDraw line.now stroke window.old row.old }
-    ensures drawn { DrawsSome line.now stroke window.old row.old ticks.old result window.new row.new ticks.new }
-    ensures there { IfSome result (λ reached. window.old.at.place < length window.old.at.bits) }
-    ensures kept { KeepsRoom window.old row.old window.new row.new }
+fn draw_mode_at_hand(pen: &mut RowPen<'_>, line: &CodingLine<'_>, stroke: Stroke) -> Option<Stroke>
+    requires enough { 16 ≤ pen.old.window.left }
+    requires can { CanDraw line.now stroke pen.old }
+    ensures drawn { DrawsSome line.now stroke pen.old result pen.new }
+    ensures there { IfSome result (λ reached. pen.old.window.at.place < length pen.old.window.at.bits) }
+    ensures kept { KeepsRoom pen.old pen.new }
 {
-    let (mode, width) = mode_at_hand(window);
+    let (mode, width) = mode_at_hand(&pen.window);
     match mode? {
-        Mode::Pass => Some(draw_pass(window, row, line, stroke, ticks)),
-        Mode::Horizontal => draw_horizontal(window, row, line, stroke, ticks),
-        vertical => draw_vertical(window, row, line, stroke, (vertical, width), ticks),
+        Mode::Pass => Some(draw_pass(pen, line, stroke)),
+        Mode::Horizontal => draw_horizontal(pen, line, stroke),
+        vertical => draw_vertical(pen, line, stroke, (vertical, width)),
     }
 }
 
@@ -585,25 +551,19 @@ fn is_turned(color: Color, next: Color) -> bool
 /// Draws modes in one colour while they are of the usual kind, up to one that changes the colour. Returns the stroke that is
 /// reached then, and whether that is all.
 #[inline(always)]
-fn draw_run_of_modes(
-    window: &mut Window<'_>,
-    row: &mut Vec<u32>,
-    line: &CodingLine<'_>,
-    stroke: Stroke,
-    ticks: &mut Ticks,
-) -> (Stroke, bool)
-    requires can { CanDraw line.now stroke window.old row.old }
-    ensures on { DrawsOn line.now stroke window.old row.old ticks.old result.0 window.new row.new ticks.new }
-    ensures onward { window.old.at.place ≤ window.new.at.place }
-    ensures turned { result.1 ≡ false → (result.0.color ≡ opposite stroke.color) × (CanDraw line.now result.0 window.new row.new)
-        × (window.old.at.place < window.new.at.place) × (window.old.at.place < length window.old.at.bits) }
+fn draw_run_of_modes(pen: &mut RowPen<'_>, line: &CodingLine<'_>, stroke: Stroke) -> (Stroke, bool)
+    requires can { CanDraw line.now stroke pen.old }
+    ensures on { DrawsOn line.now stroke pen.old result.0 pen.new }
+    ensures onward { pen.old.window.at.place ≤ pen.new.window.at.place }
+    ensures turned { result.1 ≡ false → (result.0.color ≡ opposite stroke.color) × (CanDraw line.now result.0 pen.new)
+        × (pen.old.window.at.place < pen.new.window.at.place) × (pen.old.window.at.place < length pen.old.window.at.bits) }
 {
     let mut now = stroke;
     'modes: loop {
-        if !refill_if_low(window, row) {
+        if !refill_if_low(&mut pen.window, &pen.row) {
             return (now, true);
         }
-        match draw_mode_at_hand(window, row, line, now, ticks) {
+        match draw_mode_at_hand(pen, line, now) {
             None => return (now, true),
             Some(next) => {
                 if is_turned(stroke.color, next.color) {
@@ -624,72 +584,56 @@ fn draw_run_of_modes(
 
 /// Draws modes while they are of the usual kind, and there is room. Returns the stroke that is reached then.
 #[inline(always)]
-fn draw_by_colors(
-    window: &mut Window<'_>,
-    row: &mut Vec<u32>,
-    line: &CodingLine<'_>,
-    stroke: Stroke,
-    ticks: &mut Ticks,
-) -> Stroke
-    requires can { CanDraw line.now stroke window.old row.old }
-    ensures { DrawsOn line.now stroke window.old row.old ticks.old result window.new row.new ticks.new }
+fn draw_by_colors(pen: &mut RowPen<'_>, line: &CodingLine<'_>, stroke: Stroke) -> Stroke
+    requires can { CanDraw line.now stroke pen.old }
+    ensures { DrawsOn line.now stroke pen.old result pen.new }
 {
-    // A copy of the window, so that its fields stay in registers.
-    let mut bits = window.copy();
     let mut now = stroke;
     'turns: loop {
         let (next, is_over) = match now.color {
             Color::White => draw_run_of_modes(
-                &mut bits,
-                row,
+                pen,
                 line,
                 Stroke {
                     color: Color::White,
                     ..now
                 },
-                ticks,
             ),
             Color::Black => draw_run_of_modes(
-                &mut bits,
-                row,
+                pen,
                 line,
                 Stroke {
                     color: Color::Black,
                     ..now
                 },
-                ticks,
             ),
         };
         if is_over {
-            *window = bits;
             return next;
         }
         now = next;
     }
 }
 
-/// Draws modes by groups or in turns, as the line's settings say. It moves the list into a local, so that its length stays in a
-/// register.
+/// Draws modes by groups or in turns, as the line's settings say. The pen is a local, so that its fields stay in registers.
 #[inline(always)]
-fn draw_with_own_list(
+fn draw_with_own_pen(
     window: &mut Window<'_>,
     row: &mut Vec<u32>,
     line: &CodingLine<'_>,
     stroke: Stroke,
     ticks: &mut Ticks,
 ) -> Stroke
-    requires can { CanDraw line.now stroke window.old row.old }
-    ensures { DrawsOn line.now stroke window.old row.old ticks.old result window.new row.new ticks.new }
+    requires can { CanDraw line.now stroke (pen_with window.old row.old ticks.old) }
+    ensures { DrawsOn line.now stroke (pen_with window.old row.old ticks.old) result (pen_with window.new row.new ticks.new) }
 {
-    let empty = Vec::new(*row.allocator());
-    let mut own = mem::replace(row, empty);
+    let mut pen = take_up(window, row, ticks);
     let reached = if line.by_groups {
-        draw_by_groups(window, &mut own, line, stroke, ticks)
+        draw_by_groups(&mut pen, line, stroke)
     } else {
-        draw_by_colors(window, &mut own, line, stroke, ticks)
+        draw_by_colors(&mut pen, line, stroke)
     };
-    // What is left there is empty.
-    mem::forget(mem::replace(row, own));
+    lay_down(pen, window, row, ticks);
     reached
 }
 
@@ -708,8 +652,9 @@ pub(crate) fn draw_modes(
     line: &CodingLine<'_>,
     ticks: &mut Ticks,
 ) -> Stroke
-    requires can { CanDraw line.now line_start window.old row.old }
-    ensures drawn { Draws line.now line_start window.old row.old ticks.old result window.new row.new ticks.new }
+    requires can { CanDraw line.now line_start (pen_with window.old row.old ticks.old) }
+    ensures drawn { Draws line.now line_start (pen_with window.old row.old ticks.old) result
+        (pen_with window.new row.new ticks.new) }
     ensures same_bits { window.new.at.bits ≡ window.old.at.bits }
     ensures space { GrowsFor (vec_len row.new) (vec_capacity row.old) (vec_capacity row.new) }
 {
@@ -720,7 +665,7 @@ pub(crate) fn draw_modes(
     };
     // Each time the room doubles.
     'rooms: for _ in 0..32 {
-        let reached = draw_with_own_list(window, row, line, now, ticks);
+        let reached = draw_with_own_pen(window, row, line, now, ticks);
         if reached.painted == line.columns {
             return reached;
         }

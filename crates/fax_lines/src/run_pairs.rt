@@ -6,20 +6,20 @@ ghost use Rattle.std.specs.Prelude.{IfNone};
 ghost use Rattle.std.specs.Prelude.{min, true, false, length, ◌++◌, ◌∷◌, [], ◌^◌};
 ghost use Rattle.fax_bits.specs.LookUps.{AreEntriesOf};
 ghost use Rattle.fax_lines.specs.ContextSteps.{ShowSame};
-ghost use Rattle.fax_lines.specs.DrawnModes.{DrawsNothing};
+ghost use Rattle.fax_lines.specs.DrawnModes.{DrawsNothing, pen_with};
 ghost use Rattle.fax_reading.specs.Rows.{AreChanges, pixels};
 ghost use Rattle.fax_reading.specs.UsualRuns.{IsRunHere, IsShort, IsOpen};
 ghost use Rattle.fax_lines.specs.TwoRunsHere.{AreTwoRunsHere, CanFollow, DrawsRuns, MovesOn};
 ghost use Rattle.fax_reading.specs.UsualRuns.{GoesOn, pen_at};
 ghost use Rattle.fax_bits.specs.Window.{AtHand, moved};
 
+use crate::pen::{RowPen, lay_down, take_up};
 use fax_bits::DecodeSettings;
 use fax_bits::bit_reader::Window;
 use fax_bits::codes::{Color, Ticks, tick_times};
 use fax_bits::pairs::pairs_of;
 use fax_bits::tables::Tables;
 use fax_bits::window_words::{pass_run, word_at_hand};
-use std::mem;
 
 /// Returns the run at an offset in the window: its pixels, its bits and its number of code words. Returns `None` if it is
 /// neither a terminating word nor a make-up word and a terminating word.
@@ -161,7 +161,7 @@ fn draw_both(
     requires follow { CanFollow settings painted row.old.items runs }
     requires room { vec_len row.old + 2 ≤ vec_capacity row.old }
     ensures drawn { (window rest : AtHand) → AreTwoRunsHere Color.White window.at runs → rest.at ≡ moved runs.width window.at
-        → DrawsRuns settings painted window row.old ticks.old result.0 result.1 rest row.new ticks.new }
+        → DrawsRuns settings painted (pen_with window row.old ticks.old) result.0 result.1 (pen_with rest row.new ticks.new) }
     ensures place { result.0 ≡ painted + runs.first + min runs.second (settings.columns - (painted + runs.first)) }
     ensures space { vec_capacity row.new ≡ vec_capacity row.old }
 {
@@ -181,39 +181,35 @@ pub(crate) struct RunsOfLine<'a> {
     pub(crate) tables: &'a Tables,
     /// Whether two runs of one code word each are looked up together.
     pub(crate) by_pairs: bool,
+    /// Whether runs have any number of code words; then none are looked up together.
+    pub(crate) has_long_runs: bool,
 }
 
 /// Draws a white run and a black one of one code word each that end before the row does: the most frequent case. Returns how far
 /// the row reaches then; or `None`, drawing nothing, if they aren't of that kind.
 #[inline(always)]
-fn draw_pair(
-    window: &mut Window<'_>,
-    row: &mut Vec<u32>,
-    painted: u32,
-    line: &RunsOfLine<'_>,
-    ticks: &mut Ticks,
-) -> Option<u32>
-    requires open { IsOpen line.now.settings.columns painted row.old.items }
+fn draw_pair(pen: &mut RowPen<'_>, painted: u32, line: &RunsOfLine<'_>) -> Option<u32>
+    requires open { IsOpen line.now.settings.columns painted pen.old.row.items }
     ensures drawn { IfSome result (λ place. GoesOn line.now.settings.strict line.now.settings.columns
-        (pen_at painted row.old.items Color.White window.old.at)
-        (pen_at place row.new.items Color.White window.new.at) ticks.old ticks.new) }
-    ensures open { IfSome result (λ place. IsOpen line.now.settings.columns place row.new.items) }
+        (pen_at painted pen.old.row.items Color.White pen.old.window.at)
+        (pen_at place pen.new.row.items Color.White pen.new.window.at) pen.old.ticks pen.new.ticks) }
+    ensures open { IfSome result (λ place. IsOpen line.now.settings.columns place pen.new.row.items) }
     ensures forward { IfSome result (λ place. painted < place) }
-    ensures left { IfNone result (DrawsNothing window.old row.old ticks.old window.new row.new ticks.new) }
-    ensures kept { MovesOn window.old row.old window.new row.new }
+    ensures left { IfNone result (DrawsNothing pen.old pen.new) }
+    ensures kept { MovesOn pen.old pen.new }
 {
-    if !line.by_pairs || !ensure_bits(window, 12) {
+    if !line.by_pairs || !ensure_bits(&mut pen.window, 12) {
         return None;
     }
-    let runs = pair_at_hand(window, 0, Color::White)?;
+    let runs = pair_at_hand(&pen.window, 0, Color::White)?;
     if runs.first + runs.second >= line.settings.columns - painted {
         return None;
     }
-    if !has_room_for_pair(row) {
+    if !has_room_for_pair(&pen.row) {
         return None;
     }
-    window.pass(runs.width);
-    let (place, _color) = draw_both(row, painted, line.settings, runs, ticks);
+    pen.window.pass(runs.width);
+    let (place, _color) = draw_both(&mut pen.row, painted, line.settings, runs, &mut pen.ticks);
     Some(place)
 }
 
@@ -221,45 +217,47 @@ fn draw_pair(
 /// row reaches then, and the colour in which it would continue; or `None`, drawing nothing, if they aren't of the usual kind.
 #[inline(always)]
 pub(crate) fn draw_two_runs(
-    window: &mut Window<'_>,
-    row: &mut Vec<u32>,
+    pen: &mut RowPen<'_>,
     painted: u32,
     settings: DecodeSettings,
     tables: &Tables,
-    ticks: &mut Ticks,
 ) -> Option<(u32, Color)>
-    requires open { IsOpen settings.columns painted row.old.items }
-    ensures drawn { IfSome result (λ reached. DrawsRuns settings painted window.old row.old ticks.old reached.0 reached.1
-        window.new row.new ticks.new) }
+    requires open { IsOpen settings.columns painted pen.old.row.items }
+    ensures drawn { IfSome result (λ reached. DrawsRuns settings painted pen.old reached.0 reached.1 pen.new) }
     ensures forward { IfSome result (λ reached. painted < reached.0) }
-    ensures left { IfNone result (DrawsNothing window.old row.old ticks.old window.new row.new ticks.new) }
-    ensures kept { MovesOn window.old row.old window.new row.new }
+    ensures left { IfNone result (DrawsNothing pen.old pen.new) }
+    ensures kept { MovesOn pen.old pen.new }
 {
-    if !ensure_bits(window, 26) {
+    if !ensure_bits(&mut pen.window, 26) {
         return None;
     }
-    let (first, width, words) = run_at_hand(window, 0, Color::White, tables.lookup(Color::White))?;
+    let (first, width, words) = run_at_hand(
+        &pen.window,
+        0,
+        Color::White,
+        tables.lookup(Color::White),
+    )?;
     let room = settings.columns - painted;
     // A run that is cut is left to the plain calls.
     if first > room {
         return None;
     }
     if first == room {
-        window.pass(width);
-        tick_times(ticks, words);
+        pen.window.pass(width);
+        tick_times(&mut pen.ticks, words);
         return Some((settings.columns, Color::Black));
     }
-    if !is_next(row, first) {
+    if !is_next(&pen.row, first) {
         return None;
     }
-    if !has_room_for_pair(row) {
+    if !has_room_for_pair(&pen.row) {
         return None;
     }
-    if !ensure_bits(window, width + 26) {
+    if !ensure_bits(&mut pen.window, width + 26) {
         return None;
     }
     let (second, width2, words2) = run_at_hand(
-        window,
+        &pen.window,
         width,
         Color::Black,
         tables.lookup(Color::Black),
@@ -276,27 +274,24 @@ pub(crate) fn draw_two_runs(
         width: width + width2,
         words: words + words2,
     };
-    window.pass(runs.width);
-    Some(draw_both(row, painted, settings, runs, ticks))
+    pen.window.pass(runs.width);
+    Some(draw_both(&mut pen.row, painted, settings, runs, &mut pen.ticks))
 }
 
 /// Draws two runs as `draw_two_runs` does, of any number of code words.
 #[inline(always)]
 fn draw_two_long_runs(
-    window: &mut Window<'_>,
-    row: &mut Vec<u32>,
+    pen: &mut RowPen<'_>,
     painted: u32,
     line: &RunsOfLine<'_>,
-    ticks: &mut Ticks,
 ) -> Option<(u32, Color)>
-    requires open { IsOpen line.now.settings.columns painted row.old.items }
-    ensures drawn { IfSome result (λ reached. DrawsRuns line.now.settings painted window.old row.old ticks.old reached.0 reached.1
-        window.new row.new ticks.new) }
+    requires open { IsOpen line.now.settings.columns painted pen.old.row.items }
+    ensures drawn { IfSome result (λ reached. DrawsRuns line.now.settings painted pen.old reached.0 reached.1 pen.new) }
     ensures forward { IfSome result (λ reached. painted < reached.0) }
-    ensures left { IfNone result (DrawsNothing window.old row.old ticks.old window.new row.new ticks.new) }
-    ensures kept { MovesOn window.old row.old window.new row.new }
+    ensures left { IfNone result (DrawsNothing pen.old pen.new) }
+    ensures kept { MovesOn pen.old pen.new }
 {
-    let mut rest = window.copy();
+    let mut rest = pen.window.copy();
     let white = pass_run(&mut rest, Color::White, line.tables.lookup(Color::White))?;
     let columns = line.settings.columns;
     let room = columns - painted;
@@ -305,11 +300,11 @@ fn draw_two_long_runs(
         if white.run > room {
             return None;
         }
-        *window = rest;
-        tick_times(ticks, white.words);
+        pen.window = rest;
+        tick_times(&mut pen.ticks, white.words);
         return Some((columns, Color::Black));
     }
-    if !is_next(row, white.run) || !has_room_for_pair(row) {
+    if !is_next(&pen.row, white.run) || !has_room_for_pair(&pen.row) {
         return None;
     }
     let black = pass_run(&mut rest, Color::Black, line.tables.lookup(Color::Black))?;
@@ -322,31 +317,25 @@ fn draw_two_long_runs(
         width: white.width + black.width,
         words: white.words + black.words,
     };
-    *window = rest;
-    Some(draw_both(row, painted, line.settings, runs, ticks))
+    pen.window = rest;
+    Some(draw_both(&mut pen.row, painted, line.settings, runs, &mut pen.ticks))
 }
 
 /// Draws runs in pairs while they are of the usual kind. Returns how far the row reaches then, and the colour in which it
 /// continues.
 #[inline(always)]
-fn draw_pairs(
-    window: &mut Window<'_>,
-    row: &mut Vec<u32>,
-    painted: u32,
-    line: &RunsOfLine<'_>,
-    ticks: &mut Ticks,
-) -> (u32, Color)
-    requires open { IsOpen line.now.settings.columns painted row.old.items }
-    ensures drawn { DrawsRuns line.now.settings painted window.old row.old ticks.old result.0 result.1 window.new row.new ticks.new }
+fn draw_pairs(pen: &mut RowPen<'_>, painted: u32, line: &RunsOfLine<'_>) -> (u32, Color)
+    requires open { IsOpen line.now.settings.columns painted pen.old.row.items }
+    ensures drawn { DrawsRuns line.now.settings painted pen.old result.0 result.1 pen.new }
     ensures forward { painted ≤ result.0 }
-    ensures kept { MovesOn window.old row.old window.new row.new }
+    ensures kept { MovesOn pen.old pen.new }
 {
     let mut place = painted;
     'runs: loop {
-        if let Some(next) = draw_pair(window, row, place, line, ticks) {
+        if let Some(next) = draw_pair(pen, place, line) {
             place = next;
         } else {
-            match draw_two_runs(window, row, place, line.settings, line.tables, ticks) {
+            match draw_two_runs(pen, place, line.settings, line.tables) {
                 None => return (place, Color::White),
                 Some((next, color)) => {
                     if next == line.settings.columns {
@@ -362,21 +351,15 @@ fn draw_pairs(
 /// Draws runs of any number of code words in pairs while they are of the usual kind. Returns how far the row reaches then, and the
 /// colour in which it continues.
 #[inline(always)]
-pub(crate) fn draw_long_pairs(
-    window: &mut Window<'_>,
-    row: &mut Vec<u32>,
-    painted: u32,
-    line: &RunsOfLine<'_>,
-    ticks: &mut Ticks,
-) -> (u32, Color)
-    requires open { IsOpen line.now.settings.columns painted row.old.items }
-    ensures drawn { DrawsRuns line.now.settings painted window.old row.old ticks.old result.0 result.1 window.new row.new ticks.new }
+fn draw_long_pairs(pen: &mut RowPen<'_>, painted: u32, line: &RunsOfLine<'_>) -> (u32, Color)
+    requires open { IsOpen line.now.settings.columns painted pen.old.row.items }
+    ensures drawn { DrawsRuns line.now.settings painted pen.old result.0 result.1 pen.new }
     ensures forward { painted ≤ result.0 }
-    ensures kept { MovesOn window.old row.old window.new row.new }
+    ensures kept { MovesOn pen.old pen.new }
 {
     let mut place = painted;
     'runs: loop {
-        match draw_two_long_runs(window, row, place, line, ticks) {
+        match draw_two_long_runs(pen, place, line) {
             None => return (place, Color::White),
             Some((next, color)) => {
                 if next == line.settings.columns {
@@ -388,8 +371,7 @@ pub(crate) fn draw_long_pairs(
     }
 }
 
-/// Draws runs in pairs, looked up together where the line's settings say so. There it moves the list into a local, so that its
-/// length stays in a register.
+/// Draws runs in pairs, as the line's settings say. The pen is a local, so that its fields stay in registers.
 #[inline(always)]
 pub(crate) fn draw_runs(
     window: &mut Window<'_>,
@@ -399,19 +381,18 @@ pub(crate) fn draw_runs(
     ticks: &mut Ticks,
 ) -> (u32, Color)
     requires open { IsOpen line.now.settings.columns painted row.old.items }
-    ensures drawn { DrawsRuns line.now.settings painted window.old row.old ticks.old result.0 result.1 window.new row.new ticks.new }
+    ensures drawn { DrawsRuns line.now.settings painted (pen_with window.old row.old ticks.old) result.0 result.1
+        (pen_with window.new row.new ticks.new) }
     ensures forward { painted ≤ result.0 }
-    ensures kept { MovesOn window.old row.old window.new row.new }
+    ensures kept { MovesOn (pen_with window.old row.old ticks.old) (pen_with window.new row.new ticks.new) }
 {
-    // A few runs cost less than the exchange.
-    if !line.by_pairs {
-        return draw_pairs(window, row, painted, line, ticks);
-    }
-    let empty = Vec::new(*row.allocator());
-    let mut own = mem::replace(row, empty);
-    let reached = draw_pairs(window, &mut own, painted, line, ticks);
-    // What is left there is empty.
-    mem::forget(mem::replace(row, own));
+    let mut pen = take_up(window, row, ticks);
+    let reached = if line.has_long_runs {
+        draw_long_pairs(&mut pen, painted, line)
+    } else {
+        draw_pairs(&mut pen, painted, line)
+    };
+    lay_down(pen, window, row, ticks);
     reached
 }
 

@@ -7,7 +7,7 @@ ghost use Rattle.fax_lines.specs.DrawnModes.{AreModesHere, IsFirstMode, LeadFrom
 ghost use Rattle.fax_bits.specs.ModeGroups.{AreNextWords, words_of};
 ghost use Rattle.fax_lines.specs.RegularModes.{AreSet};
 ghost use Rattle.fax_lines.specs.DrawnModes.{CanDraw, DrawsMode};
-ghost use Rattle.fax_lines.specs.DrawnModes.{DrawsOn, DrawsSome, KeepsRoom};
+ghost use Rattle.fax_lines.specs.DrawnModes.{DrawsOn, DrawsSome, KeepsRoom, StaysAsItIs};
 ghost use Rattle.fax_reading.specs.Rows.{opposite};
 ghost use Rattle.fax_reading.specs.UsualModes.{AreEnded, changes_in, IsB1, TurnsFrom};
 
@@ -15,9 +15,9 @@ use crate::modes::{
     CodingLine, Stroke, change_at, draw_horizontal, draw_pass, draw_vertical, mode_at_hand,
     next_color, refill_if_low, seek_b1,
 };
+use crate::pen::RowPen;
 use crate::regular_places::regular_places;
 use crate::run_pairs::push_change;
-use fax_bits::bit_reader::Window;
 use fax_bits::codes::{Ticks, tick_times};
 use fax_bits::mode_groups::{ModeGroup, group_at_hand};
 
@@ -109,28 +109,26 @@ fn push_first_places(row: &mut Vec<u32>, places: [u32; 4], count: usize)
 /// Draws the modes of a group, which are all regular.
 #[inline(always)]
 fn draw_regular(
-    window: &mut Window<'_>,
-    row: &mut Vec<u32>,
+    pen: &mut RowPen<'_>,
     _line: &CodingLine<'_>,
     stroke: Stroke,
     modes: &ModesHere,
-    ticks: &mut Ticks,
 ) -> Stroke
-    requires can { CanDraw _line.now stroke window.old row.old }
-    requires here { AreModesHere _line.now stroke window.old modes.now }
+    requires can { CanDraw _line.now stroke pen.old }
+    requires here { AreModesHere _line.now stroke pen.old.window modes.now }
     requires all { AreSet modes.now.regular (length (words_of modes.now.group)) }
-    ensures drawn { DrawsMode _line.now stroke window.old row.old ticks.old result window.new row.new ticks.new }
+    ensures drawn { DrawsMode _line.now stroke pen.old result pen.new }
     ensures inside { result.painted < _line.now.columns }
-    ensures kept { KeepsRoom window.old row.old window.new row.new }
+    ensures kept { KeepsRoom pen.old pen.new }
 {
     let count = ModeGroup::count(modes.group);
-    push_first_places(row, modes.places, count);
-    window.pass(modes.group.width());
-    tick_times(ticks, 2 * count);
+    push_first_places(&mut pen.row, modes.places, count);
+    pen.window.pass(modes.group.width());
+    tick_times(&mut pen.ticks, 2 * count);
     Stroke {
-        painted: row[row.len() - 1],
+        painted: pen.row[pen.row.len() - 1],
         index: stroke.index + count,
-        color: next_color(row),
+        color: next_color(&pen.row),
     }
 }
 
@@ -153,30 +151,28 @@ fn b1_after(line: &CodingLine<'_>, stroke: Stroke, place: u32, ticks: &mut Ticks
 /// Draws the mode that is here, whose group this is. Returns `None`, and draws nothing, if it isn't of the usual kind.
 #[inline(always)]
 fn draw_mode_of_group(
-    window: &mut Window<'_>,
-    row: &mut Vec<u32>,
+    pen: &mut RowPen<'_>,
     line: &CodingLine<'_>,
     stroke: Stroke,
     group: ModeGroup,
-    ticks: &mut Ticks,
 ) -> Option<Stroke>
-    requires enough { 16 ≤ window.old.left }
-    requires can { CanDraw line.now stroke window.old row.old }
-    requires first { IsFirstMode group window.old }
-    ensures drawn { DrawsSome line.now stroke window.old row.old ticks.old result window.new row.new ticks.new }
-    ensures kept { KeepsRoom window.old row.old window.new row.new }
+    requires enough { 16 ≤ pen.old.window.left }
+    requires can { CanDraw line.now stroke pen.old }
+    requires first { IsFirstMode group pen.old.window }
+    ensures drawn { DrawsSome line.now stroke pen.old result pen.new }
+    ensures kept { KeepsRoom pen.old pen.new }
 {
     if group.is_horizontal() {
-        return draw_horizontal(window, row, line, stroke, ticks);
+        return draw_horizontal(pen, line, stroke);
     }
     if group.is_pass() {
-        return Some(draw_pass(window, row, line, stroke, ticks));
+        return Some(draw_pass(pen, line, stroke));
     }
     if ModeGroup::count(group) == 0 {
         return None;
     }
-    let (mode, width) = mode_at_hand(window);
-    draw_vertical(window, row, line, stroke, (mode?, width), ticks)
+    let (mode, width) = mode_at_hand(&pen.window);
+    draw_vertical(pen, line, stroke, (mode?, width))
 }
 
 /// Returns the last of some places that are stored in a row from an index on, or what was painted before if there is none.
@@ -195,53 +191,51 @@ fn painted_by(row: &Vec<u32>, start: usize, count: usize, painted: u32) -> u32
 /// Returns how far the row is drawn then, or `None` if no mode is drawn.
 #[inline(always)]
 fn draw_first_modes(
-    window: &mut Window<'_>,
-    row: &mut Vec<u32>,
+    pen: &mut RowPen<'_>,
     line: &CodingLine<'_>,
     stroke: Stroke,
     modes: &ModesHere,
-    ticks: &mut Ticks,
 ) -> Option<Stroke>
-    requires can { CanDraw line.now stroke window.old row.old }
-    requires here { AreModesHere line.now stroke window.old modes.now }
+    requires can { CanDraw line.now stroke pen.old }
+    requires here { AreModesHere line.now stroke pen.old.window modes.now }
     requires some { first_clear modes.now < length (words_of modes.now.group) }
-    ensures drawn { IfSome result (λ next. DrawsMode line.now stroke window.old row.old ticks.old next window.new row.new ticks.new) }
+    ensures drawn { IfSome result (λ next. DrawsMode line.now stroke pen.old next pen.new) }
     ensures inside { IfSome result (λ next. next.painted < line.now.columns) }
-    ensures left { IfNone result ((window.new ≡ window.old) × (row.new.items ≡ row.old.items) × (ticks.new ≡ ticks.old)) }
-    ensures kept { KeepsRoom window.old row.old window.new row.new }
+    ensures left { IfNone result (StaysAsItIs pen.old pen.new) }
+    ensures kept { KeepsRoom pen.old pen.new }
 {
     let count = (!modes.regular).trailing_zeros() as usize;
-    let start = row.len();
-    push_places(row, modes.places);
-    let place = row[start + count];
-    let painted = painted_by(row, start, count, stroke.painted);
+    let start = pen.row.len();
+    push_places(&mut pen.row, modes.places);
+    let place = pen.row[start + count];
+    let painted = painted_by(&pen.row, start, count, stroke.painted);
     if painted < place && place < line.columns {
-        row.truncate(start + count + 1);
-        window.pass(modes.group.first_width(count + 1));
-        tick_times(ticks, 2 * count + 2);
+        pen.row.truncate(start + count + 1);
+        pen.window.pass(modes.group.first_width(count + 1));
+        tick_times(&mut pen.ticks, 2 * count + 2);
         let before = Stroke {
             painted,
             index: stroke.index + count,
-            color: next_color(row).opposite(),
+            color: next_color(&pen.row).opposite(),
         };
-        let index = b1_after(line, before, place, ticks);
-        let color = next_color(row);
+        let index = b1_after(line, before, place, &mut pen.ticks);
+        let color = next_color(&pen.row);
         return Some(Stroke {
             painted: place,
             index,
             color,
         });
     }
-    row.truncate(start + count);
+    pen.row.truncate(start + count);
     if count == 0 {
         return None;
     }
-    window.pass(modes.group.first_width(count));
-    tick_times(ticks, 2 * count);
+    pen.window.pass(modes.group.first_width(count));
+    tick_times(&mut pen.ticks, 2 * count);
     Some(Stroke {
         painted,
         index: stroke.index + count,
-        color: next_color(row),
+        color: next_color(&pen.row),
     })
 }
 
@@ -249,20 +243,18 @@ fn draw_first_modes(
 /// row is drawn then; or `None`, drawing nothing, if there is no such mode.
 #[inline(always)]
 fn draw_group(
-    window: &mut Window<'_>,
-    row: &mut Vec<u32>,
+    pen: &mut RowPen<'_>,
     line: &CodingLine<'_>,
     stroke: Stroke,
     group: ModeGroup,
-    ticks: &mut Ticks,
 ) -> Option<Stroke>
-    requires enough { 16 ≤ window.old.left }
-    requires can { CanDraw line.now stroke window.old row.old }
-    requires words { AreNextWords (words_of group) window.old.at }
-    ensures drawn { IfSome result (λ next. DrawsMode line.now stroke window.old row.old ticks.old next window.new row.new ticks.new) }
+    requires enough { 16 ≤ pen.old.window.left }
+    requires can { CanDraw line.now stroke pen.old }
+    requires words { AreNextWords (words_of group) pen.old.window.at }
+    ensures drawn { IfSome result (λ next. DrawsMode line.now stroke pen.old next pen.new) }
     ensures inside { IfSome result (λ next. next.painted < line.now.columns) }
-    ensures left { IfNone result ((window.new ≡ window.old) × (row.new.items ≡ row.old.items) × (ticks.new ≡ ticks.old)) }
-    ensures kept { KeepsRoom window.old row.old window.new row.new }
+    ensures left { IfNone result (StaysAsItIs pen.old pen.new) }
+    ensures kept { KeepsRoom pen.old pen.new }
 {
     if ModeGroup::count(group) == 0 {
         return None;
@@ -272,44 +264,34 @@ fn draw_group(
     }
     let modes = modes_here(line, stroke, group);
     if are_regular(&modes) {
-        return Some(draw_regular(window, row, line, stroke, &modes, ticks));
+        return Some(draw_regular(pen, line, stroke, &modes));
     }
-    draw_first_modes(window, row, line, stroke, &modes, ticks)
+    draw_first_modes(pen, line, stroke, &modes)
 }
 
 /// Draws modes while they are of the usual kind, and there is room. Returns the stroke that is reached then.
 #[inline(always)]
-pub(crate) fn draw_by_groups(
-    window: &mut Window<'_>,
-    row: &mut Vec<u32>,
-    line: &CodingLine<'_>,
-    stroke: Stroke,
-    ticks: &mut Ticks,
-) -> Stroke
-    requires can { CanDraw line.now stroke window.old row.old }
-    ensures { DrawsOn line.now stroke window.old row.old ticks.old result window.new row.new ticks.new }
+pub(crate) fn draw_by_groups(pen: &mut RowPen<'_>, line: &CodingLine<'_>, stroke: Stroke) -> Stroke
+    requires can { CanDraw line.now stroke pen.old }
+    ensures { DrawsOn line.now stroke pen.old result pen.new }
 {
-    let mut bits = window.copy();
     let mut now = stroke;
     'modes: loop {
-        if !refill_if_low(&mut bits, row) {
-            *window = bits;
-            return recolored(row, now);
+        if !refill_if_low(&mut pen.window, &pen.row) {
+            return recolored(&pen.row, now);
         }
-        let group = group_at_hand(&bits);
-        if let Some(next) = draw_group(&mut bits, row, line, now, group, ticks) {
+        let group = group_at_hand(&pen.window);
+        if let Some(next) = draw_group(pen, line, now, group) {
             now = next;
             continue;
         }
-        let here = recolored(row, now);
-        match draw_mode_of_group(&mut bits, row, line, here, group, ticks) {
+        let here = recolored(&pen.row, now);
+        match draw_mode_of_group(pen, line, here, group) {
             None => {
-                *window = bits;
                 return here;
             }
             Some(next) => {
                 if next.painted == line.columns {
-                    *window = bits;
                     return next;
                 }
                 now = next;

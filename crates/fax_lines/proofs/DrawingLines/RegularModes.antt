@@ -12,6 +12,7 @@ use Rattle.std.proofs.lemmas.List.{get_or-append-add, get_or-take, length-take-l
 use Rattle.fax_lines.specs.DrawnModes.{AreModesHere, DrawsMode, pen_here}
 use Rattle.fax_bits.specs.ModeGroups.{VerticalWord, AreNextWords, IsNextWord, width_of, distance_of, offset_at, words_of}
 use Rattle.fax_lines.specs.RegularModes.{AreSet, IsRegular}
+use Rattle.fax_lines.specs.declared.pen.RowPen.{RowPen}
 use Rattle.fax_lines.specs.declared.vertical_groups.ModesHere.{ModesHere}
 use Rattle.fax_lines.proofs.DrawingLines.UsualModes.{vertical_on, left_stroke, b2_within, twice_2d, draws_mode}
 use Rattle.fax_lines.proofs.DrawingLines.UsualStrokes.{pixels-pending}
@@ -201,8 +202,8 @@ next_word (word ∷ words) (suc n) at next few =
     let sum : width_of (take n words) + on.0.width ≡ width_of (take (suc n) words) = on.2 in
     (on.0, on.1, omega (arith, sum), rw (sym (moved_on word.width (width_of (take n words)) at)) on.3)
 
-module _ {A : Type 0} {line : CodingLine} {stroke : Stroke} {window : AtHand} {row : Vec ℕ A} {modes : ModesHere}
-    (can : CanDraw line stroke window row) (here : AreModesHere line stroke window modes) (n : ℕ)
+module _ {line : CodingLine} {stroke : Stroke} {pen : RowPen} {modes : ModesHere}
+    (can : CanDraw line stroke pen) (here : AreModesHere line stroke pen.window modes) (n : ℕ)
     (within : n ≤ length (words_of modes.group)) (set : AreSet modes.regular n) where
   count : length (take n modes.places) ≡ n
   count = length-take-le n modes.places (omega (arith, within, here.few, here.lead.four))
@@ -235,82 +236,84 @@ module _ {A : Type 0} {line : CodingLine} {stroke : Stroke} {window : AtHand} {r
   first_inside = rw first_last at is_open
 
   -- the row that is reached
-  pub first_reached : (color : Color) → TurnsFrom (length (row.items ++ take n modes.places)) color → IsStroke line.columns
-      (changes_in line.places.now) (get_or (stroke.painted ∷ modes.places) n 0) (stroke.index + n) color (row.items ++ take n
+  pub first_reached : (color : Color) → TurnsFrom (length (pen.row.items ++ take n modes.places)) color → IsStroke line.columns
+      (changes_in line.places.now) (get_or (stroke.painted ∷ modes.places) n 0) (stroke.index + n) color (pen.row.items ++ take n
       modes.places)
   first_reached color turns =
-      let on = group_stroke can.ended.lawful (take n modes.places) stroke.painted stroke.index stroke.color row.items
+      let on = group_stroke can.ended.lawful (take n modes.places) stroke.painted stroke.index stroke.color pen.row.items
       can.inside can.reached regular in
-      let same = one_color (length (row.items ++ take n modes.places)) _ color (on.colored is_open) turns in
+      let same = one_color (length (pen.row.items ++ take n modes.places)) _ color (on.colored is_open) turns in
       rw (first_last, count, same) at on
 
   -- and the line
-  pub first_drawn : (ticks : ℕ) (color : Color) → TurnsFrom (length (row.items ++ take n modes.places)) color
-      → GoesOn2d line.strict line.columns (row_in line.columns line.places.now) (pen_here stroke window row)
-      (pen_at (get_or (stroke.painted ∷ modes.places) n 0) (row.items ++ take n modes.places) color
-      (moved (width_of (take n (words_of modes.group))) window.at)) ticks (ticks + 2 * n) (stroke.index - 1)
+  pub first_drawn : (ticks : ℕ) (color : Color) → TurnsFrom (length (pen.row.items ++ take n modes.places)) color
+      → GoesOn2d line.strict line.columns (row_in line.columns line.places.now) (pen_here stroke pen)
+      (pen_at (get_or (stroke.painted ∷ modes.places) n 0) (pen.row.items ++ take n modes.places) color
+      (moved (width_of (take n (words_of modes.group))) pen.window.at)) ticks (ticks + 2 * n) (stroke.index - 1)
       (stroke.index + n - 1)
   first_drawn ticks color turns =
-      let on = group_stroke can.ended.lawful (take n modes.places) stroke.painted stroke.index stroke.color row.items
+      let on = group_stroke can.ended.lawful (take n modes.places) stroke.painted stroke.index stroke.color pen.row.items
       can.inside can.reached regular in
-      let same = one_color (length (row.items ++ take n modes.places)) _ color (on.colored is_open) turns in
+      let same = one_color (length (pen.row.items ++ take n modes.places)) _ color (on.colored is_open) turns in
       rw (first_last, count, same) at (group_on can.ended.lawful {strict = line.strict} (take n modes.places) (words_of
       modes.group) stroke.painted
-      stroke.index stroke.color row.items window.at ticks (omega (arith, can.fits)) can.inside can.reached here.next named
+      stroke.index stroke.color pen.row.items pen.window.at ticks (omega (arith, can.fits)) can.inside can.reached here.next named
       regular)
 
   -- the line with the mode after them, which leads to a place that isn't left of them
   next_drawn : {place ticks now : ℕ} (later : ℕ) (color : Color) → n < length (words_of modes.group) → place ≡ get_or
       modes.places n 0
       → get_or (stroke.painted ∷ modes.places) n 0 ≤ place → place ≤ line.columns
-      → TurnsFrom (length (row.items ++ take n modes.places)) color → ticks + 2 * n + 1 ≤ now
+      → TurnsFrom (length (pen.row.items ++ take n modes.places)) color → ticks + 2 * n + 1 ≤ now
       → now + (stroke.index + n - 1) ≤ ticks + 2 * n + 4 + (later - 1)
-      → GoesOn2d line.strict line.columns (row_in line.columns line.places.now) (pen_here stroke window row)
-      (pen_at place (row.items ++ take n modes.places) (opposite color)
-      (moved (width_of (take (suc n) (words_of modes.group))) window.at)) ticks now (stroke.index - 1) (later - 1)
+      → GoesOn2d line.strict line.columns (row_in line.columns line.places.now) (pen_here stroke pen)
+      (pen_at place (pen.row.items ++ take n modes.places) (opposite color)
+      (moved (width_of (take (suc n) (words_of modes.group))) pen.window.at)) ticks now (stroke.index - 1) (later - 1)
   next_drawn {place} {ticks} {now} later color more is right within_row colored least most =
       let width : ℕ = width_of (take n (words_of modes.group)) in
-      let word = next_word (words_of modes.group) n window.at here.next more in
+      let word = next_word (words_of modes.group) n pen.window.at here.next more in
       let named = here.lead.named n (omega (arith, more, here.few)) (omega (arith, is, within_row)) in
       let step = vertical_on can.ended.lawful first_inside (first_reached color colored) {strict = line.strict}
-      (moved width window.at) later word.0.width {ticks = ticks + 2 * n} {now = now} (omega (arith, can.fits, within_row))
+      (moved width pen.window.at) later word.0.width {ticks = ticks + 2 * n} {now = now} (omega (arith, can.fits, within_row))
       word.3.read
       (named_by (get_or (changes_in line.places.now) (stroke.index + n) line.columns) word.0.offset place
       (omega (arith, named, word.1, is))) right within_row least most in
-      subst (λ (at : BitsAt). GoesOn2d line.strict line.columns (row_in line.columns line.places.now) (pen_here stroke window row)
-      (pen_at place (row.items ++ take n modes.places) (opposite color) at) ticks now (stroke.index - 1) (later - 1))
-      (moved_on width word.0.width window.at ∙ ap (λ (w : ℕ). moved w window.at) word.2)
+      subst (λ (at : BitsAt). GoesOn2d line.strict line.columns (row_in line.columns line.places.now) (pen_here stroke pen)
+      (pen_at place (pen.row.items ++ take n modes.places) (opposite color) at) ticks now (stroke.index - 1) (later - 1))
+      (moved_on width word.0.width pen.window.at ∙ ap (λ (w : ℕ). moved w pen.window.at) word.2)
       (twice_2d (first_drawn ticks color colored) step)
 
   -- ---- What is drawn, by a window, a row and a stroke.
-  module _ {next : Stroke} {rest : AtHand} {longer : Vec ℕ A} {ticks now : ℕ}
-      (room : vec_len longer + rest.left ≤ vec_capacity longer) where
+  module _ {next : Stroke} {after : RowPen} (room : vec_len after.row + after.window.left ≤ vec_capacity after.row) where
     -- the regular modes
     pub draws_first : 0 < n → next.painted ≡ get_or (stroke.painted ∷ modes.places) n 0 → next.index ≡ stroke.index + n
-        → TurnsFrom (vec_len longer) next.color → longer.items ≡ row.items ++ take n modes.places
-        → rest.at ≡ moved (width_of (take n (words_of modes.group))) window.at → now ≡ ticks + 2 * n
-        → DrawsMode line stroke window row ticks next rest longer now
+        → TurnsFrom (vec_len after.row) next.color → after.row.items ≡ pen.row.items ++ take n modes.places
+        → after.window.at ≡ moved (width_of (take n (words_of modes.group))) pen.window.at → after.ticks ≡ pen.ticks + 2 * n
+        → DrawsMode line stroke pen next after
     draws_first some painted index colored items at counted =
-        let turns : TurnsFrom (length (row.items ++ take n modes.places)) next.color = rw (longer.ok.0, items) at colored in
-        draws_mode (rw (painted, index, items, at, counted) (first_drawn ticks next.color turns))
+        let turns : TurnsFrom (length (pen.row.items ++ take n modes.places)) next.color =
+        rw (after.row.ok.0, items) at colored in
+        draws_mode (rw (painted, index, items, at, counted) (first_drawn pen.ticks next.color turns))
         (rw (painted, index, items) (first_reached next.color turns))
-        (rw at (omega (arith, some, bits_at_least (words_of modes.group) n window.at here.next within))) room
+        (rw at (omega (arith, some, bits_at_least (words_of modes.group) n pen.window.at here.next within))) room
 
     module _ (color : Color) (more : n < length (words_of modes.group))
-        (colored : TurnsFrom (length (row.items ++ take n modes.places)) color) (turned : next.color ≡ opposite color)
-        (at : rest.at ≡ moved (width_of (take (suc n) (words_of modes.group))) window.at) (least : ticks + 2 * n + 1 ≤ now)
-        (most : now + (stroke.index + n - 1) ≤ ticks + 2 * n + 4 + (next.index - 1)) where
+        (colored : TurnsFrom (length (pen.row.items ++ take n modes.places)) color) (turned : next.color ≡ opposite color)
+        (at : after.window.at ≡ moved (width_of (take (suc n) (words_of modes.group))) pen.window.at)
+        (least : pen.ticks + 2 * n + 1 ≤ after.ticks)
+        (most : after.ticks + (stroke.index + n - 1) ≤ pen.ticks + 2 * n + 4 + (next.index - 1)) where
       -- the next mode, at another place of the row, right of them
       pub draws_next : next.painted ≡ get_or modes.places n 0 → get_or (stroke.painted ∷ modes.places) n 0 < next.painted
           → next.painted < line.columns → IsB1 line.columns (changes_in line.places.now) next.painted next.index (opposite color)
-          → longer.items ≡ row.items ++ take (suc n) modes.places → DrawsMode line stroke window row ticks next rest longer now
+          → after.row.items ≡ pen.row.items ++ take (suc n) modes.places → DrawsMode line stroke pen next after
       draws_next is right inside b1 items =
           let one : take (suc n) modes.places ≡ take n modes.places ++ next.painted ∷ [] =
           rw is (take-suc modes.places n 0 (omega (arith, here.lead.four, more, here.few))) in
-          let longer_is : longer.items ≡ (row.items ++ take n modes.places) ++ next.painted ∷ [] =
-          items ∙ ap (λ xs. row.items ++ xs) one ∙ sym (append_assoc row.items (take n modes.places) (next.painted ∷ [])) in
-          let some : window.at.place < window.at.place + width_of (take (suc n) (words_of modes.group)) =
-          omega (arith, bits_at_least (words_of modes.group) (suc n) window.at here.next more) in
+          let longer_is : after.row.items ≡ (pen.row.items ++ take n modes.places) ++ next.painted ∷ [] =
+          items ∙ ap (λ xs. pen.row.items ++ xs) one
+          ∙ sym (append_assoc pen.row.items (take n modes.places) (next.painted ∷ [])) in
+          let some : pen.window.at.place < pen.window.at.place + width_of (take (suc n) (words_of modes.group)) =
+          omega (arith, bits_at_least (words_of modes.group) (suc n) pen.window.at here.next more) in
           draws_mode (rw (at, turned, longer_is, pixels-pending)
           (next_drawn next.index color more is (omega (arith, right)) (omega (arith, inside)) colored least most))
           (left_stroke can.ended.lawful first_inside (first_reached color colored) right inside longer_is turned b1) (rw at

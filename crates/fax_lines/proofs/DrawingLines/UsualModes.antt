@@ -10,8 +10,10 @@ use Rattle.fax_lines.proofs.Names.{Context, ArePassed, redrawn, Pen, start, draw
 use Rattle.fax_lines.proofs.Names.{Turn, Row, AreChanges, pixels, is_black, opposite, paint, right_of, b1, b2, changes}
 use Rattle.fax_lines.proofs.Names.{TurnsFrom, IsNear, IsB1, GoesOn2d, IsStroke, TwoRuns, AreTwoRunsHere, IsRunHere, pen_at}
 use Rattle.fax_lines.proofs.Names.{moved, row_in, changes_in, AtHand, CanDraw, CodingLine, Stroke, Draws}
-use Rattle.std.specs.Prelude.{Vec, vec_len, vec_capacity}
-use Rattle.fax_lines.specs.DrawnModes.{DrawsMode, DrawsOn, IsAtStroke, IsNextMode, KeepsRoom, pen_here}
+use Rattle.std.specs.Global.{Vec}
+use Rattle.std.specs.Prelude.{vec_len, vec_capacity}
+use Rattle.fax_lines.specs.declared.pen.RowPen.{RowPen}
+use Rattle.fax_lines.specs.DrawnModes.{DrawsMode, DrawsNothing, DrawsOn, IsAtStroke, IsNextMode, KeepsRoom, StaysAsItIs, pen_here}
 use Rattle.fax_reading.proofs.PixelRows.ReferencePlaces.{end_within}
 use Rattle.fax_bits.proofs.Repetition.Repeated.{after_turn}
 use Rattle.fax_reading.proofs.DrawingLines.CountedLines.{IsCountedSoFar, found_2d_from, found_after, found_2d_on, words_run}
@@ -37,43 +39,59 @@ twice_2d first second = record {
 }
 
 -- from one stroke to another, and on from there
-pub draws_on : {A : Type 0} {line : CodingLine} {a b c : Stroke} {window window2 same rest : AtHand}
-    {row row2 even longer : Vec ℕ A}
-    {m n o : ℕ} → Draws line a window row m b window2 row2 n → same.at ≡ window2.at → even.items ≡ row2.items
-    → Draws line b same even n c rest longer o → Draws line a window row m c rest longer o
-draws_on first at items second =
-    record { drawn = twice_2d first.drawn (rw (at, items) at second.drawn); reached = second.reached }
+pub draws_on : {line : CodingLine} {a b c : Stroke} {first second same last : RowPen} → Draws line a first b second
+    → DrawsNothing second same → Draws line b same c last → Draws line a first c last
+draws_on one none two =
+    record { drawn = twice_2d one.drawn (rw (none.at, none.items, none.count) at two.drawn); reached = two.reached }
 
 -- the room stays, and stays from there on
-pub keeps_on : {A : Type 0} {window mid same rest : AtHand} {row more longer : Vec ℕ A} → KeepsRoom window row mid more
-    → same.at ≡ mid.at → KeepsRoom same more rest longer → KeepsRoom window row rest longer
-keeps_on first at second = record {
-  same_bits = second.same_bits ∙ ap (λ (b : BitsAt). b.bits) at ∙ first.same_bits;
-  capacity = second.capacity ∙ first.capacity;
-  count = omega (arith, first.count, second.count);
+pub keeps_on : {first second last : RowPen} → KeepsRoom first second → KeepsRoom second last → KeepsRoom first last
+keeps_on one two = record {
+  same_bits = two.same_bits ∙ one.same_bits;
+  capacity = two.capacity ∙ one.capacity;
+  count = omega (arith, one.count, two.count);
 }
 
 -- and in the row's room
-pub goes_on : {A : Type 0} {line : CodingLine} {a b c : Stroke} {window window2 same rest : AtHand}
-    {row row2 even longer : Vec ℕ A}
-    {m n o : ℕ} → DrawsOn line a window row m b window2 row2 n → same.at ≡ window2.at → even.items ≡ row2.items
-    → Draws line b same even n c rest longer o → KeepsRoom same row2 rest longer → DrawsOn line a window row m c rest longer o
-goes_on first at items second kept = record {
-  drawn = draws_on first.drawn at items second;
-  kept = keeps_on first.kept at kept;
-}
+pub goes_on : {line : CodingLine} {a b c : Stroke} {first second same last : RowPen} → DrawsOn line a first b second
+    → DrawsNothing second same → KeepsRoom second same → Draws line b same c last → KeepsRoom same last
+    → DrawsOn line a first c last
+goes_on one none stays two kept =
+    record { drawn = draws_on one.drawn none two; kept = keeps_on one.kept (keeps_on stays kept) }
+
+-- a window is filled
+pub filled : (pen : RowPen) {window : AtHand} → window.at ≡ pen.window.at
+    → DrawsNothing pen (record pen { window = window }) × KeepsRoom pen (record pen { window = window })
+filled pen at = (
+  record { at = at; items = refl; count = refl },
+  record { same_bits = ap (λ (b : BitsAt). b.bits) at; capacity = refl; count = omega arith },
+)
+
+-- and drawing goes on
+pub goes_on_filled : {line : CodingLine} {a b c : Stroke} {first last pen : RowPen} {window : AtHand}
+    → DrawsOn line a first b pen → window.at ≡ pen.window.at → Draws line b (record pen { window = window }) c last
+    → KeepsRoom (record pen { window = window }) last → DrawsOn line a first c last
+goes_on_filled {pen = pen} one at two kept = goes_on one (filled pen at).0 (filled pen at).1 two kept
+
+-- and so it does after a call that draws nothing
+pub goes_on_after : {line : CodingLine} {a b c : Stroke} {first last same : RowPen} (pen : RowPen) {window : AtHand}
+    → DrawsOn line a first b pen → window.at ≡ pen.window.at
+    → StaysAsItIs (record pen { window = window }) same → KeepsRoom (record pen { window = window }) same
+    → Draws line b same c last → KeepsRoom same last → DrawsOn line a first c last
+goes_on_after pen one at left stays two kept =
+    goes_on one (record { at = ap (λ (w : AtHand). w.at) left.0 ∙ at; items = left.1; count = left.2 })
+    (keeps_on (filled pen at).1 stays) two kept
 
 -- what is drawn is of the changes alone, and not of their room
-pub same_row_drawn : {A : Type 0} {line : CodingLine} {a b : Stroke} {window rest : AtHand} {row longer even : Vec ℕ A} {m n : ℕ}
-    → Draws line a window row m b rest longer n → even.items ≡ longer.items → Draws line a window row m b rest even n
+pub same_row_drawn : {line : CodingLine} {a b : Stroke} {first second : RowPen} {even : Vec ℕ} → Draws line a first b second
+    → even.items ≡ second.row.items → Draws line a first b (record second { row = even })
 same_row_drawn drawn items = record { drawn = rw items drawn.drawn; reached = rw items drawn.reached }
 
 -- what a mode draws, from its parts
-pub draws_mode : {A : Type 0} {line : CodingLine} {stroke next : Stroke} {window rest : AtHand} {row longer : Vec ℕ A}
-    {ticks now : ℕ} → GoesOn2d line.strict line.columns (row_in line.columns line.places.now) (pen_here stroke window row)
-    (pen_here next rest longer) ticks now (stroke.index - 1) (next.index - 1) → IsAtStroke line next longer
-    → window.at.place < rest.at.place → vec_len longer + rest.left ≤ vec_capacity longer
-    → DrawsMode line stroke window row ticks next rest longer now
+pub draws_mode : {line : CodingLine} {stroke next : Stroke} {before after : RowPen} → GoesOn2d line.strict line.columns
+    (row_in line.columns line.places.now) (pen_here stroke before) (pen_here next after) before.ticks after.ticks
+    (stroke.index - 1) (next.index - 1) → IsAtStroke line next after → before.window.at.place < after.window.at.place
+    → vec_len after.row + after.window.left ≤ vec_capacity after.row → DrawsMode line stroke before next after
 draws_mode drawn reached onward room =
     record { drawn = record { drawn = drawn; reached = reached }; onward = onward; room = room }
 
@@ -83,11 +101,12 @@ pub recolored : {color : Color} (stroke : Stroke) (P : Stroke → Type 0) → st
 recolored stroke P e p = subst (λ (c : Color). P (record stroke { color = c })) e p
 
 -- drawing goes on from a stroke with its colour by another name
-pub goes_on_in : {A : Type 0} {line : CodingLine} {a next : Stroke} {window here rest : AtHand} {row row2 longer : Vec ℕ A}
-    {m n o : ℕ} {color : Color} (now : Stroke) → now.color ≡ color → DrawsOn line a window row m now here row2 n
-    → DrawsOn line (record now { color = color }) here row2 n next rest longer o → DrawsOn line a window row m next rest longer o
-goes_on_in {line = line} {a} {window = window} {here} {row = row} {row2} {m = m} {n} now e first second =
-    goes_on (recolored now (λ (s : Stroke). DrawsOn line a window row m s here row2 n) e first) refl refl second.drawn second.kept
+pub goes_on_in : {line : CodingLine} {a next : Stroke} {first second last : RowPen} {color : Color} (now : Stroke)
+    → now.color ≡ color → DrawsOn line a first now second → DrawsOn line (record now { color = color }) second next last
+    → DrawsOn line a first next last
+goes_on_in {line} {a} {next} {first} {second} now e one two =
+    goes_on_filled {pen = second} {window = second.window} (recolored now (λ (s : Stroke). DrawsOn line a first s second) e one)
+    refl two.drawn two.kept
 
 -- a mode that is read and drawn
 mode_on : {strict : Bool} {columns : ℕ} {reference : Row} (pen next : Pen) {mode : Mode} {rest : Bits} (words : ℕ)
@@ -400,17 +419,18 @@ module _ {columns : ℕ} {places : List ℕ} {painted index : ℕ} {color : Colo
       })
 
 -- a vertical mode of a line
-pub draws_vertical : {A : Type 0} {line : CodingLine} {stroke next : Stroke} {window rest : AtHand} {row longer : Vec ℕ A} {k : ℤ}
-    {width ticks now : ℕ} → CanDraw line stroke window row → next.painted ≤ 4294967295 → IsNextMode (Vertical k) width window
-    → rest.at ≡ moved width window.at → next.color ≡ opposite stroke.color → pixels next.painted longer.items
-    ≡ pixels next.painted row.items → pos (get_or (changes_in line.places.now) stroke.index line.columns) +ℤ k ≡ pos next.painted
-    → stroke.painted ≤ next.painted → ticks + 1 ≤ now → now + (stroke.index - 1) ≤ ticks + 4 + (next.index - 1)
-    → IsAtStroke line next longer → vec_len longer + rest.left ≤ vec_capacity longer
-    → DrawsMode line stroke window row ticks next rest longer now
-draws_vertical {next = next} {window = window} {width = width} can fits mode moved turned same named forward least most
+pub draws_vertical : {line : CodingLine} {stroke next : Stroke} {before after : RowPen} {k : ℤ} {width : ℕ}
+    → CanDraw line stroke before → next.painted ≤ 4294967295 → IsNextMode (Vertical k) width before.window
+    → after.window.at ≡ moved width before.window.at → next.color ≡ opposite stroke.color
+    → pixels next.painted after.row.items ≡ pixels next.painted before.row.items
+    → pos (get_or (changes_in line.places.now) stroke.index line.columns) +ℤ k ≡ pos next.painted
+    → stroke.painted ≤ next.painted → before.ticks + 1 ≤ after.ticks
+    → after.ticks + (stroke.index - 1) ≤ before.ticks + 4 + (next.index - 1) → IsAtStroke line next after
+    → vec_len after.row + after.window.left ≤ vec_capacity after.row → DrawsMode line stroke before next after
+draws_vertical {next = next} {before = before} {width = width} can fits mode moved turned same named forward least most
     reached room =
-    draws_mode (rw (moved, turned, same) (vertical_on can.ended.lawful can.inside can.reached window.at next.index width fits
-    mode.read named forward reached.within least most)) reached (rw moved (omega (arith, mode.some))) room
+    draws_mode (rw (moved, turned, same) (vertical_on can.ended.lawful can.inside can.reached before.window.at next.index width
+    fits mode.read named forward reached.within least most)) reached (rw moved (omega (arith, mode.some))) room
 
 pub named_right : (b1 place more : ℕ) → place ≡ b1 + more → pos b1 +ℤ pos more ≡ pos place
 named_right b1 place more e = ap (λ (n : ℕ). pos n) (sym e)

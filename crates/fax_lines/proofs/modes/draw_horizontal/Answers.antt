@@ -12,8 +12,8 @@ returns-then-runs-eq0-clause-drawn c =
     let there = rw c.copy-rest.ensures at runs.ensures.runs in
     let first : a.stroke.painted + runs.runs.first ≡ columns = omega (arith, c.if-runs-room.false, can.inside) in
     let end : a.stroke.painted + runs.runs.first + runs.runs.second ≡ columns = omega (arith, first, c.if-runs-eq0.true) in
-    let on = horizontal_on can.ended.lawful can.inside can.reached {strict = a.line.now.strict} a.window.now.at
-    a.stroke.index {ticks = a.ticks.now} {now = c.tick_times.new.ticks} c.requires.mode.read there
+    let on = horizontal_on can.ended.lawful can.inside can.reached {strict = a.line.now.strict} a.pen.now.window.at
+    a.stroke.index {ticks = a.pen.now.ticks} {now = c.tick_times.new.ticks} c.requires.mode.read there
     (inl (omega (arith, first, can.inside))) (omega (arith, end)) (omega (arith, c.tick.ensures, c.tick_times.ensures))
     (omega (arith, c.tick.ensures, c.tick_times.ensures)) in
     rw (runs.ensures.moved, c.copy-rest.ensures) (draws_mode (rw (end, first, pixels-pending) at on)
@@ -26,8 +26,8 @@ returns-clause-drawn c =
     let next = c.draw_runs_in_row-reached.ensures in
     let moved = rw c.copy-rest.ensures at runs.ensures.moved in
     record {
-      drawn = next.drawn c.args.window.now c.pass_runs.new.window c.requires.mode (rw c.copy-rest.ensures at runs.ensures.runs)
-          moved;
+      drawn = next.drawn c.args.pen.now.window c.pass_runs.new.window c.requires.mode
+          (rw c.copy-rest.ensures at runs.ensures.runs) moved;
       onward = rw moved (omega arith);
       room = omega (arith, runs.ensures.room, next.count, next.space);
     }

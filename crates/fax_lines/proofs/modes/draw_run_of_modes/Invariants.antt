@@ -5,11 +5,11 @@ use Rattle.fax_lines.proofs.modes.draw_run_of_modes.Given as goal
 -- what is drawn so far, in one colour, and that the row isn't full
 abbrev pub invariant-modes : goal.invariant-modes
 invariant-modes l = record {
-  on : DrawsOn l.line l.stroke l.fn.window l.fn.row l.fn.ticks l.now l.window l.row l.ticks;
-  can : CanDraw l.line l.now l.window l.row;
+  on : DrawsOn l.line l.stroke l.fn.pen l.now l.pen;
+  can : CanDraw l.line l.now l.pen;
   color : l.now.color ≡ l.stroke.color;
-  onward : l.fn.window.at.place ≤ l.window.at.place;
+  onward : l.fn.pen.window.at.place ≤ l.pen.window.at.place;
 }
 
 abbrev pub decreases-modes : goal.decreases-modes
-decreases-modes l = length l.window.at.bits - l.window.at.place
+decreases-modes l = length l.pen.window.at.bits - l.pen.window.at.place

@@ -12,7 +12,7 @@ returns-in-None-clause-drawn c = λ window rest mode here passed.
     omega (arith, turned.0, follow.fits, follow.inside) in
     record {
       drawn = rw (passed, turned.1) (rw end at (horizontal_on follow.ended.lawful follow.inside follow.reached
-          {strict = a.line.now.strict} window.at a.stroke.index {ticks = a.ticks.now} {now = c.tick_times.new.ticks} mode.read
+          {strict = a.line.now.strict} window.at a.stroke.index {ticks = a.pen.now.ticks} {now = c.tick_times.new.ticks} mode.read
           here
           follow.right (omega (arith, end)) (omega (arith, c.tick.ensures, c.tick_times.ensures))
           (omega (arith, c.tick.ensures, c.tick_times.ensures))));

@@ -1,12 +1,13 @@
+use Rattle.fax_lines.specs.DrawnModes.{pen_with}
 use Rattle.fax_lines.specs.TwoRunsHere.{DrawsRuns}
 use Rattle.fax_lines.proofs.Names.{◌≡◌, ◌<◌, arith, White}
 use Rattle.fax_lines.proofs.CodeWords.PairsOfRuns.{two_here_too}
 use Rattle.fax_lines.proofs.run_pairs.draw_pair.Goals.{After-draw_both-place}
 use Rattle.fax_lines.proofs.run_pairs.draw_pair.Goals as goal
 
-both : (c : After-draw_both-place) → DrawsRuns c.args.line.now.settings c.args.painted c.ensure_bits.new.window c.args.row.now
-    c.args.ticks.now c.draw_both-place.result.0 c.draw_both-place.result.1 c.pass.new.self c.draw_both-place.new.row
-    c.draw_both-place.new.ticks
+both : (c : After-draw_both-place) → DrawsRuns c.args.line.now.settings c.args.painted
+    (record c.args.pen.now { window = c.ensure_bits.new.window }) c.draw_both-place.result.0 c.draw_both-place.result.1
+    (pen_with c.pass.new.self c.draw_both-place.new.row c.draw_both-place.new.ticks)
 both c = c.draw_both-place.ensures.drawn c.ensure_bits.new.window c.pass.new.self
     (two_here_too White _ _ c.in_ok-runs.ensures.runs) c.pass.ensures.moved
 

@@ -4,7 +4,7 @@ use Rattle.fax_lines.proofs.run_pairs.draw_pairs.Given as goal
 
 abbrev pub invariant-runs : goal.invariant-runs
 invariant-runs l =
-    ArePairsDrawn l.line.settings l.painted l.fn.window l.fn.row l.fn.ticks l.place l.window l.row l.ticks
+    ArePairsDrawn l.line.settings l.painted l.fn.pen l.place l.pen
 
 abbrev pub decreases-runs : goal.decreases-runs
 decreases-runs l = l.line.settings.columns - l.place

@@ -19,7 +19,7 @@ pub returns-clause-drawn : goal.returns-clause-drawn
 returns-clause-drawn c =
     let same = c.ensure_bits.ensures.same in
     let still = c.ensure_bits-2.ensures.same in
-    c.draw_both.ensures.drawn c.args.window.now c.pass-2.new.self (record {
+    c.draw_both.ensures.drawn c.args.pen.now.window c.pass-2.new.self (record {
       width = c.in_ok-first.width;
       width2 = c.in_ok-second.width2;
       words = c.in_ok-first.words;

@@ -27,7 +27,7 @@ module _ (c : After-painted_by-painted) where
   places = c.args.modes.now.places
 
   abbrev row : List ℕ
-  row = c.args.row.now.items
+  row = c.args.pen.now.row.items
 
   within : n ≤ length words
   within = omega (arith, c.requires.some)
@@ -39,7 +39,7 @@ module _ (c : After-painted_by-painted) where
   few = omega (arith, c.requires.some, c.requires.here.few, c.requires.here.lead.four)
 
   begin : c.len-start.result ≡ length row
-  begin = omega (arith, c.len-start.ensures, c.args.row.now.ok.0)
+  begin = omega (arith, c.len-start.ensures, c.args.pen.now.row.ok.0)
 
   place_is : c.index-place.result.now ≡ get_or places n 0
   place_is = grind (arith, common_steps, stored_at, n, row, places, few, begin)
@@ -53,15 +53,15 @@ module _ (c : After-painted_by-painted) where
   kept k {m} is e = grind (arith, common_steps, take-append-add, row, places, begin)
 
   room : (n < 4) × (vec_len c.push_places.new.row ≡ c.len-start.result + 4)
-      × (c.len-start.result + c.args.window.now.left ≤ vec_capacity c.push_places.new.row)
+      × (c.len-start.result + c.args.pen.now.window.left ≤ vec_capacity c.push_places.new.row)
   room = grind (arith, common_steps, few)
 
   -- the bits of one mode more are passed
-  passed : {width : ℕ} {to : BitsAt} → width ≡ width_of (take (n + 1) words) → to ≡ moved width c.args.window.now.at
-      → to ≡ moved (width_of (take (suc n) words)) c.args.window.now.at
+  passed : {width : ℕ} {to : BitsAt} → width ≡ width_of (take (n + 1) words) → to ≡ moved width c.args.pen.now.window.at
+      → to ≡ moved (width_of (take (suc n) words)) c.args.pen.now.window.at
   passed is to =
       let one : n + 1 ≡ suc n = omega arith in
-      to ∙ ap (λ (w : ℕ). moved w c.args.window.now.at) (is ∙ ap (λ (k : ℕ). width_of (take k words)) one)
+      to ∙ ap (λ (w : ℕ). moved w c.args.pen.now.window.at) (is ∙ ap (λ (k : ℕ). width_of (take k words)) one)
 
   -- the colour before one of the places that is turned at
   colored_before : {count : ℕ} (color : Color) → count ≡ c.len-start.result + n + 1 → TurnsFrom count color
@@ -106,7 +106,8 @@ returns-clause-drawn c =
     draws_first c.requires.can c.requires.here (n at) (within at) (set at)
     (omega (arith, room at, c.truncate-2.ensures.len, c.truncate-2.ensures.capacity, c.pass-2.ensures.left, width.some))
     (omega (arith, c.if-count-eq0.false)) (painted_is at) refl c.next_color-2.ensures.turns items
-    (c.pass-2.ensures.moved ∙ ap (λ (w : ℕ). moved w c.args.window.now.at) width.value) (omega (arith, c.tick_times-2.ensures))
+    (c.pass-2.ensures.moved ∙ ap (λ (w : ℕ). moved w c.args.pen.now.window.at) width.value)
+    (omega (arith, c.tick_times-2.ensures))
 
 pub returns-clause-inside : goal.returns-clause-inside
 returns-clause-inside c =

@@ -8,7 +8,7 @@ use Rattle.fax_bits.specs.ModeGroups.{width_of, words_of}
 use Rattle.fax_lines.proofs.vertical_groups.draw_regular.Goals as goal
 
 -- what is stored
-stored : (c : goal.After-next_color) → c.push_first_places.new.row.items ≡ c.args.row.now.items ++ take c.count-count.result
+stored : (c : goal.After-next_color) → c.push_first_places.new.row.items ≡ c.args.pen.now.row.items ++ take c.count-count.result
     c.args.modes.now.places
 stored c = c.push_first_places.ensures.items
 
