@@ -312,10 +312,11 @@ def versions_agree(version):
 
 
 def manual_pages_warn_of_nothing():
-    """`man`, and mandoc where it is installed, warn of nothing in a manual page."""
-    readers = [words for words in (["man", "--warnings", "-l"], ["mandoc", "-Tlint", "-W", "warning"]) if shutil.which(words[0])]
-    if not readers:
-        leave_out("the manual pages", "man", is_listed=False)
+    """`man` and `mandoc` warn of nothing in a manual page."""
+    readers = ["man", "--warnings", "-l"], ["mandoc", "-Tlint", "-W", "warning"]
+    missing = [words[0] for words in readers if not shutil.which(words[0])]
+    if missing:
+        leave_out("the manual pages", missing[0])
         return
     for page in sorted(Path("man").iterdir()):
         for words in readers:
