@@ -17,7 +17,6 @@ import tempfile
 import uuid
 from concurrent.futures import ProcessPoolExecutor
 from concurrent.futures.process import BrokenProcessPool
-from glob import escape, glob
 from typing import Iterable, Iterator, NamedTuple, Sequence, TypedDict
 
 from ._files import FORMS, UNREADABLE, Image, decoded, in_child, limit, say, text_of
@@ -129,7 +128,7 @@ def written(task: Task, folder: str) -> Result:
     kept = kept_result(task.path, folder)
     if kept and (kept["error"] or not task.again):
         return kept
-    part = f"{folder}.{uuid.uuid4().hex}.part"
+    part = f"{folder}.part/{uuid.uuid4().hex}"
     os.makedirs(part)
     try:
         result = read_apart(task, f"{part}/")
@@ -141,8 +140,7 @@ def written(task: Task, folder: str) -> Result:
             os.rename(part, folder)
         return result
     finally:  # also what a process that was killed has left
-        for left in glob(f"{escape(folder)}.*.part"):
-            shutil.rmtree(left, ignore_errors=True)
+        shutil.rmtree(f"{folder}.part", ignore_errors=True)
 
 
 def kept_result(path: str, folder: str) -> Result | None:

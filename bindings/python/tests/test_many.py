@@ -84,7 +84,7 @@ def test_pictures_are_written_once(folder, tmp_path):
     for path in out.rglob("*.pbm"):
         path.write_bytes(b"mine")
     shutil.rmtree(out / "page.tif")
-    (out / "page.tif.0123.part").mkdir()  # what a run that was ended has left
+    (out / "page.tif.part" / "0123").mkdir(parents=True)  # what a run that was ended has left
     second = many(folder, "-o", out)
     assert (second.stdout, second.returncode) == (first.stdout, 2)
     assert written(out) == {**dict.fromkeys(expected, b"mine"), "page.tif/0.pbm": PAGE.pbm()} and not [*out.rglob("*.part")]
