@@ -18,6 +18,16 @@ VENDORED = f"{DEBIAN}/lib/rustlib/src/rust/library/vendor"
 SOURCES = "bindings/javascript"
 TARGET = "wasm32-unknown-unknown"
 MODULE = "hayro_ccitt.wasm"
+WORKSPACE = """[workspace]
+members = ["hayro-ccitt/c"]
+resolver = "3"
+
+[profile.release]
+lto = true
+codegen-units = 1
+panic = "abort"
+strip = true
+"""
 
 
 def lacking():
@@ -43,6 +53,21 @@ def rustc_of_debian(folder):
     return path
 
 
+def in_one_workspace(erased, folder):
+    """A copy of the Cargo package in a folder, and of the library for C, as one workspace: cargo's names of its packages, and by them the
+    order of functions, don't depend then on where it lies."""
+    copy = f"{folder}/sources/hayro-ccitt"
+    shutil.copytree(erased, copy, ignore=shutil.ignore_patterns("target"), dirs_exist_ok=True)
+    for name in ("Cargo.toml", "c/Cargo.toml"):
+        with open(f"{copy}/{name}", encoding="utf-8") as file:
+            before, _, _ = file.read().partition("[workspace]")
+        with open(f"{copy}/{name}", "w", encoding="utf-8") as file:
+            file.write(before)
+    with open(f"{folder}/sources/Cargo.toml", "w", encoding="utf-8") as file:
+        file.write(WORKSPACE)
+    return copy
+
+
 def module_of(erased, folder, *words, linked=()):
     """The path of the module that cargo makes in a folder of the library for C, with what else cargo and the linker are to be told."""
     environment = {
@@ -54,9 +79,9 @@ def module_of(erased, folder, *words, linked=()):
         "CARGO_TARGET_DIR": os.path.abspath(folder),
         "CARGO_TARGET_WASM32_UNKNOWN_UNKNOWN_LINKER": "wasm-ld",
     }
-    options = ["--release", "--target", TARGET, "--lib", "--crate-type", "cdylib", "--config", "profile.release.strip=true", *words]
+    options = ["--release", "--target", TARGET, "--lib", "--crate-type", "cdylib", *words]
     command = with_sources_of_std("rustc", *options, "--", *(f"-Clink-arg={it}" for it in linked))
-    done = subprocess.run(command, cwd=f"{erased}/c", env=environment, capture_output=True, text=True, check=False)
+    done = subprocess.run(command, cwd=f"{in_one_workspace(erased, folder)}/c", env=environment, capture_output=True, text=True, check=False)
     if done.returncode != 0:
         sys.exit(f"the module of WebAssembly: {done.stdout}{done.stderr[-3000:]}")
     return f"{folder}/{TARGET}/release/{MODULE}"

@@ -4,8 +4,8 @@
 
 BUILD/dist gets the binary tarball, the Debian package, the two Cargo packages, the Python wheel, the source tarball, the package for
 JavaScript if `make javascript` made its module, and SHA256SUMS; for another target than x86-64 the tarball, the Debian package and the
-wheel, which are what differs. The same files give the same bytes in any folder, but for the module in the package for JavaScript, in
-which functions come in another order. A version that CHANGELOG.md doesn't have is refused, and a file that is for another machine."""
+wheel, which are what differs. The same files give the same bytes in any folder. A version that CHANGELOG.md doesn't have is refused, and
+a file that is for another machine."""
 import base64
 import collections
 import email.utils
@@ -143,7 +143,6 @@ def provenance(build, version, name):
             "",
             "The same bytes again, with this kit, compiler and linker: "
             f"`make{name and ' TARGET='}{name} && make dist{name and ' TARGET='}{name}` in a clone of this commit, in any folder.",
-            *([] if name else ["Those of the package for JavaScript, after `make javascript`, depend on the folder."]),
             "",
         ]
     )
