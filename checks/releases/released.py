@@ -304,7 +304,7 @@ def files_of(folder, crates):
 
 
 def crates_in_another_repository():
-    """The command of docs/SINKS.md copies the library as files into another repository, where examples/rattle/my_viewer names it; with
+    """The command of docs/SINKS.md copies the library as files into another repository, where the crate of examples/rattle names it; with
     PROVE in the environment, which takes a minute, that crate is proved over what is stored of the library."""
     with open("docs/SINKS.md", encoding="utf-8") as file:
         text = file.read()
@@ -322,7 +322,9 @@ def crates_in_another_repository():
         if not os.environ.get("PROVE"):
             leave_out("the proof of the crate in examples/rattle", "PROVE", is_listed=False)
             return
-        shutil.copytree("examples/rattle/my_viewer", f"{folder}/crates/my_viewer")
+        page = Path("examples/rattle/README.md").read_text(encoding="utf-8")
+        os.makedirs(f"{folder}/crates/my_viewer/src")
+        Path(f"{folder}/crates/my_viewer/src/lib.rt").write_text(re.search(r"^```rust\n(.*?)^```$", page, re.MULTILINE | re.DOTALL)[1], encoding="utf-8")
         with open(f"{folder}/crates.txt", "a", encoding="utf-8") as file:
             file.write("my_viewer: hayro_ccitt\n")
         shutil.copytree("crates/hayro_ccitt/out", f"{folder}/crates/hayro_ccitt/out")
