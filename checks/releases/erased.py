@@ -222,16 +222,17 @@ def random_cases_beside_the_proved_library():
     print(f"  {COUNT} cases, one sum: {sums[0].strip()}")
 
 
-def library_for_c(folder, made):
-    """The library for C of the erased sources, laid out as `make install` does, with the allocator that programs may replace."""
+def library_for_c(folder, made, cross=""):
+    """The library for C of the erased sources, laid out as `make install` does, with the allocator that programs may replace. The
+    compiler's name begins with `cross`."""
     os.makedirs(f"{folder}/lib")
     shutil.copytree("c", f"{folder}/include")
     library = f"{folder}/lib/libhayro_ccitt"
     shutil.copy(f"{made}/libhayro_ccitt.a", f"{library}.a")
-    run("gcc", "-O2", "-fPIC", "-c", "-o", f"{folder}/heap.o", "c/heap.c")
+    run(f"{cross}gcc", "-O2", "-fPIC", "-c", "-o", f"{folder}/heap.o", "c/heap.c")
     whole = ["-Wl,--whole-archive", f"{library}.a", "-Wl,--no-whole-archive", f"{folder}/heap.o"]
-    run("gcc", "-shared", "-Wl,--version-script=c/exports", "-o", f"{library}.so", *whole)
-    run("ar", "r", f"{library}.a", f"{folder}/heap.o")
+    run(f"{cross}gcc", "-shared", "-Wl,--version-script=c/exports", "-o", f"{library}.so", *whole)
+    run(f"{cross}ar", "r", f"{library}.a", f"{folder}/heap.o")
 
 
 def calls_for_c():

@@ -3,7 +3,9 @@ Debian's compiler builds std of its sources for each."""
 import os
 import shutil
 import sys
+import tempfile
 
+from c import arm64
 from gate.skipped import leave_out
 from releases import erased
 
@@ -21,6 +23,10 @@ TARGETS = {
 }
 WINDOWS = "x86_64-pc-windows-gnu"
 MACOS = "aarch64-apple-darwin"
+# How cargo compiles each package for a target, over one std: with assertions, and with all of std's objects in a static library.
+CHECKED = {f"CARGO_PROFILE_CHECKED_{setting}": value for setting, value in (
+    ("INHERITS", "release"), ("OVERFLOW_CHECKS", "true"), ("DEBUG_ASSERTIONS", "true"), ("LTO", "false"), ("PANIC", "unwind"),
+)}
 # Wine has its files there, and says nothing.
 OF_WINE = {"WINEPREFIX": f"{erased.BUILT}/wine", "WINEDEBUG": "-all"}
 IN_NODE = """
@@ -53,12 +59,13 @@ def lacks_target(target):
     return missing
 
 
-def made_for(target, folder, profile):
-    """Where cargo puts what it makes of a package for a target, with std made of Debian's sources."""
+def made_for(target, folder, *features):
+    """Where cargo puts what it makes of a package for a target, by the profile `checked`, with std made of Debian's sources."""
     linker = f"CARGO_TARGET_{target.replace('-', '_').upper()}_LINKER"
     named = {linker: TARGETS[target][0], "RUSTC": rustc_of_debian(erased.BUILT), "RUSTC_BOOTSTRAP": "1", "STRIPS": erased.list_of_strips()}
-    erased.run(*with_sources_of_std("build", "--target", target, "--profile", profile), cwd=folder, CARGO_TARGET_DIR=f"{erased.BUILT}/targets", **named)
-    return f"{erased.BUILT}/targets/{target}/{profile}"
+    command = with_sources_of_std("build", "--target", target, "--profile", "checked", *features)
+    erased.run(*command, cwd=folder, CARGO_TARGET_DIR=f"{erased.BUILT}/targets", **named, **CHECKED)
+    return f"{erased.BUILT}/targets/{target}/checked"
 
 
 def built_for(target):
@@ -69,7 +76,7 @@ def built_for(target):
     text = erased.CASES.format(name="hayro-ccitt", package=erased.PACKAGE, made=MODULE if is_wasm else erased.PROGRAMS)
     with open(f"{folder}/Cargo.toml", "w", encoding="utf-8") as file:
         file.write(text)
-    return made_for(target, folder, "checked")
+    return made_for(target, folder)
 
 
 def told_on(target, name, *words):
@@ -120,6 +127,22 @@ def on_other_targets():
         print(f"  {target}: {count} cases, the sum of x86-64, and {len(erased.strips())} readings of strips")
 
 
+def calls_for_c_on_arm64():
+    """The checks of the library for C on ARM64, over that of the erased sources with Rust's assertions: each call on the known and the
+    hostile cases, rows one at a time, and an example on real strips."""
+    what = "the library for C of the erased sources on ARM64"
+    if erased.lacks_tools(what) or lacks_sources_of_std(what) or lacks_target(arm64.TARGET):
+        return
+    erased.make_package()
+    made = made_for(arm64.TARGET, f"{erased.PACKAGE}/c", "--features", "heap")
+    with tempfile.TemporaryDirectory() as folder:
+        erased.library_for_c(folder, made, f"{arm64.CROSS}-")
+        arm64.build, arm64.INSTALLED, arm64.LIBRARY = lambda: True, folder, f"{folder}/lib"
+        arm64.EMULATED = [*arm64.EMULATED[:-1], f"LD_LIBRARY_PATH={folder}/lib"]
+        for check in arm64.CHECKS:
+            check()
+
+
 def compiled_for_macos():
     """For macOS, of which Debian has neither linker nor system, the package, the library for C and the programs are compiled and not run."""
     what = "the erased package for macOS"
@@ -131,4 +154,4 @@ def compiled_for_macos():
         erased.run(*with_sources_of_std("check", "--target", MACOS, "--all-features"), cwd=f"{erased.PACKAGE}/{of}", **named)
 
 
-CHECKS = [edges_of_32_bits, on_other_targets, compiled_for_macos]
+CHECKS = [edges_of_32_bits, on_other_targets, calls_for_c_on_arm64, compiled_for_macos]
