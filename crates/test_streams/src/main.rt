@@ -1,4 +1,5 @@
-//! Decodes records from standard input, for the checks that compare the readers of deflate data and of filters with others.
+//! Decodes records from standard input, for the checks that compare the readers of deflate data and of filters with others, and deflates
+//! them.
 //!
 //! A record is a letter for what decodes it, its number of bytes, an allowance, the bytes of a pixel and of a row, each of four
 //! bytes with the lowest first, and the bytes. The answer is a letter (`o`, or for an error: `t` truncated, `s` spent, `m` out of
@@ -8,9 +9,11 @@
 
 ghost use Rattle.std.specs.Prelude.{◌+◌, ◌≤◌, IfSome, length};
 
+use deflate::Crc32;
 use filters::{EarlyChange, FilterError, RowShape};
 use inflate::InflateError;
 use paid_cursor::Cursor;
+use std::alloc::AllocError;
 use std::io;
 use std::io::{BufWriter, Read, Write};
 
@@ -27,7 +30,12 @@ fn main(rt: HostRuntime) -> io::Result<()> {
         rest = &rest[HEAD_BYTES + record.bytes.len()..];
         made.clear();
         let mut source = Cursor::new(record.bytes, record.allowance);
-        let letter = decode(&record, &mut source, &mut made);
+        let letter = match record.letter {
+            b'D' => deflated(deflate::deflate(rt.alloc(), record.bytes), &mut made),
+            b'Z' => deflated(deflate::deflate_zlib(rt.alloc(), record.bytes), &mut made),
+            b'C' => summed(record.bytes, &mut made),
+            _ => decode(&record, &mut source, &mut made),
+        };
         out.write_all(&[letter])?;
         out.write_all(&(source.place() as u64).to_le_bytes())?;
         out.write_all(&(source.left() as u64).to_le_bytes())?;
@@ -74,6 +82,29 @@ fn number(bytes: &[u8]) -> usize
     requires { 4 ≤ length bytes.now }
 {
     u32::from_le_bytes([bytes[0], bytes[1], bytes[2], bytes[3]]) as usize
+}
+
+/// Makes the output of deflated data, and returns the letter of the answer.
+fn deflated(done: Result<Vec<u8>, AllocError>, made: &mut Vec<u8>) -> u8 {
+    match done {
+        Ok(data) => {
+            *made = data;
+            b'o'
+        }
+        Err(AllocError) => b'm',
+    }
+}
+
+/// Makes the output of the CRC-32 of a record in two parts, the highest byte first, and returns the letter of the answer.
+fn summed(bytes: &[u8], made: &mut Vec<u8>) -> u8 {
+    let (first, second) = bytes.split_at(bytes.len() / 3);
+    let mut sum = Crc32::new();
+    sum.add(first);
+    sum.add(second);
+    match made.extend_from_slice(&sum.value().to_be_bytes()) {
+        Ok(()) => b'o',
+        Err(AllocError) => b'm',
+    }
 }
 
 /// Decodes a record, and returns the letter of the answer.
