@@ -86,7 +86,7 @@ OBJECTS = $(BUILD)/proved.o $(BUILD)/calls.o $(BUILD)/heap.o
 missing = $(strip $(foreach program,$(1),$(if $(shell command -v $(program)),,$(program))))
 need = $(if $(call missing,$(1)),$(error missing: $(call missing,$(1)); README.md says where each is from))
 # the Debian packages of the tools without which some checks are left out
-TESTED_WITH = cargo cmake gcc-aarch64-linux-gnu gcc-i686-linux-gnu gcc-s390x-linux-gnu ghostscript img2pdf \
+TESTED_WITH = cargo chromium cmake gcc-aarch64-linux-gnu gcc-i686-linux-gnu gcc-s390x-linux-gnu ghostscript img2pdf \
 	libc6-dev-arm64-cross libc6-dev-i386-cross libc6-dev-s390x-cross libjbig2dec0-dev libmupdf-dev libqpdf-dev libtiff-dev \
 	libtiff-tools lintian lld man-db mandoc mupdf-tools netpbm nodejs pkg-config \
 	poppler-utils python3-distributed python3-numpy python3-pikepdf python3-pil python3-pip python3-pycryptodome python3-pypdf python3-pytest \

@@ -22,7 +22,7 @@ from c import arm64, c_library, cuts, damage_by_k, encoder, feed, hostile, inlin
 from gate import built  # noqa: E402
 from gate.skipped import LEFT_OUT  # noqa: E402
 from programs import built_tests, claims, conformance, devices, directories, fax, fax_limits, fax_others, fax_output, files, packing, pictures, program, streams  # noqa: E402
-from releases import clients, erased, erased_programs, erased_targets, installed, javascript, released, released_arm64, systems, users  # noqa: E402
+from releases import browsers, clients, erased, erased_programs, erased_targets, installed, javascript, released, released_arm64, systems, users  # noqa: E402
 from repository import definitions, repository  # noqa: E402
 
 
@@ -31,7 +31,7 @@ FILES = [
     *(program, claims, pictures, built_tests, packing, conformance, streams, directories),
     *(c_library, row_by_row, feed, encoder, refusals, devices, cuts, damage_by_k, hostile, memory, large),
     *(installed, users, files, fax, fax_output, fax_limits, fax_others, inline_images),
-    *(released, systems, erased, erased_programs, erased_targets, javascript, clients, cost, arm64, released_arm64),
+    *(released, systems, erased, erased_programs, erased_targets, javascript, browsers, clients, cost, arm64, released_arm64),
 ]
 # those that run beside the build of the library for C
 WITHOUT_LIBRARY = [repository, definitions, program, claims, pictures, built_tests, packing, conformance, streams, directories, devices]
@@ -39,7 +39,7 @@ WITHOUT_LIBRARY = [repository, definitions, program, claims, pictures, built_tes
 MAKE = [installed, users, files, arm64, released_arm64]
 LONG = [cost, large, memory, hostile, released, systems, fax_limits]
 # those that build by cargo, in one folder, in turn
-ERASED = [erased, erased_programs, erased_targets, javascript]
+ERASED = [erased, erased_programs, erased_targets, javascript, browsers]
 # The files by their names.
 NAMED = {it.__name__.rpartition(".")[2]: it for it in FILES}
 
