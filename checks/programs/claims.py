@@ -123,11 +123,17 @@ def premises_are_needed():
     known = {(words, data): text for words, data, text in lines}
     needed = [claim for claim in claims() if claim["premise"] != "-"]
     for claim in needed:
-        data, without = rows_read(claim["data"], known), rows_read(claim["without"], known)
-        if claim["within"] == "-":
-            assert data != without, claim
-        else:
+        without = rows_read(claim["without"], known)
+        if claim["data"] == "-":
+            assert not known[tuple(claim["without"].rsplit(" ", 1))].rpartition("/")[2].startswith("ok "), claim
+            continue
+        data = rows_read(claim["data"], known)
+        if claim["within"] != "-":
             assert rows_read(claim["within"], known)[-2:] == data[-2:] != without[-2:], claim
+        elif claim["row"] == "damage in a line":
+            assert len(data) != len(without), claim
+        else:
+            assert data[:2] != without[:2] if claim["row"] == "the rows before damage" else data != without, claim
     # A repaired row is counted as such alone, also where a run of it was cut.
     assert rows_read("2d 63 9 l 0447", known)[0] == "r 61"
     lines = program.run(["-d", "2d", "63", "9", "l"], bytes.fromhex("0447")).stdout.decode().splitlines()
