@@ -346,31 +346,13 @@ def runs_of_the_program():
     assert not worse, worse
 
 
-def checks_of_dense_rows():
-    """The work of `faxrows -c` is in proportion to its data, a row of alternate pixels and two copies of it."""
-    if not shutil.which("valgrind"):
-        leave_out("the cost of a check", "valgrind")
-        return
-    assert os.path.exists(program.PROGRAM)
-    costs = []
-    with tempfile.TemporaryDirectory() as folder:
-        for size in RUN_SIZES:
-            Path(f"{folder}/data").write_bytes(filled(V0, size, dense(size)))
-            with open(f"{folder}/data", "rb") as stdin:
-                cost, written = instructions(folder, [program.PROGRAM, "-c", "g4", str(size), "3", "-"], whole=True, stdin=stdin)
-            assert written == b"ok\n", (size, written)
-            costs.append(cost)
-    growth = costs[1] / costs[0]
-    print(f"  faxrows -c: {costs[1] / RUN_SIZES[1]:.1f} instructions a byte, {growth:.2f} times for four times the data")
-    assert growth <= MOST, growth
-
-
 # A page of a scanner in each kind of picture, and pages of what is rare there, each with its rows; the ways that measured_pages.c
-# measures, in its order, and those of the programs.
+# measures, in its order, and those of the programs; and the columns of three rows of alternate pixels, whose data has as many bytes.
 PAGE, COLUMNS, ROWS = "corpus/pictures/page", 1240, 1754
 PAGES = {"text": ROWS, "scan": ROWS, "halftone": ROWS, "dither": ROWS, "blank": ROWS, "borders": 200, "inverted": 100}
 WAYS = ["encode", "measure", "packed", "changes", "next_packed", "next_changes", "row_packed", "row_changes", "feed_pieces", "feed_packed"]
 PROGRAM_WAYS = {"faxrows": [""], "faxrows -o": ["-o"], "faxrows -i": ["-i"], "faxrows -d": ["-d"]}
+DENSE = 1 << 20
 PICTURES = [("g4", "b"), ("1d", "lb"), ("2d", "lb")]
 TABLE = "checks/cost.tsv"
 # by what factor a page may cost more than the table says, or less before the table is written anew
@@ -400,6 +382,11 @@ def costs_of_pages():
                     cost, written = instructions(folder, [program.PROGRAM, *filter(None, first), mode, str(COLUMNS), "0", flags], whole=True, stdin=stdin)
                 assert first != ["-o"] or written == bitmap, (mode, way)
                 yield "text", mode, way, cost / changes
+        Path(f"{folder}/strip").write_bytes(filled(V0, DENSE, dense(DENSE)))
+        with open(f"{folder}/strip", "rb") as stdin:
+            cost, written = instructions(folder, [program.PROGRAM, "-c", "g4", str(DENSE), "3", "-"], whole=True, stdin=stdin)
+        assert written == b"ok\n", written
+        yield "dense", "g4", "faxrows -c", cost / (3 * (DENSE - 1))
 
 
 def costs_of_page(folder, driver, page, encoding, rows, ways):
@@ -454,7 +441,7 @@ def write_table():
             file.write(f"{page}\t{mode}\t{way}\t{cost:.1f}\n")
 
 
-CHECKS = [slow_shapes, encoding_dense_rows, real_pages, runs_of_the_program, checks_of_dense_rows]
+CHECKS = [slow_shapes, encoding_dense_rows, real_pages, runs_of_the_program]
 
 if __name__ == "__main__":
     if sys.argv[1:] != ["--write"]:
