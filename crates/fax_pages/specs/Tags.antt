@@ -1,0 +1,48 @@
+-- How the tags of a TIFF page say that its fax data is encoded (TIFF 6.0, sections 8, 10 and 11).
+use Rattle.std.specs.Prelude.{ℕ, Bool, true, false, ◌==◌, ◌||◌, ◌%◌, if◌then◌else◌, Option, Some, None, nat_lt}
+use Rattle.hayro_ccitt.specs.DecodeSettings.{DecodeSettings}
+use Rattle.hayro_ccitt.specs.EncodingMode.{EncodingMode}
+use Rattle.hayro_ccitt.specs.EncodingMode.TheVariants.{Group4, Group3_1D, Group3_2D}
+use Rattle.hayro_ccitt.specs.BitOrder.{BitOrder}
+use Rattle.hayro_ccitt.specs.BitOrder.TheVariants.{HighestFirst, LowestFirst}
+use Rattle.tiff_read.specs.declared.picture.Picture.{Picture}
+
+-- Compression 2 and 32771, of which the second isn't in TIFF 6.0: one-dimensional lines without EOLs. Each row begins at a byte,
+-- and with 32771 at a multiple of 16 bits (section 10).
+abbrev pub is_modified_huffman : ℕ → Bool
+is_modified_huffman compression = compression == 2 || compression == 32771
+
+-- The values of Compression for fax data: those, 3 for T.4 and 4 for T.6 (section 11).
+abbrev pub is_fax_compression : ℕ → Bool
+is_fax_compression compression = is_modified_huffman compression || (compression == 3 || compression == 4)
+
+-- T.6 with 4; with 3 two-dimensional T.4 if bit 0 of T4Options is set, else one-dimensional (section 11).
+abbrev pub encoding_of_tags : ℕ → ℕ → EncodingMode
+encoding_of_tags compression t4_options =
+    if compression == 4 then Group4
+    else (if compression == 3 then (if t4_options % 2 == 1 then Group3_2D else Group3_1D) else Group3_1D)
+
+-- The settings for a strip or tile of so many columns and rows. Only T.6 data is closed, by EOFB; RTC isn't written (section 11).
+-- EOLs needn't be announced, since T.4 data with EOLs begins with one. Bit 2 of T4Options says that they end at bytes, which a
+-- reader needn't know.
+abbrev pub settings_of_tags : Picture → ℕ → ℕ → DecodeSettings
+settings_of_tags picture columns rows = record {
+  columns = columns;
+  rows = rows;
+  end_of_block = picture.compression == 4;
+  end_of_line = false;
+  rows_are_byte_aligned = is_modified_huffman picture.compression;
+  encoding = encoding_of_tags picture.compression picture.t4_options;
+  strict = false;
+}
+
+-- FillOrder 2: the lowest bit of a byte is that of its first pixel (section 8).
+abbrev pub order_of_tags : Picture → BitOrder
+order_of_tags picture = if picture.is_low_first then LowestFirst else HighestFirst
+
+-- Whether a white pixel, which is 0 in fax data, is shown black: Photometric 1, BlackIsZero, or 3, a palette, whose first colour is
+-- the darker one (sections 3 and 5). Without the tag it isn't.
+abbrev pub is_inverted_by_tags : Option ℕ → Bool → Bool
+is_inverted_by_tags None is_dark_first = false
+is_inverted_by_tags (Some photometric) is_dark_first =
+    if photometric == 1 then true else (if photometric == 3 then is_dark_first else false)

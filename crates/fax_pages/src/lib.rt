@@ -1,0 +1,19 @@
+//! Files as pages of fax data: how each page is encoded, where its parts are, and how they lie in the picture.
+//!
+//! [`TiffPages`] has the pages of a TIFF file, and [`raw_page`] that of data without tags or keys. A page names its parts by their places
+//! among the file's bytes, and reads none of them. Which settings they are decoded with is defined in `specs/Tags.antt` and
+//! `specs/Keys.antt`.
+#![tactic(auto)]
+
+mod keys;
+mod page;
+mod raw;
+mod refused;
+mod tags;
+mod tiff_pages;
+
+pub use keys::{FaxParameters, columns_shown, is_inverted_by_keys, settings_of_keys};
+pub use page::{Page, PageBytes, Part, PartKind, Resolution};
+pub use raw::{RawForm, raw_page};
+pub use refused::{Found, Refusal, RefusedPage};
+pub use tiff_pages::TiffPages;
