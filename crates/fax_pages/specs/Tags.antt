@@ -40,8 +40,8 @@ settings_of_tags picture columns rows = record {
 abbrev pub order_of_tags : Picture → BitOrder
 order_of_tags picture = if picture.is_low_first then LowestFirst else HighestFirst
 
--- Whether a white pixel, which is 0 in fax data, is shown black: Photometric 1, BlackIsZero, or 3, a palette, whose first colour is
--- the darker one (sections 3 and 5). Without the tag it isn't.
+-- Whether a white pixel, which is 0 in fax data, is shown black: Photometric 1, BlackIsZero, or 3, a palette, whose first colour
+-- is the darker one (sections 3 and 5). Without the tag it isn't.
 abbrev pub is_inverted_by_tags : Option ℕ → Bool → Bool
 is_inverted_by_tags None is_dark_first = false
 is_inverted_by_tags (Some photometric) is_dark_first =

@@ -18,8 +18,8 @@ pub record HasSizes (picture : Picture) (layout : Layout) (sizes : Sizes) : Type
   pub part_rows : sizes.part_rows ≡ layout.part_rows
   pub some : (0 < sizes.columns) × (0 < sizes.part_rows)
 
--- A strip or tile of a picture with these tags, in a file of so many bytes: it begins within the picture, has no rows below it, lies
--- in the file, and is encoded as they say.
+-- A strip or tile of a picture with these tags, in a file of so many bytes: it begins within the picture, has no rows below it,
+-- lies in the file, and is encoded as they say.
 pub record LiesIn (picture : Picture) (sizes : Sizes) (size : ℕ) (part : Part) : Type 0 where
   pub left : part.left < sizes.columns
   pub top : part.top < sizes.rows
