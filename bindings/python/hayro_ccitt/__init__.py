@@ -1,7 +1,7 @@
 """A decoder and an encoder for CCITT fax images: ITU-T T.4 (Group 3) and T.6 (Group 4), as TIFF and PDF files have them.
 
-It calls a library that is proved: unless memory runs out, the rows, results and byte counts are those that T.4 and T.6 prescribe,
-as this project has formalized them.
+It calls a library that is proved: unless memory or room runs out, the rows, results and byte counts are those that T.4 and T.6
+prescribe, as this project has formalized them.
 
     >>> import hayro_ccitt
     >>> picture = hayro_ccitt.decode(b"\\x31\\xc0", columns=8, rows=1, k=-1)
