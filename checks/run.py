@@ -18,7 +18,7 @@ os.chdir(os.path.join(os.path.dirname(os.path.abspath(__file__)), ".."))
 sys.dont_write_bytecode = True
 
 import cost  # noqa: E402
-from c import arm64, c_library, cuts, damage_by_k, encoder, feed, hostile, inline_images, large, memory, refusals, row_by_row  # noqa: E402
+from c import arm64, c_library, cuts, encoder, feed, hostile, inline_images, large, memory, refusals, row_by_row  # noqa: E402
 from gate import built  # noqa: E402
 from gate.skipped import LEFT_OUT  # noqa: E402
 from programs import built_tests, claims, conformance, devices, directories, fax, fax_limits, fax_others, fax_output, files, packing, pictures, program, streams  # noqa: E402
@@ -29,7 +29,7 @@ from repository import definitions, repository  # noqa: E402
 FILES = [
     *(repository, definitions),
     *(program, claims, pictures, built_tests, packing, conformance, streams, directories),
-    *(c_library, row_by_row, feed, encoder, refusals, devices, cuts, damage_by_k, hostile, memory, large),
+    *(c_library, row_by_row, feed, encoder, refusals, devices, cuts, hostile, memory, large),
     *(installed, users, files, fax, fax_output, fax_limits, fax_others, inline_images),
     *(released, systems, erased, erased_programs, erased_targets, javascript, browsers, clients, cost, arm64, released_arm64),
 ]

@@ -7,7 +7,7 @@ import tempfile
 from pathlib import Path
 
 import corpus
-from c import c_library, encoder, hostile, row_by_row
+from c import c_library, encoder, feed, hostile, row_by_row
 from gate.built import made_by
 from gate.skipped import leave_out
 
@@ -50,13 +50,14 @@ def printed_by(driver, text):
 
 
 def calls_on_arm64():
-    """Each call on the cases whose results are known, and the calls of one row beside those of the whole."""
+    """Each call on the cases whose results are known, the calls of one row beside those of the whole, and hostile data in pieces."""
     if not build():
         return
     for driver, lines in (
         ("known_calls", [*c_library.known_cases(), *c_library.spread_cases(), *encoder.known_cases(), *encoder.spread_cases()]),
         ("row_by_row", row_by_row.lines_of(row_by_row.cases())),
         ("strip_by_rows", row_by_row.lines_of(row_by_row.pictures())[::FEW]),
+        ("feed", row_by_row.lines_of(feed.hostile())),
     ):
         for printed in printed_by(driver, "".join(lines)):
             print(f"  {driver}: {printed}", end="")

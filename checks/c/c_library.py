@@ -1,8 +1,8 @@
 """Checks of the library for C, as `make install` lays it down: the examples on real strips, and each call on cases with known
 results, of the static library and of the shared one, plain and with tools for memory."""
 import ctypes
+import itertools
 import os
-import random
 import subprocess
 import tempfile
 from pathlib import Path
@@ -221,12 +221,6 @@ def calls_on_known_cases():
     print(*(f"  {line}" for line in by_each_library("known_calls", "".join(known_cases()))), sep="", end="")
 
 
-def each_size():
-    """Each call with data and room of each size up to a thousand, and around each power of two up to a million."""
-    build()
-    print(*(f"  {line}" for line in by_each_library("sizes", "")), sep="", end="")
-
-
 def examples_by_rows():
     """rows_to_pbm and rows_to_strip, as `make` builds them, on each strip of Group 4 with EOFB: its rows, and a strip of them with the
     same rows."""
@@ -267,64 +261,65 @@ def missed_eols_are_reported():
     print(f"  {len(MISSED)} counts of missed EOLs")
 
 
-def flips_are_reported():
-    """A bit of a large strip of Group 3 with EOLs is flipped, at 400 places. A strict run ends well exactly where a lenient one does,
-    repairs no row, misses no EOL and cuts no run. How often they tell of a picture that differs is printed."""
+def answers_without_bytes(library, none, data, columns, encoding, flags):
+    """What each call answers of data, with this pointer where there are no bytes and where there is no room."""
+    size, source = ctypes.c_size_t(0), (data or none, ctypes.c_size_t(len(data)))
+    settings, encoded = Settings(columns, 0, encoding, flags, 0), Settings(columns, encoding, flags, 2, 0)
+    reader, feed, writer, row, told = ((ctypes.c_uint64 * 16)() for _ in range(5))
+    room, answers = (none, size), []
+    for name, *words in (
+        ("hayro_ccitt_measure", *source, settings, told),
+        ("hayro_ccitt_decode_packed", *source, settings, *room, told),
+        ("hayro_ccitt_decode_changes", *source, settings, *room, told),
+        ("hayro_ccitt_open", *source, settings, reader),
+        ("hayro_ccitt_next_changes", *source, reader, *room, row),
+        ("hayro_ccitt_next_packed", *source, reader, *room, row),
+        ("hayro_ccitt_close", reader),
+        ("hayro_ccitt_feed_open", settings, feed),
+        ("hayro_ccitt_feed", feed, *source),
+        ("hayro_ccitt_feed_finish", feed),
+        ("hayro_ccitt_feed_next_changes", feed, *room, row),
+        ("hayro_ccitt_feed_next_packed", feed, *room, row),
+        ("hayro_ccitt_feed_rows_changes", feed, *room, told, row),
+        ("hayro_ccitt_feed_rows_packed", feed, *room, told, row),
+        ("hayro_ccitt_feed_unused", feed, *room, told),
+        ("hayro_ccitt_feed_close", feed),
+        ("fax_encode_bitmap", *room, encoded, *room, told),
+        ("fax_encode_open", encoded, writer),
+        ("fax_encode_row_changes", writer, *room),
+        ("fax_encode_row_packed", writer, *room),
+        ("fax_encode_finish", writer, *room, told),
+        ("fax_encode_close", writer),
+    ):
+        answers += [getattr(library, name)(*(ctypes.byref(it) if isinstance(it, Settings) else it for it in words)), bytes(row), bytes(told)]
+    return answers
+
+
+def null_pointers():
+    """Null pointers of length 0 have the results of others: by each call, in every encoding, with every flag, in several widths."""
     build()
-    strips = {line[1]: line[2:5] for line in corpus.lines_of("manifest.tsv") if line[2] == "1d" and f"{line[4]}:l" in line[5].split(",")}
-    largest = sorted(strips, key=lambda name: (os.path.getsize(f"corpus/{name}"), name))[-4:]
-    changed = strictly = repaired = told = 0
-    chosen = random.Random(4)
+    nothing, kinds = (ctypes.c_uint32 * 1)(), itertools.product((b"", b"\x31\xc0"), (0, 1, 8, 1728), range(4), range(65))
     with tempfile.TemporaryDirectory() as folder:
-        decode = loaded(folder).hayro_ccitt_decode_packed
-        for name in largest:
-            data = Path(f"corpus/{name}").read_bytes()
-            size = (int(strips[name][1]) + 7) // 8 * int(strips[name][2])
-            pictures = {}
-            for bit in [None, *(chosen.randrange(8 * len(data)) for _ in range(100))]:
-                flipped = bytearray(data)
-                if bit is not None:
-                    flipped[bit // 8] ^= 128 >> bit % 8
-                for flags in ("l", "ls"):
-                    memory, outcome = (ctypes.c_uint8 * size)(), Outcome()
-                    words = (bytes(flipped), ctypes.c_size_t(len(data)), ctypes.byref(settings_of(*strips[name], flags)))
-                    answer = decode(*words, memory, ctypes.c_size_t(size), ctypes.byref(outcome))
-                    pictures[bit, flags] = (answer, bytes(memory), outcome.damaged_rows, outcome.missed_eols, outcome.cut_rows)
-                whole, lenient, strict = pictures[None, "l"], pictures[bit, "l"], pictures[bit, "ls"]
-                assert (strict[0] == 0) == (lenient[0] == 0 and lenient[2:] == (0, 0, 0)), (name, bit)
-                assert strict[0] != 0 or lenient[:2] == strict[:2], (name, bit)
-                if lenient[1] != whole[1]:
-                    changed += 1
-                    strictly += strict[0] != 0
-                    repaired += lenient[2] > 0
-                    told += any(lenient[2:])
-    assert 0 < repaired <= told <= strictly <= changed
-    print(f"  of {changed} pictures that differ a strict run tells {strictly}, repaired rows {repaired}, missed EOLs and cut runs too {told}")
+        library = loaded(folder)
+        answers = {kind: answers_without_bytes(library, None, *kind) for kind in kinds}
+        others = [kind for kind, found in answers.items() if answers_without_bytes(library, nothing, *kind) != found]
+    assert not others and bytes(nothing) == bytes(4), others[:9]
+    print(f"  {len(answers)} settings")
 
 
 def example_without_memory():
     """Each allocation of the example refused in turn: it says so, and the picture is that of the rows before. A refused buffer of the
     C library is harmless."""
     build()
-    seen = 0
     whole = (0, b"P4\n8 2\n\x18\x18", b"")
     ended = [(2, picture, b"strip_to_pbm: out of memory\n") for picture in (b"", b"P4\n8 0\n", b"P4\n8 1\n\x18")]
     with tempfile.TemporaryDirectory() as folder:
         example = compiled(f"{folder}/strip_to_pbm", "examples/strip_to_pbm.c", LIBRARY)
-        shim = built.preload(folder, "c/refuse")
-        for number in range(1, 100):
-            refused = {**os.environ, "LD_PRELOAD": shim, "REFUSE": str(number)}
-            done = subprocess.run([example, "g4", "8", "2", "-"], input=b"\x31\xf8", capture_output=True, env=refused, check=False, timeout=60)
-            answer = (done.returncode, done.stdout, done.stderr.replace(b"refused\n", b"", 1))
-            if b"refused\n" not in done.stderr:
-                assert answer == whole, answer
-                break
-            assert answer == whole or answer in ended, answer
-            seen += answer in ended
-        else:
-            raise AssertionError("it never ran without a refusal")
+        *refused, last = built.refused_in_turn(built.preload(folder, "c/refuse"), [example, "g4", "8", "2", "-"], b"\x31\xf8")
+    assert last == whole and all(answer in (whole, *ended) for answer in refused), (last, refused)
+    seen = len(refused) - refused.count(whole)
     assert seen > 1
     print(f"  {seen} allocations refused in turn")
 
 
-CHECKS = [example_on_strips, examples_by_rows, calls_on_known_cases, rows_are_spread, each_size, missed_eols_are_reported, flips_are_reported, example_without_memory]
+CHECKS = [example_on_strips, examples_by_rows, calls_on_known_cases, rows_are_spread, missed_eols_are_reported, null_pointers, example_without_memory]

@@ -1,21 +1,16 @@
-"""Checks of the encoder for callers in C: its example, its call on cases with known results, and its strips beside libtiff's."""
+"""Checks of the encoder for callers in C: its example, and its calls on cases with known results."""
 import ctypes
-import os
 import random
-import shutil
 import subprocess
 import tempfile
 from pathlib import Path
 
 import corpus
 from c import c_library
-from gate.built import preload
-from gate.skipped import leave_out
+from gate.built import preload, refused_in_turn
 
 # the arguments of the example, whose flags but f serve its counterpart too
 WAYS = [("g4", "b"), ("g4", "ba"), ("1d", "lb"), ("g4", "ar"), ("1d", "a"), ("1d", "lf"), ("2d", "-", "2"), ("2d", "lbf"), ("2d", "lr", "4294967295")]
-# those of them that Ghostscript reads up to their end
-CLOSED = [("g4", "b"), ("g4", "ba"), ("1d", "lb")]
 # columns, a bitmap, an encoding, flags, K, and the bytes, worked out from T.4 and T.6
 KNOWN = [
     (8, "", 0, 1, 0, "001001"),
@@ -181,100 +176,17 @@ def encoding_without_memory():
     """Each allocation of the example refused in turn: it says so, and writes nothing."""
     c_library.build()
     seen = 0
-    picture = pbm(8, b"\x18\x18")
+    picture, ended = pbm(8, b"\x18\x18"), (2, b"", b"pbm_to_strip: out of memory\n")
     with tempfile.TemporaryDirectory() as folder:
         encode, _ = examples(folder)
         shim = preload(folder, "c/refuse")
         for mode in ("g4", "1d", "2d"):
-            whole = (0, run(picture, encode, mode, "-").stdout, b"")
-            assert whole[1], mode
-            for number in range(1, 100):
-                refused = {**os.environ, "LD_PRELOAD": shim, "REFUSE": str(number)}
-                done = subprocess.run([encode, mode, "-"], input=picture, capture_output=True, env=refused, check=False, timeout=60)
-                answer = (done.returncode, done.stdout, done.stderr.replace(b"refused\n", b"", 1))
-                if b"refused\n" not in done.stderr:
-                    assert answer == whole, answer
-                    break
-                ended = (2, b"", b"pbm_to_strip: out of memory\n")
-                assert answer in (whole, ended), answer
-                seen += answer == ended
-            else:
-                raise AssertionError("it never ran without a refusal")
+            *refused, last = refused_in_turn(shim, [encode, mode, "-"], picture)
+            assert last == (0, run(picture, encode, mode, "-").stdout, b"") and last[1], mode
+            assert all(answer in (last, ended) for answer in refused), (mode, refused)
+            seen += refused.count(ended)
     assert seen > 3
     print(f"  {seen} allocations refused in turn")
 
 
-def by_libtiff(folder):
-    """by_libtiff.c, or None where libtiff's headers aren't."""
-    tool = f"{folder}/by_libtiff"
-    built = run(b"", "gcc", "-O2", "-Wall", "-Wextra", "-Werror", "-std=c11", "-o", tool, "checks/c/by_libtiff.c", "-ltiff")
-    assert built.returncode == 0 or b"tiffio.h" in built.stderr, built.stderr
-    return tool if built.returncode == 0 else None
-
-
-def beside_libtiff():
-    """Our strips decoded by libtiff, and libtiff's by ours. It has no Group 4 with aligned rows."""
-    c_library.build()
-    by_it = by_us = same = 0
-    with tempfile.TemporaryDirectory() as folder:
-        tool = by_libtiff(folder)
-        if not tool:
-            leave_out("the encoder beside libtiff", "libtiff")
-            return
-        encode, decode = examples(folder)
-        for columns, bitmap in pictures():
-            picture = pbm(columns, bitmap)
-            rows = len(bitmap) // ((columns + 7) // 8)
-            words = (str(columns), str(rows), f"{folder}/tiff")
-            ours = {mode: run(picture, encode, mode, flags).stdout for mode, flags in (("g4", "b"), ("1d", "lb"))}
-            for mode, strip in ours.items():
-                done = run(strip, tool, "decode", mode, *words)
-                assert (done.returncode, done.stdout) == (0, bitmap), (columns, mode, done.stderr)
-                by_it += 1
-            for its, mode, flags in (("g4", "g4", "b"), ("1d", "1d", "-"), ("rle", "1d", "a")):
-                strip = run(bitmap, tool, "encode", its, *words)
-                assert strip.returncode == 0, (columns, its, strip.stderr)
-                done = run(strip.stdout, decode, mode, str(columns), str(rows), flags)
-                assert (done.returncode, done.stdout) == (0, picture), (columns, its, done.stderr)
-                by_us += 1
-                same += its == "g4" and strip.stdout == ours["g4"]
-    assert by_it > 0
-    print(f"  {by_it} strips decoded by libtiff, {by_us} of libtiff's decoded; {same} strips of Group 4 are the same bytes")
-
-
-DECODE = """/buffer 65536 string def
-/decode {
-    /align exch def /columns exch def /k exch def /out exch def /in exch def
-    /source in (r) file << /K k /Columns columns /EncodedByteAlign align /BlackIs1 true /EndOfBlock true >> /CCITTFaxDecode filter def
-    /target out (w) file def
-    { source buffer readstring exch target exch writestring not { exit } if } loop
-    target closefile
-} def
-"""
-
-
-def beside_ghostscript():
-    """Our strips decoded by Ghostscript, which has Group 4 with aligned rows too."""
-    if not shutil.which("gs"):
-        leave_out("the encoder beside Ghostscript", "gs")
-        return
-    c_library.build()
-    with tempfile.TemporaryDirectory() as folder:
-        encode, _ = examples(folder)
-        expected, text = [], DECODE
-        for columns, bitmap in pictures():
-            for mode, flags in CLOSED:
-                name = f"{folder}/{len(expected)}"
-                Path(name).write_bytes(run(pbm(columns, bitmap), encode, mode, flags).stdout)
-                text += f"({name}) ({name}.bits) {-1 if mode == 'g4' else 0} {columns} {str('a' in flags).lower()} decode\n"
-                expected.append(bitmap)
-        Path(f"{folder}/decode.ps").write_text(text + "quit\n", encoding="ascii")
-        done = run(b"", "gs", "-q", "-dNODISPLAY", "-dBATCH", "-dNOSAFER", f"{folder}/decode.ps")
-        assert (done.returncode, done.stdout, done.stderr) == (0, b"", b""), done
-        for index, bitmap in enumerate(expected):
-            assert Path(f"{folder}/{index}.bits").read_bytes() == bitmap, f"strip {index}"
-    assert expected
-    print(f"  {len(expected)} strips decoded by Ghostscript")
-
-
-CHECKS = [pictures_come_back, calls_that_encode, rows_are_spread, encoding_without_memory, beside_libtiff, beside_ghostscript]
+CHECKS = [pictures_come_back, calls_that_encode, rows_are_spread, encoding_without_memory]

@@ -51,31 +51,6 @@ static void listed_in(const known *it, size_t room, uint64_t *rows, uint64_t *ch
     }
 }
 
-/* A feed of all data. */
-static hayro_ccitt_row_feed fed_at_once(const known *it) {
-    hayro_ccitt_row_feed feed = {0, 0, 0};
-    must(hayro_ccitt_feed_open(&it->settings, &feed) == HAYRO_CCITT_OK, "a feed of rows at once");
-    must(hayro_ccitt_feed(&feed, it->data, it->length) == HAYRO_CCITT_OK && hayro_ccitt_feed_finish(&feed) == HAYRO_CCITT_OK, "fed at once");
-    return feed;
-}
-
-static void ended_at_once(const known *it, hayro_ccitt_row_feed *feed, uint32_t status, size_t count, const hayro_ccitt_row *row) {
-    must(status == (it->status ? it->status : HAYRO_CCITT_NO_ROW) && count == it->rows && row->rows == it->rows, "the end of rows at once");
-    ended(hayro_ccitt_feed_close(feed), HAYRO_CCITT_OK, "closed");
-}
-
-/* Lists of all rows in one call, with room for one number more. */
-static void list_rows_at_once(const known *it) {
-    size_t count = 7, numbers = it->rows + it->changes;
-    hayro_ccitt_row_feed feed = fed_at_once(it);
-    hayro_ccitt_row row;
-    uint32_t *memory = lend(4 * (numbers + 1));
-    uint32_t status = hayro_ccitt_feed_rows_changes(&feed, memory, numbers + 1, &count, &row);
-    must(are_same(memory, it->lists, 4 * numbers) && is_untouched_after(memory, 4 * numbers, 4 * (numbers + 1)), "the lists at once");
-    take_back(memory);
-    ended_at_once(it, &feed, status, count, &row);
-}
-
 static void list_rows(const known *it, size_t room) {
     hayro_ccitt_outcome outcome;
     uint32_t *lists = lend(4 * room);
@@ -125,7 +100,6 @@ static void decode(known *it) {
     list_rows(it, it->count + 1);
     if (it->count > 0) list_rows(it, it->count - 1);
     if (it->count > 1) list_rows(it, 0);
-    if (it->status != HAYRO_CCITT_NOT_TAKEN) list_rows_at_once(it);
     if (size >= 1 << 20) return;
     pack_rows(it, size);
     pack_rows(it, size + 1);
@@ -165,40 +139,6 @@ static void read_rows(const known *it, const uint8_t *bitmap) {
     ended(hayro_ccitt_close(&reader), HAYRO_CCITT_OK, "closed");
 }
 
-/* The same of data that is fed at once. */
-static void read_fed_rows(const known *it, const uint8_t *bitmap) {
-    size_t width = (it->columns + 7ULL) / 8, stride = it->settings.stride ? it->settings.stride : width;
-    hayro_ccitt_row_feed feed = {0, 0, 0};
-    hayro_ccitt_row row;
-    must(hayro_ccitt_feed_open(&it->settings, &feed) == HAYRO_CCITT_OK, "a feed of packed rows");
-    must(hayro_ccitt_feed(&feed, it->data, it->length) == HAYRO_CCITT_OK && hayro_ccitt_feed_finish(&feed) == HAYRO_CCITT_OK, "fed");
-    for (uint64_t index = 0; index < it->rows; index++) {
-        uint8_t *memory = lend(width);
-        must(hayro_ccitt_feed_next_packed(&feed, memory, width, &row) == HAYRO_CCITT_OK, "a packed row that is fed");
-        must(are_same(memory, bitmap + index * stride, width), "the bytes of a packed row that is fed");
-        take_back(memory);
-    }
-    uint32_t wanted = it->status ? it->status : HAYRO_CCITT_NO_ROW;
-    must(hayro_ccitt_feed_next_packed(&feed, NULL, 0, &row) == wanted, "the end of packed rows that are fed");
-    ended(hayro_ccitt_feed_close(&feed), HAYRO_CCITT_OK, "closed");
-}
-
-/* The same rows in one call, into a bitmap with room for one more. */
-static void pack_rows_at_once(const known *it, const uint8_t *bitmap) {
-    size_t width = (it->columns + 7ULL) / 8, stride = it->settings.stride ? it->settings.stride : width, count = 7, size = it->rows * stride + width;
-    hayro_ccitt_row_feed feed = fed_at_once(it);
-    hayro_ccitt_row row;
-    uint8_t *memory = lend(size);
-    uint32_t status = hayro_ccitt_feed_rows_packed(&feed, memory, size, &count, &row);
-    for (size_t index = 0; index < it->rows; index++) {
-        must(are_same(memory + index * stride, bitmap + index * stride, width), "the bytes of a row at once");
-        must(is_untouched_after(memory, index * stride + width, (index + 1) * stride), "the bytes after a row at once");
-    }
-    must(is_untouched_after(memory, it->rows * stride, size), "the bytes after the rows at once");
-    take_back(memory);
-    ended_at_once(it, &feed, status, count, &row);
-}
-
 /* Settings that aren't taken: each call says so. */
 static void refuse_settings(const known *it) {
     hayro_ccitt_outcome outcome;
@@ -229,8 +169,6 @@ static void spread(const known *it, const uint8_t *bitmap, size_t size) {
     if (size > 1) spread_rows(it, bitmap, size / 2);
     if (size > 2) spread_rows(it, bitmap, 0);
     read_rows(it, bitmap);
-    read_fed_rows(it, bitmap);
-    pack_rows_at_once(it, bitmap);
 }
 
 static void encode(const uint8_t *bitmap, size_t length, const fax_encode_settings *settings, uint32_t status, uint64_t rows, const uint8_t *strip,

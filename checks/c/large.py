@@ -1,7 +1,6 @@
-"""Checks with large data: wide rows, many rows, long input, text and bitmaps, settings at the ends of their types. What is expected
-follows by rule from how the data is made, with the plain encoder of bench/strips.py; no expected value was taken from a run."""
+"""Checks with large data: wide rows, many rows, long input, text and bitmaps. What is expected follows by rule from how the data is
+made, with the plain encoder of bench/strips.py; no expected value was taken from a run."""
 import ctypes
-import itertools
 import resource
 import subprocess
 import sys
@@ -16,7 +15,7 @@ sys.path.append("bench")
 import strips  # noqa: E402
 
 EOL = strips.EOL
-V0, VL1, WHITE_1, BLACK_1 = "1", "010", "000111", "010"
+V0, WHITE_1, BLACK_1 = "1", "000111", "010"
 MEASURE, CHANGES, PACKED = "hayro_ccitt_measure", "hayro_ccitt_decode_changes", "hayro_ccitt_decode_packed"
 # how many seconds a run of the program may take
 LIMIT = "60"
@@ -243,65 +242,4 @@ def long_data():
     print(f"  {len(data)} bytes of data")
 
 
-ENDS = [0, 1, 1 << 16, 1 << 31, (1 << 32) - 1]
-FLAGS = ["".join(letters) for count in range(6) for letters in itertools.combinations("blasr", count)]
-
-
-def on_whole_bytes(text):
-    """Bits with as many zeros before them, which are fill before an EOL, that they are whole bytes."""
-    return strips.packed("0" * (-len(text) % 8) + text)
-
-
-def one_row(mode, columns):
-    """A closed picture of one row, the last pixel of which is black, and as many bytes as bits need: with any row limit, and
-    whatever of EOLs, alignment and the closing sign is looked for, all of it is read."""
-    line = VL1 + V0
-    if mode == "g4":
-        return strips.packed(line) + strips.packed(EOL * 2)
-    if mode == "2d":
-        return on_whole_bytes(EOL + "0" + line + (EOL + "1") * 6)
-    return on_whole_bytes(EOL + strips.line_1d(columns, [columns - 1]) + EOL * 6)
-
-
-def settings_at_the_ends():
-    """Contexts with 0, 1, 2^16, 2^31 and 2^32 - 1 columns and rows, with each encoding and all flags, on a row of one change."""
-    calls = runs = 0
-    with tempfile.TemporaryDirectory() as folder:
-        c_library.build()
-        library = c_library.loaded(folder)
-        for mode, columns in itertools.product(c_library.MODES, ENDS):
-            data = one_row(mode, columns or 1)
-            rows = [[columns - 1]] if columns else []
-            expected = len(rows), len(rows), len(data) if rows else 0
-            bitmap = c_library.packed_rows(columns, rows) if columns <= 1 << 16 else b""
-            few = mode == "1d" and columns > 1 << 16
-            for limit, flags in itertools.product(ENDS, FLAGS):
-                # one-dimensional lines of wide rows are long
-                if few and flags not in ("", "blsr"):
-                    continue
-                settings = c_library.settings_of(mode, columns, limit, flags)
-                read = data.translate(c_library.MIRRORED) if "r" in flags else data
-                memory = (ctypes.c_uint32 * 2)(7, 7)
-                outcome = c_library.Outcome(*[7] * 6)
-                call = ctypes.c_char_p(read), ctypes.c_size_t(len(read)), ctypes.byref(settings)
-                for name, lent in ((MEASURE, ()), (CHANGES, (memory, ctypes.c_size_t(2)))):
-                    status = getattr(library, name)(*call, *lent, ctypes.byref(outcome))
-                    assert (status, outcome.numbers()) == (0, expected), (name, mode, columns, limit, flags, status, outcome.numbers())
-                assert list(memory) == ([1, columns - 1] if rows else [7, 7]), (mode, columns, limit, flags)
-                calls += 2
-                if bitmap:
-                    lent = (ctypes.c_uint8 * len(bitmap))()
-                    status = getattr(library, PACKED)(*call, lent, ctypes.c_size_t(len(bitmap)), ctypes.byref(outcome))
-                    assert (status, outcome.numbers(), bytes(lent)) == (0, expected, bitmap), (PACKED, mode, columns, limit, flags)
-                    calls += 1
-                if flags in ("", "blsr"):
-                    for first in ("", "-i "):
-                        writes(folder, f"{first}{mode} {columns} {limit} {flags or '-'}", read, [(text_of(rows), 1), ok(data[: expected[2]])])
-                        runs += 1
-                    if columns <= 1 << 16:
-                        writes(folder, f"-o {mode} {columns} {limit} {flags or '-'}", read, [(bitmap, 1)])
-                        runs += 1
-    print(f"  {calls} calls, {runs} runs of the program")
-
-
-CHECKS = [a_dense_row, many_rows, rows_by_row, long_text, long_data, settings_at_the_ends]
+CHECKS = [a_dense_row, many_rows, rows_by_row, long_text, long_data]

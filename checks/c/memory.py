@@ -9,7 +9,7 @@ import tempfile
 from pathlib import Path
 
 import corpus
-from c import c_library, c_library_calls, encoder, refusals
+from c import c_library, c_library_calls, encoder
 from gate.built import preload
 from programs import program
 
@@ -53,21 +53,6 @@ def largest(columns, bits):
 # Rows of 64 columns, and how many equal ones there are at most.
 ROWS = [[3, 5], [0], [0, 1, 2, 63], list(range(1, 64))]
 HUNDRED = 100
-
-
-def white_data():
-    """No call on white data allocates."""
-    c_library.build()
-    seen = 0
-    with tempfile.TemporaryDirectory() as folder:
-        library = c_library_calls.Library(folder)
-        for words, data in refusals.white_data():
-            library.refuse(0)
-            library.answer(c_library_calls.settings_of(words), data)
-            asked = library.calls.requests_seen(), library.calls.bytes_asked()
-            assert asked == (0, 0), (words, asked)
-            seen += 1
-    print(f"  {seen} data")
 
 
 def changes_read(row):
@@ -192,4 +177,4 @@ def bounded_lists():
     print(f"  {strip_count} strips, with lists of at most {most} bytes, and {shapes} cases")
 
 
-CHECKS = [white_data, equal_rows, encoded_rows, runs_of_the_program, piped_rows, bounded_lists]
+CHECKS = [equal_rows, encoded_rows, runs_of_the_program, piped_rows, bounded_lists]

@@ -1,11 +1,11 @@
-"""Checks of allocations and sinks that refuse: each allocation refused in turn, each row, and how many allocations there are."""
+"""Checks of allocations that are refused, each in turn, and of how many allocations there are."""
 import os
 import resource
 import tempfile
 
 import corpus
 from c import c_library, c_library_calls
-from gate.built import preload
+from gate.built import preload, refused_in_turn
 from programs import program
 
 EOL = "000000000001"
@@ -132,7 +132,7 @@ def each_request_of_the_program():
                 else:
                     whole = 0, text_of(rows, last), b""
                     wants, refusals = ([(3, text_of(front, "error: " + why), b"") for front in fronts] for why in ("out of memory", "row refused"))
-                *answers, end = program.refused_in_turn(("-o " if bitmap else "") + words, data.hex(), refuse)
+                *answers, end = refused_in_turn(refuse, [program.PROGRAM, *["-o"] * bitmap, *words.split()], data)
                 assert end == whole, (words, bitmap)
                 for answer in answers:
                     assert answer in [whole, program.NO_ARGUMENTS, program.BEFORE_DECODING, *wants, *refusals], (words, bitmap, answer)
@@ -141,12 +141,12 @@ def each_request_of_the_program():
                 runs += len(answers)
             # row by row no row is refused: where there is no memory to gather text it is written at once
             texts = [
-                ("-i ", text_of(rows, last), [text_of(front, "error: out of memory") for front in fronts]),
-                ("-d ", damage_of(words, len(rows), last), [damage_of(words, count, "error: out of memory") for count in range(len(rows))]),
+                ("-i", text_of(rows, last), [text_of(front, "error: out of memory") for front in fronts]),
+                ("-d", damage_of(words, len(rows), last), [damage_of(words, count, "error: out of memory") for count in range(len(rows))]),
             ]
             for first, text, ended in texts:
                 whole, wants = (0, text, b""), [(3, text, b"") for text in ended]
-                *answers, end = program.refused_in_turn(first + words, data.hex(), refuse)
+                *answers, end = refused_in_turn(refuse, [program.PROGRAM, first, *words.split()], data)
                 assert end == whole, (first, words)
                 for answer in answers:
                     assert answer in [whole, program.NO_ARGUMENTS, program.BEFORE_DECODING, *wants], (first, words, answer)
@@ -155,43 +155,6 @@ def each_request_of_the_program():
                 assert answers.count(whole) > 1, (first, words)
                 runs += len(answers)
     print(f"  {len(DATA)} data, {runs} allocations refused in turn")
-
-
-def each_row_refused():
-    """Room for each number of rows: a refusal exactly if there is one row more, and nothing is written after the rows."""
-    c_library.build()
-    seen = 0
-    with tempfile.TemporaryDirectory() as folder:
-        library = c_library_calls.Library(folder)
-        known = list(DATA)
-        for words, text, expected in corpus.lines_of("cases.tsv"):
-            *rows, last = expected.split("/")
-            known.append((words, corpus.bytes_of(text), [[int(number) for number in row.split()[1:]] for row in rows], last))
-        for words, data, rows, last in known:
-            settings = c_library_calls.settings_of(words)
-            width, status = (settings.columns + 7) // 8, c_library.ANSWERS.get(last, 0)
-            whole = status, (len(rows), sum(map(len, rows)), 0 if status else int(last.split()[1]))
-            for count in range(len(rows) + 1):
-                less = 5, (count, sum(map(len, rows[:count])), 0)
-                front = lists_of(rows[:count])
-                for more in {0, len(rows[count]) if count < len(rows) else 0}:
-                    memory = c_library.numbers_lent(len(front) + more)
-                    answer = c_library.called(library.calls.hayro_ccitt_decode_changes, data, settings, memory)
-                    assert answer == (less if count < len(rows) else whole), (words, data.hex(), count)
-                    assert list(memory) == front + [0xA5A5A5A5] * (more + c_library.GUARD), (words, data.hex(), count)
-                    seen += 1
-                if width > 1 << 16:
-                    continue
-                front = c_library.packed_rows(settings.columns, rows[:count])
-                for more in {0, width - 1 if count < len(rows) else 0}:
-                    memory = c_library.bytes_lent(len(front) + more)
-                    answer = c_library.called(library.calls.hayro_ccitt_decode_packed, data, settings, memory)
-                    assert answer == (less if count < len(rows) else whole), (words, data.hex(), count)
-                    assert bytes(memory) == front + b"\xa5" * (more + c_library.GUARD), (words, data.hex(), count)
-                    seen += 1
-        assert library.calls.blocks_held() == 0
-    assert seen > len(known)
-    print(f"  {len(known)} data, {seen} calls with room for each number of rows")
 
 
 def white_data():
@@ -308,7 +271,6 @@ def limit_memory():
 CHECKS = [
     each_request_of_the_library,
     each_request_of_the_program,
-    each_row_refused,
     white_data_takes_none,
     allocations_of_the_program,
     in_little_memory,

@@ -136,3 +136,14 @@ def loading(loaded, **variables):
     """The environment in which a program is run with such a file loaded, and with these variables for it."""
     by = {"QEMU_SET_ENV": f"LD_PRELOAD={loaded}"} if IS_EMULATED else {"LD_PRELOAD": loaded}
     return {**os.environ, **by, **{name: str(value) for name, value in variables.items()}}
+
+
+def refused_in_turn(shim, words, data):
+    """The status, the output and the errors of a command whose first allocation is refused, whose second one is, and so on, and of one
+    without. The shim is c/refuse."""
+    for number in range(1, 1000):
+        done = subprocess.run(words, input=data, capture_output=True, env=loading(shim, REFUSE=number), check=False, timeout=60)
+        yield done.returncode, done.stdout, done.stderr.replace(b"refused\n", b"", 1)
+        if b"refused\n" not in done.stderr:
+            return
+    raise AssertionError("it never ran without a refusal")

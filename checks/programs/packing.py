@@ -9,8 +9,9 @@ from pathlib import Path
 
 from c import encoder
 from c.encoder import pbm
-from gate.built import loading, preload
+from gate.built import preload, refused_in_turn
 from gate.skipped import leave_out
+from pdf import pdf_of, stream_object
 from programs import program
 
 PROGRAM = os.path.abspath("crates/faxpack/out/faxpack")
@@ -252,20 +253,12 @@ def packing_without_memory():
     with tempfile.TemporaryDirectory() as folder:
         shim = preload(folder, "c/refuse")
         for words in (("g4", "b"), ("1d", "bl"), ("2d", "blfr"), ("2d", "a", "1"), ("g4", "m")):
-            whole = (0, run(picture, PROGRAM, *words).stdout, b"")
-            for number in range(1, 100):
-                done = run(picture, PROGRAM, *words, env=loading(shim, REFUSE=number))
-                answer = (done.returncode, done.stdout, done.stderr.replace(b"refused\n", b"", 1))
-                if b"refused\n" not in done.stderr:
-                    assert answer == whole, answer
-                    break
-                assert answer in (whole, *ended), (words, number, answer)
-                answers.append(answer)
-            else:
-                raise AssertionError("it never ran without a refusal")
+            *refused, last = refused_in_turn(shim, [PROGRAM, *words], picture)
+            assert last == (0, run(picture, PROGRAM, *words).stdout, b""), (words, last)
+            assert all(answer in (last, *ended) for answer in refused), (words, refused)
+            answers += refused
     assert all(answers.count(end) > 3 for end in ended), answers
     print(f"  {len(answers)} allocations refused in turn")
-
 
 
 # The arguments of faxpack, and libtiff's mode: those of which both make the same bytes, and those of which ours are no more
@@ -279,12 +272,20 @@ NO_LONGER = [(("2d", "l", "2"), "2d"), (("2d", "l", "4"), "2d:h"), (("2d", "lr")
 DECODED = [(("2d", "lf", "2"), "2d:f"), (("2d", "lf"), "2d:hf"), (("g4", "-"), "g4"), (("1d", "bl"), "1d"), (("1d", "blfr"), "1d:fr"), (("2d", "bl", "2"), "2d"), (("2d", "blf", "9"), "2d:f"), (("2d", "l", "1"), "2d")]
 
 
+def by_libtiff(folder):
+    """by_libtiff.c, or None where libtiff's headers aren't."""
+    tool = f"{folder}/by_libtiff"
+    built = run(b"", "gcc", "-O2", "-Wall", "-Wextra", "-Werror", "-std=c11", "-o", tool, "checks/c/by_libtiff.c", "-ltiff")
+    assert built.returncode == 0 or b"tiffio.h" in built.stderr, built.stderr
+    return tool if built.returncode == 0 else None
+
+
 def packing_beside_libtiff():
     """libtiff decodes our strips. Group 4 and one-dimensional Group 3 are the bytes that it writes, and two-dimensional Group 3, with
     the same K, is no longer."""
     same = fewer = decoded = 0
     with tempfile.TemporaryDirectory() as folder:
-        tool = encoder.by_libtiff(folder)
+        tool = by_libtiff(folder)
         if not tool:
             leave_out("faxpack beside libtiff", "libtiff")
             return
@@ -317,32 +318,33 @@ def pdf_settings(words, columns, rows, black_is_1):
     return f"/K {k} /Columns {columns} /Rows {rows} " + " ".join(f"/{name} {str(value).lower()}" for name, value in said.items())
 
 
-def pdf_of(strips, black_is_1):
+def pdf_of_strips(strips, black_is_1):
     """A PDF file with a page that paints each strip as an image. The image with index n is object n + 4."""
-    objects = [b"<< /Type /Catalog /Pages 2 0 R >>", b"<< /Type /Pages /Kids [3 0 R] /Count 1 >>"]
     names = " ".join(f"/I{index} {index + 4} 0 R" for index in range(len(strips)))
-    content = len(strips) + 4
-    objects.append(f"<< /Type /Page /Parent 2 0 R /MediaBox [0 0 100 100] /Contents {content} 0 R /Resources << /XObject << {names} >> >> >>".encode())
+    page = f"/MediaBox [0 0 100 100] /Contents {len(strips) + 4} 0 R /Resources << /XObject << {names} >> >>"
+    objects = [b"<< /Type /Catalog /Pages 2 0 R >>", b"<< /Type /Pages /Kids [3 0 R] /Count 1 >>", f"<< /Type /Page /Parent 2 0 R {page} >>".encode()]
     for columns, bitmap, words, strip in strips:
         rows = rows_of(columns, bitmap)
-        head = f"<< /Type /XObject /Subtype /Image /Width {columns} /Height {rows} /ColorSpace /DeviceGray /BitsPerComponent 1 /Length {len(strip)}"
-        filters = f" /Filter /CCITTFaxDecode /DecodeParms << {pdf_settings(words, columns, rows, black_is_1)} >> >>\nstream\n"
-        objects.append((head + filters).encode() + strip + b"\nendstream")
-    painted = "\n".join(f"q 9 0 0 9 0 0 cm /I{index} Do Q" for index in range(len(strips))).encode()
-    objects.append(b"<< /Length %d >>\nstream\n" % len(painted) + painted + b"\nendstream")
-    text, places = b"%PDF-1.4\n", []
-    for number, body in enumerate(objects, 1):
-        places.append(len(text))
-        text += b"%d 0 obj\n" % number + body + b"\nendobj\n"
-    table = b"".join(b"%010d 00000 n \n" % place for place in places)
-    size = len(objects) + 1
-    return text + b"xref\n0 %d\n0000000000 65535 f \n" % size + table + b"trailer << /Root 1 0 R /Size %d >>\nstartxref\n%d\n%%%%EOF\n" % (size, len(text))
+        head = f"/Type /XObject /Subtype /Image /Width {columns} /Height {rows} /ColorSpace /DeviceGray /BitsPerComponent 1"
+        objects.append(stream_object(f"{head} /Filter /CCITTFaxDecode /DecodeParms << {pdf_settings(words, columns, rows, black_is_1)} >>".encode(), strip))
+    painted = "\n".join(f"q 9 0 0 9 0 0 cm /I{index} Do Q" for index in range(len(strips)))
+    return pdf_of([*objects, stream_object(b"", painted.encode())])
+
+
+DECODE = """/buffer 65536 string def
+/decode {
+    /settings exch def /out exch def /in exch def
+    /source in (r) file settings /CCITTFaxDecode filter def
+    /target out (w) file def
+    { source buffer readstring exch target exch writestring not { exit } if } loop
+    target closefile
+} def
+"""
 
 
 def read_by_ghostscript(folder, strips):
     """The bitmaps that Ghostscript decodes. It reads ahead, and may miss the last row where the data ends with it: zeros follow."""
-    text = encoder.DECODE.replace("/align exch def /columns exch def /k exch def ", "/settings exch def ")
-    text = text.replace("<< /K k /Columns columns /EncodedByteAlign align /BlackIs1 true /EndOfBlock true >>", "settings")
+    text = DECODE
     for index, (columns, bitmap, words, strip) in enumerate(strips):
         Path(f"{folder}/{index}").write_bytes(strip + (b"" if "b" in words[1] else bytes(4)))
         text += f"({folder}/{index}) ({folder}/{index}.bits) << {pdf_settings(words, columns, rows_of(columns, bitmap), True)} >> decode\n"
@@ -355,7 +357,7 @@ def read_by_ghostscript(folder, strips):
 
 def read_by_mupdf(folder, strips):
     """The bitmaps that MuPDF decodes."""
-    Path(f"{folder}/strips.pdf").write_bytes(pdf_of(strips, True))
+    Path(f"{folder}/strips.pdf").write_bytes(pdf_of_strips(strips, True))
     for index in range(len(strips)):
         done = run(b"", "mutool", "show", "-b", f"{folder}/strips.pdf", str(index + 4))
         # It warns of fill before the first EOL.
@@ -365,7 +367,7 @@ def read_by_mupdf(folder, strips):
 
 def read_by_poppler(folder, strips):
     """The bitmaps that poppler decodes, which it writes as PBM pictures."""
-    Path(f"{folder}/strips.pdf").write_bytes(pdf_of(strips, False))
+    Path(f"{folder}/strips.pdf").write_bytes(pdf_of_strips(strips, False))
     done = run(b"", "pdfimages", f"{folder}/strips.pdf", f"{folder}/image")
     assert (done.returncode, done.stdout, done.stderr) == (0, b"", b""), done
     for index, (columns, bitmap, _, _) in enumerate(strips):

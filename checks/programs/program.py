@@ -1,6 +1,5 @@
 """Checks of the built program `faxrows`: real strips, cases with known results, devices, allocation failures."""
 import os
-import random
 import re
 import select
 import subprocess
@@ -8,7 +7,7 @@ import tempfile
 from pathlib import Path
 
 import corpus
-from gate.built import loading, preload
+from gate.built import preload, refused_in_turn
 
 PROGRAM = os.path.abspath("crates/faxrows/out/faxrows")
 
@@ -312,54 +311,6 @@ def conforming_strips(each=1):
     print(f"  {seen} runs, of which {seen - unclosed - of_mgetty} conform, {unclosed} are not closed, and {of_mgetty} are mgetty's")
 
 
-def flips_are_reported():
-    """A bit of a small strip of Group 3 with EOLs is flipped, at 300 places: `-d` tells of damage, or ends in an error, exactly where
-    a strict run fails. Of how many of the pictures that differ it tells is printed."""
-    lines = corpus.lines_of("manifest.tsv")
-    strips = {line[1]: line[2:5] for line in lines if line[2] == "1d" and f"{line[4]}:l" in line[5].split(",")}
-    smallest = sorted(strips, key=lambda name: (os.path.getsize(f"corpus/{name}"), name))[:3]
-    chosen = random.Random(4)
-    differ = told = seen = 0
-    for name in smallest:
-        data = Path(f"corpus/{name}").read_bytes()
-        whole = run([*strips[name], "l"], data).stdout
-        for bit in (chosen.randrange(8 * len(data)) for _ in range(100)):
-            flipped = bytearray(data)
-            flipped[bit // 8] ^= 128 >> bit % 8
-            fails = run([*strips[name], "ls"], flipped).returncode == 1
-            tells = not run(["-d", *strips[name], "l"], flipped).stdout.startswith(b"ok ")
-            assert tells == fails, (name, bit)
-            if run([*strips[name], "l"], flipped).stdout != whole:
-                differ += 1
-                told += tells
-            seen += 1
-    assert 0 < told <= differ <= seen
-    print(f"  of {differ} pictures that differ by a flipped bit -d and a strict run tell {told}")
-
-
-def devices_that_fail():
-    with open("/dev/full", "wb") as full:
-        done = subprocess.run([PROGRAM, "g4", "8", "1", "-"], input=bytes.fromhex("31C0"), stdout=full, stderr=subprocess.PIPE, timeout=60, check=False)
-        assert (done.returncode, done.stderr) == (3, b"faxrows: cannot write\n"), done
-    folder = os.open("/", os.O_RDONLY)
-    try:
-        done = subprocess.run([PROGRAM, "g4", "8", "1", "-"], stdin=folder, capture_output=True, timeout=60, check=False)
-        assert (done.returncode, done.stdout, done.stderr) == (3, b"", b"faxrows: cannot read\n"), done
-    finally:
-        os.close(folder)
-
-
-def a_file_and_a_pipe():
-    with tempfile.NamedTemporaryFile() as file:
-        file.write(bytes.fromhex("31C0"))
-        file.flush()
-        with open(file.name, "rb") as stdin:
-            done = subprocess.run([PROGRAM, "g4", "8", "1", "-"], stdin=stdin, capture_output=True, timeout=60, check=False)
-        assert done.stdout == b"r 3 5\nok 2\n", done
-    piped = subprocess.run(["sh", "-c", f"(printf '\\061'; sleep 0.2; printf '\\300') | '{PROGRAM}' g4 8 1 -"], capture_output=True, timeout=60, check=False)
-    assert piped.stdout == b"r 3 5\nok 2\n", piped
-
-
 def rows_of_an_open_pipe():
     """With `-i` a row is written while the pipe with its data is open, and the run ends with the image though it still is."""
     with subprocess.Popen([PROGRAM, "-i", "g4", "8", "0", "b"], stdin=subprocess.PIPE, stdout=subprocess.PIPE, bufsize=0) as done:
@@ -394,15 +345,6 @@ def run_closed(closed, *words, **streams):
     return subprocess.run(["sh", "-c", f'exec "$0" "$@" {closed}', PROGRAM, *words], input=b"\x31\xc0", check=False, timeout=60, **streams)
 
 
-def long_data():
-    """A hundred thousand rows, and a wide one."""
-    for first in ([], ["-i"]):
-        done = run([*first, "g4", "8", "0", "a"], b"\x80" * 100000)
-        assert done.stdout == b"r\n" * 100000 + b"ok 100000\n", done.stdout[-40:]
-        done = run([*first, "g4", "4294967295", "1", "-"], b"\x50")
-        assert done.stdout == b"r 4294967294\nok 1\n", done
-
-
 # The result of a run if one allocation is refused: of the arguments, and before decoding, with status and standard error ..
 HARMLESS = 1
 NO_ARGUMENTS = (2, b"", b"faxrows: bad arguments\n")
@@ -425,17 +367,6 @@ WHILE_DECODING = [
 ]
 
 
-def refused_in_turn(words, data, shim):
-    """The results of a run whose first allocation is refused, whose second one is, and so on, and of one without."""
-    answers = []
-    for number in range(1, 1000):
-        done = run(words.split(), bytes.fromhex(data), env=loading(shim, REFUSE=number))
-        answers.append((done.returncode, done.stdout, done.stderr.replace(b"refused\n", b"", 1)))
-        if b"refused\n" not in done.stderr:
-            return answers
-    raise AssertionError("it never ran without a refusal")
-
-
 def refused_memory():
     """Each allocation refused in turn: the result is one of those above, and each of them occurs."""
     with tempfile.TemporaryDirectory() as folder:
@@ -443,7 +374,7 @@ def refused_memory():
         for words, data, text, ended in WHILE_DECODING:
             whole = (0, text, b"")
             expected = [*[whole] * HARMLESS, NO_ARGUMENTS, BEFORE_DECODING, *[(3, text, b"") for text in ended]]
-            *answers, last = refused_in_turn(words, data, shim)
+            *answers, last = refused_in_turn(shim, [PROGRAM, *words.split()], bytes.fromhex(data))
             assert last == whole, (words, last)
             assert all(answer in expected for answer in answers), (words, [a for a in answers if a not in expected])
             assert all(answer in answers for answer in expected), (words, [e for e in expected if e not in answers])
@@ -460,11 +391,7 @@ CHECKS = [
     damage,
     conforming,
     conforming_strips,
-    flips_are_reported,
-    devices_that_fail,
-    a_file_and_a_pipe,
     rows_of_an_open_pipe,
     closed_streams,
-    long_data,
     refused_memory,
 ]

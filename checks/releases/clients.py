@@ -12,6 +12,7 @@ import tempfile
 
 from c import c_library
 from gate.skipped import leave_out
+from pdf import pdf_of, stream_object
 
 PICTURE = "corpus/pictures/page"
 COLUMNS, ROWS = 1240, 1754
@@ -161,24 +162,17 @@ def codec_of_libtiff():
     print(f"  {len(names)} files")
 
 
-def pdf_of(data, keys):
+def pdf_of_image(data, keys):
     """A PDF file with one image."""
     parms = " ".join(f"/{key} {str(value).lower()}" for key, value in keys.items())
     image = f"/Type /XObject /Subtype /Image /Width {COLUMNS} /Height {ROWS} /BitsPerComponent 1 /ColorSpace /DeviceGray"
-    content = b"q 595 0 0 842 0 0 cm /Im0 Do Q"
-    objects = [
+    return pdf_of([
         b"<< /Type /Catalog /Pages 2 0 R >>",
         b"<< /Type /Pages /Kids [3 0 R] /Count 1 >>",
         b"<< /Type /Page /Parent 2 0 R /MediaBox [0 0 595 842] /Resources << /XObject << /Im0 4 0 R >> >> /Contents 5 0 R >>",
-        f"<< {image} /Filter /CCITTFaxDecode /DecodeParms << {parms} >> /Length {len(data)} >>\nstream\n".encode() + data + b"\nendstream",
-        b"<< /Length %d >>\nstream\n" % len(content) + content + b"\nendstream",
-    ]
-    file, places = b"%PDF-1.4\n", []
-    for number, item in enumerate(objects, 1):
-        places.append(len(file))
-        file += b"%d 0 obj\n" % number + item + b"\nendobj\n"
-    table = "".join(f"{place:010} 00000 n \n" for place in places)
-    return file + f"xref\n0 6\n0000000000 65535 f \n{table}trailer\n<< /Size 6 /Root 1 0 R >>\nstartxref\n{len(file)}\n%%EOF\n".encode()
+        stream_object(f"{image} /Filter /CCITTFaxDecode /DecodeParms << {parms} >>".encode(), data),
+        stream_object(b"", b"q 595 0 0 842 0 0 cm /Im0 Do Q"),
+    ])
 
 
 def filter_of_mupdf():
@@ -201,7 +195,7 @@ def filter_of_mupdf():
             names.append(f"{folder}/{len(names)}.pdf")
             with open(names[-1], "wb") as file:
                 words = [mode, flags] + ["4"] * (mode == "2d")
-                file.write(pdf_of(encoded(folder, *words), keys))
+                file.write(pdf_of_image(encoded(folder, *words), keys))
         theirs, ours = [run([program, *names]).stdout.splitlines() for program in programs]
         pictures = {line.split()[1] for line in ours}
         # A page, and its negative.

@@ -10,7 +10,7 @@ import sys
 import tempfile
 
 import corpus
-from c import c_library, refusals, row_by_row
+from c import c_library, feed, refusals, row_by_row
 from gate.skipped import leave_out
 
 sys.path.insert(0, os.path.abspath("release/erased"))
@@ -237,7 +237,7 @@ def library_for_c(folder, made, cross=""):
 
 def calls_for_c():
     """The checks of the library for C, over that of the erased sources with Rust's assertions: each call on the known cases, rows at
-    strides, readers and writers, each refused allocation; and no block is left."""
+    strides, readers, writers and feeds, each refused allocation; and no block is left."""
     if lacks_tools("the library for C of the erased sources"):
         return
     make_package()
@@ -247,7 +247,7 @@ def calls_for_c():
         library_for_c(folder, f"{BUILT}/c/release")
         c_library.build, c_library.BUILDS, c_library.INSTALLED = lambda: None, {"plain": ["-O2"]}, {"plain": folder}
         c_library.LIBRARY, c_library.SHARED = f"{folder}/lib/libhayro_ccitt.a", f"{folder}/lib/libhayro_ccitt.so"
-        for check in (c_library.calls_on_known_cases, c_library.rows_are_spread, c_library.each_size, *row_by_row.CHECKS):
+        for check in (c_library.calls_on_known_cases, c_library.rows_are_spread, *row_by_row.CHECKS, feed.rows_in_pieces):
             check()
         refusals.each_request_of_the_library()
 

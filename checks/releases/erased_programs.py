@@ -45,8 +45,8 @@ def check(folder, *checks):
 
 # Those that take short data, and each stream and each allocation that fails.
 EACH = [
-    *(program.statuses, program.words_alone, program.bitmaps, program.damage, program.conforming, program.devices_that_fail),
-    *(program.a_file_and_a_pipe, program.rows_of_an_open_pipe, program.long_data, program.refused_memory),
+    *(program.statuses, program.words_alone, program.bitmaps, program.damage, program.conforming),
+    *(program.rows_of_an_open_pipe, program.refused_memory),
     *(devices.writes_in_pieces, devices.real_signals, packing.packing_cases, packing.packing_without_memory),
 ]
 
@@ -55,7 +55,7 @@ def on_x86_64():
     """The checks of the proved programs, and of closed streams, on the programs that Rust compiles."""
     if erased.lacks_tools("the programs that Rust compiles"):
         return
-    check(programs_for(), *EACH, program.closed_streams, program.flips_are_reported, devices.each_read_and_write, devices.readers_without_end)
+    check(programs_for(), *EACH, program.closed_streams, devices.each_read_and_write, devices.readers_without_end)
     for data in (program.real_strips, program.known_cases, program.conforming_strips):
         data(FEW)
 
