@@ -80,7 +80,7 @@ SHARED = libhayro_ccitt.so.$(VERSION)
 SONAME = libhayro_ccitt.so.$(INTERFACE)
 OBJECTS = $(BUILD)/proved.o $(BUILD)/calls.o $(BUILD)/heap.o
 
-.PHONY: all library programs first test tools check install install-library uninstall clean dist erased javascript prove-library prove-programs prove-test_streams prove-test_files
+.PHONY: all library programs first test tools check install install-library uninstall clean dist erased javascript prove-library prove-programs prove-test_streams prove-test_files prove-test_outputs
 
 # Ends with a line that names the programs that are missing.
 missing = $(strip $(foreach program,$(1),$(if $(shell command -v $(program)),,$(program))))
@@ -124,7 +124,7 @@ prove-programs:
 		cargo build -q --profile programs --offline --target $(TARGET) --target-dir $(abspath $(BUILD))/cargo
 endif
 
-prove-test_streams prove-test_files: prove-%:
+prove-test_streams prove-test_files prove-test_outputs: prove-%:
 	cd crates/$* && $(RT) run $(RT_JOBS) < stdin > /dev/null
 
 $(PROVED): prove-library ;

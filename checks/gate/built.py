@@ -13,6 +13,7 @@ BUILT = {
     "faxpack": "faxpack",
     "test_streams": "test_streams",
     "test_files": "test_files",
+    "test_outputs": "test_outputs",
 }
 RULES = {
     "hayro_ccitt_c": "prove-library",
@@ -20,6 +21,7 @@ RULES = {
     "faxpack": "prove-programs",
     "test_streams": "prove-test_streams",
     "test_files": "prove-test_files",
+    "test_outputs": "prove-test_outputs",
 }
 # How many builds of each are kept on this machine.
 MOST = 6
