@@ -2,20 +2,28 @@
 //!
 //! A record is a number of bytes and an allowance, each of four bytes with the lowest first, and the bytes of a file. The answer is what
 //! `put_directory` writes for each directory, and at the end a letter (`o`, or for an error: `n` no TIFF file, `e` the end of the file,
-//! `l` a loop, `s` spent, `m` out of memory) and how many steps are left. Its numbers have eight bytes.
+//! `l` a loop, `s` spent, `m` out of memory) and how many steps are left. Its numbers have eight bytes. With an argument the answer is that
+//! of `pages::put_pages`.
 #![tactic(auto)]
 
 ghost use Rattle.std.specs.Prelude.{◌+◌, ◌≤◌, IfSome, length};
 
+mod pages;
+
+use pages::put_pages;
 use paid_cursor::Cursor;
 use std::alloc::Global;
-use std::io;
 use std::io::{BufWriter, Read, Write};
+use std::{env, io};
 use tiff_read::{Directory, Layout, Picture, Ratio, ResolutionUnit, Tiff, TiffError};
 
 fn main(rt: HostRuntime) -> io::Result<()> {
     let mut input: Vec<u8> = Vec::new(rt.alloc());
     rt.stdin().read_to_end(&mut input)?;
+    let wants_pages = match env::args(&rt) {
+        Ok(words) => words.skip(1).next().is_some(),
+        Err(_) => false,
+    };
     let mut out = BufWriter::new(rt.alloc(), rt.stdout())?;
     let mut rest = input.as_slice();
     for _ in 0..input.len() {
@@ -23,7 +31,11 @@ fn main(rt: HostRuntime) -> io::Result<()> {
             break;
         };
         rest = &rest[HEAD_BYTES + record.bytes.len()..];
-        put_file(rt.alloc(), &record, &mut out)?;
+        if wants_pages {
+            put_pages(rt.alloc(), record.bytes, record.allowance, &mut out)?;
+        } else {
+            put_file(rt.alloc(), &record, &mut out)?;
+        }
     }
     out.flush()
 }
