@@ -1,0 +1,188 @@
+//! What the program is asked to do.
+
+ghost use Rattle.std.specs.Prelude.{◌≡◌, OnSome, IfNone, is_some, codes};
+ghost use Rattle.fax_program.specs.Arguments.{are_flags};
+ghost use Rattle.faxconv_lib.specs.RawData.{with_flags};
+
+use crate::pages::PageList;
+use fax_program::arguments::{are_flags, has_flag, order_with};
+use hayro_ccitt::bit_reader::BitOrder;
+use hayro_ccitt::{DecodeSettings, EncodingMode};
+use std::alloc::Global;
+
+/// The name by which the program is called.
+#[derive(Clone, Copy)]
+pub enum Program {
+    /// `faxconv`
+    Faxconv,
+    /// `fax2pbm`, which counts pages from 0, numbers each picture, and writes PBM alone.
+    Fax2pbm,
+}
+
+/// What is done with the pages of each file.
+#[derive(Clone, Copy)]
+pub enum Action {
+    /// They are written as pictures, or as pages of a document.
+    Convert,
+    /// A line for each page says whether it can be read strictly.
+    Check,
+    /// A line for each page says its size, its resolution and how it is encoded. It isn't decoded.
+    Info,
+}
+
+/// The format that is written.
+#[derive(Clone, Copy)]
+pub enum Format {
+    /// A portable bitmap.
+    Pbm,
+    /// A picture of Portable Network Graphics.
+    Png,
+    /// A TIFF document.
+    Tiff,
+    /// A PDF document.
+    Pdf,
+}
+
+/// How pages of a document are encoded again.
+#[derive(Clone, Copy)]
+pub enum Encoding {
+    /// Group 4
+    Group4,
+    /// Group 3 of one dimension
+    OneDimension,
+    /// Group 3 of two dimensions
+    TwoDimensions,
+    /// Group 4 in the fewest bits that encode the lines
+    Shortest,
+}
+
+/// How far pages are turned clockwise.
+#[derive(Clone, Copy)]
+pub enum Rotation {
+    /// Not at all
+    None,
+    /// By 90 degrees
+    Quarter,
+    /// By 180 degrees
+    Half,
+    /// By 270 degrees
+    ThreeQuarters,
+}
+
+/// Pixels an inch.
+#[derive(Clone, Copy)]
+pub struct DotsPerInch {
+    /// From left to right.
+    pub across: u32,
+    /// From top to bottom.
+    pub down: u32,
+}
+
+/// What raw fax data is.
+#[derive(Clone, Copy)]
+pub struct RawOptions {
+    /// Whether a file of no other kind is raw fax data: an option has named its encoding.
+    pub is_wanted: bool,
+    /// The settings of its decoding.
+    pub settings: DecodeSettings,
+    /// Which bit of each byte comes first.
+    pub order: BitOrder,
+    /// Whether the settings' rows are the height of the picture. Else they are the most rows that there can be, and 0 is no limit.
+    pub has_height: bool,
+}
+
+/// What is read and written, and how.
+#[derive(Drop)]
+pub struct Options<'a> {
+    /// The name by which the program was called.
+    pub program: Program,
+    /// What is done.
+    pub action: Action,
+    /// The format that is written.
+    pub format: Format,
+    /// The name that is written to, or `None` for standard output.
+    pub output: Option<&'a str>,
+    /// The pages that are wanted.
+    pub pages: PageList,
+    /// How pages of a document are encoded again. `None` if they are copied where they can be.
+    pub encoding: Option<Encoding>,
+    /// Whether pages are copied without reading them, where they can be.
+    pub is_copy: bool,
+    /// Whether lines of `--info` and `--check` are JSON.
+    pub is_json: bool,
+    /// Whether files that exist are overwritten.
+    pub may_overwrite: bool,
+    /// Whether damage and what is left out isn't reported.
+    pub is_quiet: bool,
+    /// The resolution in place of that of the files.
+    pub resolution: Option<DotsPerInch>,
+    /// How far pages are turned.
+    pub rotation: Rotation,
+    /// The rows of each strip of TIFF, or 0 for one strip a page.
+    pub rows_per_strip: u32,
+    /// What raw data is.
+    pub raw: RawOptions,
+    /// The files that are read. Standard input is read if there are none, and where one is `-`.
+    pub files: Vec<&'a str>,
+}
+
+impl<'a> Options<'a> {
+    /// Creates the options of a run without arguments.
+    pub fn new(alloc: Global, program: Program) -> Options<'a> {
+        Options {
+            program,
+            action: Action::Convert,
+            format: Format::Pbm,
+            output: None,
+            pages: PageList::all(alloc),
+            encoding: None,
+            is_copy: false,
+            is_json: false,
+            may_overwrite: false,
+            is_quiet: false,
+            resolution: None,
+            rotation: Rotation::None,
+            rows_per_strip: 0,
+            raw: RawOptions::new(),
+            files: Vec::new(alloc),
+        }
+    }
+}
+
+impl RawOptions {
+    /// Creates the options of data that nothing is said of: Group 3 of one dimension, 1728 columns, perhaps with RTC.
+    fn new() -> RawOptions {
+        RawOptions {
+            is_wanted: false,
+            settings: DecodeSettings {
+                columns: 1728,
+                rows: 0,
+                end_of_block: true,
+                end_of_line: false,
+                rows_are_byte_aligned: false,
+                encoding: EncodingMode::Group3_1D,
+                strict: false,
+            },
+            order: BitOrder::HighestFirst,
+            has_height: false,
+        }
+    }
+
+    /// Sets what the letters of `--flags` mean. Returns `None` if they are no flags.
+    pub(crate) fn set_flags(&mut self, flags: &str) -> Option<()>
+        ensures valid { is_some result ≡ are_flags (codes "blasr") flags.now }
+        ensures set { OnSome result (self.new ≡ with_flags flags.now self.old) }
+        ensures unchanged { IfNone result (self.new ≡ self.old) }
+    {
+        let flags = flags.as_bytes();
+        if !are_flags(flags, b"blasr") {
+            return None;
+        }
+        self.settings.end_of_block = has_flag(flags, b'b');
+        self.settings.end_of_line = has_flag(flags, b'l');
+        self.settings.rows_are_byte_aligned = has_flag(flags, b'a');
+        self.settings.strict = has_flag(flags, b's');
+        self.order = order_with(flags);
+        Some(())
+    }
+}
