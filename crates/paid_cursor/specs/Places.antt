@@ -27,8 +27,8 @@ IsSamePlace old new = (new.bytes ≡ old.bytes) × (new.place ≡ old.place)
 abbrev pub budget : Place → ℕ
 budget now = now.left + now.place
 
--- From the first place to the second, among the same bytes, a step was paid for each byte passed, and one for each that the output
--- grew by: its lengths are given.
+-- From the first place to the second, among the same bytes, a step was paid for each byte passed, and one for each that the
+-- output grew by: its lengths are given.
 abbrev pub IsPaid : Place → ℕ → Place → ℕ → Type 0
 IsPaid old before new after = (new.bytes ≡ old.bytes) × (before ≤ after) × (budget new + after ≡ budget old + before)
 
