@@ -1,7 +1,7 @@
 //! Bytes as text: ASCIIHexDecode and ASCII85Decode (ISO 32000-1, 7.4.2 and 7.4.3).
 
 ghost use Rattle.std.specs.Prelude.{◌≡◌, ◌+◌, ◌-◌, ◌*◌, ◌<◌, ◌≤◌, ◌^◌, length, IfOk, IfSome, OnOk, OnErr, vec_len};
-ghost use Rattle.paid_cursor.specs.Places.{budget, IsPaid, IsPaidAtLeast};
+ghost use Rattle.paid_cursor.specs.Places.{budget, Pays};
 
 use crate::FilterError;
 use paid_cursor::{Cursor, Stop};
@@ -13,10 +13,7 @@ use paid_cursor::{Cursor, Stop};
 ///
 /// `BadData` at any other character, `Spent` or `OutOfMemory`.
 pub fn decode_ascii_hex(source: &mut Cursor<'_>, out: &mut Vec<u8>) -> Result<(), FilterError>
-    ensures paid { OnOk result (IsPaid source.old (vec_len out.old) source.new (vec_len out.new)) }
-    ensures least { OnErr result (IsPaidAtLeast source.old (vec_len out.old) source.new (vec_len out.new)) }
-    ensures same { source.new.bytes ≡ source.old.bytes }
-    ensures grown { vec_len out.old ≤ vec_len out.new }
+    ensures paid { Pays result source.old (vec_len out.old) source.new (vec_len out.new) }
 {
     let mut first: Option<u8> = None;
     'digits: loop {
@@ -76,10 +73,7 @@ fn next_character(source: &mut Cursor<'_>, end: u8) -> Result<Option<u8>, Filter
 /// `BadData` at a character that is no digit, at `z` within a group, at a group of more than 2 ^ 32 - 1 and at a last group of one
 /// digit; `Spent` or `OutOfMemory`.
 pub fn decode_ascii85(source: &mut Cursor<'_>, out: &mut Vec<u8>) -> Result<(), FilterError>
-    ensures paid { OnOk result (IsPaid source.old (vec_len out.old) source.new (vec_len out.new)) }
-    ensures least { OnErr result (IsPaidAtLeast source.old (vec_len out.old) source.new (vec_len out.new)) }
-    ensures same { source.new.bytes ≡ source.old.bytes }
-    ensures grown { vec_len out.old ≤ vec_len out.new }
+    ensures paid { Pays result source.old (vec_len out.old) source.new (vec_len out.new) }
 {
     let mut digits = [84u8; 5];
     let mut count = 0usize;

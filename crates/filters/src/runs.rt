@@ -1,7 +1,7 @@
 //! Runs of bytes: RunLengthDecode (ISO 32000-1, 7.4.5) and PackBits (TIFF 6.0, section 9).
 
 ghost use Rattle.std.specs.Prelude.{◌≡◌, ◌+◌, ◌-◌, ◌*◌, ◌<◌, ◌≤◌, ◌^◌, length, IfOk, IfSome, OnOk, OnErr, vec_len};
-ghost use Rattle.paid_cursor.specs.Places.{budget, IsPaid, IsPaidAtLeast};
+ghost use Rattle.paid_cursor.specs.Places.{budget, Pays};
 
 use crate::FilterError;
 use paid_cursor::{Cursor, Stop};
@@ -12,10 +12,7 @@ use paid_cursor::{Cursor, Stop};
 ///
 /// `Truncated` if the bytes end within a run, `Spent` or `OutOfMemory`.
 pub fn decode_run_length(source: &mut Cursor<'_>, out: &mut Vec<u8>) -> Result<(), FilterError>
-    ensures paid { OnOk result (IsPaid source.old (vec_len out.old) source.new (vec_len out.new)) }
-    ensures least { OnErr result (IsPaidAtLeast source.old (vec_len out.old) source.new (vec_len out.new)) }
-    ensures same { source.new.bytes ≡ source.old.bytes }
-    ensures grown { vec_len out.old ≤ vec_len out.new }
+    ensures paid { Pays result source.old (vec_len out.old) source.new (vec_len out.new) }
 {
     'runs: loop {
         match source.step() {
@@ -32,10 +29,7 @@ pub fn decode_run_length(source: &mut Cursor<'_>, out: &mut Vec<u8>) -> Result<(
 ///
 /// `Truncated` if the bytes end within a run, `Spent` or `OutOfMemory`.
 pub fn decode_pack_bits(source: &mut Cursor<'_>, out: &mut Vec<u8>) -> Result<(), FilterError>
-    ensures paid { OnOk result (IsPaid source.old (vec_len out.old) source.new (vec_len out.new)) }
-    ensures least { OnErr result (IsPaidAtLeast source.old (vec_len out.old) source.new (vec_len out.new)) }
-    ensures same { source.new.bytes ≡ source.old.bytes }
-    ensures grown { vec_len out.old ≤ vec_len out.new }
+    ensures paid { Pays result source.old (vec_len out.old) source.new (vec_len out.new) }
 {
     'runs: loop {
         match source.step() {
@@ -50,10 +44,7 @@ pub fn decode_pack_bits(source: &mut Cursor<'_>, out: &mut Vec<u8>) -> Result<()
 /// Adds what a head other than 128 says: up to 127 that one byte more than it follow, above that the next byte as often as 257
 /// exceeds it.
 fn put_run(source: &mut Cursor<'_>, out: &mut Vec<u8>, head: u8) -> Result<(), FilterError>
-    ensures paid { OnOk result (IsPaid source.old (vec_len out.old) source.new (vec_len out.new)) }
-    ensures least { OnErr result (IsPaidAtLeast source.old (vec_len out.old) source.new (vec_len out.new)) }
-    ensures same { source.new.bytes ≡ source.old.bytes }
-    ensures grown { vec_len out.old ≤ vec_len out.new }
+    ensures paid { Pays result source.old (vec_len out.old) source.new (vec_len out.new) }
     ensures left { source.new.left ≤ source.old.left }
 {
     if head < 128 {

@@ -1,5 +1,5 @@
 -- Bytes, a place among them, and what may still be paid.
-use Rattle.std.specs.Prelude.{ℕ, ◌≡◌, ◌+◌, ◌-◌, ◌≤◌, List, drop}
+use Rattle.std.specs.Prelude.{ℕ, ◌≡◌, ◌+◌, ◌-◌, ◌≤◌, List, drop, Result, OnOk, OnErr}
 
 -- The bytes, how many of them come before the place, and how many steps are left.
 pub record Place : Type 0 where
@@ -27,11 +27,15 @@ IsSamePlace old new = (new.bytes ≡ old.bytes) × (new.place ≡ old.place)
 abbrev pub budget : Place → ℕ
 budget now = now.left + now.place
 
--- From the first place to the second a step was paid for each byte passed, and one for each that the output grew by: its lengths
--- are given.
+-- From the first place to the second, among the same bytes, a step was paid for each byte passed, and one for each that the
+-- output grew by: its lengths are given.
 abbrev pub IsPaid : Place → ℕ → Place → ℕ → Type 0
-IsPaid old before new after = budget new + after ≡ budget old + before
+IsPaid old before new after = (new.bytes ≡ old.bytes) × (before ≤ after) × (budget new + after ≡ budget old + before)
 
 -- As many steps were paid, or more.
 abbrev pub IsPaidAtLeast : Place → ℕ → Place → ℕ → Type 0
-IsPaidAtLeast old before new after = budget new + after ≤ budget old + before
+IsPaidAtLeast old before new after = (new.bytes ≡ old.bytes) × (before ≤ after) × (budget new + after ≤ budget old + before)
+
+-- What a call pays that adds to an output: before an error it may have paid for bytes that it doesn't add.
+abbrev pub Pays : {T E : Type 0} → Result T E → Place → ℕ → Place → ℕ → Type 0
+Pays result old before new after = OnOk result (IsPaid old before new after) × OnErr result (IsPaidAtLeast old before new after)

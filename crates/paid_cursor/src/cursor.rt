@@ -1,7 +1,7 @@
 //! The cursor, and why it stops.
 
 ghost use Rattle.std.specs.Prelude.{◌≡◌, ◌+◌, ◌<◌, ◌≤◌, ℕ, List, length, drop, slice_get, slice_index, Some, Err};
-ghost use Rattle.std.specs.Prelude.{IfOk, OnOk, OnErr, IsErr, ◌↔◌, min};
+ghost use Rattle.std.specs.Prelude.{IfOk, OnOk, OnErr, IsOkUnless, ◌↔◌, min};
 ghost use Rattle.paid_cursor.specs.Places.{Place, rest_of, moved, paid};
 
 use std::marker::Model;
@@ -185,7 +185,8 @@ impl<'a> Cursor<'a> {
     pub fn pay(&mut self, count: usize) -> Result<(), Stop>
         ensures paid { OnOk result ((self.new ≡ paid count self.old) × (count ≤ self.old.left)) }
         ensures unchanged { OnErr result (self.new ≡ self.old) }
-        ensures spent { IsErr result ↔ (self.old.left < count) }
+        ensures spent { (result ≡ Err Stop.Spent) ↔ (self.old.left < count) }
+        ensures only_spent { IsOkUnless result Stop.Spent }
     {
         if self.left < count {
             return Err(Stop::Spent);
@@ -202,7 +203,8 @@ impl<'a> Cursor<'a> {
     pub fn seek(&mut self, place: usize) -> Result<(), Stop>
         ensures paid { OnOk result ((self.new ≡ paid 1 (record self.old { place = min place (length self.old.bytes) })) × (0 < self.old.left)) }
         ensures unchanged { OnErr result (self.new ≡ self.old) }
-        ensures spent { IsErr result ↔ (self.old.left ≡ 0) }
+        ensures spent { (result ≡ Err Stop.Spent) ↔ (self.old.left ≡ 0) }
+        ensures only_spent { IsOkUnless result Stop.Spent }
     {
         if self.left == 0 {
             return Err(Stop::Spent);
