@@ -2,7 +2,7 @@
 
 ghost use Rattle.std.specs.Prelude.{◌≡◌, ◌+◌, ◌*◌, ◌<◌, ◌≤◌, ◌⊎◌, ◌↔◌, ℕ, Some, None, IfSome, IsTrue, true, false, length, drop};
 ghost use Rattle.hayro_ccitt.specs.Counting.{OnlyCounts};
-ghost use Rattle.hayro_ccitt.specs.Bits.{Bits, BitsFit, bits_of, here};
+ghost use Rattle.hayro_ccitt.specs.Bits.{Bits, BitsFit, bits_in, here};
 ghost use Rattle.hayro_ccitt.specs.EndOfLine.{after_eol, next_eol};
 ghost use Rattle.hayro_ccitt.specs.Lines.{Line, line_1d};
 ghost use Rattle.hayro_ccitt.specs.Locality.{EndsBefore, IsEolAt};
@@ -14,7 +14,7 @@ ghost use Rattle.hayro_ccitt.specs.Work.{most_for_lines};
 
 use crate::reach::{is_before_1d, pass_modes};
 use crate::{DecodeSettings, EncodingMode};
-use fax_bits::bit_reader::{BitReader, copy, starting_at};
+use fax_bits::bit_reader::{BitOrder, BitReader, at_place, copy};
 use fax_bits::codes::{Color, pass_eol};
 use fax_lines::context::DecoderContext;
 use fax_lines::context::reading::run_length;
@@ -180,19 +180,25 @@ fn are_unlimited(settings: DecodeSettings) -> bool
 ///
 /// [`laws::rows_after`](crate::laws::rows_after) says what follows, whatever was changed, lost or added before `to`:
 /// undamaged data that is the same from there on has the same rows from that bit on, if EOLs are sought and the damage
-/// makes no RTC. Offsets are counted in bits. It allocates nothing, and no row is read.
+/// makes no RTC. Each byte has its bits in this order, and offsets are counted in bits. It allocates nothing, and no row is
+/// read.
 ///
 /// The work is in proportion to the bits from `to` on; if there is another EOL, none after it and its zeros are examined.
-pub fn in_step_from(data: &[u8], ctx: &mut DecoderContext, to: usize) -> Option<usize>
+pub fn in_step_from(
+    order: BitOrder,
+    data: &[u8],
+    ctx: &mut DecoderContext,
+    to: usize,
+) -> Option<usize>
     requires fit { BitsFit «data».now }
     ensures place { (place : ℕ) → (result ≡ Some place)
-        ↔ IsInStepFrom ctx.old.held.settings (bits_of «data».now) to place }
+        ↔ IsInStepFrom ctx.old.held.settings (bits_in order «data».now) to place }
     ensures step { IfSome result (λ place. (line : Bits)
-        × PutsInStep ctx.old.held.settings (drop to (bits_of «data».now)) line (drop place (bits_of «data».now))) }
-    ensures rows { IfSome result (λ place. RowsFollow ctx.old.held.settings (bits_of «data».now) to place) }
+        × PutsInStep ctx.old.held.settings (drop to (bits_in order «data».now)) line (drop place (bits_in order «data».now))) }
+    ensures rows { IfSome result (λ place. RowsFollow ctx.old.held.settings (bits_in order «data».now) to place) }
     ensures within { IfSome result (λ place. place ≤ 8 * length «data».now) }
     ensures only_ticks { OnlyCounts ctx.old ctx.new }
-    ensures at_most { ctx.new.ticks ≤ ctx.old.ticks + most_for_lines (length (drop to (bits_of «data».now))) }
+    ensures at_most { ctx.new.ticks ≤ ctx.old.ticks + most_for_lines (length (drop to (bits_in order «data».now))) }
 {
     if !are_unlimited(ctx.settings()) {
         return None;
@@ -200,7 +206,7 @@ pub fn in_step_from(data: &[u8], ctx: &mut DecoderContext, to: usize) -> Option<
     if to > data.len() * 8 {
         return None;
     }
-    let mut reader = starting_at(data, to);
+    let mut reader = at_place(data, order, to);
     if !pass_to_step(ctx, &mut reader) {
         return None;
     }

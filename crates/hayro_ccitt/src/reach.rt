@@ -3,13 +3,13 @@
 ghost use Rattle.std.specs.Prelude.{◌≡◌, ◌+◌, ◌*◌, ◌<◌, ◌≤◌, ◌⊎◌, ◌↔◌, [], ◌∷◌, ℕ, suc, Some, IfSome, IsTrue, true, false};
 ghost use Rattle.std.specs.Prelude.{length, drop};
 ghost use Rattle.hayro_ccitt.specs.Counting.{OnlyCounts};
-ghost use Rattle.hayro_ccitt.specs.Bits.{Bits, BitsFit, bits_of, here};
+ghost use Rattle.hayro_ccitt.specs.Bits.{Bits, BitsFit, bits_in, here};
 ghost use Rattle.hayro_ccitt.specs.EndOfLine.{after_eol, next_eol};
 ghost use Rattle.hayro_ccitt.specs.LocalityByK.{ComeBefore1D, IsFollowedBy, IsLine2D, ReadsModes};
 ghost use Rattle.hayro_ccitt.specs.{Ticks.looked, Work.most_for_lines};
 
 use crate::{DecodeSettings, EncodingMode};
-use fax_bits::bit_reader::{BitReader, copy, starting_at};
+use fax_bits::bit_reader::{BitOrder, BitReader, at_place, copy};
 use fax_bits::codes::{Color, pass_eol};
 use fax_lines::context::DecoderContext;
 use fax_lines::context::reading::pass_mode;
@@ -131,17 +131,22 @@ fn is_lenient_2d(settings: DecodeSettings) -> bool
 /// with its modes and their runs.
 ///
 /// [`laws::locality_by_k`](crate::laws::locality_by_k) says which damage it is: an EOL or the start of the data is before
-/// the line's tag and that EOL after its body, both before and after the damage. `to` is counted in bits. It allocates
-/// nothing, and no row is read.
+/// the line's tag and that EOL after its body, both before and after the damage. Each byte has its bits in this order, and
+/// `to` is counted in bits. It allocates nothing, and no row is read.
 ///
 /// The work is in proportion to the bits from `to` on: the modes of a line and the zeros of an EOL are read a few times.
-pub fn rows_reached(data: &[u8], ctx: &mut DecoderContext, to: usize) -> Option<u64>
+pub fn rows_reached(
+    order: BitOrder,
+    data: &[u8],
+    ctx: &mut DecoderContext,
+    to: usize,
+) -> Option<u64>
     requires fit { BitsFit «data».now }
     ensures rows { (lines : ℕ) → (result ≡ Some (suc lines))
-        ↔ IsFollowedBy ctx.old.held.settings (bits_of «data».now) to lines }
+        ↔ IsFollowedBy ctx.old.held.settings (bits_in order «data».now) to lines }
     ensures some { IfSome result (λ rows. 0 < rows) }
     ensures only_ticks { OnlyCounts ctx.old ctx.new }
-    ensures at_most { ctx.new.ticks ≤ ctx.old.ticks + most_for_lines (length (drop to (bits_of «data».now))) }
+    ensures at_most { ctx.new.ticks ≤ ctx.old.ticks + most_for_lines (length (drop to (bits_in order «data».now))) }
 {
     if !is_lenient_2d(ctx.settings()) {
         return None;
@@ -149,6 +154,6 @@ pub fn rows_reached(data: &[u8], ctx: &mut DecoderContext, to: usize) -> Option<
     if to > data.len() * 8 {
         return None;
     }
-    let mut reader = starting_at(data, to);
+    let mut reader = at_place(data, order, to);
     rows_before_1d(ctx, &mut reader)
 }

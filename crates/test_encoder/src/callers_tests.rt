@@ -15,7 +15,7 @@ use fax_callers::{
 };
 use fax_encode::{BitmapSink, encode, names_encoding};
 use hayro_ccitt::DecodeError::{OutOfMemory, Refused};
-use hayro_ccitt::bit_reader::BitOrder::HighestFirst;
+use hayro_ccitt::bit_reader::BitOrder::{HighestFirst, LowestFirst};
 use hayro_ccitt::{
     DecodeError, DecodeSettings, Decoder, DecoderContext, EncodingMode, Result, bits_fit,
 };
@@ -117,6 +117,9 @@ fn blank_images(rt: HostRuntime) {
 /// Three one-dimensional lines of 8 columns, each after an EOL: a white row, one whose pixels 3 and 4 are black, and a white one.
 const THREE_LINES: [u8; 7] = [0x00, 0x19, 0x80, 0x0C, 0x70, 0x00, 0x33];
 
+/// The same lines with the lowest bit of each byte first.
+const THREE_LINES_LOW_FIRST: [u8; 7] = [0x00, 0x98, 0x01, 0x30, 0x0E, 0x00, 0xCC];
+
 /// Returns the settings of lenient one-dimensional data with EOLs.
 fn lines_with_eols(columns: u32) -> DecodeSettings {
     DecodeSettings {
@@ -135,11 +138,16 @@ fn lines_with_eols(columns: u32) -> DecodeSettings {
 fn rows_after_damage(rt: HostRuntime) {
     let settings = lines_with_eols(8);
     for (to, row) in [(0, Some(1)), (17, Some(2)), (18, None), (36, None)] {
-        same(
-            &rt,
-            row_in_step(rt.alloc(), settings, &THREE_LINES, to),
-            Ok(row),
-        );
+        for (order, data) in [
+            (HighestFirst, THREE_LINES),
+            (LowestFirst, THREE_LINES_LOW_FIRST),
+        ] {
+            same(
+                &rt,
+                row_in_step(rt.alloc(), settings, order, &data, to),
+                Ok(row),
+            );
+        }
     }
 }
 
@@ -420,7 +428,13 @@ fn called(alloc: Global, name: &str) -> Result<(u64, Vec<u8>, Vec<usize>)> {
             bitmap = strip_to_bitmap(alloc, group4_pages(8), HighestFirst, &TWO_ROWS)?;
         }
         "row_in_step" => {
-            black = row_in_step(alloc, lines_with_eols(8), &THREE_LINES, 17)?.unwrap_or(0);
+            black = row_in_step(
+                alloc,
+                lines_with_eols(8),
+                HighestFirst,
+                &THREE_LINES,
+                17,
+            )?.unwrap_or(0);
         }
         "page_ends_by" => ends = page_ends_by(alloc, group4_pages(8), HighestFirst, &TWO_PAGES)?,
         _ => ends = page_ends(alloc, 8, HighestFirst, &TWO_PAGES)?,

@@ -9,9 +9,12 @@
 //! the proof of its caller carries none of that.
 
 use super::cases::{cases_of, settings_in};
-use super::{RowsAsText, bytes_of, context_of, joined, number_in, said, same_text, sink_of};
+use super::{
+    RowsAsText, bytes_of, context_of, joined, mirrored, number_in, said, same_text, sink_of,
+};
 use hayro_ccitt::DecodeError::{OutOfMemory, Refused, UnexpectedEof};
-use hayro_ccitt::bit_reader::BitReader;
+use hayro_ccitt::bit_reader::BitOrder::{HighestFirst, LowestFirst};
+use hayro_ccitt::bit_reader::{BitOrder, BitReader};
 use hayro_ccitt::codes::{Color, Mode, Ticks};
 use hayro_ccitt::context::{decode_1d_line, decode_2d_line};
 use hayro_ccitt::group3::{check_eob, decode_1d, decode_2d, recover};
@@ -145,18 +148,20 @@ fn decodes_rows(
 /// Returns whether a body is local.
 pub(super) fn is_local(
     rt: &impl Abort,
+    order: BitOrder,
     data: &[u8],
     ctx: &mut DecoderContext,
     from: usize,
     to: usize,
 ) -> Result<bool> {
     assert!(rt; bits_fit(data));
-    body_is_local(data, ctx, from, to)
+    body_is_local(order, data, ctx, from, to)
 }
 
 /// Returns whether the body between two offsets in an argument is local.
 fn is_local_by(
     rt: &impl Abort,
+    order: BitOrder,
     data: &[u8],
     ctx: &mut DecoderContext,
     argument: &str,
@@ -164,6 +169,7 @@ fn is_local_by(
     let (from, to) = argument.split_once(' ').expect(rt, argument);
     is_local(
         rt,
+        order,
         data,
         ctx,
         number_in(rt, from) as usize,
@@ -174,23 +180,25 @@ fn is_local_by(
 /// Returns how many rows damage before an EOL reaches.
 pub(super) fn reach_of(
     rt: &impl Abort,
+    order: BitOrder,
     data: &[u8],
     ctx: &mut DecoderContext,
     to: usize,
 ) -> Option<u64> {
     assert!(rt; bits_fit(data));
-    rows_reached(data, ctx, to)
+    rows_reached(order, data, ctx, to)
 }
 
 /// Returns from which bit on the rows are the same again, if damage is before an EOL.
 pub(super) fn step_of(
     rt: &impl Abort,
+    order: BitOrder,
     data: &[u8],
     ctx: &mut DecoderContext,
     to: usize,
 ) -> Option<usize> {
     assert!(rt; bits_fit(data));
-    in_step_from(data, ctx, to)
+    in_step_from(order, data, ctx, to)
 }
 
 /// Returns the error that an argument names.
@@ -313,7 +321,36 @@ fn asks(
     }
 }
 
-/// Asks about damage, or calls what `asks` does.
+/// Asks about damage to data whose bytes have their bits in this order, if the call does that.
+fn says_of_damage(
+    rt: &impl Abort,
+    order: BitOrder,
+    call: &str,
+    argument: &str,
+    data: &[u8],
+    ctx: &mut DecoderContext,
+) -> Option<Returned> {
+    match call {
+        "body_is_local" => Some(Returned::Answer(is_local_by(rt, order, data, ctx, argument))),
+        "rows_reached" => Some(Returned::Reach(reach_of(
+            rt,
+            order,
+            data,
+            ctx,
+            number_in(rt, argument) as usize,
+        ))),
+        "in_step_from" => Some(Returned::Step(step_of(
+            rt,
+            order,
+            data,
+            ctx,
+            number_in(rt, argument) as usize,
+        ))),
+        _ => None,
+    }
+}
+
+/// Asks about damage, in either order of bits, or calls what `asks` does.
 fn asks_of_damage(
     rt: &(impl Abort + AllocGlobal),
     call: &str,
@@ -322,17 +359,14 @@ fn asks_of_damage(
     ctx: &mut DecoderContext,
     reader: &mut BitReader,
 ) -> Returned {
-    match call {
-        "body_is_local" => Returned::Answer(is_local_by(rt, data, ctx, argument)),
-        "rows_reached" => Returned::Reach(reach_of(
-            rt,
-            data,
-            ctx,
-            number_in(rt, argument) as usize,
-        )),
-        "in_step_from" => Returned::Step(step_of(rt, data, ctx, number_in(rt, argument) as usize)),
-        _ => asks(rt, call, argument, ctx, reader),
-    }
+    let Some(said) = says_of_damage(rt, HighestFirst, call, argument, data, ctx) else {
+        return asks(rt, call, argument, ctx, reader);
+    };
+    let bytes = mirrored(rt, data);
+    let other = says_of_damage(rt, LowestFirst, call, argument, &bytes, ctx).expect(rt, call);
+    let (found, expected) = (written_as(rt, other), written_as(rt, said));
+    same_text(rt, call, found.as_str(), expected.as_str());
+    said
 }
 
 /// Draws a line in a context, or calls what `asks_of_damage` does.

@@ -8,6 +8,7 @@ use super::cases::{cases_of, settings_in};
 use super::rows::pushes_fed;
 use super::{RowsAsText, bytes_of, context_of, decoded, joined, same, same_text, sink_of, written};
 use hayro_ccitt::DecodeError::{OutOfMemory, Refused};
+use hayro_ccitt::bit_reader::BitOrder::HighestFirst;
 use hayro_ccitt::bit_reader::{BitOrder, BitReader};
 use hayro_ccitt::{DecodeSettings, DecoderContext, Result, RowFeed, bits_fit, decode};
 use std::alloc::AllocGlobal;
@@ -136,8 +137,8 @@ fn refuses_body(
 {
     let mut ctx = context_of(rt, settings);
     refuse_request(rt.alloc(), number);
-    let white = is_local(rt, data, &mut ctx, 12, 17);
-    let found = is_local(rt, data, &mut ctx, 29, 39);
+    let white = is_local(rt, HighestFirst, data, &mut ctx, 12, 17);
+    let found = is_local(rt, HighestFirst, data, &mut ctx, 29, 39);
     let is_refused = was_refused(rt.alloc());
     let wanted = if is_refused {
         Err(OutOfMemory)
@@ -145,7 +146,11 @@ fn refuses_body(
         Ok(true)
     };
     same(rt, (number, white, found), (number, Ok(true), wanted));
-    same(rt, is_local(rt, data, &mut ctx, 29, 39), Ok(true));
+    same(
+        rt,
+        is_local(rt, HighestFirst, data, &mut ctx, 29, 39),
+        Ok(true),
+    );
     let read = decoded(rt, &mut ctx, data, 9);
     same_text(rt, "then", read.as_str(), "[[],[3,5],[]]Ok(7)");
     is_refused
@@ -198,8 +203,8 @@ fn reach_without_memory(rt: HostRuntime) {
     let mut ctx = context_of(&rt, settings);
     let lines = bytes_of(&rt, "001CC005400398");
     refuse_request(rt.alloc(), 1);
-    let reach = reach_of(&rt, &lines, &mut ctx, 18);
-    let step = step_of(&rt, &lines, &mut ctx, 0);
+    let reach = reach_of(&rt, HighestFirst, &lines, &mut ctx, 18);
+    let step = step_of(&rt, HighestFirst, &lines, &mut ctx, 0);
     let is_refused = was_refused(rt.alloc());
     same(&rt, (reach, step, is_refused), (Some(2), None, false));
 }

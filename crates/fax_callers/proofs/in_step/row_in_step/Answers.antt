@@ -1,5 +1,5 @@
 use Rattle.hayro_ccitt.proofs.Names.{◌≡◌, ℕ, Option, Some, Result, Ok, refl, sym, ap, subst, ◌∙◌, get_or, DecodeError}
-use Rattle.hayro_ccitt.proofs.Names.{DecodeSettings, Bits, Context, bits_of, line_starts, IsInStepFrom, RowsFollow}
+use Rattle.hayro_ccitt.proofs.Names.{DecodeSettings, Bits, Context, bits_in, line_starts, IsInStepFrom, RowsFollow}
 use Rattle.hayro_ccitt.proofs.Names.{◌<◌, ◌+◌, ◌↔◌, List, length, plain, arith, inl, inr, cases_lt}
 use Rattle.hayro_ccitt.proofs.Names.{Err, IsFault, rules}
 use Rattle.fax_callers.specs.InStep.{NoLineInStep}
@@ -20,7 +20,7 @@ begins_there settings other bits others taken row start place set bits_are same 
 
 pub returns-then-line_start-place-clause-starts : goal.returns-then-line_start-place-clause-starts
 returns-then-line_start-place-clause-starts c = λ row e.
-    let bits = bits_of c.args.data.now in
+    let bits = bits_in c.args.order c.args.data.now in
     let set : c.in_ok-ctx.ctx.held.settings ≡ c.args.settings =
     ap (λ (ctx : Context). ctx.held.settings) c.in_ok-ctx.ensures.made in
     let there = begins_there c.args.settings c.rows.rows.settings bits c.rows.rows.bits c.rows.rows.taken row
@@ -34,7 +34,7 @@ returns-then-line_start-place-clause-starts c = λ row e.
 
 pub returns-then-line_start-place-clause-follow : goal.returns-then-line_start-place-clause-follow
 returns-then-line_start-place-clause-follow c = λ row e.
-    let bits = bits_of c.args.data.now in
+    let bits = bits_in c.args.order c.args.data.now in
     let set : c.in_ok-ctx.ctx.held.settings ≡ c.args.settings =
     ap (λ (ctx : Context). ctx.held.settings) c.in_ok-ctx.ensures.made in
     let there = begins_there c.args.settings c.rows.rows.settings bits c.rows.rows.bits c.rows.rows.taken row
@@ -87,14 +87,14 @@ pub returns-in_default-clause-none : goal.returns-in_default-clause-none
 returns-in_default-clause-none c = λ _ row inside step.
     let set : c.in_ok-ctx.ctx.held.settings ≡ c.args.settings =
     ap (λ (ctx : Context). ctx.held.settings) c.in_ok-ctx.ensures.made in
-    let here = subst (λ (s : DecodeSettings). IsInStepFrom s (bits_of c.args.data.now) c.args.to
-    (get_or (line_starts c.args.settings (bits_of c.args.data.now)) row 0)) (sym set) step in
+    let here = subst (λ (s : DecodeSettings). IsInStepFrom s (bits_in c.args.order c.args.data.now) c.args.to
+    (get_or (line_starts c.args.settings (bits_in c.args.order c.args.data.now)) row 0)) (sym set) step in
     let said = (c.in_default.ensures.place _).1 here in
     cc
 
 pub returns-in_err-next_row-clause-fault : goal.returns-in_err-next_row-clause-fault
 returns-in_err-next_row-clause-fault c =
-    let bits = bits_of c.args.data.now in
+    let bits = bits_in c.args.order c.args.data.now in
     let set : c.in_ok-ctx.ctx.held.settings ≡ c.args.settings =
     ap (λ (ctx : Context). ctx.held.settings) c.in_ok-ctx.ensures.made in
     let failed = c.in_err-next_row.ensures.reads.error in
@@ -112,7 +112,7 @@ returns-in_err-next_row-clause-fault c =
 
 pub returns-then-not-branch-clause-none : goal.returns-then-not-branch-clause-none
 returns-then-not-branch-clause-none c = λ _.
-    let bits = bits_of c.args.data.now in
+    let bits = bits_in c.args.order c.args.data.now in
     let set : c.in_ok-ctx.ctx.held.settings ≡ c.args.settings =
     ap (λ (ctx : Context). ctx.held.settings) c.in_ok-ctx.ensures.made in
     let ended = c.in_ok-next_row.ensures.reads.end (ap Ok c.if-not-branch.true) in
@@ -123,7 +123,7 @@ returns-then-not-branch-clause-none c = λ _.
 
 pub rows-preserved : goal.rows-preserved
 rows-preserved c =
-    let bits = bits_of c.args.data.now in
+    let bits = bits_in c.args.order c.args.data.now in
     let starts = line_starts c.args.settings bits in
     let reads = c.in_ok-next_row.ensures.reads in
     let more = reads.more (ap Ok c.if-not-branch.false) in

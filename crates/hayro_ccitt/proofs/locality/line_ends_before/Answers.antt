@@ -1,32 +1,32 @@
 use Rattle.hayro_ccitt.proofs.Names.{◌≡◌, ◌≢◌, ◌+◌, ◌≤◌, false, length, drop, Err, refl, sym, ap, subst, ◌∙◌, arith, OutOfMemory}
-use Rattle.hayro_ccitt.proofs.Names.{false≢true, DrawsLine, words_from_1d, BitsAt, bits_of, here, Context, Line, line_1d}
+use Rattle.hayro_ccitt.proofs.Names.{false≢true, DrawsLine, words_from_1d, BitsAt, bits_in, here, Context, Line, line_1d}
 use Rattle.hayro_ccitt.proofs.Names.{found_1d, common_steps, max, most_room, length-drop}
 use Rattle.hayro_ccitt.proofs.Work.RoomTaken.{grown_within, line_1d_enough}
-use Rattle.hayro_ccitt.proofs.{BitReading.BitLists.length-bits_of, DamagedLines.BodyWork.same_bound}
+use Rattle.hayro_ccitt.proofs.{BitReading.BitLists.length-bits_in, DamagedLines.BodyWork.same_bound}
 use Rattle.hayro_ccitt.proofs.{DrawingLines.DrawnLines.memory_has_black, locality.line_ends_before.Goals.After-decode_1d_line}
 use Rattle.hayro_ccitt.proofs.DamagedLines.BodyTests.{lenient_line, whole_ends, broken_ends}
 use Rattle.hayro_ccitt.proofs.locality.line_ends_before.Goals as goal
 
 pub returns-in-Ok-clause-before : goal.returns-in-Ok-clause-before
 returns-in-Ok-clause-before c =
-    let bits = bits_of c.args.data.now in
-    let same = c.decode_1d_line.ensures.only.same_bits ∙ ap (λ (at : BitsAt). at.bits) c.starting_at-reader.ensures in
-    let line = lenient_line c.reset.new.self.held c.args.ctx.now.held.settings c.starting_at-reader.result
+    let bits = bits_in c.args.order c.args.data.now in
+    let same = c.decode_1d_line.ensures.only.same_bits ∙ ap (λ (at : BitsAt). at.bits) c.at_place-reader.ensures in
+    let line = lenient_line c.reset.new.self.held c.args.ctx.now.held.settings c.at_place-reader.result
     (drop c.args.from bits) (ap (λ (ctx : Context). ctx.held) c.reset.ensures.frame) c.requires.lenient
-    (ap (λ (at : BitsAt). here at) c.starting_at-reader.ensures) in
+    (ap (λ (at : BitsAt). here at) c.at_place-reader.ensures) in
     let drawn = rw c.in-Ok.is at c.decode_1d_line.ensures.line in
     let rest : here c.decode_1d_line.new.reader ≡ drop c.bit_pos.result bits = grind (arith, common_steps) in
     let within : c.bit_pos.result ≤ length bits = omega (arith, c.bit_pos.ensures.within, ap length same) in
     whole_ends c.args.ctx.now.held.settings.columns c.bit_pos.result c.args.end bits
     (drop c.args.from bits) (here c.decode_1d_line.new.reader) c.decode_1d_line.new.ctx.held.front (sym line ∙ drawn) rest within
-    (omega (arith, c.requires.within, length-bits_of c.args.data.now))
+    (omega (arith, c.requires.within, length-bits_in c.args.order c.args.data.now))
 
 pub returns-in-Err-clause-memory : goal.returns-in-Err-clause-memory
 returns-in-Err-clause-memory c =
-    let bits = bits_of c.args.data.now in
-    let line = lenient_line c.reset.new.self.held c.args.ctx.now.held.settings c.starting_at-reader.result
+    let bits = bits_in c.args.order c.args.data.now in
+    let line = lenient_line c.reset.new.self.held c.args.ctx.now.held.settings c.at_place-reader.result
     (drop c.args.from bits) (ap (λ (ctx : Context). ctx.held) c.reset.ensures.frame) c.requires.lenient
-    (ap (λ (at : BitsAt). here at) c.starting_at-reader.ensures) in
+    (ap (λ (at : BitsAt). here at) c.at_place-reader.ensures) in
     let wants = c.wants_memory.ensures.0 c.if-wants_memory.true in
     let draws = rw (c.in-Err.is, wants) at c.decode_1d_line.ensures.line in
     let front = c.decode_1d_line.new.ctx.held.front in
@@ -36,10 +36,10 @@ returns-in-Err-clause-memory c =
 
 pub returns-in-Err-2-clause-before : goal.returns-in-Err-2-clause-before
 returns-in-Err-2-clause-before c =
-    let bits = bits_of c.args.data.now in
-    let line = lenient_line c.reset.new.self.held c.args.ctx.now.held.settings c.starting_at-reader.result
+    let bits = bits_in c.args.order c.args.data.now in
+    let line = lenient_line c.reset.new.self.held c.args.ctx.now.held.settings c.at_place-reader.result
     (drop c.args.from bits) (ap (λ (ctx : Context). ctx.held) c.reset.ensures.frame) c.requires.lenient
-    (ap (λ (at : BitsAt). here at) c.starting_at-reader.ensures) in
+    (ap (λ (at : BitsAt). here at) c.at_place-reader.ensures) in
     let draws = rw c.in-Err.is at c.decode_1d_line.ensures.line in
     let front = c.decode_1d_line.new.ctx.held.front in
     let rest = here c.decode_1d_line.new.reader in
@@ -50,15 +50,16 @@ returns-in-Err-2-clause-before c =
     )
 
 -- what is counted while the line is read
-counted_by_line : (c : After-decode_1d_line) → c.decode_1d_line.new.ctx.ticks ≤ c.args.ctx.now.ticks + length (found_1d
-    c.args.ctx.now.held.settings.strict c.args.ctx.now.held.settings.columns (drop c.args.from (bits_of c.args.data.now))) + 1
+counted_by_line : (c : After-decode_1d_line) → c.decode_1d_line.new.ctx.ticks ≤ c.args.ctx.now.ticks
+    + length (found_1d c.args.ctx.now.held.settings.strict c.args.ctx.now.held.settings.columns
+    (drop c.args.from (bits_in c.args.order c.args.data.now))) + 1
 counted_by_line c =
     let settings = c.args.ctx.now.held.settings in
-    let rest = drop c.args.from (bits_of c.args.data.now) in
-    let words = ap (λ (ctx : Context). words_from_1d ctx.held (here c.starting_at-reader.result)) c.reset.ensures.frame
-    ∙ ap (λ (at : BitsAt). found_1d settings.strict settings.columns (here at)) c.starting_at-reader.ensures in
+    let rest = drop c.args.from (bits_in c.args.order c.args.data.now) in
+    let words = ap (λ (ctx : Context). words_from_1d ctx.held (here c.at_place-reader.result)) c.reset.ensures.frame
+    ∙ ap (λ (at : BitsAt). found_1d settings.strict settings.columns (here at)) c.at_place-reader.ensures in
     same_bound c.decode_1d_line.new.ctx.ticks c.args.ctx.now.ticks c.reset.new.self.ticks
-    (found_1d settings.strict settings.columns rest) (words_from_1d c.reset.new.self.held (here c.starting_at-reader.result))
+    (found_1d settings.strict settings.columns rest) (words_from_1d c.reset.new.self.held (here c.at_place-reader.result))
     (ap (λ (ctx : Context). ctx.ticks) c.reset.ensures.frame) words c.decode_1d_line.ensures.at_most
 
 pub returns-in-Ok-clause-at_most : goal.returns-in-Ok-clause-at_most
@@ -72,7 +73,7 @@ returns-in-Err-2-clause-at_most c = counted_by_line (goal.at.returns-in-Err-2-cl
 
 -- the lists have no more room than the line accounts for
 room_of_line : (c : After-decode_1d_line) → c.decode_1d_line.new.ctx.space
-    ≤ max c.args.ctx.now.space (most_room c.args.ctx.now.held.settings (bits_of c.args.data.now))
+    ≤ max c.args.ctx.now.space (most_room c.args.ctx.now.held.settings (bits_in c.args.order c.args.data.now))
 room_of_line c = grind (arith, common_steps, length-drop, line_1d_enough, grown_within)
 
 pub returns-in-Ok-clause-space : goal.returns-in-Ok-clause-space
