@@ -7,4 +7,3 @@ pub mod PassedRows
 pub mod RegularModes
 pub mod SinkStates
 pub mod TwoRunsHere
-pub mod WhiteLines

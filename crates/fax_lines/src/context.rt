@@ -21,7 +21,6 @@ ghost use Rattle.fax_reading.specs.Space.{most_stored};
 
 pub mod counts;
 pub mod reading;
-pub mod white_rows;
 
 use crate::Decoder;
 use crate::changes::{append_pixels, b1_index, change_or_end, vertical_place};

@@ -51,3 +51,17 @@ pub use Rattle.std.proofs.lemmas.List.{map-append}
 pub use Rattle.std.proofs.lemmas.List.Sums.{fold-append}
 pub use Rattle.std.proofs.lemmas.Result.{IfOk-weaker, err_from_is_err_and, on_err_weaker, on_ok_weaker}
 pub use Rattle.std.specs.Prelude.{IfErr, IsOkUnless, OnErr, OnOk, sum_by}
+pub use Rattle.fax_bits.specs.CodeLists.{mode_codes}
+pub use Rattle.fax_bits.specs.CodeReading.{Has, read_code}
+pub use Rattle.fax_bits.specs.Runs.{codes_of}
+pub use Rattle.fax_bits.specs.Window.{moved}
+pub use Rattle.fax_bits.specs.declared.codes.Color.{Color}
+pub use Rattle.fax_bits.specs.declared.codes.Color.TheVariants.{Black}
+pub use Rattle.fax_bits.specs.declared.codes.Mode.TheVariants.{Vertical}
+pub use Rattle.fax_reading.specs.Answers.{Step}
+pub use Rattle.fax_reading.specs.Encodings.{Spells}
+pub use Rattle.fax_reading.specs.Lines.{Pen, draw_2d, drawn, found_1d, line_1d, line_2d, turn_following, words_after, words_drawn}
+pub use Rattle.fax_reading.specs.UsualModes.{GoesOn2d}
+pub use Rattle.fax_reading.specs.UsualRuns.{GoesOn, IsRunHere, IsWordHere, pen_at}
+pub use Rattle.std.proofs.Common.{pos, ◌%◌, ◌/◌}
+pub use Rattle.std.proofs.lemmas.Bool.{le-leb}

@@ -18,16 +18,16 @@ ghost use Rattle.fax_rows.specs.RowsRead.{stand_after, line_after, is_at_line, a
 ghost use Rattle.fax_reading.specs.PlainReading.{failed_at};
 ghost use Rattle.fax_rows.specs.RowsTried.{PassesGapHere, StandsAlone, StandsFirst, TakesNone, rows_after_line};
 ghost use Rattle.fax_rows.specs.WhiteRows.{TakesWhite};
-ghost use Rattle.fax_lines.specs.WhiteLines.{MayFollow};
+ghost use Rattle.fax_rows.specs.WhiteLines.{MayFollow};
 ghost use Rattle.fax_rows.specs.RowsRead.{IsStandingAtLine, DamageIsCounted, ReadsNext, gaps_passed, row_came};
 
 use crate::group3::read_leading_eols;
 use crate::rows::{pass_gap, read_row};
+use crate::white_lines::{WhiteLines, pass_line};
 use fax_bits::bit_reader::{BitOrder, BitReader, bit_len};
 use fax_bits::{DecodeError, DecodeSettings, EncodingMode, Result};
 use fax_lines::context::counts::{last_fault, take_row_again, take_rows_again};
 use fax_lines::context::{DecoderContext, begin_line, reference_row};
-use fax_lines::white_lines::{WhiteLines, pass_line};
 use std::alloc::Global;
 use std::marker::Model;
 
