@@ -9,6 +9,7 @@ ghost use Rattle.fax_lines.specs.SinkStates.{state_of};
 ghost use Rattle.fax_rows.specs.WhiteLines.{MayFollow};
 ghost use Rattle.fax_rows.specs.WhiteRows.{PushesWhite};
 
+use crate::counts::take_back_row;
 use crate::row_reader::{RowState, first_stand, has_ended};
 use crate::white_lines::{
     WhiteLines, may_follow, no_white_lines, pass_placed_line, placed_lines, white_is_next,
@@ -18,7 +19,6 @@ use fax_bits::bit_reader::{
 };
 use fax_bits::{EncodingMode, Result};
 use fax_lines::Decoder;
-use fax_lines::context::counts::take_back_row;
 use fax_lines::context::{DecoderContext, reference_row};
 
 /// Of lines with fewer bits many are in the window of a reader, which passes them as fast.

@@ -1,8 +1,8 @@
 //! White lines below a white row, by their bits.
 
 ghost use Rattle.std.specs.Prelude.{◌≡◌, ◌+◌, ◌<◌, ◌≤◌, ◌++◌, ◌⊎◌, true, false, ℕ};
-ghost use Rattle.fax_rows.specs.WhiteLines.{AreKnown, ArePlacedLines, IsLine, FitsIn, IsWhiteLine, IsWhiteRun, MayFollow, PassesLine};
-ghost use Rattle.fax_rows.specs.WhiteLines.{bits_of_word};
+ghost use Rattle.fax_rows.specs.WhiteLines.{AreKnown, ArePlacedLines, FitsIn, IsLine, IsWhiteLine, IsWhiteRun, MayFollow};
+ghost use Rattle.fax_rows.specs.WhiteLines.{PassesLine, bits_of_word};
 
 use fax_bits::bit_reader::{
     BitReader, PlacedBits, WordsAhead, may_be_next, pass_bits, pass_more_bits,
@@ -110,7 +110,8 @@ fn row_limit(rows: u32) -> u64
     if rows == 0 { u64::MAX } else { u64::from(rows) }
 }
 
-/// Returns the white lines of these settings.
+/// Returns the white lines of these settings. This is a call, so that rows that aren't white cost nothing for it.
+#[cold]
 #[inline(never)]
 fn white_lines(settings: DecodeSettings, has_eols: bool) -> WhiteLines
     requires { 0 < settings.columns }
@@ -209,17 +210,6 @@ pub fn pass_placed_line(placed: &PlacedLines, words: &mut WordsAhead<'_>) -> boo
     words.pass_either(&placed.first, &placed.second)
 }
 
-/// Finds the white lines of these settings. This is a call, so that rows that aren't white cost nothing for it.
-#[cold]
-#[inline(never)]
-fn find_white_lines(lines: &mut WhiteLines, settings: DecodeSettings, has_eols: bool)
-    requires { 0 < settings.columns }
-    ensures known { AreKnown settings lines.new }
-    ensures same { lines.new.has_eols ≡ has_eols }
-{
-    *lines = white_lines(settings, has_eols);
-}
-
 /// Returns that no white line is known yet.
 #[inline(always)]
 pub fn no_white_lines(_ctx: &DecoderContext) -> WhiteLines
@@ -256,7 +246,7 @@ pub fn repeats_white(ctx: &DecoderContext, lines: &mut WhiteLines) -> bool
     }
     // The limit is 0 only before they are found; there may be none.
     if lines.limit == 0 || lines.has_eols != has_eols {
-        find_white_lines(lines, settings, has_eols);
+        *lines = white_lines(settings, has_eols);
     }
     lines.first.count != 0
 }
