@@ -108,7 +108,7 @@ def no_proof_has_a_hole():
 COUNTS = {
     "crates/fax_bits/src/codes.rt": {"new", "after", "tick"},
     "crates/fax_lines/src/context.rt": {"new"},
-    "crates/fax_lines/src/context/counts.rt": {"restart"},
+    "crates/fax_rows/src/counts.rt": {"restart"},
     "crates/fax_lines/src/pen.rt": {"take_up"},  # stands where a count was moved away, and `lay_down` requires that it is still zero
     "crates/fax_rows/src/row_reader.rt": {"new"},  # a reader's own context, which no call of `decode` has
     "crates/fax_rows/src/row_cursor.rt": {"new"},  # the same

@@ -17,7 +17,7 @@ ghost use Rattle.fax_feeds.specs.RowFeeds.{IsPartOf1d, line_of_feed, says_short,
 ghost use Rattle.fax_feeds.specs.RowFeeds.{CountsRow, Feeding, FeedsRow, PassesRows, PushesRows, unused};
 ghost use Rattle.fax_reading.specs.Rows.{AreChanges, changes};
 ghost use Rattle.fax_lines.specs.SinkStates.{state_of};
-ghost use Rattle.fax_lines.specs.WhiteLines.{AreKnown};
+ghost use Rattle.fax_rows.specs.WhiteLines.{AreKnown};
 
 use crate::gap_look::{
     GapLook, GapRules, GapStage, first_rules, is_settled_at_once, rules_after_row,
@@ -29,12 +29,11 @@ use fax_bits::bit_reader::{
 use fax_bits::codes::Color;
 use fax_bits::{DecodeError, DecodeSettings, EncodingMode, Result};
 use fax_lines::Decoder;
-use fax_lines::context::white_rows::{no_white_lines, repeats_white};
 use fax_lines::context::{DecoderContext, begin_line, reference_row};
-use fax_lines::white_lines::WhiteLines;
 use fax_rows::push_rows::{WhiteLinesAhead, push_white_rows};
 use fax_rows::row_reader::{RowState, Stand, first_stand, has_ended, is_at_line};
 use fax_rows::rows::try_row;
+use fax_rows::white_lines::{WhiteLines, no_white_lines, repeats_white};
 use std::alloc::Global;
 use std::marker::Model;
 use std::mem;

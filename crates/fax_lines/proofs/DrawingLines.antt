@@ -7,4 +7,3 @@ pub mod SameLines
 pub mod TwoOnes
 pub mod UsualModes
 pub mod UsualStrokes
-pub mod WhiteLines

@@ -4,14 +4,12 @@ pub use Rattle.fax_reading.specs.Answers.{step_of_mode, step_of_run, words_from_
 pub use Rattle.fax_reading.specs.Answers.{strict_step_of_mode, strict_step_of_run}
 pub use Rattle.fax_bits.specs.Bits.{Bits, BitsAt, here}
 pub use Rattle.fax_bits.specs.CodeLists.{mode_codes}
-pub use Rattle.fax_bits.specs.CodeReading.{Has, read_code, word_at}
+pub use Rattle.fax_bits.specs.CodeReading.{read_code, word_at}
 pub use Rattle.fax_reading.specs.Context.{ArePassed, Context, Held, redrawn, right_of_painted, exceeds, painted_front}
 pub use Rattle.fax_lines.specs.ContextView.{context_of}
-pub use Rattle.fax_reading.specs.Encodings.{Spells}
 pub use Rattle.fax_lines.specs.DrawnModes.{CanDraw, Draws}
-pub use Rattle.fax_bits.specs.EndOfLine.{after_eol}
-pub use Rattle.fax_reading.specs.Lines.{Line, Pen, draw_2d, draw_mode, draw_run, drawn, found_1d, line_1d, line_2d, start}
-pub use Rattle.fax_reading.specs.Lines.{turn_following, words_after, words_drawn}
+pub use Rattle.fax_reading.specs.Lines.{Line, Pen, draw_mode, draw_run, line_1d, line_2d, start}
+pub use Rattle.fax_reading.specs.Lines.{turn_following, words_after}
 pub use Rattle.fax_bits.specs.LookUps.{is_short, pair_entry, mode_in, padded}
 pub use Rattle.fax_reading.specs.PlainReading.{line_here}
 pub use Rattle.fax_bits.specs.Repetition.{Turn}
@@ -32,14 +30,14 @@ pub use Rattle.fax_bits.specs.declared.error.DecodeError.{DecodeError}
 pub use Rattle.fax_lines.specs.declared.modes.CodingLine.{CodingLine}
 pub use Rattle.fax_lines.specs.declared.modes.Stroke.{Stroke}
 pub use Rattle.fax_bits.specs.declared.settings.DecodeSettings.{DecodeSettings}
-pub use Rattle.fax_bits.specs.declared.settings.EncodingMode.TheVariants.{Group3_1D, Group3_2D, Group4}
+pub use Rattle.fax_bits.specs.declared.settings.EncodingMode.TheVariants.{Group3_1D}
 pub use Rattle.fax_lines.specs.declared.run_pairs.TwoRuns.{TwoRuns}
 pub use Rattle.std.proofs.Common.{Bool, Err, List, None, Ok, Option, Result, SFits, Some, [], ap, append-nil, append_assoc, arith}
-pub use Rattle.std.proofs.Common.{cond, drop, eqb, false, get_or, inl, inr, is_some, leb, length, length-append, length-drop, map}
+pub use Rattle.std.proofs.Common.{cond, drop, eqb, false, get_or, inl, inr, is_some, length, length-append, length-drop, map}
 pub use Rattle.std.proofs.Common.{max, min, negsuc, pos, refl, replicate, rules, subst, suc, sym, take, to_z, true, w32, w8, zero}
 pub use Rattle.std.proofs.Common.{ℕ, ◌%◌, ◌&&◌, ◌*◌, ◌++◌, ◌+ℤ◌, ◌+◌, ◌-◌, ◌/◌, ◌<◌, ◌||◌, ◌∙◌, ◌∷◌, ◌≡◌, ◌≢◌, ◌≤◌, ◌⊎◌}
 pub use Rattle.std.proofs.Math.Facts.{to_z-of_z}
-pub use Rattle.std.proofs.lemmas.Bool.{and_parts, cases_lt, eq-eqb, eqb-true, false≢true, le-leb, le-ltb, leb-true, lt-ltb}
+pub use Rattle.std.proofs.lemmas.Bool.{and_parts, cases_lt, eq-eqb, eqb-true, le-ltb, leb-true, lt-ltb}
 pub use Rattle.std.proofs.lemmas.Bool.{ltb-true}
 pub use Rattle.std.proofs.lemmas.Grind.{common_steps, get_or_default_zero}
 pub use Rattle.std.proofs.lemmas.Int.{ints}

@@ -13,17 +13,16 @@ context_of c =
         reference = pixels c.settings.columns c.ref_changes.items;
         front = pixels c.pixels_decoded c.coding_changes.items;
         color = c.color;
-        taken = c.decoded_rows;
+        taken = c.rows.decoded_rows;
         repairs = record {
-          rows = c.damaged_rows;
-          fault = c.last_fault;
-          last = c.last_damaged;
-          cut = c.cut_rows;
-          missed =
-              c.missed_eols;
+          rows = c.rows.damaged_rows;
+          fault = c.rows.last_fault;
+          last = c.rows.last_damaged;
+          cut = c.rows.cut_rows;
+          missed = c.rows.missed_eols;
         };
-        has_eols = c.has_eols;
-        fault_start = c.fault_start;
+        has_eols = c.rows.has_eols;
+        fault_start = c.rows.fault_start;
         settings = c.settings;
       };
       passed = c.passed;

@@ -5,6 +5,6 @@ pub mod DrawnModes
 pub mod Lending
 pub mod PassedRows
 pub mod RegularModes
+pub mod RowRecords
 pub mod SinkStates
 pub mod TwoRunsHere
-pub mod WhiteLines

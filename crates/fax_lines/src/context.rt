@@ -19,12 +19,12 @@ ghost use Rattle.fax_reading.specs.Answers.{TellsCut};
 ghost use Rattle.fax_reading.specs.Lines.{line_1d, line_2d};
 ghost use Rattle.fax_reading.specs.Space.{most_stored};
 
-pub mod counts;
 pub mod reading;
-pub mod white_rows;
+pub mod row_record;
 
 use crate::Decoder;
 use crate::changes::{append_pixels, b1_index, change_or_end, vertical_place};
+use crate::context::row_record::RowRecord;
 use crate::modes::{
     CodingLine, draw_modes, drop_open_change_in_row, ensure_bits_and_room, has_room_for_window,
     is_wide, next_color, put_ends, repeat_changes, take_ends,
@@ -80,16 +80,7 @@ pub struct DecoderContext {
     /// Whether a run of the line was cut at the row's end.
     is_cut: bool,
     color: Color,
-    decoded_rows: u64,
-    damaged_rows: u64,
-    /// The fault of the last row that was repaired; it means nothing before the first.
-    last_fault: DecodeError,
-    /// The number of rows decoded with the last one that was repaired.
-    last_damaged: u64,
-    cut_rows: u64,
-    missed_eols: u64,
-    has_eols: bool,
-    fault_start: Option<usize>,
+    rows: RowRecord,
     settings: DecodeSettings,
     tables: Tables,
     /// Whether the last line with many changes suits drawing by groups: it has few bits for each.
@@ -135,14 +126,7 @@ impl DecoderContext {
             passed: 0,
             is_cut: false,
             color: Color::White,
-            decoded_rows: 0,
-            damaged_rows: 0,
-            last_fault: DecodeError::UnexpectedEof,
-            last_damaged: 0,
-            cut_rows: 0,
-            missed_eols: 0,
-            has_eols: false,
-            fault_start: None,
+            rows: RowRecord::new(),
             settings,
             tables: Tables::new(alloc)?,
             suits_groups: false,
@@ -166,7 +150,7 @@ impl DecoderContext {
     pub fn decoded_rows(&self) -> u64
         ensures { result ≡ self.now.held.taken }
     {
-        self.decoded_rows
+        self.rows.decoded_rows
     }
 
     /// Returns the number of decoded rows whose line was damaged, and repaired, as lenient Group 3 data with EOLs is (T.4,
@@ -174,7 +158,7 @@ impl DecoderContext {
     pub fn damaged_rows(&self) -> u64
         ensures { result ≡ self.now.held.repairs.rows }
     {
-        self.damaged_rows
+        self.rows.damaged_rows
     }
 
     /// Returns the number of decoded rows in which a lenient reading cut a run, or a vertical mode, that goes beyond the row's
@@ -183,7 +167,7 @@ impl DecoderContext {
     pub fn cut_rows(&self) -> u64
         ensures { result ≡ self.now.held.repairs.cut }
     {
-        self.cut_rows
+        self.rows.cut_rows
     }
 
     /// Returns the number of decoded rows after which a lenient reading of Group 3 skipped other bits up to the next EOL, or
@@ -192,7 +176,7 @@ impl DecoderContext {
     pub fn missed_eols(&self) -> u64
         ensures { result ≡ self.now.held.repairs.missed }
     {
-        self.missed_eols
+        self.rows.missed_eols
     }
 
     /// Returns the offset of the fault in bits if the last `decode` returned an error, or `None`: that at which
@@ -202,7 +186,7 @@ impl DecoderContext {
     pub fn fault_start(&self) -> Option<usize>
         ensures { result ≡ self.now.held.fault_start }
     {
-        self.fault_start
+        self.rows.fault_start
     }
 
     /// Returns whether EOLs are expected between the lines of Group 3 (T.4, 4.1.2): at first if `end_of_line` is set or
@@ -210,14 +194,14 @@ impl DecoderContext {
     pub fn has_eols(&self) -> bool
         ensures { result ≡ self.now.held.has_eols }
     {
-        self.has_eols
+        self.rows.has_eols
     }
 
     /// Sets whether EOLs are expected between the lines. Nothing else changes.
     pub fn set_has_eols(&mut self, has_eols: bool)
         ensures frame { self.new ≡ record self.old { held = record self.old.held { has_eols = has_eols } } }
     {
-        self.has_eols = has_eols;
+        self.rows.has_eols = has_eols;
     }
 
     /// Borrows the count of work, for calls that count. A program can't read it; contracts see a number. Nothing else
@@ -235,14 +219,7 @@ impl DecoderContext {
     {
         begin_line(self);
         self.ref_changes.clear();
-        self.decoded_rows = 0;
-        self.damaged_rows = 0;
-        self.last_fault = DecodeError::UnexpectedEof;
-        self.last_damaged = 0;
-        self.cut_rows = 0;
-        self.missed_eols = 0;
-        self.has_eols = false;
-        self.fault_start = None;
+        self.rows = RowRecord::new();
     }
 
     /// Turns the present colour.
@@ -758,6 +735,14 @@ pub fn reference_row(ctx: &DecoderContext) -> &[u32]
     ctx.ref_changes.as_slice()
 }
 
+/// Returns whether a run of the line was cut at the row's end.
+#[inline(always)]
+pub fn is_cut(ctx: &DecoderContext) -> bool
+    ensures { result ≡ ctx.now.cut }
+{
+    ctx.is_cut
+}
+
 /// Empties the front and sets the colour to white, as each line begins, where no run of it is cut.
 #[inline(always)]
 pub fn begin_line(ctx: &mut DecoderContext)
@@ -786,7 +771,7 @@ pub fn end_line(ctx: &mut DecoderContext)
     ctx.passed = 0;
     exchange(&mut ctx.ref_changes, &mut ctx.coding_changes);
     begin_line(ctx);
-    ctx.decoded_rows += 1;
+    ctx.rows.decoded_rows += 1;
 }
 
 /// Decodes a one-dimensional line, whatever the front was before (T.4, 4.1.1). Of what the context holds, only

@@ -2,8 +2,8 @@
 //!
 //! A [`context::DecoderContext`] is what a decoder keeps from line to line. [`context::decode_1d_line`] and
 //! [`context::decode_2d_line`] read a line from a `BitReader` of `fax_bits` and draw its row into the context, from which a
-//! [`Decoder`] takes it; what a row is, and what a line means, is defined in `fax_reading`. [`white_lines`] are lines below a white
-//! row by their bits. What of this a user calls, `hayro_ccitt` passes on.
+//! [`Decoder`] takes it; what a row is, and what a line means, is defined in `fax_reading`. What of this a user calls, `hayro_ccitt`
+//! passes on.
 #![tactic(auto)]
 
 ghost use Rattle.std.specs.Prelude.{◌≡◌, ℕ, List, Bool, true, OnOk, OnErr, IsOkUnless};
@@ -16,7 +16,6 @@ mod pen;
 mod regular_places;
 mod run_pairs;
 mod vertical_groups;
-pub mod white_lines;
 
 use fax_bits::{DecodeError, Result};
 

@@ -5,5 +5,6 @@ pub mod RowByRow
 pub mod RowsAgain
 pub mod RowsPushed
 pub mod RowsTried
+pub mod WhiteLineBits
 pub mod WhiteRowsPushed
 pub mod WhiteRowsRead

@@ -6,11 +6,11 @@ use Rattle.fax_bits.specs.declared.error.DecodeError.{DecodeError}
 use Rattle.fax_bits.specs.declared.error.DecodeError.TheVariants.{Refused}
 use Rattle.fax_rows.specs.declared.row_reader.RowState.{RowState}
 use Rattle.fax_rows.specs.declared.row_reader.Stand.TheVariants.{AfterRow}
-use Rattle.fax_lines.specs.declared.white_lines.WhiteLines.{WhiteLines}
+use Rattle.fax_rows.specs.declared.white_lines.WhiteLines.{WhiteLines}
 use Rattle.fax_reading.specs.Context.{Context}
 use Rattle.fax_reading.specs.Decoding.{SinkState}
 use Rattle.fax_reading.specs.PlainReading.{limit_met}
-use Rattle.fax_lines.specs.WhiteLines.{MayFollow, PassesLine}
+use Rattle.fax_rows.specs.WhiteLines.{MayFollow, PassesLine}
 
 -- a white row is read by its bits, with the EOL before it, from this offset of the data on (T.4, 4.1.2; T.6, 2.2)
 pub record TakesWhite (lines : WhiteLines) (start : ℕ) (rows kept : RowState) (old new : Context) (before after : BitsAt)

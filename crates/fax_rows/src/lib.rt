@@ -2,12 +2,15 @@
 //!
 //! [`row_reader::RowReader`] and [`row_cursor::RowCursor`] read the rows one at a time; [`push_rows::push_rows`] passes each to a
 //! `Decoder` of `fax_lines`, and [`group3`] and [`group4`] are made of it. What is between two rows, and a row that is damaged, is
-//! read in [`rows`]. What of this a user calls, `hayro_ccitt` passes on.
+//! read in [`rows`], and rows are counted in [`counts`]; [`white_lines`] are lines below a white row by their bits. What of this a
+//! user calls, `hayro_ccitt` passes on.
 #![tactic(auto)]
 
+pub mod counts;
 pub mod group3;
 pub mod group4;
 pub mod push_rows;
 pub mod row_cursor;
 pub mod row_reader;
 pub mod rows;
+pub mod white_lines;

@@ -6,19 +6,20 @@ ghost use Rattle.fax_rows.specs.Contract.{BeginsRows};
 ghost use Rattle.fax_reading.specs.Decoding.{DecodesRows, FailsHere, leaving};
 ghost use Rattle.fax_lines.specs.ContextSteps.{ExpectsNoEols, GrowsForBits};
 ghost use Rattle.fax_lines.specs.SinkStates.{state_of};
-ghost use Rattle.fax_lines.specs.WhiteLines.{MayFollow};
+ghost use Rattle.fax_rows.specs.WhiteLines.{MayFollow};
 ghost use Rattle.fax_rows.specs.WhiteRows.{PushesWhite};
 
+use crate::counts::take_back_row;
 use crate::row_reader::{RowState, first_stand, has_ended};
+use crate::white_lines::{
+    WhiteLines, may_follow, no_white_lines, pass_placed_line, placed_lines, white_is_next,
+};
 use fax_bits::bit_reader::{
     BitOrder, BitReader, WordsAhead, at_bit, bit_len, go_on_at, words_ahead,
 };
 use fax_bits::{EncodingMode, Result};
 use fax_lines::Decoder;
-use fax_lines::context::counts::take_back_row;
-use fax_lines::context::white_rows::{no_white_lines, white_is_next};
 use fax_lines::context::{DecoderContext, reference_row};
-use fax_lines::white_lines::{WhiteLines, may_follow, pass_placed_line, placed_lines};
 
 /// Of lines with fewer bits many are in the window of a reader, which passes them as fast.
 const LEAST_BITS: usize = 8;

@@ -18,16 +18,17 @@ ghost use Rattle.fax_rows.specs.RowsRead.{stand_after, line_after, is_at_line, a
 ghost use Rattle.fax_reading.specs.PlainReading.{failed_at};
 ghost use Rattle.fax_rows.specs.RowsTried.{PassesGapHere, StandsAlone, StandsFirst, TakesNone, rows_after_line};
 ghost use Rattle.fax_rows.specs.WhiteRows.{TakesWhite};
-ghost use Rattle.fax_lines.specs.WhiteLines.{MayFollow};
+ghost use Rattle.fax_rows.specs.WhiteLines.{MayFollow};
 ghost use Rattle.fax_rows.specs.RowsRead.{IsStandingAtLine, DamageIsCounted, ReadsNext, gaps_passed, row_came};
 
+use crate::counts::take_rows_again;
 use crate::group3::read_leading_eols;
 use crate::rows::{pass_gap, read_row};
+use crate::white_lines::{WhiteLines, pass_line};
 use fax_bits::bit_reader::{BitOrder, BitReader, bit_len};
 use fax_bits::{DecodeError, DecodeSettings, EncodingMode, Result};
-use fax_lines::context::counts::{last_fault, take_row_again, take_rows_again};
+use fax_lines::context::row_record::row_record;
 use fax_lines::context::{DecoderContext, begin_line, reference_row};
-use fax_lines::white_lines::{WhiteLines, pass_line};
 use std::alloc::Global;
 use std::marker::Model;
 
@@ -82,7 +83,7 @@ fn damage_since(ctx: &DecoderContext, damaged_rows: u64) -> Option<DecodeError>
     if ctx.damaged_rows() == damaged_rows {
         return None;
     }
-    Some(last_fault(ctx))
+    Some(row_record(ctx).last_fault)
 }
 
 /// Returns whether a run of the last row was cut: whether runs are cut in more rows now than before it.
@@ -309,12 +310,7 @@ impl RowState {
         if !pass_line(lines, reader) {
             return false;
         }
-        take_row_again(ctx);
-        self.started_at = start + lines.gap;
-        self.damage = None;
-        self.cut = false;
-        self.missed = None;
-        self.stand = Stand::AfterRow;
+        self.take_white_rows(1, start + lines.gap, ctx);
         true
     }
 

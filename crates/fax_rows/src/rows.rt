@@ -18,12 +18,14 @@ ghost use Rattle.fax_rows.specs.TakenRows.{CanTakeRow, FailsToRepair, IsFull, Mo
 ghost use Rattle.fax_bits.specs.Ticks.{looked, looked_ahead, tag_tests};
 ghost use Rattle.fax_reading.specs.Work.{found_here};
 
+use crate::counts::{count_cut_row, count_damaged_row, count_missed_eol};
 use crate::group3::recover;
 use fax_bits::bit_reader::{BitReader, at_bit, copy};
 use fax_bits::codes::Color;
 use fax_bits::{DecodeError, EncodingMode, Result};
-use fax_lines::context::counts::{count_cut_row, count_damaged_row, count_missed_eol, is_cut};
-use fax_lines::context::{DecoderContext, begin_line, decode_1d_line, decode_2d_line, end_line};
+use fax_lines::context::{
+    DecoderContext, begin_line, decode_1d_line, decode_2d_line, end_line, is_cut,
+};
 
 /// Returns whether the row limit is met; a limit of 0 is no limit.
 pub fn limit_met(ctx: &DecoderContext) -> bool

@@ -33,7 +33,6 @@ pub use Rattle.fax_lines.specs.ContextView
 pub use Rattle.fax_lines.specs.Counting
 pub use Rattle.fax_lines.specs.Lending
 pub use Rattle.fax_lines.specs.SinkStates
-pub use Rattle.fax_lines.specs.WhiteLines
 pub use Rattle.fax_reading.specs.Answers
 pub use Rattle.fax_reading.specs.Context
 pub use Rattle.fax_reading.specs.Continuations
@@ -60,6 +59,7 @@ pub use Rattle.fax_rows.specs.RowCursors
 pub use Rattle.fax_rows.specs.RowsRead
 pub use Rattle.fax_rows.specs.RowsTried
 pub use Rattle.fax_rows.specs.TakenRows
+pub use Rattle.fax_rows.specs.WhiteLines
 pub use Rattle.fax_rows.specs.WhiteRows
 pub use Rattle.fax_rows.specs.declared.row_reader.RowState
 pub use Rattle.fax_rows.specs.declared.row_reader.Stand

@@ -59,7 +59,7 @@ pub use context::DecoderContext;
 pub use fax_bits::{DecodeError, DecodeSettings, EncodingMode, Result, bits_fit, tables};
 pub use fax_feeds::row_feed::{Fed, RowFeed};
 pub use fax_lines::Decoder;
-use fax_lines::context::counts::{restart, set_fault_start};
+use fax_rows::counts::{restart, set_fault_start};
 pub use fax_rows::row_cursor::RowCursor;
 pub use fax_rows::row_reader::RowReader;
 pub use in_step::in_step_from;

@@ -1,18 +1,47 @@
 //! How many rows damage to a line of two-dimensional data may change.
 
 ghost use Rattle.std.specs.Prelude.{◌≡◌, ◌+◌, ◌*◌, ◌<◌, ◌≤◌, ◌⊎◌, ◌↔◌, [], ◌∷◌, ℕ, suc, Some, IfSome, IsTrue, true, false};
-ghost use Rattle.std.specs.Prelude.{length, drop};
+ghost use Rattle.std.specs.Prelude.{length, drop, if◌then◌else◌, is_some, option_map};
 ghost use Rattle.hayro_ccitt.specs.Counting.{OnlyCounts};
 ghost use Rattle.hayro_ccitt.specs.Bits.{Bits, BitsFit, bits_in, here};
 ghost use Rattle.hayro_ccitt.specs.EndOfLine.{after_eol, next_eol};
-ghost use Rattle.hayro_ccitt.specs.LocalityByK.{ComeBefore1D, IsFollowedBy, IsLine2D, ReadsModes};
-ghost use Rattle.hayro_ccitt.specs.{Ticks.looked, Work.most_for_lines};
+ghost use Rattle.hayro_ccitt.specs.LocalityByK.{ComeBefore1D, IsFollowedBy, IsLine2D, ReadsModes, after_mode};
+ghost use Rattle.hayro_ccitt.specs.{Ticks.looked, Work.mode_found, Work.most_for_lines};
 
 use crate::{DecodeSettings, EncodingMode};
 use fax_bits::bit_reader::{BitOrder, BitReader, at_place, copy};
-use fax_bits::codes::{Color, pass_eol};
+use fax_bits::codes::{Color, Mode, pass_eol};
 use fax_lines::context::DecoderContext;
-use fax_lines::context::reading::pass_mode;
+use fax_lines::context::reading::run_length;
+
+/// Passes the mode here, in a line of this colour, with the runs of a horizontal one, without drawing it, and
+/// returns the colour after it. If there is none, or one of its runs is broken, it returns `None`, and the offset is
+/// unspecified (T.4, 4.2.1.3).
+fn pass_mode(
+    ctx: &mut DecoderContext,
+    color: Color,
+    reader: &mut BitReader<'_>,
+) -> Option<Color>
+    ensures after { option_map (λ after. (after, here reader.new)) result ≡ after_mode color (here reader.old) }
+    ensures same_bits { reader.new.bits ≡ reader.old.bits }
+    ensures only_ticks { OnlyCounts ctx.old ctx.new }
+    ensures cut { ctx.new.cut ≡ ctx.old.cut }
+    ensures at_most { ctx.new.ticks
+        ≤ ctx.old.ticks + length (mode_found color (here reader.old)) + (if is_some result then 0 else 1) }
+{
+    let Ok(mode) = reader.decode_mode(ctx.ticks()) else {
+        return None;
+    };
+    match mode {
+        Mode::Pass => Some(color),
+        Mode::Vertical(_) => Some(color.opposite()),
+        Mode::Horizontal => {
+            run_length(ctx, color, reader)?;
+            run_length(ctx, color.opposite(), reader)?;
+            Some(color)
+        }
+    }
+}
 
 /// Passes the modes of a line, with their runs, as many as can be read.
 pub(crate) fn pass_modes(ctx: &mut DecoderContext, reader: &mut BitReader<'_>)

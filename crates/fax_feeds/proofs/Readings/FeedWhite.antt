@@ -18,11 +18,11 @@ use Rattle.fax_feeds.specs.GapsSeen.{nothing_seen}
 use Rattle.fax_feeds.specs.RowFeeds.{DrawsRow, FeedsNext, FeedsRow, IsFeedOf, PassesEol, StandsIn}
 use Rattle.fax_feeds.specs.RowFeeds.{fed_over, feeding_of}
 use Rattle.fax_rows.specs.WhiteRows.{TakesWhite}
-use Rattle.fax_lines.specs.WhiteLines.{AreWhiteLine, IsWhiteLine, MayFollow, PassesLine, bits_of_word, eol_before}
+use Rattle.fax_rows.specs.WhiteLines.{AreWhiteLine, IsWhiteLine, MayFollow, PassesLine, bits_of_word, eol_before}
 use Rattle.fax_feeds.specs.declared.row_feed.Fed.{Fed}
 use Rattle.fax_feeds.specs.declared.row_feed.RowFeed.TheInside.{Inside}
 use Rattle.fax_rows.specs.declared.row_reader.RowState.{RowState}
-use Rattle.fax_lines.specs.declared.white_lines.WhiteLines.{WhiteLines}
+use Rattle.fax_rows.specs.declared.white_lines.WhiteLines.{WhiteLines}
 
 module _ {f : Inside} {before after : BitsAt} {rows : RowState} {ctx : Context} {place : ℕ} {lines : WhiteLines}
     (by : IsReadBy f before) (there : place ≡ after.place) (following : f.rows.stand ≡ AfterRow) (fresh : f.look ≡ nothing_seen)

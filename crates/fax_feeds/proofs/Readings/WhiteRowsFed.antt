@@ -11,7 +11,7 @@ use Rattle.fax_rows.specs.WhiteRows.{PassWhite, PassesWhite, Pushed, ReadsWhite}
 use Rattle.fax_feeds.specs.declared.row_feed.Fed.{Fed}
 use Rattle.fax_feeds.specs.declared.row_feed.RowFeed.TheInside.{Inside}
 use Rattle.fax_rows.specs.declared.row_reader.RowState.{RowState}
-use Rattle.fax_lines.specs.declared.white_lines.WhiteLines.{WhiteLines}
+use Rattle.fax_rows.specs.declared.white_lines.WhiteLines.{WhiteLines}
 
 -- the feed after these rows
 abbrev pub fed_to : {M : Type 0} → Inside → Pushed M → Inside

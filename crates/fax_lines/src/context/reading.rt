@@ -1,10 +1,8 @@
-//! Words, runs and modes that are read with a context's tables, and not drawn.
+//! Words and runs that are read with a context's tables, and not drawn.
 
 ghost use Rattle.std.specs.Prelude.{◌≡◌, ◌+◌, ◌≤◌, ℕ, Ok, Err};
-ghost use Rattle.std.specs.Prelude.{if◌then◌else◌, is_some, option_map, length};
-ghost use Rattle.fax_reading.specs.LocalityByK.{after_mode};
+ghost use Rattle.std.specs.Prelude.{if◌then◌else◌, is_some, length};
 ghost use Rattle.fax_bits.specs.Ticks.{run_found};
-ghost use Rattle.fax_reading.specs.Work.{mode_found};
 ghost use Rattle.fax_bits.specs.ReaderSteps.{Reads};
 ghost use Rattle.fax_bits.specs.Runs.{codes_of, read_run};
 ghost use Rattle.fax_reading.specs.Rows.{b1, b2, changes};
@@ -17,7 +15,7 @@ ghost use Rattle.fax_reading.specs.Context.{ArePassed, right_of_painted};
 use crate::changes::b1_index;
 use crate::context::DecoderContext;
 use fax_bits::bit_reader::{BitReader, BitScanner};
-use fax_bits::codes::{Color, Mode};
+use fax_bits::codes::Color;
 use fax_bits::{DecodeError, Result};
 
 /// Reads a word of a run of a colour without drawing it.
@@ -77,34 +75,5 @@ pub fn run_length(ctx: &mut DecoderContext, color: Color, reader: &mut BitReader
     match reader.decode_run(color, &ctx.tables, &mut ctx.ticks) {
         Ok(run) => Some(run),
         Err(_) => None,
-    }
-}
-
-/// Passes the mode here, in a line of this colour, with the runs of a horizontal one, without drawing it, and
-/// returns the colour after it. If there is none, or one of its runs is broken, it returns `None`, and the offset is
-/// unspecified (T.4, 4.2.1.3).
-pub fn pass_mode(
-    ctx: &mut DecoderContext,
-    color: Color,
-    reader: &mut BitReader<'_>,
-) -> Option<Color>
-    ensures after { option_map (λ after. (after, here reader.new)) result ≡ after_mode color (here reader.old) }
-    ensures same_bits { reader.new.bits ≡ reader.old.bits }
-    ensures only_ticks { OnlyCounts ctx.old ctx.new }
-    ensures cut { ctx.new.cut ≡ ctx.old.cut }
-    ensures at_most { ctx.new.ticks
-        ≤ ctx.old.ticks + length (mode_found color (here reader.old)) + (if is_some result then 0 else 1) }
-{
-    let Ok(mode) = reader.decode_mode(&mut ctx.ticks) else {
-        return None;
-    };
-    match mode {
-        Mode::Pass => Some(color),
-        Mode::Vertical(_) => Some(color.opposite()),
-        Mode::Horizontal => {
-            run_length(ctx, color, reader)?;
-            run_length(ctx, color.opposite(), reader)?;
-            Some(color)
-        }
     }
 }

@@ -18,9 +18,9 @@ use Rattle.fax_rows.specs.declared.row_reader.RowState.{RowState}
 use Rattle.fax_rows.proofs.Names.{Group3_1D, Group3_2D, at_end, ne_eqb, ◌<◌, ◌≢◌}
 use Rattle.fax_rows.proofs.Names.{after_eol, append_assoc, drop-drop, length-append, tagged_eols}
 use Rattle.fax_rows.specs.WhiteRows.{TakesWhite}
-use Rattle.fax_lines.specs.WhiteLines.{AreWhiteLine, IsWhiteLine, MayFollow, PassesLine, eol_before}
+use Rattle.fax_rows.specs.WhiteLines.{AreWhiteLine, IsWhiteLine, MayFollow, PassesLine, eol_before}
 use Rattle.fax_bits.specs.declared.tables.CodeWord.{CodeWord}
-use Rattle.fax_lines.specs.declared.white_lines.WhiteLines.{WhiteLines}
+use Rattle.fax_rows.specs.declared.white_lines.WhiteLines.{WhiteLines}
 use Rattle.fax_bits.proofs.BitReading.BitLists.{length-low_bits}
 use Rattle.fax_bits.proofs.BitReading.ConsecutiveEols.{all_eols-none, eols-none, eols-some, eols_with_tags-none}
 use Rattle.fax_bits.proofs.BitReading.PlainEols.{single_tagged_eol}

@@ -4,10 +4,10 @@ use Rattle.fax_rows.proofs.Names.{◌≡◌, ◌+◌, ◌-◌, ◌<◌, ◌≤�
 use Rattle.fax_rows.proofs.Names.{BitsAt, AfterRow, Context, DecodeError, None, Refused, Result, SinkState, false, true}
 use Rattle.fax_rows.proofs.Readings.RowsAgain.{not_at_limit}
 use Rattle.fax_rows.specs.WhiteRows.{TakesWhite}
-use Rattle.fax_lines.specs.WhiteLines.{MayFollow, PassesLine}
+use Rattle.fax_rows.specs.WhiteLines.{MayFollow, PassesLine}
 use Rattle.fax_rows.specs.WhiteRows.{PassWhite, Pushed, PushesWhite, ReadsWhite, WhiteEnds}
 use Rattle.fax_rows.specs.declared.row_reader.RowState.{RowState}
-use Rattle.fax_lines.specs.declared.white_lines.WhiteLines.{WhiteLines}
+use Rattle.fax_rows.specs.declared.white_lines.WhiteLines.{WhiteLines}
 
 -- what is known after so many rows, of which the last one's line begins there
 abbrev pub rows_after : ℕ → ℕ → RowState → RowState

@@ -9,7 +9,7 @@ use Rattle.fax_rows.proofs.Readings.RowsAgain.{taken_reads, taken_stands, white_
 use Rattle.fax_rows.proofs.Readings.RowsPushed.{means_pushed, of_same}
 use Rattle.fax_rows.specs.WhiteRows.{PassWhite, PassesWhite, Pushed, ReadsWhite}
 use Rattle.fax_rows.specs.declared.row_reader.RowState.{RowState}
-use Rattle.fax_lines.specs.declared.white_lines.WhiteLines.{WhiteLines}
+use Rattle.fax_rows.specs.declared.white_lines.WhiteLines.{WhiteLines}
 use Rattle.fax_rows.proofs.Names.{DecodeError, DecodesRows, Err, Result, SinkState, drop, failed_at, here, subst, ◌-◌, ◌<◌}
 use Rattle.fax_rows.specs.WhiteRows.{PushesWhite, RefusesWhite, WhiteEnds}
 use Rattle.fax_rows.proofs.Readings.RowsPushed.{rows_refused}

@@ -7,8 +7,8 @@ use Rattle.fax_rows.proofs.Readings.RowsPushed.{decodes_rows, ends_unfailed, mea
 use Rattle.fax_rows.proofs.Readings.RowsPushed.{rows_refused, run_is_over}
 use Rattle.fax_rows.specs.WhiteRows.{Pushed, PushesWhite}
 use Rattle.fax_lines.specs.SinkStates.{state_of}
-use Rattle.fax_lines.specs.WhiteLines.{AreKnown}
-use Rattle.fax_lines.specs.declared.white_lines.WhiteLines.{WhiteLines}
+use Rattle.fax_rows.specs.WhiteLines.{AreKnown}
+use Rattle.fax_rows.specs.declared.white_lines.WhiteLines.{WhiteLines}
 use Rattle.fax_rows.proofs.Readings.WhiteRowsRead.{IsAfterRows, some_on}
 use Rattle.fax_rows.proofs.Readings.WhiteRowsRead.{came_after, counted_mid, counted_now, refused_after}
 use Rattle.fax_rows.proofs.Readings.WhiteRowsRead.{white_fails, white_refused, white_within}

@@ -1,6 +1,6 @@
 use Rattle.fax_rows.proofs.Names.{◌≡◌, ◌≤◌, ◌-◌, false, length, take, Group4, meaning_after, plain, IsStanding, ended}
 use Rattle.fax_rows.proofs.Names.{None, max, most_room}
-use Rattle.fax_lines.specs.WhiteLines.{AreKnown}
+use Rattle.fax_rows.specs.WhiteLines.{AreKnown}
 use Rattle.fax_rows.proofs.push_rows.push_rows.Given as goal
 
 -- the rows so far were read, and the sink means them

@@ -1,7 +1,7 @@
 use Rattle.fax_rows.proofs.Names.{common_steps}
 use Rattle.fax_rows.proofs.Names.{◌≡◌, ◌∙◌, ◌+◌, ℕ, [], BitsAt, Context, ap, arith, refl, subst, sym, true}
 use Rattle.fax_rows.proofs.Readings.WhiteRowsPushed.{no_white_read, then_one, then_refused}
-use Rattle.fax_lines.specs.WhiteLines.{MayFollow}
+use Rattle.fax_rows.specs.WhiteLines.{MayFollow}
 use Rattle.fax_rows.specs.WhiteRows.{ReadsWhite}
 use Rattle.fax_rows.proofs.push_rows.push_white_lines.{Given.Over}
 use Rattle.fax_rows.proofs.push_rows.push_white_lines.Goals.{After-take_white_row}

@@ -1,7 +1,7 @@
 use Rattle.fax_rows.proofs.Names.{◌≡◌, ◌-◌, Ok}
 use Rattle.std.specs.Prelude.{◌^◌}
 use Rattle.fax_lines.specs.SinkStates.{state_of}
-use Rattle.fax_lines.specs.WhiteLines.{MayFollow}
+use Rattle.fax_rows.specs.WhiteLines.{MayFollow}
 use Rattle.fax_rows.specs.WhiteRows.{PushesWhite}
 use Rattle.fax_rows.proofs.push_rows.push_white_lines.Given as goal
 

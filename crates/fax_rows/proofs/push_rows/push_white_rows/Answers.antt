@@ -1,6 +1,6 @@
 use Rattle.fax_rows.proofs.Names.{arith, ap, subst, sym, ℕ, length, Bits, Context, Result, DecodeError}
 use Rattle.fax_lines.specs.SinkStates.{state_of}
-use Rattle.fax_lines.specs.WhiteLines.{MayFollow}
+use Rattle.fax_rows.specs.WhiteLines.{MayFollow}
 use Rattle.fax_rows.specs.WhiteRows.{PushesWhite}
 use Rattle.fax_rows.proofs.Readings.WhiteRowsPushed.{no_white_read, then_pushed}
 use Rattle.fax_rows.proofs.Readings.WhiteRowsRead.{bits_now, counted_now}

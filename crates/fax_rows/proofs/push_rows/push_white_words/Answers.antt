@@ -4,7 +4,7 @@ use Rattle.fax_rows.proofs.Names.{sym, false}
 use Rattle.fax_bits.specs.Window.{WordsAt}
 use Rattle.fax_rows.proofs.Readings.WhiteRowsPushed.{ctx_after, no_row_left, none_pushed, one_pushed}
 use Rattle.fax_rows.proofs.Readings.WhiteRowsPushed.{one_refused, some_pushed}
-use Rattle.fax_lines.specs.WhiteLines.{PassesLine}
+use Rattle.fax_rows.specs.WhiteLines.{PassesLine}
 use Rattle.fax_rows.proofs.push_rows.push_white_words.{Given.Over}
 use Rattle.fax_rows.proofs.push_rows.push_white_words.Goals.{After-push_row, After-many}
 use Rattle.fax_rows.proofs.push_rows.push_white_words.Goals.{else-many-test, then-many-test+then-not-pass_placed_line}

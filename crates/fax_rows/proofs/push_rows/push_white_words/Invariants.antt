@@ -1,6 +1,6 @@
 use Rattle.fax_rows.proofs.Names.{◌≡◌, ◌≤◌, ◌-◌, length}
 use Rattle.fax_rows.proofs.Readings.WhiteRowsPushed.{HasPushedWhite}
-use Rattle.fax_lines.specs.WhiteLines.{ArePlacedLines}
+use Rattle.fax_rows.specs.WhiteLines.{ArePlacedLines}
 use Rattle.fax_rows.proofs.push_rows.push_white_words.Given as goal
 
 -- white rows were read, and the sink means them

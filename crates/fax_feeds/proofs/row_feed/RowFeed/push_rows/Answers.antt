@@ -1,6 +1,6 @@
 use Rattle.fax_feeds.proofs.Names.{◌≡◌, ◌∙◌, ap, arith, subst, sym, refl, Err, DecodeSettings, List, Ok, ℕ}
 use Rattle.fax_lines.specs.SinkStates.{state_of}
-use Rattle.fax_lines.specs.WhiteLines.{AreKnown}
+use Rattle.fax_rows.specs.WhiteLines.{AreKnown}
 use Rattle.fax_reading.proofs.PixelRows.ChangesAndPixels.{AreChanges-wider}
 use Rattle.fax_feeds.proofs.Readings.RowsPassed.{keeps_on, passes_more, passed_goes_on, passes_on, pushed_to_refusal, then_pushed}
 use Rattle.fax_feeds.specs.RowFeeds.{FeedsRow, PassesRows, PushesRows}

@@ -1,6 +1,6 @@
 use Rattle.fax_feeds.proofs.Names.{◌≡◌, ◌-◌}
 use Rattle.std.specs.Prelude.{◌^◌}
-use Rattle.fax_lines.specs.WhiteLines.{AreKnown}
+use Rattle.fax_rows.specs.WhiteLines.{AreKnown}
 use Rattle.fax_feeds.specs.RowFeeds.{KeepsBits, PassesRows}
 use Rattle.fax_feeds.proofs.row_feed.RowFeed.push_rows.Given as goal
 

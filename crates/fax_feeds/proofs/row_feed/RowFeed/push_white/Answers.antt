@@ -12,7 +12,7 @@ use Rattle.fax_feeds.specs.GapsSeen.{nothing_seen}
 use Rattle.fax_feeds.specs.RowFeeds.{PassesRows, PushesRows, feeding_of}
 use Rattle.fax_feeds.specs.declared.row_feed.RowFeed.TheInside.{Inside}
 use Rattle.fax_lines.specs.SinkStates.{state_of}
-use Rattle.fax_lines.specs.declared.white_lines.WhiteLines.{WhiteLines}
+use Rattle.fax_rows.specs.declared.white_lines.WhiteLines.{WhiteLines}
 use Rattle.fax_rows.specs.WhiteRows.{Pushed, PushesWhite}
 use Rattle.fax_feeds.proofs.row_feed.RowFeed.push_white.{Given.Over}
 use Rattle.fax_feeds.proofs.row_feed.RowFeed.push_white.Goals.{After-bit_pos-self-inside}

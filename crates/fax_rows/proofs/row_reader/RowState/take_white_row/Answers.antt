@@ -3,8 +3,8 @@ use Rattle.fax_rows.proofs.Names.{arith}
 use Rattle.fax_rows.proofs.Readings.RowsAgain.{not_at_limit}
 use Rattle.fax_rows.proofs.row_reader.RowState.take_white_row.Goals as goal
 
-pub take_row_again-requires : goal.take_row_again-requires
-take_row_again-requires c = grind (arith, common_steps, c.requires.follow)
+pub take_white_rows-requires : goal.take_white_rows-requires
+take_white_rows-requires c = grind (arith, common_steps, c.requires.follow)
 
 pub returns-clause-taken : goal.returns-clause-taken
 returns-clause-taken c e =

@@ -1,7 +1,7 @@
-use Rattle.fax_lines.proofs.Names.{◌≡◌, ◌%◌, arith, subst, ℕ}
+use Rattle.fax_rows.proofs.Names.{◌≡◌, ◌%◌, arith, subst, ℕ}
 use Rattle.fax_bits.specs.WhiteWords.{IsWhiteWord}
-use Rattle.fax_lines.proofs.DrawingLines.WhiteLines.{one_word_run, two_word_run}
-use Rattle.fax_lines.proofs.white_lines.white_run.Goals as goal
+use Rattle.fax_rows.proofs.Readings.WhiteLineBits.{one_word_run, two_word_run}
+use Rattle.fax_rows.proofs.white_lines.white_run.Goals as goal
 
 pub returns-then-columns-lt64-clause-run : goal.returns-then-columns-lt64-clause-run
 returns-then-columns-lt64-clause-run c =

@@ -1,12 +1,12 @@
 -- White lines below a white row are read from their bits, whatever follows.
-use Rattle.fax_lines.proofs.Names.{common_steps, ◌≡◌, ℕ, ◌+◌, ◌-◌, ◌*◌, ◌/◌, ◌%◌, ◌<◌, ◌≤◌, ◌++◌, ◌∷◌, [], Bool}
-use Rattle.fax_lines.proofs.Names.{true, false, cond, leb, List, length, drop, None, Ok, pos, refl, sym, ap, subst, ◌∙◌, arith}
-use Rattle.fax_lines.proofs.Names.{le-leb, false≢true, append_assoc, drop-drop, Bits, BitsAt, here, moved, Color, White, Black}
-use Rattle.fax_lines.proofs.Names.{codes_of, Has, read_code, mode_codes, Vertical, IsWordHere, IsRunHere, GoesOn, GoesOn2d}
-use Rattle.fax_lines.proofs.Names.{pen_at, Line, Pen, Row, Turn, Step, drawn, draw_2d, words_drawn, turn_following, words_after}
-use Rattle.fax_lines.proofs.Names.{line_1d, line_2d, found_1d, pixels, Spells, after_eol, Group3_1D, Group3_2D, Group4}
+use Rattle.fax_rows.proofs.Names.{common_steps, ◌≡◌, ℕ, ◌+◌, ◌-◌, ◌*◌, ◌/◌, ◌%◌, ◌<◌, ◌≤◌, ◌++◌, ◌∷◌, [], Bool}
+use Rattle.fax_rows.proofs.Names.{true, false, cond, leb, List, length, drop, None, Ok, pos, refl, sym, ap, subst, ◌∙◌, arith}
+use Rattle.fax_rows.proofs.Names.{le-leb, false≢true, append_assoc, drop-drop, Bits, BitsAt, here, moved, Color, White, Black}
+use Rattle.fax_rows.proofs.Names.{codes_of, Has, read_code, mode_codes, Vertical, IsWordHere, IsRunHere, GoesOn, GoesOn2d}
+use Rattle.fax_rows.proofs.Names.{pen_at, Line, Pen, Row, Turn, Step, drawn, draw_2d, words_drawn, turn_following, words_after}
+use Rattle.fax_rows.proofs.Names.{line_1d, line_2d, found_1d, pixels, Spells, after_eol, Group3_1D, Group3_2D, Group4}
 use Rattle.fax_reading.specs.Lines.{draw_1d, found_2d}
-use Rattle.fax_lines.specs.WhiteLines.{AreWhiteLine, IsWhiteRun, FitsIn, bits_of_word}
+use Rattle.fax_rows.specs.WhiteLines.{AreWhiteLine, IsWhiteRun, FitsIn, bits_of_word}
 use Rattle.fax_bits.specs.Bits.{low_bits}
 use Rattle.fax_bits.specs.WhiteWords.{IsWhiteWord}
 use Rattle.fax_bits.specs.declared.tables.CodeWord.{CodeWord}

@@ -1,7 +1,7 @@
-use Rattle.fax_lines.proofs.Names.{common_steps}
-use Rattle.fax_lines.proofs.Names.{arith, refl}
-use Rattle.fax_lines.proofs.DrawingLines.WhiteLines.{joined_bits, joined_fits}
-use Rattle.fax_lines.proofs.white_lines.joined.Goals as goal
+use Rattle.fax_rows.proofs.Names.{common_steps}
+use Rattle.fax_rows.proofs.Names.{arith, refl}
+use Rattle.fax_rows.proofs.Readings.WhiteLineBits.{joined_bits, joined_fits}
+use Rattle.fax_rows.proofs.white_lines.joined.Goals as goal
 
 pub returns-clause-whole : goal.returns-clause-whole
 returns-clause-whole c = grind (arith, common_steps, joined_fits)

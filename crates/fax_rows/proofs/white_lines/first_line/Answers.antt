@@ -1,6 +1,6 @@
-use Rattle.fax_lines.proofs.Names.{arith}
-use Rattle.fax_lines.proofs.DrawingLines.WhiteLines.{run_line, tagged_v0_line, v0_line}
-use Rattle.fax_lines.proofs.white_lines.first_line.Goals as goal
+use Rattle.fax_rows.proofs.Names.{arith}
+use Rattle.fax_rows.proofs.Readings.WhiteLineBits.{run_line, tagged_v0_line, v0_line}
+use Rattle.fax_rows.proofs.white_lines.first_line.Goals as goal
 
 pub returns-in-Group4 : goal.returns-in-Group4
 returns-in-Group4 c = rw c.in-Group4.is (record {

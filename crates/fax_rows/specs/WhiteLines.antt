@@ -12,8 +12,8 @@ use Rattle.fax_bits.specs.Bits.{Bits, BitsAt, here, low_bits}
 use Rattle.fax_bits.specs.EndOfLine.{after_eol}
 use Rattle.fax_bits.specs.Window.{ArePlaced, moved}
 use Rattle.fax_bits.specs.WordsHere.{IsRunHere}
-use Rattle.fax_lines.specs.declared.white_lines.PlacedLines.{PlacedLines}
-use Rattle.fax_lines.specs.declared.white_lines.WhiteLines.{WhiteLines}
+use Rattle.fax_rows.specs.declared.white_lines.PlacedLines.{PlacedLines}
+use Rattle.fax_rows.specs.declared.white_lines.WhiteLines.{WhiteLines}
 use Rattle.fax_reading.specs.Encodings.{Spells, eol}
 use Rattle.fax_reading.specs.Lines.{Line, line_found}
 use Rattle.fax_reading.specs.PlainReading.{line_by}

@@ -1,6 +1,6 @@
-use Rattle.fax_lines.proofs.Names.{common_steps}
-use Rattle.fax_lines.proofs.Names.{arith}
-use Rattle.fax_lines.proofs.white_lines.following_eol.Goals as goal
+use Rattle.fax_rows.proofs.Names.{common_steps}
+use Rattle.fax_rows.proofs.Names.{arith}
+use Rattle.fax_rows.proofs.white_lines.following_eol.Goals as goal
 
 pub returns-then-not-has_eols : goal.returns-then-not-has_eols
 returns-then-not-has_eols c = λ encoding columns most is. grind (arith, common_steps)

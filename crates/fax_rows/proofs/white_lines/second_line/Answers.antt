@@ -1,7 +1,7 @@
-use Rattle.fax_lines.proofs.Names.{common_steps}
-use Rattle.fax_lines.proofs.Names.{arith}
-use Rattle.fax_lines.proofs.DrawingLines.WhiteLines.{tagged_run_line}
-use Rattle.fax_lines.proofs.white_lines.second_line.Goals as goal
+use Rattle.fax_rows.proofs.Names.{common_steps}
+use Rattle.fax_rows.proofs.Names.{arith}
+use Rattle.fax_rows.proofs.Readings.WhiteLineBits.{tagged_run_line}
+use Rattle.fax_rows.proofs.white_lines.second_line.Goals as goal
 
 pub returns : goal.returns
 returns c = rw c.in-Group3_2D.is (record {

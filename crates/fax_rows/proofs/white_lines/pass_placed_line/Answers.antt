@@ -1,9 +1,9 @@
-use Rattle.fax_lines.proofs.Names.{BitsAt, inl, inr}
+use Rattle.fax_rows.proofs.Names.{BitsAt, inl, inr}
 use Rattle.fax_bits.specs.Window.{PassesPlaced, WordsAt}
 use Rattle.fax_bits.specs.declared.bit_reader.PlacedBits.{PlacedBits}
-use Rattle.fax_lines.specs.WhiteLines.{IsPlacedLine, PassesLine}
-use Rattle.fax_lines.specs.declared.white_lines.WhiteLines.{WhiteLines}
-use Rattle.fax_lines.proofs.white_lines.pass_placed_line.Goals as goal
+use Rattle.fax_rows.specs.WhiteLines.{IsPlacedLine, PassesLine}
+use Rattle.fax_rows.specs.declared.white_lines.WhiteLines.{WhiteLines}
+use Rattle.fax_rows.proofs.white_lines.pass_placed_line.Goals as goal
 
 -- placed bits that are passed are a line
 placed_line_passed : {words : WordsAt} {lines : WhiteLines} {placed : PlacedBits} {next : BitsAt}

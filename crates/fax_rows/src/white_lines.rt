@@ -1,14 +1,15 @@
 //! White lines below a white row, by their bits.
 
 ghost use Rattle.std.specs.Prelude.{◌≡◌, ◌+◌, ◌<◌, ◌≤◌, ◌++◌, ◌⊎◌, true, false, ℕ};
-ghost use Rattle.fax_lines.specs.WhiteLines.{ArePlacedLines};
-ghost use Rattle.fax_lines.specs.WhiteLines.{AreKnown, IsLine, FitsIn, IsWhiteLine, IsWhiteRun, PassesLine, bits_of_word};
+ghost use Rattle.fax_rows.specs.WhiteLines.{AreKnown, ArePlacedLines, FitsIn, IsLine, IsWhiteLine, IsWhiteRun, MayFollow};
+ghost use Rattle.fax_rows.specs.WhiteLines.{PassesLine, bits_of_word};
 
 use fax_bits::bit_reader::{
     BitReader, PlacedBits, WordsAhead, may_be_next, pass_bits, pass_more_bits,
 };
 use fax_bits::tables::{CodeWord, white_makeup_word, white_terminating_word};
 use fax_bits::{DecodeSettings, EncodingMode};
+use fax_lines::context::{DecoderContext, reference_row};
 
 /// The bits of the white lines that may be next below a white row, each with the EOL before it. No bits mean no line.
 #[derive(Copy, Clone)]
@@ -109,9 +110,10 @@ fn row_limit(rows: u32) -> u64
     if rows == 0 { u64::MAX } else { u64::from(rows) }
 }
 
-/// Returns the white lines of these settings.
+/// Returns the white lines of these settings. This is a call, so that rows that aren't white cost nothing for it.
+#[cold]
 #[inline(never)]
-pub(crate) fn white_lines(settings: DecodeSettings, has_eols: bool) -> WhiteLines
+fn white_lines(settings: DecodeSettings, has_eols: bool) -> WhiteLines
     requires { 0 < settings.columns }
     ensures known { AreKnown settings result }
     ensures same { result.has_eols ≡ has_eols }
@@ -206,4 +208,56 @@ pub fn pass_placed_line(placed: &PlacedLines, words: &mut WordsAhead<'_>) -> boo
     ensures unchanged { result ≡ false → words.new ≡ words.old }
 {
     words.pass_either(&placed.first, &placed.second)
+}
+
+/// Returns that no white line is known yet.
+#[inline(always)]
+pub fn no_white_lines(_ctx: &DecoderContext) -> WhiteLines
+    ensures { AreKnown _ctx.now.held.settings result }
+{
+    WhiteLines {
+        has_eols: false,
+        gap: 0,
+        first: CodeWord { count: 0, bits: 0 },
+        second: CodeWord { count: 0, bits: 0 },
+        limit: 0,
+    }
+}
+
+/// Returns whether one of these white lines may be next: below a white row, where lines begin anywhere. They are those of
+/// the settings then.
+#[inline(always)]
+pub fn repeats_white(ctx: &DecoderContext, lines: &mut WhiteLines) -> bool
+    requires { AreKnown ctx.now.held.settings lines.old }
+    ensures known { AreKnown ctx.now.held.settings lines.new }
+    ensures follow { result ≡ true
+        → MayFollow ctx.now.held.settings ctx.now.held.has_eols ctx.now.held.reference lines.new }
+{
+    if !reference_row(ctx).is_empty() {
+        return false;
+    }
+    let settings = ctx.settings();
+    if settings.columns == 0 {
+        return false;
+    }
+    let has_eols = ctx.has_eols();
+    if settings.rows_are_byte_aligned && !has_eols {
+        return false;
+    }
+    // The limit is 0 only before they are found; there may be none.
+    if lines.limit == 0 || lines.has_eols != has_eols {
+        *lines = white_lines(settings, has_eols);
+    }
+    lines.first.count != 0
+}
+
+/// Returns whether the bits of one of these white lines are next, and that line may be next (see `repeats_white`).
+#[inline(always)]
+pub fn white_is_next(ctx: &DecoderContext, lines: &mut WhiteLines, reader: &BitReader<'_>) -> bool
+    requires { AreKnown ctx.now.held.settings lines.old }
+    ensures known { AreKnown ctx.now.held.settings lines.new }
+    ensures follow { result ≡ true
+        → MayFollow ctx.now.held.settings ctx.now.held.has_eols ctx.now.held.reference lines.new }
+{
+    repeats_white(ctx, lines) && may_follow(lines, reader, 0)
 }

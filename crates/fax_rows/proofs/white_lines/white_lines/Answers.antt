@@ -1,7 +1,7 @@
-use Rattle.fax_lines.proofs.Names.{arith}
-use Rattle.fax_lines.proofs.Names.{common_steps}
-use Rattle.fax_lines.proofs.white_lines.white_lines.Goals.{else-has_eols, then-has_eols}
-use Rattle.fax_lines.proofs.white_lines.white_lines.Goals as goal
+use Rattle.fax_rows.proofs.Names.{arith}
+use Rattle.fax_rows.proofs.Names.{common_steps}
+use Rattle.fax_rows.proofs.white_lines.white_lines.Goals.{else-has_eols, then-has_eols}
+use Rattle.fax_rows.proofs.white_lines.white_lines.Goals as goal
 
 pub returns-clause-known : goal.returns-clause-known
 returns-clause-known c =
