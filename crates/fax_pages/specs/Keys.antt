@@ -3,7 +3,7 @@ use Rattle.std.specs.Prelude.{ℕ, zero, suc, ◌+◌, ◌/◌, ℤ, pos, negsuc
 use Rattle.hayro_ccitt.specs.DecodeSettings.{DecodeSettings}
 use Rattle.hayro_ccitt.specs.EncodingMode.{EncodingMode}
 use Rattle.hayro_ccitt.specs.EncodingMode.TheVariants.{Group4, Group3_1D, Group3_2D}
-use Rattle.fax_pages.specs.declared.keys.FaxParameters.{FaxParameters}
+use Rattle.pdf_read.specs.declared.image.FaxParameters.{FaxParameters}
 
 -- K: below 0 T.6, 0 one-dimensional T.4, above 0 two-dimensional T.4.
 abbrev pub encoding_of_k : ℤ → EncodingMode

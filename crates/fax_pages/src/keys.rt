@@ -4,27 +4,7 @@ ghost use Rattle.std.specs.Prelude.{◌≡◌};
 ghost use Rattle.fax_pages.specs.Keys.{columns_shown, encoding_of_k, is_inverted_by_keys, rows_of_keys, settings_of_keys};
 
 use hayro_ccitt::{DecodeSettings, EncodingMode};
-
-/// What the filter CCITTFaxDecode is told (ISO 32000-1, table 11).
-#[derive(Clone, Copy, Debug, PartialEq, Eq)]
-pub struct FaxParameters {
-    /// K.
-    pub k: i64,
-    /// EndOfLine.
-    pub end_of_line: bool,
-    /// EncodedByteAlign.
-    pub encoded_byte_align: bool,
-    /// Columns.
-    pub columns: u32,
-    /// Rows; 0 if they aren't said.
-    pub rows: u32,
-    /// EndOfBlock.
-    pub end_of_block: bool,
-    /// BlackIs1.
-    pub black_is_1: bool,
-    /// DamagedRowsBeforeError.
-    pub damaged_rows_before_error: u32,
-}
+use pdf_read::FaxParameters;
 
 /// Returns how the lines are encoded.
 fn encoding_of_k(k: i64) -> EncodingMode

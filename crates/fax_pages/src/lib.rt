@@ -12,8 +12,8 @@ mod refused;
 mod tags;
 mod tiff_pages;
 
-pub use keys::{FaxParameters, columns_shown, is_inverted_by_keys, settings_of_keys};
+pub use keys::{columns_shown, is_inverted_by_keys, settings_of_keys};
 pub use page::{Page, PageBytes, Part, PartKind, Resolution};
-pub use raw::{RawForm, raw_page};
+pub use raw::{RawForm, header_bytes, raw_page};
 pub use refused::{Found, Refusal, RefusedPage};
 pub use tiff_pages::TiffPages;

@@ -67,8 +67,8 @@ pub fn raw_page<'a>(alloc: Global, file: &'a [u8], form: &RawForm) -> Result<Pag
     })
 }
 
-/// Returns how many bytes precede fax data: 64 if it begins as the header of mgetty does, else none.
-fn header_bytes(file: &[u8]) -> usize
+/// Returns how many bytes precede raw fax data: 64 if it begins as the header of mgetty does, else none.
+pub fn header_bytes(file: &[u8]) -> usize
     ensures count { result ≡ header_bytes file.now }
     ensures within { result ≤ length file.now }
 {

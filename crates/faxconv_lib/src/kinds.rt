@@ -1,5 +1,7 @@
 //! What a file is, by its first bytes.
 
+use fax_pages::header_bytes;
+
 /// A kind of file that is read.
 #[derive(Clone, Copy)]
 pub enum Kind {
@@ -25,7 +27,7 @@ pub fn kind_of(first: &[u8], is_raw: bool) -> Option<Kind> {
         Some(Kind::Pdf)
     } else if is_pbm(first) {
         Some(Kind::Pbm)
-    } else if is_raw || has_digifax_header(first) {
+    } else if is_raw || header_bytes(first) > 0 {
         Some(Kind::Raw)
     } else {
         None
@@ -52,20 +54,9 @@ fn is_pbm(first: &[u8]) -> bool {
     matches!(first, [b'P', b'4', b' ' | b'\t' | b'\r' | b'\n' | b'#', ..])
 }
 
-/// How many bytes mgetty's header has.
-const DIGIFAX_HEADER: usize = 64;
-
-/// Returns whether bytes begin with the header that mgetty writes before raw data.
-fn has_digifax_header(first: &[u8]) -> bool {
-    first.len() >= DIGIFAX_HEADER && first.starts_with(b"\0PC Research, Inc\0")
-}
-
 /// Returns the raw data behind mgetty's header, if it begins with one.
 pub fn behind_digifax(first: &[u8]) -> &[u8] {
-    match first.get(DIGIFAX_HEADER..) {
-        Some(rest) if has_digifax_header(first) => rest,
-        _ => first,
-    }
+    &first[header_bytes(first)..]
 }
 
 /// Returns what bytes are called that begin a file of no kind that is read.

@@ -1,6 +1,6 @@
 -- What reading costs.
 use Rattle.std.specs.Prelude.{ℕ, ◌+◌, ◌≡◌, ◌≤◌}
-use Rattle.paid_cursor.specs.Places.{Place, budget, IsPaidAtLeast}
+use Rattle.paid_cursor.specs.Places.{Place, budget}
 
 -- From the first place to the second a step was paid for each byte passed.
 abbrev pub Passes : Place → Place → Type 0
@@ -10,7 +10,7 @@ Passes old new = (budget new ≡ budget old) × (new.bytes ≡ old.bytes) × (ne
 -- are given.
 abbrev pub Adds : Place → ℕ → Place → ℕ → Type 0
 Adds old before new after =
-    IsPaidAtLeast old before new after × (new.bytes ≡ old.bytes) × (new.left ≤ old.left) × (old.place ≤ new.place)
+    (budget new + after ≤ budget old + before) × (new.bytes ≡ old.bytes) × (new.left ≤ old.left) × (old.place ≤ new.place)
 
 -- Steps may have been paid, and bytes passed.
 abbrev pub Uses : Place → Place → Type 0
