@@ -17,11 +17,7 @@ use fax_lines::context::reading::run_length;
 /// Passes the mode here, in a line of this colour, with the runs of a horizontal one, without drawing it, and
 /// returns the colour after it. If there is none, or one of its runs is broken, it returns `None`, and the offset is
 /// unspecified (T.4, 4.2.1.3).
-fn pass_mode(
-    ctx: &mut DecoderContext,
-    color: Color,
-    reader: &mut BitReader<'_>,
-) -> Option<Color>
+fn pass_mode(ctx: &mut DecoderContext, color: Color, reader: &mut BitReader<'_>) -> Option<Color>
     ensures after { option_map (λ after. (after, here reader.new)) result ≡ after_mode color (here reader.old) }
     ensures same_bits { reader.new.bits ≡ reader.old.bits }
     ensures only_ticks { OnlyCounts ctx.old ctx.new }
