@@ -1,1 +1,2 @@
+mod PartReadings
 mod StrictReadings
