@@ -15,9 +15,9 @@ use Rattle.fax_decode.specs.Parts.{HasReading}
 use Rattle.fax_decode.specs.declared.part.PartRows.{PartRows}
 
 -- rows whose bitmap is what the sink means
-pub reads : {M : Type 0} (settings : DecodeSettings) (bits : Bits) (step : M → List ℕ → M) (before after : SinkState M) (held : Held)
-    (ticks : ℕ) (answer : Result ℕ DecodeError) → Decodes settings bits step before after held ticks answer → (part : PartRows)
-    → part.end ≡ answer → part.rows ≡ held.taken
+pub reads : {M : Type 0} (settings : DecodeSettings) (bits : Bits) (step : M → List ℕ → M) (before after : SinkState M)
+    (held : Held) (ticks : ℕ) (answer : Result ℕ DecodeError) → Decodes settings bits step before after held ticks answer
+    → (part : PartRows) → part.end ≡ answer → part.rows ≡ held.taken
     → (after.meaning ≡ meaning_after step before.meaning (plain settings bits).rows
     → HaveWidth settings.columns (plain settings bits).rows → bits_of part.bytes.items ≡ packed (plain settings bits).rows)
     → OnAnswer answer (HasReading (plain settings bits) part)
