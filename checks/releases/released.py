@@ -331,6 +331,10 @@ def crates_in_another_repository():
         run(["rt", "check"], cwd=f"{folder}/crates/my_viewer")
 
 
+# What the tests of the Python package use that the packages of TESTED_WITH have.
+OF_PACKAGES = ("PIL", "distributed", "libtiff-tools", "numpy", "pikepdf", "pypdf", "qpdf", "tiffset")
+
+
 def python_package():
     """The tests of bindings/python, by an interpreter that has pytest, over the shared library."""
     interpreters = [it for it in (sys.executable, "/usr/bin/python3") if os.path.exists(it)]
@@ -346,7 +350,7 @@ def python_package():
     print(f"  {told.strip().splitlines()[-1]}")
     lacking = re.findall(r"^SKIPPED .*?: (?:could not import '([\w.]+)|.*\bno ([\w, -]+)$)", told, re.MULTILINE)
     for module, tools in sorted(set(lacking)):
-        leave_out("tests of the Python package", module or tools, is_listed=bool(module) or tools in ("libtiff-tools", "tiffset", "qpdf"))
+        leave_out("tests of the Python package", module or tools, is_listed=(module or tools) in OF_PACKAGES)
 
 
 CHECKS = [packages_where_the_kit_is_not, cargo_without_the_library, commands_of_the_page, crates_in_another_repository, python_package]
