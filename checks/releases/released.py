@@ -350,7 +350,7 @@ def python_package():
     print(f"  {told.strip().splitlines()[-1]}")
     lacking = re.findall(r"^SKIPPED .*?: (?:could not import '([\w.]+)|.*\bno ([\w, -]+)$)", told, re.MULTILINE)
     for module, tools in sorted(set(lacking)):
-        leave_out("tests of the Python package", module or tools, is_listed=(module or tools) in OF_PACKAGES)
+        leave_out("tests of the Python package", module or tools, is_listed=(module or tools).partition(".")[0] in OF_PACKAGES)
 
 
 CHECKS = [packages_where_the_kit_is_not, cargo_without_the_library, commands_of_the_page, crates_in_another_repository, python_package]
