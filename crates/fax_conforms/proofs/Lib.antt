@@ -1,4 +1,5 @@
 pub mod BodyLines
+pub mod ChosenConforms
 pub mod EolLines
 pub mod EolsHere
 pub mod FilledLines
@@ -9,6 +10,10 @@ pub mod Padded
 pub mod PaintedPixels
 pub mod PensDrawn
 pub mod PicturesConform
+pub mod ProcedureEnds
+pub mod ProcedureLines
+pub mod ProcedurePictures
+pub mod ProcedureReadable
 pub mod RoundTrips
 pub mod RunsDrawn
 pub mod RunsLead

@@ -15,3 +15,9 @@ two_words word start following None is found none =
 pub no_words : (word start : Bits) → ((rest : Bits) → start ≡ word ++ rest → ⊥)
     → (rest : Bits) × (start ≡ word ++ (word ++ rest)) → ⊥
 no_words word start none (rest, stands) = none (word ++ rest) stands
+
+pub no_second_word : (word start following : Bits) (o : Option BitsAt) → start ≡ word ++ following
+    → IfNone o ((rest : Bits) → following ≡ word ++ rest → ⊥) → IfNone o ((rest : Bits) → start ≡ word ++ (word ++ rest) → ⊥)
+no_second_word word start following (Some after) is none = tt
+no_second_word word start following None is none =
+    λ rest stands. none rest (append_cancel_left word following (word ++ rest) (sym is ∙ stands))

@@ -1,3 +1,6 @@
+pub mod ByProcedure
+pub mod Checks
 pub mod Conforming
+pub mod Laws
 pub mod Standing
 pub mod Stops

@@ -4,9 +4,13 @@ ghost use Rattle.std.specs.Prelude.{◌≡◌, ◌<◌, ◌↔◌, None, IsTrue,
 ghost use Rattle.hayro_ccitt.specs.Bits.{Bits, BitsFit, bits_in, here};
 ghost use Rattle.hayro_ccitt.specs.EncodingMode.TheVariants.{Group4};
 ghost use Rattle.fax_conforms.specs.Conforming.{Conforms, EolStands};
+ghost use Rattle.fax_conforms.specs.ByProcedure.{ConformsByProcedure, ConformsIn};
+ghost use Rattle.fax_conforms.specs.Checks.{Checks};
 ghost use Rattle.fax_conforms.specs.Stops.{EndsAt, IsBroken, IsViolationOf};
 
+use crate::grades::Grade;
 use crate::pictures::{has_eol, read_body, read_lines};
+use crate::procedure::{Asked, are_by_procedure, has_plain_eol, with_eols};
 use crate::stops::{Rule, Stop, Violation, broken};
 use crate::words::Words;
 use hayro_ccitt::bit_reader::{BitOrder, BitReader};
@@ -46,6 +50,58 @@ fn read_picture(
         return broken(0, Rule::Eol);
     }
     read_body(words, reader, settings, reference, coding)
+}
+
+/// Reads a picture to its end, and returns whether it is what the coding procedure writes, with this K if it is given.
+fn follows_procedure(
+    alloc: Global,
+    words: &mut Words,
+    reader: &mut BitReader<'_>,
+    settings: DecodeSettings,
+    k: Option<u32>,
+) -> Result<bool, Stop>
+    requires wide { 0 < settings.columns }
+    ensures { Checks (ConformsByProcedure settings k (here reader.old)) result }
+{
+    // The range of a number is known once it is read.
+    let _columns = settings.columns;
+    let asked = Asked {
+        alloc,
+        settings,
+        k,
+        has_eols: false,
+    };
+    if is_group4(settings) {
+        return are_by_procedure(words, reader, asked);
+    }
+    if has_plain_eol(reader, &mut words.ticks) {
+        return are_by_procedure(words, reader, with_eols(asked));
+    }
+    if asked.settings.end_of_line {
+        return Ok(false);
+    }
+    are_by_procedure(words, reader, asked)
+}
+
+/// Checks data from the start of some bytes by the coding procedure.
+fn check_by_procedure(
+    alloc: Global,
+    settings: DecodeSettings,
+    k: Option<u32>,
+    order: BitOrder,
+    data: &[u8],
+) -> Result<bool, Stop>
+    requires fit { BitsFit «data».now }
+    ensures { Checks (ConformsByProcedure settings k (bits_in order «data».now)) result }
+{
+    if settings.columns == 0 {
+        return Ok(false);
+    }
+    let Ok(mut words) = Words::new(alloc) else {
+        return Err(Stop::OutOfMemory);
+    };
+    let mut reader = reader_of(order, data);
+    follows_procedure(alloc, &mut words, &mut reader, settings, k)
 }
 
 /// Creates a reader at the first bit of some bytes, which have their bits in this order.
@@ -133,8 +189,15 @@ pub fn first_violation(
     }
 }
 
-/// Returns whether data begins with an encoding of a picture that every decoder must read back as its rows, closed as the
-/// settings ask: whether it has no [`first_violation`], which says what that leaves open.
+/// Returns whether data conforms in a grade: whether it begins with an encoding of a picture that every decoder must read back as
+/// its rows, closed as the settings ask, and so has no [`first_violation`]; or whether it is, up to zeros in its last byte, the
+/// picture that the coding procedure writes.
+///
+/// The procedure's words of a run are as many of 2560 as fit, at most one more make-up word, and a terminating word (T.4, 4.1.1);
+/// its modes are those of T.4, 4.2.1.3 and T.6, 2.2. In two-dimensional Group 3 the first line is one-dimensional, and at most
+/// K - 1 lines after a one-dimensional one are two-dimensional, if K is given (T.4, 4.2.1). Fill is only between a line and its
+/// EOL, and before RTC (T.4, 4.1.3). An end of the block must be there if the settings look for one, and in Group 3 lines have
+/// EOLs; else there are as many rows as the row limit. Fewer than eight zeros may follow, and nothing else.
 ///
 /// # Errors
 ///
@@ -143,16 +206,26 @@ pub fn first_violation(
 /// # Example
 ///
 /// In Group 4 with 8 columns and `end_of_block` the bytes 31 C0 04 00 40 are horizontal mode, 3 white pixels, 2 black ones and
-/// a vertical mode, and then EOFB: the result is `Ok(true)`.
+/// a vertical mode, and then EOFB: the result is `Ok(true)` in both grades. The bytes 33 0D C0 with a row limit of 1 are
+/// horizontal mode, 8 white pixels and no black ones: each decoder reads them as a white row, and the procedure writes a vertical
+/// mode.
 pub fn conforms(
     alloc: Global,
     settings: DecodeSettings,
+    grade: Grade,
     order: BitOrder,
     data: &[u8],
 ) -> hayro_ccitt::Result<bool>
     requires fit { BitsFit «data».now }
-    ensures conforms { IfOk result (λ conforms. IsTrue conforms ↔ Conforms settings (bits_in order «data».now)) }
+    ensures conforms { IfOk result (λ conforms. IsTrue conforms ↔ ConformsIn grade settings (bits_in order «data».now)) }
     ensures only_memory { IsOkUnless result DecodeError.OutOfMemory }
 {
-    Ok(first_violation(alloc, settings, order, data)?.is_none())
+    let Grade::Procedure(k) = grade else {
+        return Ok(first_violation(alloc, settings, order, data)?.is_none());
+    };
+    match check_by_procedure(alloc, settings, k, order, data) {
+        Ok(conforms) => Ok(conforms),
+        Err(Stop::Violation(_)) => Ok(false),
+        Err(Stop::OutOfMemory) => Err(DecodeError::OutOfMemory),
+    }
 }

@@ -6,11 +6,14 @@
 #![tactic(auto)]
 
 mod checking;
+mod grades;
 pub mod laws;
 mod lines;
 mod pictures;
+mod procedure;
 mod stops;
 mod words;
 
 pub use checking::{conforms, first_violation};
+pub use grades::Grade;
 pub use stops::{Rule, Violation};

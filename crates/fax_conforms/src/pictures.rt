@@ -45,7 +45,7 @@ fn draw_tagged_line(
 }
 
 /// Reads a line of the encoding, and leaves the changes of its row (T.4, 4.1 and 4.2; T.6, 2.2).
-fn draw_line(
+pub fn draw_line(
     words: &mut Words,
     reader: &mut BitReader<'_>,
     settings: DecodeSettings,
@@ -68,7 +68,7 @@ fn draw_line(
 }
 
 /// Returns whether there are as many rows as the row limit, if there is one.
-fn limit_met(settings: DecodeSettings, taken: u64) -> bool
+pub fn limit_met(settings: DecodeSettings, taken: u64) -> bool
     ensures met { result ≡ true → (settings.rows ≡ taken) × (0 < taken) }
     ensures unmet { result ≡ false → settings.rows ≡ taken → 0 < taken → ⊥ }
     ensures allows { result ≡ false → Allows settings taken → Allows settings (taken + 1) }
@@ -77,9 +77,10 @@ fn limit_met(settings: DecodeSettings, taken: u64) -> bool
 }
 
 /// Returns a reader after the EOL without fill that is here, if there is one (T.4, 4.1.2).
-fn after_plain_eol<'a>(reader: &BitReader<'a>, ticks: &mut Ticks) -> Option<BitReader<'a>>
+pub fn after_plain_eol<'a>(reader: &BitReader<'a>, ticks: &mut Ticks) -> Option<BitReader<'a>>
     ensures found { IfSome result (λ after. here reader.now ≡ eol 0 ++ here after) }
     ensures none { IfNone result ((rest : Bits) → here reader.now ≡ eol 0 ++ rest → ⊥) }
+    ensures same_bits { IfSome result (λ after. after.bits ≡ reader.now.bits) }
 {
     let (zeros, after) = reader.zero_run(ticks);
     if zeros == 11 {
@@ -227,7 +228,7 @@ fn following_eol<'a>(reader: &BitReader<'a>, ticks: &mut Ticks) -> Option<BitRea
 }
 
 /// Returns whether a tag of 1 is here, or needn't be, and consumes it (T.4, 4.2.4).
-fn pass_closing_tag(encoding: EncodingMode, reader: &mut BitReader<'_>) -> bool
+pub fn pass_closing_tag(encoding: EncodingMode, reader: &mut BitReader<'_>) -> bool
     ensures tag { result ≡ true → here reader.old ≡ tag_of encoding ++ here reader.new }
     ensures none { result ≡ false → (rest : Bits) → here reader.old ≡ tag_of encoding ++ rest → ⊥ }
 {
@@ -241,7 +242,7 @@ fn pass_closing_tag(encoding: EncodingMode, reader: &mut BitReader<'_>) -> bool
 }
 
 /// Returns a reader after the EOL of RTC that is here, and its tag, if there is one (T.4, 4.1.4 and 4.2.4).
-fn after_tagged_eol<'a>(
+pub fn after_tagged_eol<'a>(
     encoding: EncodingMode,
     reader: &BitReader<'a>,
     ticks: &mut Ticks,
@@ -287,7 +288,7 @@ fn is_rtc(settings: DecodeSettings, taken: u64, reader: &BitReader<'_>, ticks: &
 }
 
 /// Consumes the EOL that is here with its fill, and returns whether there is one (T.4, 4.1.2 and 4.1.3).
-fn pass_eol(reader: &mut BitReader<'_>, ticks: &mut Ticks) -> bool
+pub fn pass_eol(reader: &mut BitReader<'_>, ticks: &mut Ticks) -> bool
     ensures found { result ≡ true → EolStands (here reader.old) (here reader.new) }
     ensures none { result ≡ false → (rest : Bits) → EolStands (here reader.old) rest → ⊥ }
     ensures same_bits { reader.new.bits ≡ reader.old.bits }

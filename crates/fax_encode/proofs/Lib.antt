@@ -23,6 +23,7 @@ pub mod RoundTrip
 pub mod RowLists
 pub mod RunLengths
 pub mod RunsWritten
+pub mod SameBits
 pub mod ScannedRows
 pub mod ScannedWords
 pub mod ShortestBySettings

@@ -3,6 +3,7 @@ pub mod Coding
 pub mod Laws
 pub mod Packed
 pub mod Painting
+pub mod Procedure
 pub mod Refusals
 pub mod RowByRow
 pub mod Scanning

@@ -3,7 +3,7 @@
 
 use crate::cases::bytes_of;
 use crate::same;
-use fax_conforms::{Rule, Violation, conforms, first_violation};
+use fax_conforms::{Grade, Rule, Violation, conforms, first_violation};
 use hayro_ccitt::DecodeError::{OutOfMemory, Refused};
 use hayro_ccitt::bit_reader::BitOrder;
 use hayro_ccitt::bit_reader::BitOrder::{HighestFirst, LowestFirst};
@@ -56,7 +56,7 @@ fn case_of(rt: &(impl Abort + AllocGlobal), case: &str) -> (DecodeSettings, BitO
 fn written(rt: &(impl Abort + AllocGlobal), case: &str) -> String {
     let (settings, order, data) = case_of(rt, case);
     assert!(rt; bits_fit(&data), "too long");
-    let holds = conforms(rt.alloc(), settings, order, &data).expect(rt, case);
+    let holds = conforms(rt.alloc(), settings, Grade::Readable, order, &data).expect(rt, case);
     match first_violation(rt.alloc(), settings, order, &data).expect(rt, case) {
         None if holds => format!(in rt.alloc(); "conforms").expect(rt, case),
         None => format!(in rt.alloc(); "no violation").expect(rt, case),
@@ -124,6 +124,48 @@ fn each_rule_is_found_broken(rt: HostRuntime) {
         1d 8 0 b 00198008008008008008: false at 29: Run
         1d 8 2 - 0013514D400660: false at 26: Eol",
     );
+}
+
+/// Writes whether data is readable, and whether it is what the coding procedure writes with this K.
+fn grades(rt: &(impl Abort + AllocGlobal), k: Option<u32>, case: &str) -> String {
+    let (settings, order, data) = case_of(rt, case);
+    assert!(rt; bits_fit(&data), "too long");
+    let readable = conforms(rt.alloc(), settings, Grade::Readable, order, &data).expect(rt, case);
+    let grade = Grade::Procedure(k);
+    let by_procedure = conforms(rt.alloc(), settings, grade, order, &data).expect(rt, case);
+    format!(in rt.alloc(); "{readable} {by_procedure}").expect(rt, case)
+}
+
+/// Checks each line of a text: the settings and the data, and in which grades it conforms.
+fn check_grades(rt: &(impl Abort + AllocGlobal), k: Option<u32>, cases: &str) {
+    for line in cases.lines() {
+        let (case, expected) = line.trim().split_once(": ").expect(rt, line);
+        let found = grades(rt, k, case);
+        same(rt, (case, found.as_str()), (case, expected));
+    }
+}
+
+#[test]
+fn each_choice_of_the_procedure_is_checked(rt: HostRuntime) {
+    check_grades(
+        &rt,
+        None,
+        "1d 128 1 - 91A8: true true
+        1d 128 1 - DECD40: true false
+        g4 8 1 - 80: true true
+        g4 8 1 - 330DC0: true false
+        2d 8 1 - CC: true true
+        2d 8 1 - 40: true false
+        2d 8 3 l 001400500140: true false
+        1d 8 0 b 001980080080080080080080: true true
+        1d 8 0 b 000330001000100010001000100010: true false
+        g4 8 1 - 8000: true false
+        g4 8 1 - 81: true false
+        g4 8 0 b 80080080: true true",
+    );
+    check_grades(&rt, Some(2), "2d 8 3 - CD40: true false");
+    check_grades(&rt, Some(3), "2d 8 3 - CD40: true true");
+    check_grades(&rt, None, "2d 8 3 - CD40: true true");
 }
 
 /// Returns where data first breaks a rule, the place and the rule as `Debug` writes it.
@@ -195,7 +237,7 @@ fn both(
         return Err(Refused);
     }
     let found = first_violation(alloc, settings, order, data)?;
-    Ok((found, conforms(alloc, settings, order, data)?))
+    Ok((found, conforms(alloc, settings, Grade::Readable, order, data)?))
 }
 
 /// Checks data with each allocation refused in turn, and compares what is found in the end.

@@ -1,0 +1,17 @@
+use Rattle.hayro_ccitt.proofs.Names.{◌≡◌, ◌+◌, ◌≤◌, ◌↔◌, length, here, pixels, white_row, AreChanges}
+use Rattle.fax_conforms.specs.ByProcedure.{LinesByProcedure, left_at_first}
+use Rattle.fax_conforms.proofs.procedure.are_by_procedure.Given as goal
+
+abbrev pub invariant-rows : goal.invariant-rows
+invariant-rows l = record {
+  stands : LinesByProcedure l.asked.settings l.asked.k l.asked.has_eols 0 (left_at_first l.asked.settings.encoding)
+      (white_row l.asked.settings.columns) (here l.fn.reader)
+      ↔ LinesByProcedure l.asked.settings l.asked.k l.asked.has_eols l.taken l.left
+      (pixels l.asked.settings.columns l.reference.items) (here l.reader);
+  lawful : AreChanges l.asked.settings.columns l.reference.items;
+  same_bits : l.reader.bits ≡ l.fn.reader.bits;
+  few : l.taken + length (here l.reader) ≤ length l.reader.bits;
+}
+
+abbrev pub decreases-rows : goal.decreases-rows
+decreases-rows l = length (here l.reader)

@@ -1,0 +1,27 @@
+-- The laws of what conforms by the coding procedure.
+use Rattle.std.specs.Prelude.{◌≡◌, ◌<◌, ℕ, true, false, List, length, Option, Some}
+use Rattle.hayro_ccitt.specs.Bits.{Bits}
+use Rattle.hayro_ccitt.specs.DecodeSettings.{DecodeSettings}
+use Rattle.hayro_ccitt.specs.Encodings.{IsPicture}
+use Rattle.hayro_ccitt.specs.Rows.{Row}
+use Rattle.hayro_ccitt.specs.Settings.{AreSettings}
+use Rattle.fax_encode.specs.Chosen.{filled_up}
+use Rattle.fax_encode.specs.Settings.{chosen, decode_settings_for, needs_row}
+use Rattle.fax_encode.specs.declared.settings.EncodeSettings.{EncodeSettings}
+use Rattle.fax_encode.specs.declared.settings.Effort.TheVariants.{Procedure}
+use Rattle.fax_conforms.specs.ByProcedure.{ConformsByProcedure}
+use Rattle.fax_conforms.specs.Conforming.{Conforms}
+
+-- What is chosen for a picture with the effort of the procedure conforms by it, with the K of its settings, if EOLs needn't end at
+-- whole bytes. Where they must, fill is before the first one and before each of RTC, where the procedure writes none (T.4, 4.1.3).
+abbrev pub ChosenConforms : Type 0
+ChosenConforms = (settings : EncodeSettings) (columns : ℕ) (rows : List Row) → settings.effort ≡ Procedure
+    → settings.eols_end_at_bytes ≡ false → (needs_row settings.encoding settings.end_of_block ≡ true → 0 < length rows)
+    → IsPicture columns rows
+    → ConformsByProcedure (decode_settings_for settings columns (length rows)) (Some settings.k)
+    (filled_up (chosen settings columns rows))
+
+-- What conforms by the procedure begins with an encoding that every decoder must read back as its rows.
+abbrev pub ProcedureIsReadable : Type 0
+ProcedureIsReadable = (settings : DecodeSettings) (k : Option ℕ) (whole : Bits) → AreSettings settings
+    → ConformsByProcedure settings k whole → Conforms settings whole

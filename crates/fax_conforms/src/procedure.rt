@@ -1,0 +1,338 @@
+//! Pictures by the coding procedure: lines in order, and how they end.
+
+ghost use Rattle.std.specs.Prelude.{◌≡◌, ◌≢◌, ◌+◌, ◌<◌, ◌↔◌, ◌++◌, ◌^◌, Bool, true, false, Some, length, IsTrue};
+ghost use Rattle.std.specs.Prelude.{IfSome, IfNone};
+ghost use Rattle.hayro_ccitt.specs.Bits.{Bits, here};
+ghost use Rattle.hayro_ccitt.specs.Encodings.{eol, tag_of};
+ghost use Rattle.hayro_ccitt.specs.Pictures.{Allows};
+ghost use Rattle.hayro_ccitt.specs.Rows.{AreChanges, Row, pixels, white_row};
+ghost use Rattle.fax_encode.specs.Procedure.{part_by_procedure};
+ghost use Rattle.fax_encode.specs.Settings.{is_closed};
+ghost use Rattle.fax_conforms.specs.ByProcedure.{ClosingStands, EndStands, EndsHere, FewZerosStand, HasKind, LeadStands};
+ghost use Rattle.fax_conforms.specs.ByProcedure.{LinesByProcedure, PartStands, PlainRtcStands, left_after, left_at_first};
+ghost use Rattle.fax_conforms.specs.Checks.{Checks, PassesPart, ReadsPart, part_of};
+
+use crate::pictures::{
+    after_plain_eol, after_tagged_eol, draw_line, limit_met, pass_closing_tag, pass_eol,
+};
+use crate::stops::Stop;
+use crate::words::Words;
+use fax_bits::bit_reader::copy;
+use fax_encode::{LineKind, RowBelow, pass_line_by_procedure};
+use hayro_ccitt::bit_reader::BitReader;
+use hayro_ccitt::codes::Ticks;
+use hayro_ccitt::{DecodeSettings, EncodingMode};
+use std::alloc::Global;
+use std::mem;
+
+/// What is asked of a picture: its settings, K if it is given, and whether an EOL is before each line.
+#[derive(Clone, Copy)]
+pub struct Asked {
+    pub alloc: Global,
+    pub settings: DecodeSettings,
+    pub k: Option<u32>,
+    pub has_eols: bool,
+}
+
+/// Returns how many lines from the first one on may be two-dimensional, if that is limited (T.4, 4.2.1).
+fn left_at_first(encoding: EncodingMode) -> Option<u32>
+    ensures { result ≡ left_at_first encoding }
+{
+    match encoding {
+        EncodingMode::Group3_2D => Some(0),
+        EncodingMode::Group3_1D | EncodingMode::Group4 => None,
+    }
+}
+
+/// Returns how many lines after a line may be two-dimensional, if that is limited (T.4, 4.2.1).
+fn left_after(k: Option<u32>, left: Option<u32>, is_two: bool) -> Option<u32>
+    ensures { result ≡ left_after k left is_two }
+{
+    let most = if is_two { left } else { k };
+    match most {
+        Some(most) => Some(most.saturating_sub(1)),
+        None => None,
+    }
+}
+
+/// Returns whether a line of this kind may come next, if this many may be two-dimensional (T.4, 4.2.1).
+fn may_come(left: Option<u32>, is_two: bool) -> bool
+    ensures { IsTrue result ↔ (is_two ≡ true → left ≢ Some 0) }
+{
+    !is_two || !matches!(left, Some(0))
+}
+
+/// Returns whether the line that is next is two-dimensional: in two-dimensional Group 3, whether its tag is 0 (T.4, 4.2.2).
+fn next_is_two(encoding: EncodingMode, reader: &BitReader<'_>, ticks: &mut Ticks) -> bool
+    ensures kind { HasKind encoding result }
+    ensures only { (fills is_two : Bool) (reference row : Row) (rest : Bits) → HasKind encoding is_two
+        → here reader.now ≡ part_by_procedure encoding fills is_two reference row ++ rest → is_two ≡ result }
+{
+    match encoding {
+        EncodingMode::Group4 => true,
+        EncodingMode::Group3_1D => false,
+        EncodingMode::Group3_2D => {
+            let (zeros, _after) = reader.zero_run(ticks);
+            zeros > 0
+        }
+    }
+}
+
+/// Consumes what is before a line: an EOL, if lines have EOLs, with no fill before the first one (T.4, 4.1.2 and 4.1.3). Returns
+/// whether it is there.
+fn pass_lead(has_eols: bool, taken: u64, reader: &mut BitReader<'_>, ticks: &mut Ticks) -> bool
+    ensures found { result ≡ true → LeadStands has_eols taken (here reader.old) (here reader.new) }
+    ensures none { result ≡ false → (rest : Bits) → LeadStands has_eols taken (here reader.old) rest → ⊥ }
+    ensures same_bits { reader.new.bits ≡ reader.old.bits }
+{
+    if !has_eols {
+        return true;
+    }
+    if taken > 0 {
+        return pass_eol(reader, ticks);
+    }
+    match after_plain_eol(reader, ticks) {
+        Some(after) => {
+            *reader = after;
+            true
+        }
+        None => false,
+    }
+}
+
+/// Consumes the line of a row, if it is here as the coding procedure writes it, and returns whether it is.
+fn pass_line(
+    reader: &mut BitReader<'_>,
+    asked: Asked,
+    is_two: bool,
+    rows: RowBelow<'_>,
+) -> Result<bool, Stop>
+    requires reference { AreChanges asked.settings.columns rows.reference.now }
+    requires changes { AreChanges asked.settings.columns rows.changes.now }
+    ensures passes { PassesPart (part_of asked.settings asked.has_eols is_two (pixels asked.settings.columns rows.entry.reference.now)
+        (pixels asked.settings.columns rows.entry.changes.now)) (here reader.old) (here reader.new) result }
+    ensures same_bits { reader.new.bits ≡ reader.old.bits }
+{
+    let kind = LineKind {
+        encoding: asked.settings.encoding,
+        is_two_dimensional: is_two,
+        is_filled: asked.settings.rows_are_byte_aligned && !asked.has_eols,
+    };
+    match pass_line_by_procedure(asked.alloc, reader, asked.settings.columns, kind, rows) {
+        Ok(passed) => Ok(passed),
+        Err(_) => Err(Stop::OutOfMemory),
+    }
+}
+
+/// Reads the next line, if it is one that the coding procedure writes, and leaves the changes of its row. Returns whether it is
+/// two-dimensional, or `None` if the procedure writes none of the lines that may come.
+fn draw_part(
+    words: &mut Words,
+    reader: &mut BitReader<'_>,
+    asked: Asked,
+    left: Option<u32>,
+    reference: &[u32],
+    coding: &mut Vec<u32>,
+) -> Result<Option<bool>, Stop>
+    requires wide { 0 < asked.settings.columns }
+    requires reference { AreChanges asked.settings.columns reference.now }
+    ensures reads { ReadsPart asked.settings (PartStands asked.settings asked.has_eols left (pixels asked.settings.columns reference.now)
+        (here reader.old)) coding.new.items (here reader.old) (here reader.new) result }
+    ensures fit { length reader.old.bits + 64 < 2 ^ 64 }
+    ensures same_bits { reader.new.bits ≡ reader.old.bits }
+{
+    // The range of a number is known once it is read.
+    let _columns = asked.settings.columns;
+    let _start = reader.bit_pos();
+    let is_two = next_is_two(asked.settings.encoding, reader, &mut words.ticks);
+    if !may_come(left, is_two) {
+        return Ok(None);
+    }
+    let mut line = copy(reader);
+    draw_line(words, &mut line, asked.settings, reference, coding)?;
+    let rows = RowBelow {
+        reference,
+        changes: coding.as_slice(),
+    };
+    if !pass_line(reader, asked, is_two, rows)? {
+        return Ok(None);
+    }
+    Ok(Some(is_two))
+}
+
+/// Returns a reader after the EOL without fill that is here, and its tag, if there is one (T.4, 4.1.4 and 4.2.4).
+fn after_plain_tagged_eol<'a>(
+    encoding: EncodingMode,
+    reader: &BitReader<'a>,
+    ticks: &mut Ticks,
+) -> Option<BitReader<'a>>
+    ensures found { IfSome result (λ after. here reader.now ≡ eol 0 ++ (tag_of encoding ++ here after)) }
+    ensures none { IfNone result ((rest : Bits) → here reader.now ≡ eol 0 ++ (tag_of encoding ++ rest) → ⊥) }
+{
+    match after_plain_eol(reader, ticks) {
+        Some(mut after) => {
+            if pass_closing_tag(encoding, &mut after) {
+                Some(after)
+            } else {
+                None
+            }
+        }
+        None => None,
+    }
+}
+
+/// Returns a reader after the RTC that is here with no fill between its EOLs, if there is one (T.4, 4.1.4 and 4.2.4).
+fn after_plain_rtc<'a>(
+    encoding: EncodingMode,
+    reader: &BitReader<'a>,
+    ticks: &mut Ticks,
+) -> Option<BitReader<'a>>
+    ensures found { IfSome result (λ after. (rest : Bits) → PlainRtcStands encoding (here reader.now) rest ↔ (here after ≡ rest)) }
+    ensures none { IfNone result ((rest : Bits) → PlainRtcStands encoding (here reader.now) rest → ⊥) }
+{
+    let Some(mut next) = after_tagged_eol(encoding, reader, ticks) else {
+        return None;
+    };
+    let mut left: usize = 5;
+    'eols: while left > 0 {
+        match after_plain_tagged_eol(encoding, &next, ticks) {
+            Some(after) => next = after,
+            None => return None,
+        }
+        left -= 1;
+    }
+    Some(next)
+}
+
+/// Returns a reader after the end of the block that is here after this number of rows, if there is one: EOFB, or RTC after some
+/// row (T.6, 2.4.1.1; T.4, 4.1.4).
+fn after_closing<'a>(
+    encoding: EncodingMode,
+    taken: u64,
+    reader: &BitReader<'a>,
+    ticks: &mut Ticks,
+) -> Option<BitReader<'a>>
+    ensures found { IfSome result (λ after. (rest : Bits) → ClosingStands encoding taken (here reader.now) rest ↔ (here after ≡ rest)) }
+    ensures none { IfNone result ((rest : Bits) → ClosingStands encoding taken (here reader.now) rest → ⊥) }
+{
+    match encoding {
+        EncodingMode::Group4 => match after_plain_eol(reader, ticks) {
+            Some(after) => after_plain_eol(&after, ticks),
+            None => None,
+        },
+        EncodingMode::Group3_1D | EncodingMode::Group3_2D => {
+            if taken == 0 {
+                return None;
+            }
+            after_plain_rtc(encoding, reader, ticks)
+        }
+    }
+}
+
+/// Returns whether fewer than eight zeros are all that is left.
+fn has_few_zeros(reader: &BitReader<'_>, ticks: &mut Ticks) -> bool
+    ensures { IsTrue result ↔ FewZerosStand (here reader.now) }
+{
+    let (zeros, after) = reader.zero_run(ticks);
+    zeros < 8 && after.is_none()
+}
+
+/// Returns whether an end of the block is to follow the lines.
+fn is_closed(asked: Asked) -> bool
+    ensures { result ≡ is_closed asked.settings.encoding asked.has_eols asked.settings.end_of_block }
+{
+    match asked.settings.encoding {
+        EncodingMode::Group4 => asked.settings.end_of_block,
+        EncodingMode::Group3_1D | EncodingMode::Group3_2D => {
+            asked.has_eols && asked.settings.end_of_block
+        }
+    }
+}
+
+/// Returns whether the row limit, if there is one, allows this number of rows.
+fn is_allowed(settings: DecodeSettings, taken: u64) -> bool
+    ensures { IsTrue result ↔ Allows settings taken }
+{
+    settings.rows == 0 || taken <= u64::from(settings.rows)
+}
+
+/// Returns whether the end of the block is here after this number of rows, and then the end of the data.
+fn closes_here(asked: Asked, taken: u64, reader: &BitReader<'_>, ticks: &mut Ticks) -> bool
+    ensures { IsTrue result ↔ ((rest : Bits) × EndStands true asked.settings taken (here reader.now) rest × FewZerosStand rest) }
+{
+    if !is_allowed(asked.settings, taken) {
+        return false;
+    }
+    match after_closing(asked.settings.encoding, taken, reader, ticks) {
+        Some(after) => has_few_zeros(&after, ticks),
+        None => false,
+    }
+}
+
+/// Returns whether the picture ends here after this number of rows, and then the data.
+fn ends_here(asked: Asked, taken: u64, reader: &BitReader<'_>, ticks: &mut Ticks) -> bool
+    ensures { IsTrue result ↔ EndsHere asked.settings asked.has_eols taken (here reader.now) }
+{
+    if is_closed(asked) {
+        return closes_here(asked, taken, reader, ticks);
+    }
+    limit_met(asked.settings, taken) && has_few_zeros(reader, ticks)
+}
+
+/// Returns whether an EOL without fill is here (T.4, 4.1.2).
+pub fn has_plain_eol(reader: &BitReader<'_>, ticks: &mut Ticks) -> bool
+    ensures found { result ≡ true → (rest : Bits) × (here reader.now ≡ eol 0 ++ rest) }
+    ensures none { result ≡ false → (rest : Bits) → here reader.now ≡ eol 0 ++ rest → ⊥ }
+{
+    after_plain_eol(reader, ticks).is_some()
+}
+
+/// Returns the same with an EOL before each line.
+pub fn with_eols(asked: Asked) -> Asked
+    ensures { result ≡ record asked { has_eols = true } }
+{
+    Asked {
+        alloc: asked.alloc,
+        settings: asked.settings,
+        k: asked.k,
+        has_eols: true,
+    }
+}
+
+/// Returns whether lines by the coding procedure are here, up to their end and that of the data (T.4, 4.1 and 4.2; T.6, 2).
+pub fn are_by_procedure(
+    words: &mut Words,
+    reader: &mut BitReader<'_>,
+    asked: Asked,
+) -> Result<bool, Stop>
+    requires wide { 0 < asked.settings.columns }
+    ensures { Checks (LinesByProcedure asked.settings asked.k asked.has_eols 0 (left_at_first asked.settings.encoding)
+        (white_row asked.settings.columns) (here reader.old)) result }
+{
+    let mut reference = Vec::new(asked.alloc);
+    let mut coding = Vec::new(asked.alloc);
+    let mut taken = 0;
+    let mut left = left_at_first(asked.settings.encoding);
+    'rows: loop {
+        if ends_here(asked, taken, reader, &mut words.ticks) {
+            return Ok(true);
+        }
+        if !pass_lead(asked.has_eols, taken, reader, &mut words.ticks) {
+            return Ok(false);
+        }
+        let drawn = draw_part(
+            words,
+            reader,
+            asked,
+            left,
+            reference.as_slice(),
+            &mut coding,
+        )?;
+        let Some(is_two) = drawn else {
+            return Ok(false);
+        };
+        mem::swap(&mut reference, &mut coding);
+        taken += 1;
+        left = left_after(asked.k, left, is_two);
+    }
+}
