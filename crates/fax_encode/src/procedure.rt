@@ -94,11 +94,7 @@ fn pass_same_bit(reader: &mut BitReader<'_>, written: &mut BitReader<'_>) -> boo
 
 /// Consumes as many bits of both readers if they are the same, and returns whether they are; otherwise the offsets are
 /// unspecified.
-fn pass_same_bits(
-    reader: &mut BitReader<'_>,
-    written: &mut BitReader<'_>,
-    count: usize,
-) -> bool
+fn pass_same_bits(reader: &mut BitReader<'_>, written: &mut BitReader<'_>, count: usize) -> bool
     requires enough { count ≤ length (here written.old) }
     ensures same { result ≡ true → here reader.old ≡ take count (here written.old) ++ here reader.new }
     ensures none { result ≡ false → (rest : Bits) → here reader.old ≡ take count (here written.old) ++ rest → ⊥ }

@@ -237,7 +237,10 @@ fn both(
         return Err(Refused);
     }
     let found = first_violation(alloc, settings, order, data)?;
-    Ok((found, conforms(alloc, settings, Grade::Readable, order, data)?))
+    Ok((
+        found,
+        conforms(alloc, settings, Grade::Readable, order, data)?,
+    ))
 }
 
 /// Checks data with each allocation refused in turn, and compares what is found in the end.

@@ -19,4 +19,3 @@ pub returns-then-not-pass_same_bit-clause-none : goal.returns-then-not-pass_same
 returns-then-not-pass_same_bit-clause-none c = λ e rest is.
     one_differs (here c.bits.reader) (here c.bits.written) c.bits.left rest c.bits-test.true c.bits.invariant.enough
     (c.pass_same_bit.ensures.none c.if-not-pass_same_bit.true) ((c.bits.invariant.same rest).0 is)
-

@@ -15,8 +15,12 @@ returns-then-not-bits_fit-clause-none c = λ e rest is.
 pub overflow_cast-count : goal.overflow_cast-count
 overflow_cast-count c =
     let fit = subst BitsFit c.as_slice.ensures.value (c.bits_fit.ensures.0 c.if-not-bits_fit.false) in
-    omega (arith, c.bit_count-count.ensures, (written_fit (all_bits c.args.writer) c.in_ok-bytes.bytes.items
-    c.in_ok-bytes.ensures fit).1)
+    omega (
+      arith,
+      c.bit_count-count.ensures,
+      (written_fit (all_bits c.args.writer) c.in_ok-bytes.bytes.items
+          c.in_ok-bytes.ensures fit).1,
+    )
 
 pub returns-clause-none : goal.returns-clause-none
 returns-clause-none c = λ e rest is.
