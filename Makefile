@@ -58,7 +58,7 @@ HEADERS = c/hayro_ccitt.h c/fax_encode.h c/hayro_ccitt_heap.h
 CALLS = hayro_ccitt_measure hayro_ccitt_decode_packed hayro_ccitt_decode_changes \
 	hayro_ccitt_open hayro_ccitt_next_changes hayro_ccitt_next_packed hayro_ccitt_close \
 	hayro_ccitt_feed_open hayro_ccitt_feed hayro_ccitt_feed_finish hayro_ccitt_feed_next_changes hayro_ccitt_feed_next_packed \
-	hayro_ccitt_feed_rows_changes hayro_ccitt_feed_rows_packed hayro_ccitt_feed_unused hayro_ccitt_feed_close fax_encode_bitmap \
+	hayro_ccitt_feed_rows_changes hayro_ccitt_feed_rows_packed hayro_ccitt_feed_unused hayro_ccitt_feed_close hayro_ccitt_check fax_encode_bitmap \
 	fax_encode_open fax_encode_row_packed fax_encode_row_changes fax_encode_finish fax_encode_close
 EXAMPLES = strip_to_pbm pbm_to_strip rows_to_pbm rows_to_strip inline_image_filter
 # faxconv writes PNG and reads compressed PDF by zlib, where pkg-config finds it, or the compiler for another machine; WITH_ZLIB= builds

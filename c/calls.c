@@ -26,6 +26,7 @@ uint32_t proved_hayro_ccitt_feed_rows_changes(hayro_ccitt_row_feed *, uint32_t *
 uint32_t proved_hayro_ccitt_feed_rows_packed(hayro_ccitt_row_feed *, uint8_t *, size_t, size_t *, hayro_ccitt_row *);
 uint32_t proved_hayro_ccitt_feed_unused(hayro_ccitt_row_feed *, uint8_t *, size_t, size_t *);
 uint32_t proved_hayro_ccitt_feed_close(hayro_ccitt_row_feed *);
+uint32_t proved_hayro_ccitt_check(const uint8_t *, size_t, const hayro_ccitt_settings *, uint32_t, uint32_t, hayro_ccitt_violation *);
 uint32_t proved_fax_encode_bitmap(const uint8_t *, size_t, const fax_encode_settings *, uint8_t *, size_t, fax_encode_outcome *);
 uint32_t proved_fax_encode_open(const fax_encode_settings *, fax_encode_writer *);
 uint32_t proved_fax_encode_row_packed(fax_encode_writer *, const uint8_t *, size_t);
@@ -136,6 +137,12 @@ uint32_t hayro_ccitt_feed_unused(hayro_ccitt_row_feed *feed, uint8_t *bytes, siz
 uint32_t hayro_ccitt_feed_close(hayro_ccitt_row_feed *feed)
 {
     return proved_hayro_ccitt_feed_close(feed);
+}
+
+uint32_t hayro_ccitt_check(const uint8_t *data, size_t data_length, const hayro_ccitt_settings *settings, uint32_t grade, uint32_t k,
+                           hayro_ccitt_violation *violation)
+{
+    return proved_hayro_ccitt_check(OR_NONE(data, data_length, no_data), data_length, settings, grade, k, violation);
 }
 
 uint32_t fax_encode_bitmap(const uint8_t *bitmap, size_t bitmap_length, const fax_encode_settings *settings,

@@ -38,8 +38,8 @@ extern "C" {
 #endif
 
 /* The version of this header: MAJOR * 10000 + MINOR * 100 + PATCH, and as a text. */
-#define HAYRO_CCITT_VERSION 700
-#define HAYRO_CCITT_VERSION_TEXT "0.7.0"
+#define HAYRO_CCITT_VERSION 800
+#define HAYRO_CCITT_VERSION_TEXT "0.8.0"
 
 /* How the data is encoded. */
 enum {
@@ -93,7 +93,8 @@ enum {
     HAYRO_CCITT_NOT_TAKEN = 6,      /* the settings are invalid, or the data has 2 ^ 61 - 8 bytes or more; the outcome is zeros,
                                      * and nothing else is written */
     HAYRO_CCITT_NO_ROW = 7,         /* no row is left: only from the calls of a reader or feed */
-    HAYRO_CCITT_NEEDS_MORE = 8      /* more data is needed, or its end: only from those of a feed */
+    HAYRO_CCITT_NEEDS_MORE = 8,     /* more data is needed, or its end: only from those of a feed */
+    HAYRO_CCITT_VIOLATION = 9       /* the data doesn't conform: only from hayro_ccitt_check */
 };
 
 /* Counts rows and their changes. It never returns HAYRO_CCITT_REFUSED. */
@@ -221,6 +222,56 @@ uint32_t hayro_ccitt_feed_unused(hayro_ccitt_row_feed *feed, uint8_t *bytes, siz
 
 /* Closes a feed, and frees its memory. Returns HAYRO_CCITT_OK, or HAYRO_CCITT_NOT_TAKEN if it isn't open: then it does nothing. */
 uint32_t hayro_ccitt_feed_close(hayro_ccitt_row_feed *feed);
+
+/* What hayro_ccitt_check asks of data. */
+enum {
+    HAYRO_CCITT_READABLE = 0,    /* it begins with an encoding of a picture that every decoder must read back as its rows, closed as the
+                                  * settings ask: by EOFB or RTC with HAYRO_CCITT_END_OF_BLOCK, or by as many rows as the limit. Any
+                                  * make-up words, modes and kinds of line are taken, and what follows the picture is ignored. */
+    HAYRO_CCITT_BY_PROCEDURE = 1 /* it is what the coding procedure writes for its rows (T.4, 4.1 and 4.2; T.6, 2), and fewer than eight
+                                  * zeros: so its words and modes are those that T.4 and T.6 prescribe to an encoder */
+};
+
+/* The rules that data may break: what is expected at a place, or what mustn't be there. */
+enum {
+    HAYRO_CCITT_NO_RULE = 0,          /* none is broken */
+    HAYRO_CCITT_RULE_MODE = 1,        /* a word of a mode is expected (T.4, 4.2.1.3) */
+    HAYRO_CCITT_RULE_RUN = 2,         /* the words of a run are expected (T.4, 4.1.1) */
+    HAYRO_CCITT_RULE_ROW_END = 3,     /* a run or a vertical mode ends beyond the row's end (T.4, 4.1.1 and 4.2.1.3) */
+    HAYRO_CCITT_RULE_NO_PIXELS = 4,   /* a run or a vertical mode has no pixels (T.4, 4.1.1 and 4.2.1.3) */
+    HAYRO_CCITT_RULE_COLUMNS = 5,     /* there are no columns */
+    HAYRO_CCITT_RULE_EOL = 6,         /* an EOL is expected (T.4, 4.1.2) */
+    HAYRO_CCITT_RULE_TAG = 7,         /* a tag is expected (T.4, 4.2.2) */
+    HAYRO_CCITT_RULE_PADDING = 8,     /* zeros up to a whole byte are expected (T.4, 4.1.3) */
+    HAYRO_CCITT_RULE_PASS_TO_END = 9, /* pass mode is used to the row's end (T.4, 4.2.1.3.2) */
+    HAYRO_CCITT_RULE_PROCEDURE = 10   /* what every decoder must read is not what the coding procedure writes (T.4, 4.1 and 4.2; T.6, 2);
+                                       * the place isn't told */
+};
+
+/* The rules as texts, by their numbers: what an array of pointers to char is initialized with. */
+#define HAYRO_CCITT_RULE_TEXTS                                                                                                 \
+    {                                                                                                                          \
+        "no rule is broken", "a mode is expected (T.4, 4.2.1.3)", "a run is expected (T.4, 4.1.1)",                            \
+        "beyond the row's end (T.4, 4.1.1 and 4.2.1.3)", "no pixels (T.4, 4.1.1 and 4.2.1.3)", "no columns",                   \
+        "an EOL is expected (T.4, 4.1.2)", "a tag is expected (T.4, 4.2.2)",                                                   \
+        "zeros up to a whole byte are expected (T.4, 4.1.3)", "pass mode to the row's end (T.4, 4.2.1.3.2)",                   \
+        "not by the coding procedure (T.4, 4.1 and 4.2; T.6, 2)"                                                               \
+    }
+
+/* What a check fills in, whatever it returns: zeros, unless it returns HAYRO_CCITT_VIOLATION. */
+typedef struct {
+    uint64_t place; /* the offset in bits of the word that breaks the rule, or at which what it asks for is missing */
+    uint64_t rule;  /* one of the rules above */
+} hayro_ccitt_violation;
+
+/* Checks data: whether an encoder that wrote it kept the rules of T.4 and T.6. HAYRO_CCITT_OK says that it conforms in the grade, and
+ * HAYRO_CCITT_VIOLATION that it doesn't, and where. `grade` is one of the two above; with HAYRO_CCITT_BY_PROCEDURE `k` is K of
+ * two-dimensional Group 3, where at most K - 1 two-dimensional lines may follow a one-dimensional one (T.4, 4.2.1), or 0 for any number
+ * of them; else it has no effect. HAYRO_CCITT_NOT_TAKEN also means that the grade is another. HAYRO_CCITT_STRICT has no effect.
+ *
+ * More is asked than of data that is decoded with HAYRO_CCITT_STRICT: some data that is decoded so without an error doesn't conform. */
+uint32_t hayro_ccitt_check(const uint8_t *data, size_t data_length, const hayro_ccitt_settings *settings, uint32_t grade, uint32_t k,
+                           hayro_ccitt_violation *violation);
 
 #ifdef __cplusplus
 }

@@ -3,6 +3,7 @@ results, of the static library and of the shared one, plain and with tools for m
 import ctypes
 import itertools
 import os
+import re
 import subprocess
 import tempfile
 from pathlib import Path
@@ -28,6 +29,7 @@ ANSWERS = {
     "error: invalid CCITT code sequence": 2,
     "error: arithmetic overflow in position calculation": 3,
 }
+VIOLATION = 9
 
 # An EOL, a white line of eight columns, other bits, an EOL, a white line; two columns, and no EOL; a black run that isn't whole.
 MISSED = [
@@ -221,6 +223,37 @@ def calls_on_known_cases():
     print(*(f"  {line}" for line in by_each_library("known_calls", "".join(known_cases()))), sep="", end="")
 
 
+def rules():
+    """The rules of hayro_ccitt.h by their names, and their texts by their numbers."""
+    header = Path("c/hayro_ccitt.h").read_text(encoding="utf-8")
+    numbers = {name: int(number) for name, number in re.findall(r"\bHAYRO_CCITT_RULE_(\w+) = (\d+)", header)}
+    texts = re.findall(r'"([^"]*)"', re.search(r"#define HAYRO_CCITT_RULE_TEXTS(.*?)\n    }\n", header, re.DOTALL)[1])
+    assert sorted(numbers.values()) == list(range(1, len(texts))), (numbers, texts)
+    return numbers, texts
+
+
+def checked_cases():
+    """Each case of conforms.tsv as lines that `known_calls.c` checks, in each grade and either order of bits: settings, data, grade, K,
+    status, place and rule; and settings and grades that aren't taken."""
+    numbers, _ = rules()
+    for words, text, k, *found in corpus.lines_of("conforms.tsv"):
+        data, settings = corpus.bytes_of(text), settings_of(*words.split())
+        for grade, answer in enumerate(found):
+            place, _, rule = answer.partition(" ")
+            told = (0, 0, 0) if answer == "ok" else (VIOLATION, 0, 0) if answer == "no" else (VIOLATION, int(place), numbers[rule])
+            for flags, turned in ((settings.flags, data), (settings.flags ^ 16, data.translate(MIRRORED))):
+                yield (settings.encoding, settings.columns, settings.rows, flags), turned, grade, int(k), told
+    for encoding, flags, grade in ((3, 0, 0), (0, 64, 0), (2, 1 << 31, 1), (0, 1, 2), (1, 1, 4294967295)):
+        yield (encoding, 8, 0, flags), b"\x80\x08\x00\x80", grade, 0, (6, 0, 0)
+
+
+def checks_on_known_cases():
+    """What a check finds, in each grade: the status, the place and the rule, worked out by hand, and no block is held."""
+    build()
+    text = "".join(f"c {joined(*settings)} {data.hex() or '-'} {joined(grade, k, *told)}\n" for settings, data, grade, k, told in checked_cases())
+    print(*(f"  {line}" for line in by_each_library("known_calls", text)), sep="", end="")
+
+
 def examples_by_rows():
     """rows_to_pbm and rows_to_strip, as `make` builds them, on each strip of Group 4 with EOFB: its rows, and a strip of them with the
     same rows."""
@@ -284,6 +317,8 @@ def answers_without_bytes(library, none, data, columns, encoding, flags):
         ("hayro_ccitt_feed_rows_packed", feed, *room, told, row),
         ("hayro_ccitt_feed_unused", feed, *room, told),
         ("hayro_ccitt_feed_close", feed),
+        ("hayro_ccitt_check", *source, settings, ctypes.c_uint32(0), ctypes.c_uint32(0), told),
+        ("hayro_ccitt_check", *source, settings, ctypes.c_uint32(1), ctypes.c_uint32(2), told),
         ("fax_encode_bitmap", *room, encoded, *room, told),
         ("fax_encode_open", encoded, writer),
         ("fax_encode_row_changes", writer, *room),
@@ -322,4 +357,7 @@ def example_without_memory():
     print(f"  {seen} allocations refused in turn")
 
 
-CHECKS = [example_on_strips, examples_by_rows, calls_on_known_cases, rows_are_spread, missed_eols_are_reported, null_pointers, example_without_memory]
+CHECKS = [
+    *(example_on_strips, examples_by_rows, calls_on_known_cases, rows_are_spread, checks_on_known_cases, missed_eols_are_reported),
+    *(null_pointers, example_without_memory),
+]

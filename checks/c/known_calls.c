@@ -13,13 +13,19 @@
      e COLUMNS ENCODING FLAGS K STRIDE BITMAP STATUS ROWS DATA
 
    is a bitmap to encode: with exactly enough room, with nine bytes more, and with each smaller room; and by a writer, row by row. A
-   writer takes no stride that a bitmap may not have. Bytes are in hexadecimal, `-` for
-   none, and numbers as the headers have them. The last line counts calls. */
+   writer takes no stride that a bitmap may not have.
+
+     c ENCODING COLUMNS ROWS FLAGS DATA GRADE K STATUS PLACE RULE
+
+   is data to check, and what is found: with the outcome exactly as long as it must be, strictly and not, and whatever the polarity. A
+   rule of 0 after a violation isn't compared, nor its place, but the place is within the data and a rule has a text. Bytes are in
+   hexadecimal, `-` for none, and numbers as the headers have them. The last line counts calls. */
 #include "guarded.h"
 
 #include <fax_encode.h>
 #include <hayro_ccitt.h>
 
+static const char *const texts[] = HAYRO_CCITT_RULE_TEXTS;
 static unsigned long calls;
 
 /* Whether a call ended so, and the library holds no block. */
@@ -213,6 +219,20 @@ static void refuse_stride(const fax_encode_settings *settings) {
     must(!writer.is_open, "a writer that isn't opened");
 }
 
+/* What a check finds, with more flags than those that are passed. */
+static void check(const known *it, uint32_t more, uint32_t grade, uint32_t k, uint64_t place, uint64_t rule) {
+    hayro_ccitt_violation *found = lend(sizeof *found);
+    hayro_ccitt_settings settings = it->settings;
+    settings.flags |= more;
+    ended(hayro_ccitt_check(it->data, it->length, &settings, grade, k, found), it->status, "the status of the check");
+    if (it->status == HAYRO_CCITT_VIOLATION) {
+        must(found->place <= 8 * it->length, "a place of the data");
+        must(found->rule > 0 && found->rule < sizeof texts / sizeof *texts, "a rule that has a text");
+    }
+    if (it->status != HAYRO_CCITT_VIOLATION || rule) must(found->place == place && found->rule == rule, "the violation");
+    take_back(found);
+}
+
 /* The next number of a line. */
 static uint64_t number(void) {
     char *word = strtok(NULL, " \n"), *end;
@@ -275,15 +295,34 @@ static void encode_line(void) {
     take_back(bitmap);
 }
 
+static void check_line(void) {
+    known it = {0};
+    it.settings.encoding = (uint32_t)number();
+    it.settings.columns = (uint32_t)number();
+    it.settings.rows = (uint32_t)number();
+    it.settings.flags = (uint32_t)number();
+    uint8_t *data = lend_bytes(strtok(NULL, " \n"), &it.length);
+    it.data = data;
+    uint32_t grade = (uint32_t)number(), k = (uint32_t)number();
+    it.status = (uint32_t)number();
+    uint64_t place = number(), rule = number();
+    held = live;
+    check(&it, 0, grade, k, place, rule);
+    check(&it, HAYRO_CCITT_STRICT, grade, k, place, rule);
+    check(&it, HAYRO_CCITT_BLACK_IS_0, grade, k, place, rule);
+    take_back(data);
+}
+
 int main(void) {
     char *line = NULL;
     size_t room = 0;
     unsigned long lines = 0;
     while (getline(&line, &room, stdin) > 0) {
         char *kind = strtok(line, " \n");
-        must(kind && strchr("dpe", *kind), "a line");
+        must(kind && strchr("dpec", *kind), "a line");
         if (*kind == 'd') decode_line();
         else if (*kind == 'p') spread_line();
+        else if (*kind == 'c') check_line();
         else encode_line();
         lines++;
     }

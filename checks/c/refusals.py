@@ -1,4 +1,5 @@
 """Checks of allocations that are refused, each in turn, and of how many allocations there are."""
+import ctypes
 import os
 import resource
 import tempfile
@@ -96,6 +97,42 @@ def each_request_of_the_library():
                 assert call() == whole and library.calls.requests_seen() == requests, words
     assert refused > 0
     print(f"  {len(DATA)} data, {refused} requests refused in turn")
+
+
+class Violation(ctypes.Structure):
+    _fields_ = [("place", ctypes.c_uint64), ("rule", ctypes.c_uint64)]
+
+
+def each_request_of_a_check():
+    """Each allocation of a check refused in turn: it says so, tells no violation and asks for no more; and the next call has the full
+    result."""
+    c_library.build()
+    refused = cases = 0
+    with tempfile.TemporaryDirectory() as folder:
+        library = c_library_calls.Library(folder)
+        for numbers, data, grade, k, told in c_library.checked_cases():
+            settings = c_library.Settings(*numbers[1:3], numbers[0], numbers[3], 0)
+
+            def check():
+                found = Violation(7, 7)
+                words = (ctypes.c_char_p(data), ctypes.c_size_t(len(data)), ctypes.byref(settings), ctypes.c_uint32(grade), ctypes.c_uint32(k))
+                status = library.calls.hayro_ccitt_check(*words, ctypes.byref(found))
+                assert library.calls.blocks_held() == 0, "memory is held"
+                return status, found.place, found.rule
+
+            library.refuse(0)
+            whole = check()
+            assert whole[0] == told[0] and (not told[2] or whole == told), (numbers, data, grade)
+            requests = library.calls.requests_seen()
+            for number in range(1, requests + 1):
+                library.refuse(number)
+                assert check() == (4, 0, 0) and library.calls.requests_seen() == number, (numbers, data, grade, number)
+                library.refuse(0)
+                assert check() == whole, (numbers, data, grade, number)
+                refused += 1
+            cases += 1
+    assert refused > 0
+    print(f"  {cases} checks, {refused} requests refused in turn")
 
 
 def text_of(rows, last):
@@ -270,6 +307,7 @@ def limit_memory():
 
 CHECKS = [
     each_request_of_the_library,
+    each_request_of_a_check,
     each_request_of_the_program,
     white_data_takes_none,
     allocations_of_the_program,

@@ -97,7 +97,7 @@ def what_is_not_understood_is_refused():
         raise AssertionError("a body of no function")
     except erase.Refused:
         pass
-    assert not any(erase.PARAMETER.match(it) for it in ("a: u32", "a: *const u8", "a: &[&[u8]]", "a: &'a [u8]", "a: Option<&u8>"))
+    assert not any(erase.PARAMETER.match(it) for it in ("a: u16", "a: *const u8", "a: &[&[u8]]", "a: &'a [u8]", "a: Option<&u8>"))
     source = "/// A.\nfn f(a: u8) -> u8\n    requires { a < 'λ }\n    ensures one { result ≡ { a } }\n{\n    a // requires { b }\n}\n"
     kept, counts = erase.erase(source)
     assert kept.split() == "/// A. fn f(a: u8) -> u8 { a // requires { b } }".split() and counts["clauses"] == 2, kept
@@ -247,9 +247,10 @@ def calls_for_c():
         library_for_c(folder, f"{BUILT}/c/release")
         c_library.build, c_library.BUILDS, c_library.INSTALLED = lambda: None, {"plain": ["-O2"]}, {"plain": folder}
         c_library.LIBRARY, c_library.SHARED = f"{folder}/lib/libhayro_ccitt.a", f"{folder}/lib/libhayro_ccitt.so"
-        for check in (c_library.calls_on_known_cases, c_library.rows_are_spread, *row_by_row.CHECKS, feed.rows_in_pieces):
+        for check in (c_library.calls_on_known_cases, c_library.rows_are_spread, c_library.checks_on_known_cases, *row_by_row.CHECKS, feed.rows_in_pieces):
             check()
         refusals.each_request_of_the_library()
+        refusals.each_request_of_a_check()
 
 
 CHECKS = [what_is_not_understood_is_refused, the_package_is_clean, one_suite_of_tests, random_cases_beside_the_proved_library, calls_for_c]

@@ -303,7 +303,7 @@ def module(crate, name, crates, used):
 
 
 # A parameter of a call for C: its name and its type. A slice is for C a pointer and a length.
-PARAMETER = re.compile(r"(?P<name>\w+): (?P<type>&(?P<mut>mut )?(\[(?P<item>\w+)\]|\w+))$")
+PARAMETER = re.compile(r"(?P<name>\w+): (?P<type>u32|&(?P<mut>mut )?(\[(?P<item>\w+)\]|\w+))$")
 
 
 def calls_for_c():
@@ -409,7 +409,8 @@ def write_api(folder):
         text = read(f"{API}/src/{name}")
         if name == "lib.rs":
             text = once(text, "#![deny(unsafe_op_in_unsafe_fn)]", "#![forbid(unsafe_code)]")
-            text = once(text, "mod calls;\nmod encoding;\n", "#[doc(hidden)]\npub mod calls;\nmod encoding;\n#[doc(hidden)]\npub mod lists;\n")
+            text = once(text, "mod calls;\n", "#[doc(hidden)]\npub mod calls;\n")
+            text = once(text, "mod encoding;\n", "mod encoding;\n#[doc(hidden)]\npub mod lists;\n")
             text = once(text, "mod pushed;\n", "#[doc(hidden)]\npub mod proved;\nmod pushed;\n")
             text = re.sub(r"(?<=\n)//! What runs is a C.*?\n(?=//!\n)", read(f"{HERE}/src/what_runs.txt"), text, count=1, flags=re.DOTALL)
             text = once(text, ", and needs an allocator and a C compiler.", ", and needs an allocator.")
@@ -424,7 +425,7 @@ def write_calls(folder):
     calls = calls_for_c()
     with open(f"{folder}/src/calls.rs", "a", encoding="utf-8") as file:
         file.write(safe_calls(calls))
-    write(f"{folder}/c/src/calls.rs", f"// crates/{CALLS}/src/lib.rt and feeds.rt: their calls, as C calls them.\n\n{lent_calls(calls)}")
+    write(f"{folder}/c/src/calls.rs", f"// crates/{CALLS}/src/lib.rt, feeds.rt and checks.rt: their calls, as C calls them.\n\n{lent_calls(calls)}")
 
 
 def write_package(folder):

@@ -10,7 +10,7 @@ _faxconv()
         -p|--pages|-w|--width|-r|--rows|-H|--height|-F|--flags) ;;
         *)
             if [[ $word == -* ]]; then
-                COMPREPLY=($(compgen -W '--output --format --pages --encode --copy --check --mode --width --rows --height --flags --help --version' -- "$word"))
+                COMPREPLY=($(compgen -W '--output --format --pages --encode --copy --check --standard --mode --width --rows --height --flags --help --version' -- "$word"))
             else
                 compopt -o filenames
                 mapfile -t COMPREPLY < <(compgen -f -- "$word")

@@ -58,6 +58,14 @@ static int tell_page(const run *of, const page *it, const damage *found)
         add_text(&text, "ok, %lu rows", (unsigned long)it->rows);
     if (of->wanted->is_check && found->unread)
         add_text(&text, "; %lu bytes after them", (unsigned long)found->unread);
+    if (of->wanted->is_standard && !it->refused[0]) {
+        size_t before = text.length;
+        add_text(&text, "; ");
+        if (add_violation(&text, it))
+            status = worse(status, DAMAGED);
+        else
+            text.length = before;
+    }
     add(&text, "", 1);
     if (text.has_failed || (of->wanted->is_check && !put_line(of->name, (const char *)text.at)))
         status = CANNOT_GO_ON;

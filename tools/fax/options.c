@@ -20,6 +20,7 @@ static const char help[] =
     "                          copied are encoded, as the first of these\n"
     "      --copy              TIFF and PDF: copy pages without reading them first where possible; damage is not reported\n"
     "      --check             write no pictures, but a line for each page that says whether it can be read strictly\n"
+    "      --standard          with --check: also where a rule is first broken by which every decoder must read the data\n"
     "      --help, --version\n"
     "\n"
     "Raw data is described by these options alone:\n"
@@ -50,6 +51,7 @@ static const char help_of_fax2pbm[] =
 static const struct option known[] = {
     {"output", required_argument, NULL, 'o'}, {"format", required_argument, NULL, 'f'}, {"pages", required_argument, NULL, 'p'},
     {"encode", required_argument, NULL, 'e'}, {"copy", no_argument, NULL, 'y'}, {"check", no_argument, NULL, 'c'},
+    {"standard", no_argument, NULL, 's'},
     {"help", no_argument, NULL, 'h'}, {"version", no_argument, NULL, 'V'}, {"mode", required_argument, NULL, 'm'},
     {"width", required_argument, NULL, 'w'}, {"rows", required_argument, NULL, 'r'}, {"flags", required_argument, NULL, 'F'},
     {"height", required_argument, NULL, 'H'}, {NULL, 0, NULL, 0},
@@ -152,6 +154,9 @@ static int read_option(int option, const char *argument, options *into, int *has
     case 'c':
         into->is_check = 1;
         return 1;
+    case 's':
+        into->is_standard = 1;
+        return 1;
     case 'y':
         into->is_copy = 1;
         return 1;
@@ -192,6 +197,7 @@ static int is_possible(const options *it)
 {
     const char *why = it->format == PNG && !has_png() ? "PNG is not supported: this program was built without zlib"
         : it->is_copy && it->how ? "--copy and --encode exclude each other"
+        : it->is_standard && !it->is_check ? "--standard needs --check"
         : it->has_limit && it->raw.has_height ? "--rows and --height exclude each other"
         : NULL;
     if (why)

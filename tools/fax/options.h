@@ -17,6 +17,7 @@ typedef struct {
     unsigned first[MOST_SELECTED], last[MOST_SELECTED]; /* the pages that are wanted */
     unsigned selected;     /* so many ranges of them; 0: all */
     int is_check;
+    int is_standard;       /* whether a check also says where a rule is broken by which every decoder must read the data */
     int is_copy;           /* whether strips are copied without reading them */
     int is_raw;            /* whether a file that isn't known is raw data */
     int has_limit;         /* whether the most rows of raw data are given */

@@ -1,5 +1,6 @@
 #include "page.h"
 #include "memory.h"
+#include <inttypes.h>
 #include <stdarg.h>
 #include <stdlib.h>
 #include <string.h>
@@ -283,6 +284,21 @@ int decode_page(page *it, allowance *left, picture *into, damage *found)
         into->bytes = NULL;
     }
     return into->bytes != NULL;
+}
+
+int add_violation(buffer *text, const page *it)
+{
+    static const char *const rules[] = HAYRO_CCITT_RULE_TEXTS;
+    hayro_ccitt_violation found;
+    for (size_t i = 0; i < it->count && !it->rows_are_words; i++) {
+        const part *one = &it->parts[i];
+        uint32_t status = hayro_ccitt_check(one->data.at, one->data.length, &one->settings, HAYRO_CCITT_READABLE, 0, &found);
+        if (noted(status) == HAYRO_CCITT_VIOLATION) {
+            add_text(text, "bit %" PRIu64 " of %s %zu breaks a rule: %s", found.place, it->kind, i, rules[found.rule]);
+            return 1;
+        }
+    }
+    return 0;
 }
 
 int finish_picture(const page *it, picture *made)

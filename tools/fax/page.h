@@ -58,6 +58,10 @@ part *new_parts(page *it, uint64_t count);
  * row could be decoded. The picture isn't turned or inverted yet. */
 int decode_page(page *it, allowance *left, picture *into, damage *found);
 
+/* Adds to a text where the data of a page first breaks a rule by which every decoder must read it, closed as its settings ask. Returns
+ * whether it does. Rows that begin at multiples of 16 bits aren't checked. */
+int add_violation(buffer *text, const page *it);
+
 /* Turns and inverts the picture of a page. Returns 0 if an allocation failed. */
 int finish_picture(const page *it, picture *made);
 

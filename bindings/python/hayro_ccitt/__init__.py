@@ -10,12 +10,18 @@ prescribe, as this project has formalized them.
     >>> hayro_ccitt.encode(picture.packed, 8, k=-1).hex()
     '31c0040040'
 
+`check` says whether data conforms to T.4 and T.6, and where it breaks which rule:
+
+    >>> str(hayro_ccitt.check(b"\\x20\\x00", columns=8, rows=1, k=-1))
+    'bit 3: a run is expected (T.4, 4.1.1)'
+
 `open` has the pages of a TIFF or PDF file. `Picture.image` is an image of Pillow, and `Picture.array` an array of NumPy:
 
     >>> with hayro_ccitt.open("scan.tif") as document:  # doctest: +SKIP
     ...     pixels = [page.picture().array() for page in document]
 """
 from ._pages import Page
+from .checking import Rule, Violation, check
 from .containers import decode_pdf, from_pdf, from_tiff
 from .decoding import Damage, Picture, Rows, decode, rows
 from .documents import Document, open
@@ -35,7 +41,7 @@ from .errors import (
 )
 from .feeding import RowFeed, RowsFrom, rows_from
 
-__version__ = "0.7.0"
+__version__ = "0.8.0"
 __all__ = [
     "Damage",
     "DecodeError",
@@ -54,7 +60,10 @@ __all__ = [
     "RowFeed",
     "Rows",
     "RowsFrom",
+    "Rule",
     "UnexpectedEof",
+    "Violation",
+    "check",
     "decode",
     "decode_pdf",
     "encode",

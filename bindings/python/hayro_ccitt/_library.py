@@ -3,13 +3,14 @@ import ctypes
 import os
 from ctypes import POINTER, c_size_t, c_uint8, c_uint32, c_uint64, c_void_p
 
-OK, UNEXPECTED_EOF, INVALID_CODE, OVERFLOW, OUT_OF_MEMORY, REFUSED, NOT_TAKEN, NO_ROW, NEEDS_MORE = range(9)
+OK, UNEXPECTED_EOF, INVALID_CODE, OVERFLOW, OUT_OF_MEMORY, REFUSED, NOT_TAKEN, NO_ROW, NEEDS_MORE, VIOLATION = range(10)
 GROUP_4, GROUP_3_1D, GROUP_3_2D = range(3)
+READABLE, BY_PROCEDURE = range(2)
 END_OF_BLOCK, END_OF_LINE, ALIGNED_ROWS, STRICT, LOW_FIRST, EOLS_END_AT_BYTES, SHORTEST = (1 << bit for bit in range(7))
 # Flags of decoding have numbers of their own, and that of 0 for black has one of each.
 BLACK_IS_0, ENCODED_BLACK_IS_0 = 32, 128
 # The installed library whose interface this package calls.
-SONAME = "libhayro_ccitt.so.0.7"
+SONAME = "libhayro_ccitt.so.0.8"
 
 
 class Settings(ctypes.Structure):
@@ -39,6 +40,10 @@ class Row(ctypes.Structure):
     ]
 
 
+class Violation(ctypes.Structure):
+    _fields_ = [(name, c_uint64) for name in ("place", "rule")]
+
+
 class EncodeSettings(ctypes.Structure):
     _fields_ = [(name, c_uint32) for name in ("columns", "encoding", "flags", "k", "stride")]
 
@@ -62,6 +67,7 @@ CALLS = {
     "hayro_ccitt_feed_rows_packed": [POINTER(Reader), c_void_p, c_size_t, POINTER(c_size_t), POINTER(Row)],
     "hayro_ccitt_feed_unused": [POINTER(Reader), c_void_p, c_size_t, POINTER(c_size_t)],
     "hayro_ccitt_feed_close": [POINTER(Reader)],
+    "hayro_ccitt_check": [*DATA, POINTER(Settings), c_uint32, c_uint32, POINTER(Violation)],
     "fax_encode_bitmap": [*DATA, POINTER(EncodeSettings), c_void_p, c_size_t, POINTER(EncodeOutcome)],
 }
 

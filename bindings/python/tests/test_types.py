@@ -28,6 +28,9 @@ try:
     data: bytes = hayro_ccitt.encode(packed, 8, k=-1)
 except DecodeError as fault:
     rest: hayro_ccitt.Picture | None = fault.picture
+found: hayro_ccitt.Violation | None = hayro_ccitt.check(room, 8, 1, k=-1, grade="procedure", k_limit=2)
+if found:
+    told: tuple[int, hayro_ccitt.Rule, str] = found.place, found.rule, found.section
 '''
 
 

@@ -1,16 +1,29 @@
 //! The calls for C, as values that close what they open.
 
 use crate::calls::{
-    Feed as FeedOfC, Reader, hayro_ccitt_close, hayro_ccitt_decode_packed, hayro_ccitt_feed,
-    hayro_ccitt_feed_close, hayro_ccitt_feed_finish, hayro_ccitt_feed_next_changes,
-    hayro_ccitt_feed_next_packed, hayro_ccitt_feed_open, hayro_ccitt_feed_rows_packed,
-    hayro_ccitt_feed_unused, hayro_ccitt_next_changes, hayro_ccitt_next_packed, hayro_ccitt_open,
+    Feed as FeedOfC, Reader, ViolationOutcome, hayro_ccitt_check, hayro_ccitt_close,
+    hayro_ccitt_decode_packed, hayro_ccitt_feed, hayro_ccitt_feed_close, hayro_ccitt_feed_finish,
+    hayro_ccitt_feed_next_changes, hayro_ccitt_feed_next_packed, hayro_ccitt_feed_open,
+    hayro_ccitt_feed_rows_packed, hayro_ccitt_feed_unused, hayro_ccitt_next_changes,
+    hayro_ccitt_next_packed, hayro_ccitt_open,
 };
 
 pub(crate) use crate::calls::{
     EncodeSettings, INVALID_CODE, NEEDS_MORE, NO_ROW, NOT_TAKEN, OK, OUT_OF_MEMORY, OVERFLOW,
-    Outcome, REFUSED, RowOutcome as Row, Settings, UNEXPECTED_EOF, encode_bitmap,
+    Outcome, REFUSED, RowOutcome as Row, Settings, UNEXPECTED_EOF, VIOLATION, encode_bitmap,
 };
+
+/// Checks data in the grade of this number, and returns the status and what is found.
+pub(crate) fn check(
+    data: &[u8],
+    settings: &Settings,
+    grade: u32,
+    k: u32,
+) -> (u32, ViolationOutcome) {
+    let mut found = ViolationOutcome::default();
+    let status = hayro_ccitt_check(data, settings, grade, k, &mut found);
+    (status, found)
+}
 
 /// Packs the rows, and returns the status and the outcome.
 pub(crate) fn decode_packed(data: &[u8], settings: &Settings, bitmap: &mut [u8]) -> (u32, Outcome) {

@@ -13,6 +13,7 @@ pub(crate) const REFUSED: u32 = 5;
 pub(crate) const NOT_TAKEN: u32 = 6;
 pub(crate) const NO_ROW: u32 = 7;
 pub(crate) const NEEDS_MORE: u32 = 8;
+pub(crate) const VIOLATION: u32 = 9;
 
 /// `hayro_ccitt_settings`.
 #[repr(C)]
@@ -52,6 +53,14 @@ pub(crate) struct RowOutcome {
     pub(crate) cut_rows: u64,
     pub(crate) is_cut: u64,
     pub(crate) missed_eol: u64,
+}
+
+/// `hayro_ccitt_violation`.
+#[repr(C)]
+#[derive(Default)]
+pub(crate) struct ViolationOutcome {
+    pub(crate) place: u64,
+    pub(crate) rule: u64,
 }
 
 /// `hayro_ccitt_reader`: all zeros, or as a call left it.
@@ -163,6 +172,9 @@ calls! {
     );
     hayro_ccitt_feed_unused(feed: &mut Feed, bytes length: &mut [u8], count: &mut usize,);
     hayro_ccitt_feed_close(feed: &mut Feed,);
+    hayro_ccitt_check(
+        data data_length: &[u8], settings: &Settings, grade: u32, k: u32, violation: &mut ViolationOutcome,
+    );
     fax_encode_bitmap(
         bitmap bitmap_length: &[u8], settings: &EncodeSettings, data data_length: &mut [u8], outcome: &mut EncodeOutcome,
     );

@@ -3,7 +3,8 @@
 //!
 //! [`decode`] takes encoded data and a [`DecoderContext`], and passes each row to a [`Decoder`] as the positions at which its
 //! colour changes. [`decode_packed`] returns a bitmap instead, and [`encode_bitmap`] encodes one. [`RowReader`] reads one row at a
-//! time, [`RowFeed`] from data that comes in pieces, and `RowsFrom`, with the feature `std`, from any `BufRead`.
+//! time, [`RowFeed`] from data that comes in pieces, and `RowsFrom`, with the feature `std`, from any `BufRead`. The module
+//! [`conforms`] says whether an encoder that wrote some data kept the rules.
 //!
 //! The names are those of the crate `hayro-ccitt` 0.5.0, and a program that uses that crate needs no change. What runs is a C
 //! library that is proved: unless memory or room runs out, its rows, results and byte counts are those that a formalization of T.4
@@ -45,7 +46,7 @@
 //! If an allocation fails, the program ends, as with a [`Vec`]; a [`RowFeed`] returns an error instead.
 //! `decode_low_first`, [`decode_packed`], [`decode_packed_into`], [`RowReader`], [`RowFeed`], `RowsFrom`, [`DecoderContext::damaged_rows`],
 //! [`DecoderContext::missed_eols`], [`DecoderContext::cut_rows`], [`DecoderContext::fault_start`], [`encode_bitmap`] and
-//! [`encode_bitmap_from`] are added. The package is `no_std` without the feature `std`, and needs an allocator and a C compiler.
+//! [`encode_bitmap_from`] are added, and the module [`conforms`]. The package is `no_std` without the feature `std`, and needs an allocator and a C compiler.
 
 #![no_std]
 #![warn(missing_docs)]
@@ -57,6 +58,7 @@ extern crate std;
 
 mod c;
 mod calls;
+pub mod conforms;
 mod encoding;
 mod packed_into;
 mod pushed;

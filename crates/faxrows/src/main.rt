@@ -88,7 +88,7 @@ number of rows, 0 for no limit. FLAGS are letters, or - for none:
   r  the lowest bit of each byte comes first";
 
 /// What `--version` prints.
-const VERSION: &str = "faxrows 0.7.0";
+const VERSION: &str = "faxrows 0.8.0";
 
 /// Returns the status of a run that wrote its text.
 fn status_of_done(done: Done) -> u8

@@ -1,3 +1,4 @@
+pub mod Checked
 pub mod Encoding
 pub mod GivenRows
 pub mod Handles

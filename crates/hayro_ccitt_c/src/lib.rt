@@ -25,6 +25,7 @@ ghost use Rattle.hayro_ccitt_c.specs.declared.strip.Strip.TheVariants.{Rows};
 ghost use Rattle.hayro_ccitt_c.specs.declared.status.TheConstants.{OK, OUT_OF_MEMORY, REFUSED, NOT_TAKEN};
 
 mod change_count;
+mod checks;
 mod encoding;
 mod fed_status;
 mod feed_handle;
@@ -45,6 +46,7 @@ mod status;
 mod strip;
 
 use change_count::ChangeCount;
+pub use checks::{ViolationOutcome, hayro_ccitt_check};
 use encoding::{Unencoded, encoded, encoder_of_rows, layout_asked, rows_asked};
 pub use encoding::{EncodeOutcome, EncodeSettings};
 pub use feed_handle::Feed;

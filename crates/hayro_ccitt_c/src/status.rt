@@ -18,3 +18,5 @@ pub(crate) const NOT_TAKEN: u32 = 6;
 pub(crate) const NO_ROW: u32 = 7;
 /// More data is needed, or its end.
 pub(crate) const NEEDS_MORE: u32 = 8;
+/// The data that is checked doesn't conform.
+pub(crate) const VIOLATION: u32 = 9;

@@ -5,12 +5,13 @@ use crate::proved::hayro_ccitt_c as proved;
 use crate::proved::hayro_ccitt_c::encoding::{Unencoded, encoded};
 use alloc::vec::Vec;
 
-pub use proved::{
-    EncodeOutcome, EncodeSettings, Feed, Outcome, Reader, RowOutcome, Settings, Writer,
-};
 pub(crate) use proved::status::{
     INVALID_CODE, NEEDS_MORE, NO_ROW, NOT_TAKEN, OK, OUT_OF_MEMORY, OVERFLOW, REFUSED,
-    UNEXPECTED_EOF,
+    UNEXPECTED_EOF, VIOLATION,
+};
+pub use proved::{
+    EncodeOutcome, EncodeSettings, Feed, Outcome, Reader, RowOutcome, Settings, ViolationOutcome,
+    Writer,
 };
 
 /// Encodes a bitmap, or returns the status.
