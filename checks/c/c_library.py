@@ -123,12 +123,18 @@ def example_on_strips():
     print(f"  {strips} strips, {runs} runs, {size} bytes of pictures compared")
 
 
+# The library with the allocator of a file. A process has it once: a second one would have the first one's allocator.
+WITH_HEAP = {}
+
+
 def loaded(folder, heap=None):
     """The shared library in this process, with its own allocator or with that of a file, which replaces it."""
     if not heap:
         return ctypes.CDLL(SHARED)
-    linked = ["-Wl,--no-as-needed", f"-Wl,-rpath,{os.path.dirname(SHARED)}", f"-L{os.path.dirname(SHARED)}", "-lhayro_ccitt"]
-    return ctypes.CDLL(compiled(f"{folder}/heap.so", "-shared", "-fPIC", heap, *linked), mode=ctypes.RTLD_GLOBAL)
+    if heap not in WITH_HEAP:
+        linked = ["-Wl,--no-as-needed", f"-Wl,-rpath,{os.path.dirname(SHARED)}", f"-L{os.path.dirname(SHARED)}", "-lhayro_ccitt"]
+        WITH_HEAP[heap] = ctypes.CDLL(compiled(f"{folder}/heap.so", "-shared", "-fPIC", heap, *linked), mode=ctypes.RTLD_GLOBAL)
+    return WITH_HEAP[heap]
 
 
 def called(call, data, settings, *memory):
