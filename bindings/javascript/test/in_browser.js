@@ -62,15 +62,23 @@ function fault() {
     throw new Error("damaged data is read without an error");
 }
 
-/** A signal ends the rows of a stream. */
+/** A signal ends the rows of a stream that has no end, and cancels the stream. */
 async function aborted(file, settings) {
+    const data = new Uint8Array(await (await fetch(file)).arrayBuffer());
+    let why;
+    const stream = new ReadableStream({
+        start: (it) => it.enqueue(data),
+        cancel: (reason) => {
+            why = reason;
+        },
+    });
     const controller = new AbortController();
     try {
-        for await (const row of new RowFeed(settings).over((await fetch(file)).body, { signal: controller.signal })) {
+        for await (const row of new RowFeed(settings).over(stream, { signal: controller.signal })) {
             controller.abort();
         }
     } catch (error) {
-        assert(error.name === "AbortError", `${error}`);
+        assert(error.name === "AbortError" && why === controller.signal.reason, `${error}, cancelled by ${why}`);
         return;
     }
     throw new Error("a signal doesn't end the rows");

@@ -40,6 +40,7 @@ from .errors import (
     UnexpectedEof,
 )
 from .feeding import RowFeed, RowsFrom, rows_from
+from .guessing import Guess, guess
 
 __version__ = "0.8.0"
 __all__ = [
@@ -48,6 +49,7 @@ __all__ = [
     "Document",
     "EncodeError",
     "Error",
+    "Guess",
     "InvalidCode",
     "NoEncoding",
     "NoRows",
@@ -69,6 +71,7 @@ __all__ = [
     "encode",
     "from_pdf",
     "from_tiff",
+    "guess",
     "open",
     "rows",
     "rows_from",

@@ -3,8 +3,10 @@ from __future__ import annotations
 
 import argparse
 import sys
+from pathlib import Path
 
 from ._files import UNREADABLE, decoded, in_child, limit, say, text_of
+from .guessing import guess
 from .many import main as many
 
 ABOUT = """Decodes the fax images of a TIFF file, or of a PDF file where pikepdf or pypdf is installed. It prints a line for each
@@ -12,7 +14,9 @@ image: its number, its size and the result. With PICTURES, image 0 is written to
 is turned as its Orientation says; an image of a PDF file is written as it is stored, however the page turns it, and once for each
 page. The exit status is 0 if all rows of all images were decoded, 1 if some weren't or an image isn't fax, or there is no image,
 and 2 if the file can't be read, or not within the time that an image may take. `python3 -m hayro_ccitt many --help` is about many
-files."""
+files, and `python3 -m hayro_ccitt guess --help` about files that are fax data alone."""
+GUESSES = """Guesses how a file is encoded that is fax data alone, without tags or keys, and prints the ways in which it may be read, the
+likeliest first. The exit status is 1 if it seems to be no fax data, and 2 if it can't be read."""
 
 
 def main(path: str, name: str | None = None, seconds: int = 0) -> int:
@@ -49,5 +53,23 @@ def one() -> int:
     return status
 
 
+def guesses(words: list[str]) -> int:
+    parser = argparse.ArgumentParser("python3 -m hayro_ccitt guess", description=GUESSES)
+    parser.add_argument("file", metavar="FILE", type=Path)
+    parser.add_argument("--columns", type=int, help="the width, if it is known")
+    asked = parser.parse_args(words)
+    try:
+        found = guess(asked.file.read_bytes(), asked.columns)
+    except OSError as error:
+        say(f"hayro_ccitt: {asked.file}: {text_of(error)}", sys.stderr)
+        return 2
+    for it in found:
+        say(str(it), sys.stdout)
+    if not found:
+        say(f"hayro_ccitt: {asked.file}: no fax data", sys.stderr)
+    return 0 if found else 1
+
+
 if __name__ == "__main__":
-    sys.exit(many(sys.argv[2:]) if sys.argv[1:2] == ["many"] else one())
+    programs = {"many": many, "guess": guesses}
+    sys.exit(programs[sys.argv[1]](sys.argv[2:]) if sys.argv[1:2] and sys.argv[1] in programs else one())
