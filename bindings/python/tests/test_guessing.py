@@ -17,14 +17,14 @@ def raw_files():
     for _, strip, mode, columns, rows, settings, *_ in lines_of("manifest.tsv"):
         if int(columns) >= LEAST_COLUMNS and int(rows) > 8 and "r" not in settings:
             files.setdefault(strip, (int(columns), MODES[mode], int(rows)))
-    # Each fourth, since a width that isn't usual takes a second or more.
-    return dict(list(files.items())[::4])
+    # Each third, since a width that isn't usual takes a second or more.
+    return dict(list(files.items())[::3])
 
 
 def other_files():
     """Files of other kinds: pictures, programs, texts and tables of the repository."""
     names = [name for folder in ("docs", "crates/fax_bits", "checks", "c") for name in sorted((ROOT / folder).rglob("*.*"))]
-    return [name for name in names if name.is_file() and "out" not in name.parts and name.stat().st_size < 1 << 13][:100]
+    return [name for name in names if name.is_file() and "out" not in name.parts and name.stat().st_size < 1 << 13][::4]
 
 
 def test_most_raw_files_are_guessed():
@@ -66,7 +66,7 @@ def test_damaged_data_is_guessed(strip):
 def test_other_files_are_refused():
     files = other_files()
     taken = [str(name) for name in files if hayro_ccitt.guess(name.read_bytes())]
-    assert len(files) == 100 and len(taken) <= 2, taken
+    assert len(files) >= 25 and len(taken) <= 1, taken
     assert hayro_ccitt.guess(b"") == []
 
 

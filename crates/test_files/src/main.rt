@@ -2,14 +2,16 @@
 //!
 //! A record is a number of bytes and an allowance, each of four bytes with the lowest first, and the bytes of a file. The answer is what
 //! `put_directory` writes for each directory, and at the end a letter (`o`, or for an error: `n` no TIFF file, `e` the end of the file,
-//! `l` a loop, `s` spent, `m` out of memory) and how many steps are left. Its numbers have eight bytes. With an argument the answer is that
-//! of `pages::put_pages`.
+//! `l` a loop, `s` spent, `m` out of memory) and how many steps are left. Its numbers have eight bytes. With the argument `pages` the
+//! answer is that of `pages::put_pages`, and with `images` that of `images::put_images`.
 #![tactic(auto)]
 
 ghost use Rattle.std.specs.Prelude.{◌+◌, ◌≤◌, IfSome, length};
 
+mod images;
 mod pages;
 
+use images::put_images;
 use pages::put_pages;
 use paid_cursor::Cursor;
 use std::alloc::Global;
@@ -20,9 +22,13 @@ use tiff_read::{Directory, Layout, Picture, Ratio, ResolutionUnit, Tiff, TiffErr
 fn main(rt: HostRuntime) -> io::Result<()> {
     let mut input: Vec<u8> = Vec::new(rt.alloc());
     rt.stdin().read_to_end(&mut input)?;
-    let wants_pages = match env::args(&rt) {
-        Ok(words) => words.skip(1).next().is_some(),
-        Err(_) => false,
+    let word = match env::args(&rt) {
+        Ok(words) => words.skip(1).next(),
+        Err(_) => None,
+    };
+    let word = match &word {
+        Some(word) => word.as_str(),
+        None => "",
     };
     let mut out = BufWriter::new(rt.alloc(), rt.stdout())?;
     let mut rest = input.as_slice();
@@ -31,10 +37,10 @@ fn main(rt: HostRuntime) -> io::Result<()> {
             break;
         };
         rest = &rest[HEAD_BYTES + record.bytes.len()..];
-        if wants_pages {
-            put_pages(rt.alloc(), record.bytes, record.allowance, &mut out)?;
-        } else {
-            put_file(rt.alloc(), &record, &mut out)?;
+        match word {
+            "pages" => put_pages(rt.alloc(), record.bytes, record.allowance, &mut out)?,
+            "images" => put_images(rt.alloc(), record.bytes, record.allowance, &mut out)?,
+            _ => put_file(rt.alloc(), &record, &mut out)?,
         }
     }
     out.flush()
