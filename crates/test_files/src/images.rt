@@ -47,6 +47,14 @@ fn error_letter(error: PdfError) -> u8 {
     }
 }
 
+/// Returns 4 for Group 4, 1 for one-dimensional Group 3, and 2 for two-dimensional.
+fn encoding_of(k: i64) -> u64 {
+    if k < 0 {
+        return 4;
+    }
+    if k == 0 { 1 } else { 2 }
+}
+
 /// Writes `A` and what an image is, and then `B` and its data, or the letter of an error.
 fn put_image<W: Write>(pdf: &mut Pdf<'_>, image: &FaxImage, out: &mut W) -> io::Result<()> {
     let parameters = image.parameters;
@@ -58,7 +66,7 @@ fn put_image<W: Write>(pdf: &mut Pdf<'_>, image: &FaxImage, out: &mut W) -> io::
         u64::from(image.is_mask),
         u64::from(image.is_inverted),
         u64::from(image.is_zero_lighter),
-        parameters.k as u64,
+        encoding_of(parameters.k),
         u64::from(parameters.end_of_line),
         u64::from(parameters.encoded_byte_align),
         u64::from(parameters.columns),
