@@ -2,7 +2,7 @@
 use Rattle.hayro_ccitt.proofs.Names.{◌≡◌, ℕ, ◌+◌, ◌<◌, ◌≤◌, [], ◌∷◌, ◌++◌, ◌↔◌, length, refl, ap, sym, subst, ◌∙◌}
 use Rattle.hayro_ccitt.proofs.Names.{append_assoc, arith, inl, inr, All-cons, All-head, All-tail}
 use Rattle.hayro_ccitt.proofs.Names.{length-append, Bits, Row, DecodeSettings, EncodesRowsWithEols, eol}
-use Rattle.fax_conforms.specs.Standing.{LineStands, Leads, Never, IsOnly}
+use Rattle.fax_conforms.specs.Standing.{LineStands, Leads, Never, Passes, IsOnly}
 use Rattle.fax_conforms.specs.Conforming.{EolStands, EolLineStands, RtcStands, LinesEnd, LinesStand}
 use Rattle.fax_conforms.proofs.BodyLines.{none_more, one_more_row, line_has_bits}
 use Rattle.fax_conforms.proofs.EolsHere.{one_eol}
@@ -15,6 +15,15 @@ module _ (settings : DecodeSettings) (reference : Row) (here after : Bits) (stan
     λ (fill, line, is_line, is). (line, is_line, sym (one_eol here (line ++ rest) after (fill, is) stands)),
     λ (line, is_line, is). (stands.0, line, is_line, stands.1 ∙ ap (λ (x : Bits). eol stands.0 ++ x) is),
   )
+
+pub passes_eol : (settings : DecodeSettings) (reference : Row) (here after : Bits) → EolStands here after
+    → Passes settings.columns (λ here row rest. EolLineStands settings reference row here rest)
+    (λ here row rest. LineStands settings.encoding reference row here rest) here after
+passes_eol settings reference here after stands = record {
+  passed = eol stands.0;
+  is = stands.1;
+  leads = λ more. after_eol_leads settings reference (eol stands.0 ++ more) more (stands.0, refl);
+}
 
 pub no_eol_line : (settings : DecodeSettings) (reference : Row) (here : Bits) → ((rest : Bits) → EolStands here rest → ⊥)
     → Never settings.columns (λ row rest. EolLineStands settings reference row here rest)

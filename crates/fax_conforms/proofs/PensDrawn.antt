@@ -10,7 +10,7 @@ use Rattle.fax_conforms.specs.declared.lines.Pen.{Pen}
 use Rattle.fax_conforms.specs.Standing.{Spot, Leads, Never, LineFrom, ModeFrom, spot_of, from_of, IsDrawn, IsAbove, DrawsOn}
 use Rattle.fax_conforms.specs.Standing.{IsPainted}
 use Rattle.fax_conforms.proofs.ModesLead.{painted_on, pass_leads, pass_within, vertical_leads, vertical_within}
-use Rattle.fax_conforms.proofs.LinesEnd.{leads_on, leads_never}
+use Rattle.fax_conforms.proofs.LinesEnd.{leads_never}
 use Rattle.fax_conforms.proofs.ModesLead.{mode_leads, no_mode}
 
 -- ---- The position right of a0.
@@ -171,12 +171,6 @@ module _ (columns : ℕ) (pen : Pen) (places : List ℕ) (small : columns ≤ 42
           let same : place ≡ other = cc in none (omega (arith, same, right)) (omega (arith, same, within)))
 
     -- ---- The mode here.
-    pub mode_here_leads : {Q : Row → Bits → Type 0} (mode : Mode) (here after : Bits)
-        → read_code mode_codes here ≡ Ok (mode, after) → Leads columns (ModeFrom above_row at mode after) Q
-        → Leads columns (LineFrom above_row at here) Q
-    mode_here_leads mode here after read on =
-        leads_on columns (mode_leads columns above_row at small len_above len inside white mode here after read) on
-
     pub mode_here_never : (mode : Mode) (here after : Bits) → read_code mode_codes here ≡ Ok (mode, after)
         → Never columns (ModeFrom above_row at mode after) → Never columns (LineFrom above_row at here)
     mode_here_never mode here after read none =

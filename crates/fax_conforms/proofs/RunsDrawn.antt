@@ -36,32 +36,50 @@ module _ (columns : ℕ) (pen : Pen) (places : List ℕ) (small : columns ≤ 42
   abbrev spot : Spot
   spot = spot_of pen places
 
-  front_len : length spot.front ≡ pen.painted
+  pub front_len : length spot.front ≡ pen.painted
   front_len = len_front columns pen places small drawn open_end
+
+  -- the run of a valid line
+  pub run_next : (here : Bits) (row : Row) (rest : Bits) → length row ≡ columns → RunsFrom spot here row rest
+      → (run : ℕ) × (after : Bits) × NextRun columns pen here after run
+  run_next here row rest row_len stands =
+      let has = one_run columns spot here small (omega (arith, front_len, open_end)) row rest row_len stands in (
+        has.run,
+        has.after,
+        record {
+          read = has.read;
+          within = omega (arith, has.within, front_len);
+          some = λ begun lt. has.some (some_from pen.begun pen.painted begun);
+        },
+      )
+
+  -- and of a horizontal mode
+  pub horizontal_next : (here : Bits) (reference : Row) → length reference ≡ columns → (row : Row) (rest : Bits)
+      → length row ≡ columns → ModeFrom reference spot Horizontal here row rest
+      → (run : ℕ) × (after : Bits) × NextRun columns pen here after run
+  horizontal_next here reference ref_len row rest row_len stands =
+      let has = horizontal_runs columns reference spot small ref_len (len columns pen places small drawn open_end)
+      (inside columns pen places small drawn open_end) (white columns pen places small drawn open_end) here row rest row_len
+      stands in (
+        has.one,
+        has.middle,
+        record {
+          read = has.read1;
+          within = omega (arith, has.within1, front_len);
+          some = λ begun lt. above_from pen.begun pen.painted has.one (omega (arith, has.above, front_len)) begun;
+        },
+      )
 
   -- no run is here that a valid line may have
   pub run_fails : (here : Bits) → ((run : ℕ) (rest : Bits) → NextRun columns pen here rest run → ⊥)
       → Never columns (RunsFrom spot here)
-  run_fails here none row rest row_len stands =
-      let has = one_run columns spot here small (omega (arith, front_len, open_end)) row rest row_len stands in
-      none has.run has.after (record {
-        read = has.read;
-        within = omega (arith, has.within, front_len);
-        some = λ begun lt. has.some (some_from pen.begun pen.painted begun);
-      })
+  run_fails here none row rest row_len stands = let next = run_next here row rest row_len stands in none next.0 next.1 next.2
 
   -- nor a horizontal mode
   pub horizontal_fails : (here : Bits) → ((run : ℕ) (rest : Bits) → NextRun columns pen here rest run → ⊥) → (reference : Row)
       → length reference ≡ columns → Never columns (ModeFrom reference spot Horizontal here)
   horizontal_fails here none reference ref_len row rest row_len stands =
-      let has = horizontal_runs columns reference spot small ref_len (len columns pen places small drawn open_end)
-      (inside columns pen places small drawn open_end) (white columns pen places small drawn open_end) here row rest row_len
-      stands in
-      none has.one has.middle (record {
-        read = has.read1;
-        within = omega (arith, has.within1, front_len);
-        some = λ begun lt. above_from pen.begun pen.painted has.one (omega (arith, has.above, front_len)) begun;
-      })
+      let next = horizontal_next here reference ref_len row rest row_len stands in none next.0 next.1 next.2
 
   module _ (next : Pen) (new : List ℕ) (here after : Bits) (paints : PaintsRun columns pen next places new here after) where
     abbrev run : ℕ
@@ -73,7 +91,7 @@ module _ (columns : ℕ) (pen : Pen) (places : List ℕ) (small : columns ≤ 42
     some : pen.begun ≡ true → 0 < run
     some begun = paints.stands.some begun open_end
 
-    right : from_of pen ≤ pen.painted + run
+    pub right : from_of pen ≤ pen.painted + run
     right = from_above pen.begun pen.painted run some
 
     run_spot : spot_of next new ≡ painted_on spot (pen.painted + run) (opposite pen.color)
@@ -86,18 +104,26 @@ module _ (columns : ℕ) (pen : Pen) (places : List ℕ) (small : columns ≤ 42
         (omega (arith, front_len)) paints.stands.within (λ lt. some (from_some pen.begun pen.painted lt)))
 
     -- ---- The second run of horizontal mode.
-    pub second_fails : ((run : ℕ) (rest : Bits) → NextRun columns next after rest run → ⊥) → (reference : Row)
-        → length reference ≡ columns → Never columns (ModeFrom reference spot Horizontal here)
-    second_fails none reference ref_len row rest row_len stands =
+    pub second_next : (reference : Row) → length reference ≡ columns → (row : Row) (rest : Bits) → length row ≡ columns
+        → ModeFrom reference spot Horizontal here row rest → (two : ℕ) × (last : Bits) × NextRun columns next after last two
+    second_next reference ref_len row rest row_len stands =
         let has = horizontal_runs columns reference spot small ref_len (len columns pen places small drawn open_end)
         (inside columns pen places small drawn open_end) (white columns pen places small drawn open_end) here row rest row_len
         stands in
-        let same = same_run has.one run has.middle after (sym has.read1 ∙ paints.stands.read) in
-        none has.two has.after (record {
-          read = rw (paints.turned, ← same.1) has.read2;
-          within = omega (arith, has.within2, front_len, same.0, paints.painted.painted);
-          some = λ begun lt. has.some (omega (arith, lt, front_len, same.0, paints.painted.painted));
-        })
+        let same = same_run has.one run has.middle after (sym has.read1 ∙ paints.stands.read) in (
+          has.two,
+          has.after,
+          record {
+            read = rw (paints.turned, ← same.1) has.read2;
+            within = omega (arith, has.within2, front_len, same.0, paints.painted.painted);
+            some = λ begun lt. has.some (omega (arith, lt, front_len, same.0, paints.painted.painted));
+          },
+        )
+
+    pub second_fails : ((run : ℕ) (rest : Bits) → NextRun columns next after rest run → ⊥) → (reference : Row)
+        → length reference ≡ columns → Never columns (ModeFrom reference spot Horizontal here)
+    second_fails none reference ref_len row rest row_len stands =
+        let two = second_next reference ref_len row rest row_len stands in none two.0 two.1 two.2
 
     module _ (last : Pen) (final : List ℕ) (end : Bits) (second : PaintsRun columns next last new final after end) where
       abbrev two : ℕ

@@ -1,9 +1,7 @@
 -- Results that end early.
-use Rattle.hayro_ccitt.proofs.Names.{◌≡◌, ◌≤◌, ℕ, Result, Ok, Err, IfOk, OnOk, IfErr, sym, subst, length, drop, Bits, BitsAt}
-use Rattle.hayro_ccitt.proofs.Names.{here}
-use Rattle.fax_conforms.specs.declared.stops.Rule.{Rule}
+use Rattle.hayro_ccitt.proofs.Names.{Result, Ok, Err, IfOk, OnOk, IfErr}
 use Rattle.fax_conforms.specs.declared.stops.Stop.{Stop}
-use Rattle.fax_conforms.specs.Stops.{IsBroken, Breaks, EndsAt}
+use Rattle.fax_conforms.specs.Stops.{IsBroken}
 
 -- whatever the error is
 pub if_err : {T : Type 0} (r : Result T Stop) (P : Type 0) → P → IfErr r (λ e. IsBroken e → P)
@@ -29,17 +27,3 @@ if_done (Err e) P Q p on = tt
 pub if_both : {T : Type 0} (r : Result T Stop) (P Q R : Type 0) → OnOk r P → OnOk r Q → (P → Q → R) → OnOk r R
 if_both (Ok x) P Q R p q on = on p q
 if_both (Err e) P Q R p q on = tt
-
--- what ends where a reader is
-pub ends_here : {T : Type 0} (r : Result T Stop) (reader : BitsAt) (place : ℕ) (rule : Rule)
-    → r ≡ Err (Stop.Violation (record { place = place; rule = rule })) → place ≡ reader.place → place ≤ length reader.bits
-    → Breaks rule place (here reader) → IfErr r (EndsAt reader.bits)
-ends_here {T = T} r reader place rule is at within breaks =
-    let here_too : Breaks rule place (drop place reader.bits) =
-    subst (λ (n : ℕ). Breaks rule place (drop n reader.bits)) (sym at) breaks in
-    subst (λ (s : Result T Stop). IfErr s (EndsAt reader.bits)) (sym is) (within, here_too)
-
--- what ends within the same bits
-pub ends_in : {T : Type 0} (r : Result T Stop) (bits others : Bits) → others ≡ bits → IfErr r (EndsAt others)
-    → IfErr r (EndsAt bits)
-ends_in r bits others same ends = subst (λ (b : Bits). IfErr r (EndsAt b)) same ends

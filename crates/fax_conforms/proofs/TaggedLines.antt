@@ -1,7 +1,7 @@
 -- Lines of each kind: those of two-dimensional Group 3 after their tags.
 use Rattle.hayro_ccitt.proofs.Names.{◌≡◌, ℕ, Bool, true, false, [], ◌∷◌, ◌++◌, inl, inr, refl, ap, sym, ◌∙◌, Bits, Row, Group4}
 use Rattle.hayro_ccitt.proofs.Names.{Group3_1D, Group3_2D}
-use Rattle.fax_conforms.specs.Standing.{LineStands, Leads, Never}
+use Rattle.fax_conforms.specs.Standing.{LineStands, Leads, Never, Passes}
 
 abbrev pub StandsIn2D : Row → Bits → Row → Bits → Type 0
 StandsIn2D reference here row rest = LineStands Group3_2D reference row here rest
@@ -41,3 +41,20 @@ untagged columns reference here none row rest len (bits, (line, inl (bits_are, r
     absurd (let e : [] ≡ true ∷ (line ++ rest) = sym none ∙ is ∙ ap (λ (x : Bits). x ++ rest) bits_are in cc)
 untagged columns reference here none row rest len (bits, (line, inr (bits_are, steps)), is) =
     absurd (let e : [] ≡ false ∷ (line ++ rest) = sym none ∙ is ∙ ap (λ (x : Bits). x ++ rest) bits_are in cc)
+
+-- ---- Tags that are passed.
+pub passes_tag_2d : (columns : ℕ) (reference : Row) (here after : Bits) → here ≡ false ∷ after
+    → Passes columns (StandsIn2D reference) (λ here row rest. LineStands Group4 reference row here rest) here after
+passes_tag_2d columns reference here after tag = record {
+  passed = false ∷ [];
+  is = tag;
+  leads = λ more. tagged_2d columns reference (false ∷ more) more refl;
+}
+
+pub passes_tag_1d : (columns : ℕ) (reference : Row) (here after : Bits) → here ≡ true ∷ after
+    → Passes columns (StandsIn2D reference) (λ here row rest. LineStands Group3_1D reference row here rest) here after
+passes_tag_1d columns reference here after tag = record {
+  passed = true ∷ [];
+  is = tag;
+  leads = λ more. tagged_1d columns reference (true ∷ more) more refl;
+}

@@ -31,6 +31,13 @@ Never columns ones = (row : Row) (rest : Bits) → length row ≡ columns → on
 abbrev pub IsOnly : Row → Bits → Row → Bits → Type 0
 IsOnly row rest other others = (other ≡ row) × (others ≡ rest)
 
+-- Some bits are passed, from here to what is next: whatever follows them, the ones that stand at their start are the others that
+-- stand after them.
+pub record Passes (columns : ℕ) (ones others : Bits → Row → Bits → Type 0) (here next : Bits) : Type 0 where
+  pub passed : Bits
+  pub is : here ≡ passed ++ next
+  pub leads : (more : Bits) → Leads columns (ones (passed ++ more)) (others more)
+
 -- ---- From a position of a line on
 
 -- how far a line is drawn: the pixels so far, the first position right of a0, and the present colour (T.4, 4.2.1.1)

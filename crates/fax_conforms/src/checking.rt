@@ -6,7 +6,7 @@ ghost use Rattle.hayro_ccitt.specs.EncodingMode.TheVariants.{Group4};
 ghost use Rattle.fax_conforms.specs.Conforming.{Conforms, EolStands};
 ghost use Rattle.fax_conforms.specs.ByProcedure.{ConformsByProcedure, ConformsIn};
 ghost use Rattle.fax_conforms.specs.Checks.{Checks};
-ghost use Rattle.fax_conforms.specs.Stops.{EndsAt, IsBroken, IsViolationOf};
+ghost use Rattle.fax_conforms.specs.Stops.{EndsInPicture, IsBroken, IsViolationOf};
 
 use crate::grades::Grade;
 use crate::pictures::{has_eol, read_body, read_lines};
@@ -36,7 +36,7 @@ fn read_picture(
     requires start { reader.old.place ≡ 0 }
     ensures stands { OnOk result (Conforms settings (here reader.old)) }
     ensures none { IfErr result (λ e. IsBroken e → Conforms settings (here reader.old) → ⊥) }
-    ensures at { IfErr result (EndsAt reader.old.bits) }
+    ensures at { IfErr result (EndsInPicture settings reader.old.bits) }
 {
     // The range of a number is known once it is read.
     let _columns = settings.columns;
@@ -125,7 +125,7 @@ fn read_data(
     requires fit { BitsFit «data».now }
     ensures stands { OnOk result (Conforms settings (bits_in order «data».now)) }
     ensures none { IfErr result (λ e. IsBroken e → Conforms settings (bits_in order «data».now) → ⊥) }
-    ensures at { IfErr result (EndsAt (bits_in order «data».now)) }
+    ensures at { IfErr result (EndsInPicture settings (bits_in order «data».now)) }
 {
     if settings.columns == 0 {
         return broken(0, Rule::Columns);
@@ -154,8 +154,9 @@ fn read_data(
 /// encoder aren't checked: a run of 128 may be 64 + 64 + 0 (T.4, 4.1.1), horizontal mode may stand for a vertical one (T.4,
 /// 4.2.1.3.2), each line may be two-dimensional (T.4, 4.2.1), and fill may precede the first EOL (T.4, 4.1.3).
 ///
-/// The place is at most the number of bits, and the bits from there on begin with no word of the kind that the rule asks for, or
-/// with one that the rule is about. That nothing before it breaks a rule is tested, and not proved.
+/// The place is where the data departs from what conforms (`IsViolationOf`). Without columns it is 0, of [`Rule::Columns`]. Else
+/// the bits before it are the lines of some rows and the beginning of another line, of a row that the row limit allows; and each
+/// line that begins so goes on with other bits than the data, which break the rule as [`Rule`] says.
 ///
 /// More is asked here than of data that [`hayro_ccitt::decode`] reads strictly. Pass mode is only where b2 is left of a1, and
 /// each vertical mode to the right of a0 (T.4, 4.2.1.3); only the first run of a row has no pixels, and one at the row's end in
@@ -179,7 +180,7 @@ pub fn first_violation(
 ) -> hayro_ccitt::Result<Option<Violation>>
     requires fit { BitsFit «data».now }
     ensures none { IfOk result (λ found. (found ≡ None) ↔ Conforms settings (bits_in order «data».now)) }
-    ensures place { IfOk result (λ found. IfSome found (IsViolationOf (bits_in order «data».now))) }
+    ensures place { IfOk result (λ found. IfSome found (IsViolationOf settings (bits_in order «data».now))) }
     ensures only_memory { IsOkUnless result DecodeError.OutOfMemory }
 {
     match read_data(alloc, settings, order, data) {

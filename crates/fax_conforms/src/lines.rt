@@ -1,14 +1,14 @@
 //! Lines of encodings: the modes and runs of a row, each of them valid.
 
-ghost use Rattle.std.specs.Prelude.{◌≡◌, ◌+◌, ◌<◌, ◌≤◌, false, true, IfOk, OnOk, IfErr, length, drop, ℕ, List};
+ghost use Rattle.std.specs.Prelude.{◌≡◌, ◌+◌, ◌<◌, ◌≤◌, false, true, IfOk, OnOk, IfErr, length, drop, ℕ, List, pos, ◌<ℤ◌, ◌≤ℤ◌};
 ghost use Rattle.hayro_ccitt.specs.Bits.{Bits, here};
 ghost use Rattle.hayro_ccitt.specs.EncodingMode.TheVariants.{Group4, Group3_1D};
 ghost use Rattle.hayro_ccitt.specs.Mode.TheVariants.{Pass, Horizontal, Vertical};
 ghost use Rattle.hayro_ccitt.specs.Rows.{Row, AreChanges, pixels, b1, b2, is_black, opposite};
-ghost use Rattle.fax_conforms.specs.Standing.{LineStands, Leads, Never, IsOnly, LineFrom, ModeFrom, RunsFrom, spot_of};
-ghost use Rattle.fax_conforms.specs.Standing.{from_of, IsDrawn, IsAbove, IsPainted, DrawsOn};
+ghost use Rattle.fax_conforms.specs.Standing.{LineStands, Leads, Never, Passes, IsOnly, LineFrom, ModeFrom};
+ghost use Rattle.fax_conforms.specs.Standing.{RunsFrom, spot_of, from_of, IsDrawn, IsAbove, IsPainted, DrawsOn};
 ghost use Rattle.fax_conforms.specs.Standing.{NextRun, PaintsRun};
-ghost use Rattle.fax_conforms.specs.Stops.{EndsAt, IsBroken, ModeIsHere, ReadsLine};
+ghost use Rattle.fax_conforms.specs.Stops.{EndsAt, RunEndsAt, IsBroken, ModeIsHere, ReadsLine};
 
 use crate::stops::{Rule, Stop, broken};
 use crate::words::Words;
@@ -146,7 +146,7 @@ fn draw_pass(
     ensures none { IfErr result (λ e. IsBroken e → (here : Bits) → Never columns
         (ModeFrom (pixels columns reference.now) (spot_of pen coding.old.items) Pass here)) }
     ensures at { IfErr result (λ e. (bits : Bits) → pen.word ≤ length bits → ModeIsHere Pass (drop pen.word bits)
-        → EndsAt bits e) }
+        → EndsAt columns (LineFrom (pixels columns reference.now) (spot_of pen coding.old.items)) bits (drop pen.word bits) e) }
 {
     let above = find_above(columns, reference, pen, &mut words.ticks);
     if above.b2 >= columns {
@@ -154,6 +154,17 @@ fn draw_pass(
     }
     let next = paint_to(coding, pen, above.b2)?;
     Ok(with_passed(next, above.passed))
+}
+
+/// Returns the rule that a vertical mode breaks whose position is no number of 32 bits: left of each row, or right of it.
+fn rule_outside(offset: i8) -> Rule
+    ensures left { offset <ℤ pos 0 → result ≡ Rule.NoPixels }
+    ensures right { pos 0 ≤ℤ offset → result ≡ Rule.RowEnd }
+{
+    if offset < 0 {
+        return Rule::NoPixels;
+    }
+    Rule::RowEnd
 }
 
 /// Draws a vertical mode (T.4, 4.2.1.3.3).
@@ -175,11 +186,11 @@ fn draw_vertical(
     ensures none { IfErr result (λ e. IsBroken e → (here : Bits) → Never columns
         (ModeFrom (pixels columns reference.now) (spot_of pen coding.old.items) (Vertical offset) here)) }
     ensures at { IfErr result (λ e. (bits : Bits) → pen.word ≤ length bits → ModeIsHere (Vertical offset) (drop pen.word bits)
-        → EndsAt bits e) }
+        → EndsAt columns (LineFrom (pixels columns reference.now) (spot_of pen coding.old.items)) bits (drop pen.word bits) e) }
 {
     let above = find_above(columns, reference, pen, &mut words.ticks);
     let Some(place) = above.b1.checked_add_signed(i32::from(offset)) else {
-        return broken(pen.word, Rule::RowEnd);
+        return broken(pen.word, rule_outside(offset));
     };
     if u64::from(place) < from_of(pen) {
         return broken(pen.word, Rule::NoPixels);
@@ -210,7 +221,7 @@ fn run_end(
     ensures run { IfOk result (λ place. (run : ℕ) × NextRun columns pen (here reader.old) (here reader.new) run
         × (place ≡ pen.painted + run)) }
     ensures none { IfErr result (λ e. IsBroken e → (run : ℕ) (rest : Bits) → NextRun columns pen (here reader.old) rest run → ⊥) }
-    ensures at { IfErr result (EndsAt reader.old.bits) }
+    ensures at { IfErr result (RunEndsAt columns pen reader.old.bits (here reader.old)) }
     ensures same_bits { reader.new.bits ≡ reader.old.bits }
 {
     let word = reader.bit_pos();
@@ -239,7 +250,7 @@ fn paint_run(
     ensures run { IfOk result (λ next. PaintsRun columns pen next coding.old.items coding.new.items (here reader.old)
         (here reader.new)) }
     ensures none { IfErr result (λ e. IsBroken e → (run : ℕ) (rest : Bits) → NextRun columns pen (here reader.old) rest run → ⊥) }
-    ensures at { IfErr result (EndsAt reader.old.bits) }
+    ensures at { IfErr result (RunEndsAt columns pen reader.old.bits (here reader.old)) }
     ensures same_bits { reader.new.bits ≡ reader.old.bits }
 {
     let place = run_end(words, reader, columns, pen)?;
@@ -257,14 +268,15 @@ fn draw_horizontal(
 ) -> Result<Pen, Stop>
     requires drawn { IsDrawn columns pen coding.old.items }
     requires open_end { pen.painted < columns }
-    ensures leads { IfOk result (λ next. (reference : Row) → length reference ≡ columns → Leads columns
-        (ModeFrom reference (spot_of pen coding.old.items) Horizontal (here reader.old))
-        (LineFrom reference (spot_of next coding.new.items) (here reader.new))) }
+    ensures leads { IfOk result (λ next. (reference : Row) → length reference ≡ columns → Passes columns
+        (ModeFrom reference (spot_of pen coding.old.items) Horizontal)
+        (LineFrom reference (spot_of next coding.new.items)) (here reader.old) (here reader.new)) }
     ensures on { IfOk result (λ next. (reference : List ℕ) → IsAbove columns pen reference
         → DrawsOn columns reference pen next coding.new.items) }
     ensures none { IfErr result (λ e. IsBroken e → (reference : Row) → length reference ≡ columns → Never columns
         (ModeFrom reference (spot_of pen coding.old.items) Horizontal (here reader.old))) }
-    ensures at { IfErr result (EndsAt reader.old.bits) }
+    ensures at { IfErr result (λ e. (reference : Row) → length reference ≡ columns → EndsAt columns
+        (ModeFrom reference (spot_of pen coding.old.items) Horizontal) reader.old.bits (here reader.old) e) }
     ensures same_bits { reader.new.bits ≡ reader.old.bits }
 {
     let between = paint_run(words, reader, columns, coding, pen)?;
@@ -284,13 +296,14 @@ fn draw_mode(
     requires above { IsAbove columns pen reference.now }
     requires drawn { IsDrawn columns pen coding.old.items }
     requires open_end { pen.painted < columns }
-    ensures leads { IfOk result (λ next. Leads columns
-        (LineFrom (pixels columns reference.now) (spot_of pen coding.old.items) (here reader.old))
-        (LineFrom (pixels columns reference.now) (spot_of next coding.new.items) (here reader.new))) }
+    ensures leads { IfOk result (λ next. Passes columns
+        (LineFrom (pixels columns reference.now) (spot_of pen coding.old.items))
+        (LineFrom (pixels columns reference.now) (spot_of next coding.new.items)) (here reader.old) (here reader.new)) }
     ensures on { IfOk result (λ next. DrawsOn columns reference.now pen next coding.new.items) }
     ensures none { IfErr result (λ e. IsBroken e → Never columns
         (LineFrom (pixels columns reference.now) (spot_of pen coding.old.items) (here reader.old))) }
-    ensures at { IfErr result (EndsAt reader.old.bits) }
+    ensures at { IfErr result (EndsAt columns (LineFrom (pixels columns reference.now) (spot_of pen coding.old.items))
+        reader.old.bits (here reader.old)) }
     ensures same_bits { reader.new.bits ≡ reader.old.bits }
 {
     let mut pen = pen;
@@ -316,8 +329,8 @@ pub fn draw_line_2d(
     requires wide { 0 < columns }
     requires reference { AreChanges columns reference.now }
     ensures reads { ReadsLine columns
-        (λ row rest. LineStands Group4 (pixels columns reference.now) row (here reader.old) rest)
-        coding.new.items (here reader.new) reader.old.bits result }
+        (λ here row rest. LineStands Group4 (pixels columns reference.now) row here rest)
+        coding.new.items (here reader.old) (here reader.new) reader.old.bits result }
     ensures same_bits { reader.new.bits ≡ reader.old.bits }
 {
     coding.clear();
@@ -338,13 +351,13 @@ fn draw_run(
 ) -> Result<Pen, Stop>
     requires drawn { IsDrawn columns pen coding.old.items }
     requires open_end { pen.painted < columns }
-    ensures leads { IfOk result (λ next. Leads columns
-        (RunsFrom (spot_of pen coding.old.items) (here reader.old))
-        (RunsFrom (spot_of next coding.new.items) (here reader.new))) }
+    ensures leads { IfOk result (λ next. Passes columns
+        (RunsFrom (spot_of pen coding.old.items))
+        (RunsFrom (spot_of next coding.new.items)) (here reader.old) (here reader.new)) }
     ensures drawn { IfOk result (λ next. IsDrawn columns next coding.new.items) }
     ensures onward { IfOk result (λ next. from_of pen < from_of next) }
     ensures none { IfErr result (λ e. IsBroken e → Never columns (RunsFrom (spot_of pen coding.old.items) (here reader.old))) }
-    ensures at { IfErr result (EndsAt reader.old.bits) }
+    ensures at { IfErr result (EndsAt columns (RunsFrom (spot_of pen coding.old.items)) reader.old.bits (here reader.old)) }
     ensures same_bits { reader.new.bits ≡ reader.old.bits }
 {
     let next = paint_run(words, reader, columns, coding, pen)?;
@@ -359,13 +372,13 @@ pub fn draw_line_1d(
     coding: &mut Vec<u32>,
 ) -> Result<(), Stop>
     requires wide { 0 < columns }
-    ensures row { OnOk result ((reference : Row) → Leads columns (λ row rest. LineStands Group3_1D reference row
-        (here reader.old) rest)
-        (IsOnly (pixels columns coding.new.items) (here reader.new))) }
+    ensures row { OnOk result ((reference : Row) → Passes columns (λ here row rest. LineStands Group3_1D reference row here rest)
+        (IsOnly (pixels columns coding.new.items)) (here reader.old) (here reader.new)) }
     ensures lawful { OnOk result (AreChanges columns coding.new.items) }
     ensures none { IfErr result (λ e. IsBroken e → (reference : Row)
         → Never columns (λ row rest. LineStands Group3_1D reference row (here reader.old) rest)) }
-    ensures at { IfErr result (EndsAt reader.old.bits) }
+    ensures at { IfErr result (λ e. (reference : Row) → EndsAt columns
+        (λ here row rest. LineStands Group3_1D reference row here rest) reader.old.bits (here reader.old) e) }
     ensures same_bits { reader.new.bits ≡ reader.old.bits }
 {
     coding.clear();

@@ -11,7 +11,7 @@ ghost use Rattle.fax_conforms.specs.Conforming.{EofbStands, SeeksEofb, TwoEolsSt
 ghost use Rattle.fax_conforms.specs.Conforming.{EolStands, TaggedEolStands, EolsStand, RtcStands};
 ghost use Rattle.fax_conforms.specs.Conforming.{EolLineStands, LinesStand};
 ghost use Rattle.fax_conforms.specs.Standing.{LineStands};
-ghost use Rattle.fax_conforms.specs.Stops.{EndsAt, IsBroken, ReadsLine};
+ghost use Rattle.fax_conforms.specs.Stops.{EndsInLine, IsBroken, LineOfPicture, ReadsLine};
 
 use crate::lines::{draw_line_1d, draw_line_2d};
 use crate::stops::{Rule, Stop, broken};
@@ -32,8 +32,8 @@ fn draw_tagged_line(
     requires wide { 0 < columns }
     requires reference { AreChanges columns reference.now }
     ensures reads { ReadsLine columns
-        (λ row rest. LineStands Group3_2D (pixels columns reference.now) row (here reader.old) rest)
-        coding.new.items (here reader.new) reader.old.bits result }
+        (λ here row rest. LineStands Group3_2D (pixels columns reference.now) row here rest)
+        coding.new.items (here reader.old) (here reader.new) reader.old.bits result }
     ensures same_bits { reader.new.bits ≡ reader.old.bits }
 {
     let place = reader.bit_pos();
@@ -55,8 +55,8 @@ pub fn draw_line(
     requires wide { 0 < settings.columns }
     requires reference { AreChanges settings.columns reference.now }
     ensures reads { ReadsLine settings.columns
-        (λ row rest. LineStands settings.encoding (pixels settings.columns reference.now) row (here reader.old) rest)
-        coding.new.items (here reader.new) reader.old.bits result }
+        (λ here row rest. LineStands settings.encoding (pixels settings.columns reference.now) row here rest)
+        coding.new.items (here reader.old) (here reader.new) reader.old.bits result }
     ensures same_bits { reader.new.bits ≡ reader.old.bits }
 {
     let columns = settings.columns;
@@ -170,8 +170,8 @@ fn draw_filled_line(
     requires reference { AreChanges settings.columns reference.now }
     requires whole { settings.rows_are_byte_aligned ≡ true → reader.old.place % 8 ≡ 0 }
     ensures reads { ReadsLine settings.columns
-        (λ row rest. FilledStands settings (pixels settings.columns reference.now) row (here reader.old) rest)
-        coding.new.items (here reader.new) reader.old.bits result }
+        (LineOfPicture settings false (pixels settings.columns reference.now))
+        coding.new.items (here reader.old) (here reader.new) reader.old.bits result }
     ensures whole { OnOk result (settings.rows_are_byte_aligned ≡ true → reader.new.place % 8 ≡ 0) }
     ensures shorter { OnOk result (length (here reader.new) < length (here reader.old)) }
     ensures fit { length reader.old.bits + 64 < 2 ^ 64 }
@@ -200,7 +200,7 @@ pub fn read_body(
     requires start { reader.old.place ≡ 0 }
     ensures stands { OnOk result (BodyStands settings 0 (white_row settings.columns) (here reader.old)) }
     ensures none { IfErr result (λ e. IsBroken e → BodyStands settings 0 (white_row settings.columns) (here reader.old) → ⊥) }
-    ensures at { IfErr result (EndsAt reader.old.bits) }
+    ensures at { IfErr result (EndsInLine settings false reader.old.bits (here reader.old)) }
 {
     reference.clear();
     let mut taken = 0;
@@ -313,8 +313,8 @@ fn draw_line_following_eol(
     requires wide { 0 < settings.columns }
     requires reference { AreChanges settings.columns reference.now }
     ensures reads { ReadsLine settings.columns
-        (λ row rest. EolLineStands settings (pixels settings.columns reference.now) row (here reader.old) rest)
-        coding.new.items (here reader.new) reader.old.bits result }
+        (LineOfPicture settings true (pixels settings.columns reference.now))
+        coding.new.items (here reader.old) (here reader.new) reader.old.bits result }
     ensures shorter { OnOk result (length (here reader.new) < length (here reader.old)) }
     ensures fit { length reader.old.bits + 64 < 2 ^ 64 }
     ensures same_bits { reader.new.bits ≡ reader.old.bits }
@@ -339,7 +339,7 @@ pub fn read_lines(
     requires wide { 0 < settings.columns }
     ensures stands { OnOk result (LinesStand settings 0 (white_row settings.columns) (here reader.old)) }
     ensures none { IfErr result (λ e. IsBroken e → LinesStand settings 0 (white_row settings.columns) (here reader.old) → ⊥) }
-    ensures at { IfErr result (EndsAt reader.old.bits) }
+    ensures at { IfErr result (EndsInLine settings true reader.old.bits (here reader.old)) }
 {
     reference.clear();
     let mut taken = 0;

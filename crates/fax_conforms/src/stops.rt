@@ -3,26 +3,28 @@
 ghost use Rattle.std.specs.Prelude.{◌≡◌, Err};
 ghost use Rattle.fax_conforms.specs.Stops.{IsViolated};
 
-/// A rule of T.4 or T.6 that data breaks.
+/// A rule of T.4 or T.6 that data breaks. What is expected at a place is what each line has there that begins with the same bits.
 #[derive(Debug, Clone, Copy, PartialEq, Eq)]
 pub enum Rule {
-    /// A word of a mode is expected (T.4 table 4, T.6 table 1).
+    /// A word of a mode is expected, and none is there (T.4 table 4, T.6 table 1).
     Mode,
-    /// The words of a run are expected: make-up words and one terminating word (T.4, 4.1.1).
+    /// The words of a run are expected, which are make-up words and one terminating word, and none are there (T.4, 4.1.1).
     Run,
-    /// A run or a vertical mode ends beyond the row's end (T.4, 4.1.1 and 4.2.1.3).
+    /// A run is longer than the one that is expected, or a vertical mode is farther to the right than each that is: it ends beyond
+    /// the row's end (T.4, 4.1.1 and 4.2.1.3).
     RowEnd,
-    /// A run of no pixels that isn't a row's first (T.4, 4.1.1), or a vertical mode that isn't right of a0 (T.4, 4.2.1.3).
+    /// A run has no pixels where one of some is expected (T.4, 4.1.1), or a vertical mode is farther to the left than each that is:
+    /// it isn't right of a0 (T.4, 4.2.1.3).
     NoPixels,
     /// The row has no columns.
     Columns,
-    /// An EOL is expected: before a line, or in RTC (T.4, 4.1.2 and 4.1.4).
+    /// An EOL is expected before a line, and none is there (T.4, 4.1.2).
     Eol,
-    /// A tag bit is expected (T.4, 4.2.2).
+    /// A tag bit is expected, and the data ends (T.4, 4.2.2).
     Tag,
-    /// Zeros up to a whole byte are expected after a line (T.4, 4.1.3).
+    /// Zeros up to a whole byte are expected after a line, and aren't there (T.4, 4.1.3).
     Padding,
-    /// Pass mode where b2 is the row's end, so that it isn't left of a1 (T.4, 4.2.1.3.2).
+    /// Pass mode where no pass mode is expected: b2 is the row's end, so that it isn't left of a1 (T.4, 4.2.1.3.2).
     PassToEnd,
 }
 

@@ -45,6 +45,6 @@ done_of_check (Some found) = Faulty
 -- the settings ask, and otherwise with the line of a violation.
 abbrev pub IsCheck : DecodeSettings → Bits → Done → List ℕ → Type 0
 IsCheck settings bits Good text = Conforms settings bits × (text ≡ codes "ok\n")
-IsCheck settings bits Faulty text = (Conforms settings bits → ⊥) × (found : Violation) × IsViolationOf bits found
+IsCheck settings bits Faulty text = (Conforms settings bits → ⊥) × (found : Violation) × IsViolationOf settings bits found
     × (text ≡ line_of_violation found)
 IsCheck settings bits Memory text = ⊥

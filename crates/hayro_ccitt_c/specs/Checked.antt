@@ -49,14 +49,14 @@ abbrev pub not_by_procedure : ViolationOutcome
 not_by_procedure = record { place = 0; rule = 10 }
 
 -- C gets a place of the data, and a rule that is broken there.
-abbrev pub IsPlaceTold : Bits → ViolationOutcome → Type 0
-IsPlaceTold whole told = (found : Violation) × IsViolationOf whole found × (told ≡ outcome_of_violation found)
+abbrev pub IsPlaceTold : DecodeSettings → Bits → ViolationOutcome → Type 0
+IsPlaceTold settings whole told = (found : Violation) × IsViolationOf settings whole found × (told ≡ outcome_of_violation found)
 
 -- C gets such a place; or, of data that is checked by the coding procedure, only that it isn't what that writes, if the data is
 -- readable.
 abbrev pub IsViolationTold : Grade → DecodeSettings → Bits → ViolationOutcome → Type 0
-IsViolationTold Readable settings whole told = IsPlaceTold whole told
-IsViolationTold (Procedure k) settings whole told = IsPlaceTold whole told
+IsViolationTold Readable settings whole told = IsPlaceTold settings whole told
+IsViolationTold (Procedure k) settings whole told = IsPlaceTold settings whole told
     ⊎ (Conforms settings whole × (told ≡ not_by_procedure))
 
 -- a statement about the grade and the settings that C passes, if they are valid, and about the bits of the data in the order that

@@ -118,6 +118,7 @@ fn each_rule_is_found_broken(rt: HostRuntime) {
         1d 8 1 - A0: false at 0: RowEnd
         1d 8 1 - 80DC: false at 4: NoPixels
         g4 8 1 - 3182: false at 9: NoPixels
+        g4 8 2 - 26A2A0: false at 17: NoPixels
         g4 8 2 a C0: false at 1: Padding
         1d 8 1 l 98: false at 0: Eol
         2d 8 1 l 0001: false at 16: Tag

@@ -1,7 +1,9 @@
-use Rattle.hayro_ccitt.proofs.Names.{◌≢◌, ◌∙◌, sym, arith, false≢true, here, Group4}
+use Rattle.hayro_ccitt.proofs.Names.{◌≢◌, ◌∙◌, sym, arith, false≢true, here, Group4, IfErr-weaker, Bits, subst, inl, inr, true}
+use Rattle.hayro_ccitt.proofs.Names.{false}
+use Rattle.fax_conforms.specs.Conforming.{EolStands}
 use Rattle.fax_conforms.proofs.PicturesConform.{group4_conforms, eols_conform, lines_conform, no_eols_conform}
-use Rattle.fax_conforms.proofs.Stopped.{if_err, if_done, if_broken, ends_here}
-use Rattle.fax_conforms.specs.declared.stops.Rule.TheVariants.{Eol}
+use Rattle.fax_conforms.proofs.PicturesDepart.{in_picture, no_first_eol, whole_is}
+use Rattle.fax_conforms.proofs.Stopped.{if_err, if_done, if_broken}
 use Rattle.fax_conforms.proofs.checking.read_picture.Goals as goal
 use Rattle.fax_conforms.proofs.checking.read_picture.Goals.{Else-is_group4}
 
@@ -49,6 +51,33 @@ returns-clause-none c = if_broken c.read_body-2.result _ _ c.read_body-2.ensures
     c.args.settings c.requires.wide (here c.args.reader.now) (omega arith) (three (goal.at.returns-clause-none c).Else-is_group4)
     (c.has_eol.ensures.none c.if-has_eol.false) c.if-settings.false).0 conforms))
 
+-- ---- Where the picture departs.
+pub returns-then-is_group4-clause-at : goal.returns-then-is_group4-clause-at
+returns-then-is_group4-clause-at c = IfErr-weaker c.read_body.result _ _ (λ e ends. in_picture c.args.settings false
+    c.args.reader.now.bits (here c.args.reader.now) e (whole_is c.args.reader.now c.requires.start) c.requires.wide
+    (inl (c.is_group4.ensures.0 c.if-is_group4.true)) ends) c.read_body.ensures.at
+
+pub returns-then-has_eol-clause-at : goal.returns-then-has_eol-clause-at
+returns-then-has_eol-clause-at c =
+    let found = c.has_eol.ensures.found c.if-has_eol.true in
+    let whole = whole_is c.args.reader.now c.requires.start in
+    IfErr-weaker c.read_lines.result _ _ (λ e ends. in_picture c.args.settings true
+    c.args.reader.now.bits (here c.args.reader.now) e whole c.requires.wide (
+      three (goal.at.returns-then-has_eol-clause-at c).Else-is_group4,
+      inr (found.0, subst (λ (b : Bits). EolStands b found.0) whole found.1),
+    ) ends) c.read_lines.ensures.at
+
 pub returns-then-settings-clause-at : goal.returns-then-settings-clause-at
-returns-then-settings-clause-at c = ends_here c.broken.result c.args.reader.now 0 Eol c.broken.ensures.exact
-    (sym c.requires.start) (omega arith) (c.has_eol.ensures.none c.if-has_eol.false)
+returns-then-settings-clause-at c = rw c.broken.ensures.exact (no_first_eol c.args.settings c.args.reader.now.bits c.requires.wide
+    (omega arith) (three (goal.at.returns-then-settings-clause-at c).Else-is_group4) c.if-settings.true
+    (λ rest stands. c.has_eol.ensures.none c.if-has_eol.false rest (subst (λ (b : Bits). EolStands b rest)
+    (sym (whole_is c.args.reader.now c.requires.start)) stands)))
+
+pub returns-clause-at : goal.returns-clause-at
+returns-clause-at c =
+    IfErr-weaker c.read_body-2.result _ _ (λ e ends. in_picture c.args.settings false
+    c.args.reader.now.bits (here c.args.reader.now) e (whole_is c.args.reader.now c.requires.start) c.requires.wide (inr (
+      c.if-settings.false,
+      λ rest stands. c.has_eol.ensures.none c.if-has_eol.false rest (subst (λ (b : Bits). EolStands b rest)
+          (sym (whole_is c.args.reader.now c.requires.start)) stands),
+    )) ends) c.read_body-2.ensures.at

@@ -1,27 +1,58 @@
-use Rattle.hayro_ccitt.proofs.Names.{arith, err_from_is_err_and}
-use Rattle.fax_conforms.proofs.RunsDrawn.{horizontal_drawn, horizontal_on, horizontal_fails, second_fails}
+use Rattle.hayro_ccitt.proofs.Names.{arith, err_from_is_err_and, here}
+use Rattle.fax_conforms.proofs.RunsDepart.{first_departs, second_departs, horizontal_passes, run_in}
+use Rattle.fax_conforms.proofs.RunsDrawn.{horizontal_on, horizontal_fails, second_fails}
 use Rattle.fax_conforms.proofs.lines.draw_horizontal.Goals as goal
 
 pub returns-in_err-between-clause-none : goal.returns-in_err-between-clause-none
 returns-in_err-between-clause-none c =
     let p = err_from_is_err_and c.from_residual.result c.from_residual.ensures.1 in
-    rw (p.1, p.2) (λ broken. horizontal_fails c.args.columns c.args.pen c.args.coding.now.items (omega
-    (arith, c.ranges.columns.fits))
-    c.requires.drawn c.requires.open_end _ (c.in_err-between.ensures.none broken))
+    rw (p.1, p.2) (λ broken. horizontal_fails c.args.columns c.args.pen c.args.coding.now.items (omega (
+      arith,
+      c.ranges.columns.fits,
+    )) c.requires.drawn
+    c.requires.open_end _ (c.in_err-between.ensures.none broken))
+
+pub returns-in_err-between-clause-at : goal.returns-in_err-between-clause-at
+returns-in_err-between-clause-at c =
+    let p = err_from_is_err_and c.from_residual.result c.from_residual.ensures.1 in
+    rw (p.1, p.2) (λ reference ref_len. first_departs c.args.columns c.args.pen c.args.coding.now.items (omega (
+      arith,
+      c.ranges.columns.fits,
+    )) c.requires.drawn
+    c.requires.open_end reference ref_len _ c.args.reader.now.bits (here c.args.reader.now)
+    c.in_err-between.ensures.at)
 
 pub returns-in_err-next-clause-none : goal.returns-in_err-next-clause-none
 returns-in_err-next-clause-none c =
     let p = err_from_is_err_and c.from_residual-in_err-next.result c.from_residual-in_err-next.ensures.1 in
     rw (p.1, p.2) (λ broken. second_fails c.args.columns c.args.pen c.args.coding.now.items (omega (arith, c.ranges.columns.fits))
-    c.requires.drawn c.requires.open_end c.in_ok-between.between c.paint_run.new.coding.items _ _ c.in_ok-between.ensures.run
+    c.requires.drawn
+    c.requires.open_end c.in_ok-between.between c.paint_run.new.coding.items _ _ c.in_ok-between.ensures.run
     (c.in_err-next.ensures.none broken))
 
+pub returns-in_err-next-clause-at : goal.returns-in_err-next-clause-at
+returns-in_err-next-clause-at c =
+    let p = err_from_is_err_and c.from_residual-in_err-next.result c.from_residual-in_err-next.ensures.1 in
+    rw (p.1, p.2) (λ reference ref_len. second_departs c.args.columns c.args.pen c.args.coding.now.items (omega (
+      arith,
+      c.ranges.columns.fits,
+    )) c.requires.drawn
+    c.requires.open_end c.in_ok-between.between c.paint_run.new.coding.items _ _
+    c.in_ok-between.ensures.run reference ref_len _ c.args.reader.now.bits
+    (run_in c.args.columns c.in_ok-between.between c.args.reader.now.bits c.paint_run.new.reader.bits
+    (here c.paint_run.new.reader) _ c.paint_run.ensures.same_bits c.in_err-next.ensures.at))
+
 pub returns-clause-leads : goal.returns-clause-leads
-returns-clause-leads c = horizontal_drawn c.args.columns c.args.pen c.args.coding.now.items (omega (arith, c.ranges.columns.fits))
-    c.requires.drawn c.requires.open_end c.in_ok-between.between c.paint_run.new.coding.items _ _ c.in_ok-between.ensures.run
+returns-clause-leads c = horizontal_passes c.args.columns c.args.pen c.args.coding.now.items (omega (
+  arith,
+  c.ranges.columns.fits,
+))
+    c.requires.drawn
+    c.requires.open_end c.in_ok-between.between c.paint_run.new.coding.items _ _ c.in_ok-between.ensures.run
     c.in_ok-next.next c.paint_run-2.new.coding.items _ c.in_ok-next.ensures.run
 
 pub returns-clause-on : goal.returns-clause-on
 returns-clause-on c = horizontal_on c.args.columns c.args.pen c.args.coding.now.items (omega (arith, c.ranges.columns.fits))
-    c.requires.drawn c.requires.open_end c.in_ok-between.between c.paint_run.new.coding.items _ _ c.in_ok-between.ensures.run
+    c.requires.drawn
+    c.requires.open_end c.in_ok-between.between c.paint_run.new.coding.items _ _ c.in_ok-between.ensures.run
     c.in_ok-next.next c.paint_run-2.new.coding.items _ c.in_ok-next.ensures.run

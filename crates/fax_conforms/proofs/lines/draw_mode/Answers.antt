@@ -1,8 +1,12 @@
 use Rattle.hayro_ccitt.proofs.Names.{◌∙◌, ap, sym, arith, Ok, w8, to_z, of_z, to_z-of_z, SFits, rules, Mode, Pass}
 use Rattle.hayro_ccitt.proofs.Names.{Horizontal, Vertical, here, pixels, ℕ, subst, drop, Mode, IfErr-weaker}
-use Rattle.fax_conforms.specs.Stops.{ModeIsHere}
+use Rattle.fax_conforms.specs.Standing.{LineFrom, spot_of}
+use Rattle.fax_conforms.specs.Stops.{ModeIsHere, EndsAt}
+use Rattle.fax_conforms.specs.declared.stops.Rule.TheVariants as rule
+use Rattle.fax_conforms.proofs.ModesDepart.{begins_here, mode_passes, no_mode_departs}
+use Rattle.fax_conforms.proofs.Passed.{passes_on, passes_all, ends_here, ends_after, ends_in}
 use Rattle.hayro_ccitt.proofs.PixelRows.ChangesAndPixels.{length-pixels}
-use Rattle.fax_conforms.proofs.PensDrawn.{mode_here_leads, mode_here_never, no_mode_here}
+use Rattle.fax_conforms.proofs.PensDrawn.{mode_here_never, no_mode_here}
 use Rattle.fax_conforms.proofs.Stopped.{if_err, if_ok, if_broken}
 use Rattle.fax_conforms.proofs.lines.draw_mode.Goals as goal
 
@@ -11,25 +15,11 @@ returns-in_default-clause-none c = if_err c.broken.result _
     (no_mode_here c.args.columns c.args.pen c.args.coding.now.items (omega (arith, c.ranges.columns.fits)) c.requires.drawn
     c.requires.open_end c.args.reference.now c.requires.above _ c.in_default.ensures.none)
 
-pub returns-in-Pass-clause-leads : goal.returns-in-Pass-clause-leads
-returns-in-Pass-clause-leads c = if_ok c.draw_pass.result _ _ c.draw_pass.ensures.leads (λ next leads.
-    mode_here_leads c.args.columns c.args.pen c.args.coding.now.items (omega (arith, c.ranges.columns.fits)) c.requires.drawn
-    c.requires.open_end c.args.reference.now c.requires.above Pass _ _
-    (c.in-Some.ensures.found ∙ ap (λ (m : Mode). Ok (m, here c.mode.new.reader)) c.in-Pass.is) (leads (here c.mode.new.reader)))
-
 pub returns-in-Pass-clause-none : goal.returns-in-Pass-clause-none
 returns-in-Pass-clause-none c = if_broken c.draw_pass.result _ _ c.draw_pass.ensures.none (λ none.
     mode_here_never c.args.columns c.args.pen c.args.coding.now.items (omega (arith, c.ranges.columns.fits)) c.requires.drawn
     c.requires.open_end c.args.reference.now c.requires.above Pass _ _
     (c.in-Some.ensures.found ∙ ap (λ (m : Mode). Ok (m, here c.mode.new.reader)) c.in-Pass.is) (none (here c.mode.new.reader)))
-
-pub returns-in-Vertical-clause-leads : goal.returns-in-Vertical-clause-leads
-returns-in-Vertical-clause-leads c = if_ok c.draw_vertical.result _ _ c.draw_vertical.ensures.leads (λ next leads.
-    mode_here_leads c.args.columns c.args.pen c.args.coding.now.items (omega (arith, c.ranges.columns.fits)) c.requires.drawn
-    c.requires.open_end c.args.reference.now c.requires.above (Vertical (to_z w8 (of_z w8 c.in-Vertical.offset))) _ _
-    (c.in-Some.ensures.found ∙ ap (λ (m : Mode). Ok (m, here c.mode.new.reader))
-    (c.in-Vertical.is ∙ ap Vertical (sym (to_z-of_z (let narrow : SFits w8 c.in-Vertical.offset = search rules in narrow)))))
-    (leads (here c.mode.new.reader)))
 
 pub returns-in-Vertical-clause-none : goal.returns-in-Vertical-clause-none
 returns-in-Vertical-clause-none c = if_broken c.draw_vertical.result _ _ c.draw_vertical.ensures.none (λ none.
@@ -39,14 +29,6 @@ returns-in-Vertical-clause-none c = if_broken c.draw_vertical.result _ _ c.draw_
     (c.in-Vertical.is ∙ ap Vertical (sym (to_z-of_z (let narrow : SFits w8 c.in-Vertical.offset = search rules in narrow)))))
     (none (here c.mode.new.reader)))
 
-pub returns-in-Horizontal-clause-leads : goal.returns-in-Horizontal-clause-leads
-returns-in-Horizontal-clause-leads c = if_ok c.draw_horizontal.result _ _ c.draw_horizontal.ensures.leads (λ next leads.
-    mode_here_leads c.args.columns c.args.pen c.args.coding.now.items (omega (arith, c.ranges.columns.fits)) c.requires.drawn
-    c.requires.open_end c.args.reference.now c.requires.above Horizontal _ _
-    (c.in-Some.ensures.found ∙ ap (λ (m : Mode). Ok (m, here c.mode.new.reader)) c.in-Horizontal.is)
-    (leads (pixels c.args.columns c.args.reference.now) (length-pixels c.args.columns c.args.reference.now
-    c.requires.above.lawful)))
-
 pub returns-in-Horizontal-clause-none : goal.returns-in-Horizontal-clause-none
 returns-in-Horizontal-clause-none c = if_broken c.draw_horizontal.result _ _ c.draw_horizontal.ensures.none (λ none.
     mode_here_never c.args.columns c.args.pen c.args.coding.now.items (omega (arith, c.ranges.columns.fits)) c.requires.drawn
@@ -55,20 +37,82 @@ returns-in-Horizontal-clause-none c = if_broken c.draw_horizontal.result _ _ c.d
     (none (pixels c.args.columns c.args.reference.now) (length-pixels c.args.columns c.args.reference.now
     c.requires.above.lawful)))
 
+-- ---- What is passed.
+pub returns-in-Pass-clause-leads : goal.returns-in-Pass-clause-leads
+returns-in-Pass-clause-leads c = if_ok c.draw_pass.result _ _ c.draw_pass.ensures.leads (λ next leads.
+    passes_on c.args.columns (here c.args.reader.now) (here c.mode.new.reader) (here c.mode.new.reader)
+    (mode_passes c.args.columns c.args.pen c.args.coding.now.items (omega (arith, c.ranges.columns.fits)) c.requires.drawn
+    c.requires.open_end c.args.reference.now c.requires.above Pass _ _ (c.in-Some.ensures.found ∙ ap (λ (m : Mode). Ok (
+      m,
+      here
+          c.mode.new.reader,
+    )) c.in-Pass.is)) (passes_all c.args.columns (here c.mode.new.reader) leads))
+
+pub returns-in-Vertical-clause-leads : goal.returns-in-Vertical-clause-leads
+returns-in-Vertical-clause-leads c = if_ok c.draw_vertical.result _ _ c.draw_vertical.ensures.leads (λ next leads.
+    passes_on c.args.columns (here c.args.reader.now) (here c.mode.new.reader) (here c.mode.new.reader)
+    (mode_passes c.args.columns c.args.pen c.args.coding.now.items (omega (arith, c.ranges.columns.fits)) c.requires.drawn
+    c.requires.open_end c.args.reference.now c.requires.above (Vertical (to_z w8 (of_z w8 c.in-Vertical.offset))) _ _
+    (c.in-Some.ensures.found ∙ ap (λ (m : Mode). Ok (m, here c.mode.new.reader))
+    (c.in-Vertical.is ∙ ap Vertical (sym (to_z-of_z (let narrow : SFits w8 c.in-Vertical.offset = search rules in narrow))))))
+    (passes_all c.args.columns (here c.mode.new.reader) leads))
+
+pub returns-in-Horizontal-clause-leads : goal.returns-in-Horizontal-clause-leads
+returns-in-Horizontal-clause-leads c = if_ok c.draw_horizontal.result _ _ c.draw_horizontal.ensures.leads (λ next leads.
+    passes_on c.args.columns (here c.args.reader.now) (here c.mode.new.reader) (here c.draw_horizontal.new.reader)
+    (mode_passes c.args.columns c.args.pen c.args.coding.now.items (omega (arith, c.ranges.columns.fits)) c.requires.drawn
+    c.requires.open_end c.args.reference.now c.requires.above Horizontal _ _ (c.in-Some.ensures.found ∙ ap (λ (m : Mode). Ok (
+      m,
+      here c.mode.new.reader,
+    )) c.in-Horizontal.is))
+    (leads (pixels c.args.columns c.args.reference.now) (length-pixels c.args.columns c.args.reference.now
+    c.requires.above.lawful)))
+
+-- ---- What departs.
+pub returns-in_default-clause-at : goal.returns-in_default-clause-at
+returns-in_default-clause-at c = ends_here c.broken.result c.args.columns c.args.reader.now c.bit_pos.result rule.Mode
+    c.broken.ensures.exact c.bit_pos.ensures.place c.bit_pos.ensures.within (begins_here c.args.columns c.args.pen
+    c.args.coding.now.items (omega (arith, c.ranges.columns.fits)) c.requires.drawn
+    c.requires.open_end c.args.reference.now c.requires.above)
+    (λ row more rest row_len stands. no_mode_departs c.args.columns c.args.pen c.args.coding.now.items (omega (
+      arith,
+      c.ranges.columns.fits,
+    )) c.requires.drawn
+    c.requires.open_end c.args.reference.now c.requires.above c.bit_pos.result (here c.args.reader.now) row more rest row_len
+    stands
+    c.in_default.ensures.none)
+
 pub returns-in-Pass-clause-at : goal.returns-in-Pass-clause-at
-returns-in-Pass-clause-at c = IfErr-weaker c.draw_pass.result _ _ (λ e ends. ends c.args.reader.now.bits c.bit_pos.ensures.within
+returns-in-Pass-clause-at c = IfErr-weaker c.draw_pass.result _ _ (λ e ends.
+    subst (λ (n : ℕ). EndsAt c.args.columns
+    (LineFrom (pixels c.args.columns c.args.reference.now) (spot_of c.args.pen c.args.coding.now.items)) c.args.reader.now.bits
+    (drop n c.args.reader.now.bits) e) c.bit_pos.ensures.place (ends c.args.reader.now.bits c.bit_pos.ensures.within
     (subst (λ (n : ℕ). ModeIsHere Pass (drop n c.args.reader.now.bits)) (sym c.bit_pos.ensures.place)
-    (here c.mode.new.reader, c.in-Some.ensures.found ∙ ap (λ (m : Mode). Ok (m, here c.mode.new.reader)) c.in-Pass.is)))
+    (here c.mode.new.reader, (c.in-Some.ensures.found ∙ ap (λ (m : Mode). Ok (m, here c.mode.new.reader)) c.in-Pass.is)))))
     c.draw_pass.ensures.at
 
 pub returns-in-Vertical-clause-at : goal.returns-in-Vertical-clause-at
-returns-in-Vertical-clause-at c = IfErr-weaker c.draw_vertical.result _ _ (λ e ends. ends c.args.reader.now.bits
-    c.bit_pos.ensures.within
-    (subst (λ (n : ℕ). ModeIsHere (Vertical (to_z w8 (of_z w8 c.in-Vertical.offset))) (drop n c.args.reader.now.bits))
-    (sym c.bit_pos.ensures.place) (
+returns-in-Vertical-clause-at c = IfErr-weaker c.draw_vertical.result _ _ (λ e ends.
+    subst (λ (n : ℕ). EndsAt c.args.columns
+    (LineFrom (pixels c.args.columns c.args.reference.now) (spot_of c.args.pen c.args.coding.now.items)) c.args.reader.now.bits
+    (drop n c.args.reader.now.bits) e) c.bit_pos.ensures.place (ends c.args.reader.now.bits c.bit_pos.ensures.within
+    (subst (λ (n : ℕ). ModeIsHere (Vertical (to_z w8 (of_z w8 c.in-Vertical.offset))) (drop n c.args.reader.now.bits)) (sym
+    c.bit_pos.ensures.place) (
       here c.mode.new.reader,
-      c.in-Some.ensures.found ∙ ap (λ (m : Mode). Ok (m, here c.mode.new.reader))
-          (c.in-Vertical.is ∙ ap Vertical (sym (to_z-of_z
-          (let narrow : SFits w8 c.in-Vertical.offset = search rules in narrow)))),
-    )))
-    c.draw_vertical.ensures.at
+      (c.in-Some.ensures.found ∙ ap (λ (m : Mode). Ok (m, here c.mode.new.reader))
+          (c.in-Vertical.is ∙ ap Vertical (sym (to_z-of_z (let narrow : SFits w8 c.in-Vertical.offset = search rules in
+          narrow))))),
+    )))) c.draw_vertical.ensures.at
+
+pub returns-in-Horizontal-clause-at : goal.returns-in-Horizontal-clause-at
+returns-in-Horizontal-clause-at c = ends_after c.args.columns c.args.reader.now.bits (here c.args.reader.now)
+    (here c.mode.new.reader) (mode_passes c.args.columns c.args.pen c.args.coding.now.items (omega (arith, c.ranges.columns.fits))
+    c.requires.drawn
+    c.requires.open_end c.args.reference.now c.requires.above Horizontal _ _ (c.in-Some.ensures.found ∙ ap (λ (m : Mode). Ok (
+      m,
+      here c.mode.new.reader,
+    )) c.in-Horizontal.is)) c.draw_horizontal.result
+    (ends_in _ c.draw_horizontal.result c.args.columns c.args.reader.now.bits c.mode.new.reader.bits (here c.mode.new.reader)
+    c.mode.ensures.same_bits (IfErr-weaker c.draw_horizontal.result _ _ (λ e ends.
+    ends (pixels c.args.columns c.args.reference.now) (length-pixels c.args.columns c.args.reference.now c.requires.above.lawful))
+    c.draw_horizontal.ensures.at))

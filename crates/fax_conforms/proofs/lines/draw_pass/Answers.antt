@@ -1,8 +1,11 @@
-use Rattle.hayro_ccitt.proofs.Names.{sym, subst, arith, pixels, Pass}
+use Rattle.hayro_ccitt.proofs.Names.{sym, subst, arith, pixels, Pass, drop}
 use Rattle.fax_conforms.specs.declared.lines.Pen.{Pen}
 use Rattle.fax_conforms.specs.Standing.{Leads, LineFrom, ModeFrom, spot_of, DrawsOn}
 use Rattle.fax_conforms.proofs.PensDrawn.{pass_on, pass_drawn, pass_fails, pass_right}
 use Rattle.fax_conforms.proofs.Stopped.{if_err}
+use Rattle.fax_conforms.proofs.Passed.{departs_at}
+use Rattle.fax_conforms.proofs.ModesDepart.{begins_here, pass_departs}
+use Rattle.fax_conforms.specs.declared.stops.Rule.TheVariants.{PassToEnd}
 use Rattle.fax_conforms.proofs.lines.draw_pass.Goals as goal
 
 pub returns-then-above-columns-clause-none : goal.returns-then-above-columns-clause-none
@@ -36,3 +39,12 @@ returns-clause-on c = subst (λ (p : Pen). DrawsOn c.args.columns c.args.referen
     c.requires.open_end c.args.reference.now c.requires.above c.find_above-above.result.b2 c.find_above-above.ensures.b2
     c.if-above-columns.false c.in_ok-next.next c.paint_to.new.coding.items c.in_ok-next.ensures.painted
     c.find_above-above.result.passed c.find_above-above.ensures.above)
+
+pub returns-then-above-columns-clause-at : goal.returns-then-above-columns-clause-at
+returns-then-above-columns-clause-at c = rw c.broken.ensures.exact (λ bits within is.
+    departs_at c.args.columns bits c.args.pen.word PassToEnd within
+    (begins_here c.args.columns c.args.pen c.args.coding.now.items (omega (arith, c.ranges.columns.fits)) c.requires.drawn
+    c.requires.open_end c.args.reference.now c.requires.above) (λ row more rest row_len stands.
+    pass_departs c.args.columns c.args.pen c.args.coding.now.items (omega (arith, c.ranges.columns.fits)) c.requires.drawn
+    c.requires.open_end c.args.reference.now c.requires.above c.args.pen.word (drop c.args.pen.word bits) row more rest row_len
+    stands (omega (arith, c.if-above-columns.true, c.find_above-above.ensures.b2)) is))

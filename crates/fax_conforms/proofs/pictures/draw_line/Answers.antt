@@ -1,4 +1,5 @@
-use Rattle.hayro_ccitt.proofs.Names.{pixels, Row}
+use Rattle.hayro_ccitt.proofs.Names.{pixels, Row, IfErr-weaker}
+use Rattle.fax_conforms.proofs.Passed.{passes_now}
 use Rattle.fax_conforms.proofs.Stopped.{if_done, if_broken}
 use Rattle.fax_conforms.proofs.pictures.draw_line.Goals as goal
 
@@ -10,10 +11,11 @@ returns-in-Group3_1D-clause-reads c =
     let reference : Row = pixels c.args.settings.columns c.args.reference.now in
     let drawn = c.draw_line_1d.ensures in
     rw c.in-Group3_1D.is (record {
-      row = if_done c.draw_line_1d.result _ _ drawn.row (λ row. row reference);
+      row = if_done c.draw_line_1d.result _ _ drawn.row (λ row. passes_now c.args.settings.columns _ _ (row reference));
+      passes = if_done c.draw_line_1d.result _ _ drawn.row (λ row. row reference);
       lawful = drawn.lawful;
       none = if_broken c.draw_line_1d.result _ _ drawn.none (λ none. none reference);
-      at = drawn.at;
+      at = IfErr-weaker c.draw_line_1d.result _ _ (λ e ends. ends reference) drawn.at;
     })
 
 pub returns-in-Group3_2D-clause-reads : goal.returns-in-Group3_2D-clause-reads

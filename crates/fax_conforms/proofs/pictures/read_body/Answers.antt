@@ -1,8 +1,8 @@
-use Rattle.hayro_ccitt.proofs.Names.{◌∙◌, ap, sym, length, arith, err_from_is_err_and, false≢true, here, pixels, Row}
+use Rattle.hayro_ccitt.proofs.Names.{◌∙◌, ap, sym, length, arith, err_from_is_err_and, false≢true, here, pixels, Row, false}
 use Rattle.hayro_ccitt.proofs.PixelRows.ChangesAndPixels.{length-pixels}
 use Rattle.fax_conforms.proofs.BodyLines.{body_fails, body_leads}
 use Rattle.fax_conforms.proofs.Padded.{iff_on}
-use Rattle.fax_conforms.proofs.Stopped.{ends_in}
+use Rattle.fax_conforms.proofs.LinesBefore.{one_more_line, ends_in_line, in_same_bits}
 use Rattle.fax_conforms.proofs.pictures.read_body.Goals as goal
 
 pub rows-preserved : goal.rows-preserved
@@ -17,6 +17,11 @@ rows-preserved c =
     (rw c.as_slice.ensures.value at c.in_ok-draw_filled_line.ensures.reads.row) in
     record {
       stands = rw c.swap.ensures.x_after (iff_on c.rows.invariant.stands on);
+      before = rw c.swap.ensures.x_after (one_more_line c.args.settings false c.rows.taken
+          (pixels c.args.settings.columns c.rows.reference.items) row (here c.args.reader.now) (here c.rows.reader)
+          (here c.draw_filled_line.new.reader) c.rows.invariant.before
+          (length-pixels c.args.settings.columns c.draw_filled_line.new.coding.items lawful)
+          (rw c.as_slice.ensures.value at c.in_ok-draw_filled_line.ensures.reads.passes));
       lawful = rw c.swap.ensures.x_after lawful;
       allows = c.limit_met.ensures.allows c.if-limit_met.false c.rows.invariant.allows;
       whole = c.in_ok-draw_filled_line.ensures.whole;
@@ -40,5 +45,9 @@ returns-in_err-draw_filled_line-clause-none c =
 pub returns-in_err-draw_filled_line-clause-at : goal.returns-in_err-draw_filled_line-clause-at
 returns-in_err-draw_filled_line-clause-at c =
     let p = err_from_is_err_and c.from_residual.result c.from_residual.ensures.1 in
-    ends_in c.from_residual.result c.args.reader.now.bits c.rows.reader.bits c.rows.invariant.same_bits
-    (rw (p.1, p.2) c.in_err-draw_filled_line.ensures.reads.at)
+    rw (p.1, p.2) (in_same_bits c.args.settings false c.args.reader.now.bits c.rows.reader.bits (here c.args.reader.now) _
+    c.rows.invariant.same_bits
+    (ends_in_line c.args.settings false c.rows.taken (pixels c.args.settings.columns c.rows.reference.items) c.rows.reader.bits
+    (here c.args.reader.now) (here c.rows.reader) _ c.rows.invariant.before
+    (c.limit_met.ensures.allows c.if-limit_met.false c.rows.invariant.allows)
+    (rw c.as_slice.ensures.value at c.in_err-draw_filled_line.ensures.reads.at)))

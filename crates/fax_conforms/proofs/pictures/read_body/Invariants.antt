@@ -1,11 +1,13 @@
-use Rattle.hayro_ccitt.proofs.Names.{◌≡◌, ◌+◌, ◌≤◌, ◌%◌, ◌↔◌, true, length, here, pixels, white_row, AreChanges, Allows}
+use Rattle.hayro_ccitt.proofs.Names.{◌≡◌, ◌+◌, ◌≤◌, ◌%◌, ◌↔◌, true, length, here, pixels, white_row, AreChanges, Allows, false}
 use Rattle.fax_conforms.specs.Conforming.{BodyStands}
+use Rattle.fax_conforms.proofs.LinesBefore.{LinesBefore}
 use Rattle.fax_conforms.proofs.pictures.read_body.Given as goal
 
 abbrev pub invariant-rows : goal.invariant-rows
 invariant-rows l = record {
   stands : BodyStands l.settings 0 (white_row l.settings.columns) (here l.fn.reader)
       ↔ BodyStands l.settings l.taken (pixels l.settings.columns l.reference.items) (here l.reader);
+  before : LinesBefore l.settings false l.taken (pixels l.settings.columns l.reference.items) (here l.fn.reader) (here l.reader);
   lawful : AreChanges l.settings.columns l.reference.items;
   allows : Allows l.settings l.taken;
   whole : l.settings.rows_are_byte_aligned ≡ true → l.reader.place % 8 ≡ 0;
