@@ -1,10 +1,27 @@
-"""What conforms to T.4 and T.6, by a slow check from their words, apart from the definitions and the code: what `faxrows -c` says
-of data, and whether the strips of `faxpack` and of other encoders are what the coding procedure writes. Bits are a text, rows
-lists of pixels, 1 for black."""
-import random
-from collections import Counter
+"""What conforms to T.4 and T.6, by a slow check from their words, apart from the definitions and the code: what `faxrows -c`
+says of data and where, and whether the strips of `faxpack` and of other encoders are what the coding procedure writes. Bits are a text, rows
+lists of pixels, 1 for black.
 
+`run.py conformance data 80000 SEED` checks so many data, and `run.py conformance encoders 80 SEED` the strips of so many pictures, some
+40 of each."""
+import itertools
+import random
+import re
+import shutil
+import subprocess
+import tempfile
+from collections import Counter
+from pathlib import Path
+
+from c import encoder
+from gate.skipped import leave_out
+from pdf import pdf_of, stream_object
 from programs import packing, program
+
+NO_EOL, FILL = "an EOL is expected (T.4, 4.1.2)", "fill where none may be (T.4, 4.1.3 and 4.1.4)"
+BEYOND, NO_PIXELS = "beyond the row's end (T.4, 4.1.1 and 4.2.1.3)", "no pixels (T.4, 4.1.1 and 4.2.1.3)"
+OTHER, KIND = "not what the procedure writes (T.4, 4.1.1 and 4.2.1.3)", "a two-dimensional line where none may be (T.4, 4.2.1)"
+END = "not the end that the procedure writes (T.4, 4.1.4; T.6, 2.4.1.1)"
 
 EOL = "0" * 11 + "1"
 
@@ -22,12 +39,12 @@ WORD_OF_MODE = {mode: word for word, mode in MODES.items()}
 
 
 class Broken(Exception):
-    """Why data doesn't conform."""
+    """Why data doesn't conform, and the offset in bits of the word that is wrong."""
 
 
-def need(holds, why):
+def need(holds, why, place):
     if not holds:
-        raise Broken(why)
+        raise Broken(why, place)
 
 
 class Data:
@@ -39,17 +56,13 @@ class Data:
     def has(self, text):
         return self.bits.startswith(text, self.place)
 
-    def take(self, text, why):
-        need(self.has(text), why)
-        self.place += len(text)
-
-    def word(self, words):
+    def word(self, words, why, start=None):
         for size in range(1, 14):
             text = self.bits[self.place : self.place + size]
             if len(text) == size and text in words:
                 self.place += size
                 return words[text]
-        raise Broken("no word")
+        raise Broken(why, self.place if start is None else start)
 
     def eol(self):
         """Reads an EOL, and returns how many zeros of fill are before it (T.4, 4.1.2 and 4.1.3); None if there is no EOL."""
@@ -62,10 +75,9 @@ class Data:
 
 def read_run(data, color):
     """Any make-up words and a terminating one (T.4, 4.1.1)."""
-    total = word = 64
-    total = 0
+    start, total, word = data.place, 0, 64
     while word >= 64:
-        word = data.word(RUNS[color])
+        word = data.word(RUNS[color], program.RUN, start)
         total += word
     return total
 
@@ -90,21 +102,22 @@ def change_right_of(row, a0, color=None):
 def read_1d(data, columns):
     row, color = [], 0
     while len(row) < columns:
+        start = data.place
         run = read_run(data, color)
-        need(run or not row and color == 0, "a run of no pixels")
-        need(len(row) + run <= columns, "beyond the row's end")
+        need(run or not row and color == 0, NO_PIXELS, start)
+        need(len(row) + run <= columns, BEYOND, start)
         row += [color] * run
         color = 1 - color
     return row
 
 
-def prescribed_1d(row):
+def prescribed_1d(row, run=prescribed_run):
     text, color, place = "", 0, 0
     while place < len(row):
         end = place
         while end < len(row) and row[end] == color:
             end += 1
-        text, place, color = text + prescribed_run(color, end - place), end, 1 - color
+        text, place, color = text + run(color, end - place), end, 1 - color
     return text
 
 
@@ -113,22 +126,26 @@ def read_2d(data, reference, columns):
     row, a0, color = [], -1, 0
     while a0 < columns:
         b1 = change_right_of(reference, a0, 1 - color)
-        mode = data.word(MODES)
+        start = data.place
+        mode = data.word(MODES, program.MODE)
         if mode == "P":
             b2 = change_right_of(reference, b1)
-            need(b2 < columns, "pass mode to the row's end")
+            need(b2 < columns, "pass mode to the row's end (T.4, 4.2.1.3.2)", start)
             row += [color] * (b2 - len(row))
             a0 = b2
         elif mode == "H":
-            for run in (read_run(data, color), read_run(data, 1 - color)):
-                need(run or a0 < 0 and not row or len(row) == columns, "a run of no pixels")
-                need(len(row) + run <= columns, "beyond the row's end")
+            for _ in range(2):
+                start = data.place
+                run = read_run(data, color)
+                need(run or a0 < 0 and not row or len(row) == columns, NO_PIXELS, start)
+                need(len(row) + run <= columns, BEYOND, start)
                 row += [color] * run
                 color, a0 = 1 - color, max(a0, 0)
             a0 = len(row)
         else:
             a1 = b1 + int(mode)
-            need(a0 < a1 <= columns, "a vertical mode not right of a0, or beyond the row's end")
+            need(a0 < a1, NO_PIXELS, start)
+            need(a1 <= columns, BEYOND, start)
             row += [color] * (a1 - len(row))
             a0, color = a1, 1 - color
     return row
@@ -158,7 +175,7 @@ def read_line(data, mode, reference, columns):
     that the procedure writes for it."""
     tag = ""
     if mode == "2d":
-        need(data.place < len(data.bits), "no tag")
+        need(data.place < len(data.bits), "a tag is expected (T.4, 4.2.2)", data.place)
         tag = data.bits[data.place]
         data.place += 1
     is_two = mode == "g4" or tag == "0"
@@ -166,82 +183,79 @@ def read_line(data, mode, reference, columns):
     return row, is_two, tag + (prescribed_2d(reference, row) if is_two else prescribed_1d(row))
 
 
-def rtc_here(data, mode):
-    """Where RTC ends that is here, and how many zeros of fill it has: six EOLs, each with a tag of 1 in two-dimensional Group 3
-    (T.4, 4.1.4 and 4.2.4). None if it isn't here."""
+def end_here(data, mode, count):
+    """Where an end of the block ends that is here after so many rows, None if none is here, and the places of fill in it: EOFB (T.6,
+    2.4.1.1); or after some row RTC, six EOLs, each with a tag of 1 in two-dimensional Group 3, with fill before the first alone
+    (T.4, 4.1.3, 4.1.4 and 4.2.4)."""
+    if mode == "g4":
+        return data.place + 24 if data.has(EOL + EOL) else None, []
     ahead, tag, fills = Data(data.bits, data.place), "1" if mode == "2d" else "", []
-    for _ in range(6):
-        fills.append(ahead.eol())
-        if fills[-1] is None or not ahead.has(tag):
-            return None
+    for number in range(6 if count else 0):
+        start, fill = ahead.place, ahead.eol()
+        fills += [start] if fill and number else []
+        if fill is None or not ahead.has(tag):
+            return None, fills
         ahead.place += len(tag)
-    return ahead.place, sum(fills[1:])
+    return ahead.place if count else None, fills
 
 
-def zeros_to_byte(data, why):
-    while data.place % 8:
-        data.take("0", why)
-
-
-def read_picture(mode, columns, limit, flags, bits, strict, k=None):
-    need(columns, "no columns")
-    data, reference, count, left, fills = Data(bits), [0] * columns, 0, 0, 0
+def read_picture(words, bits, k):
+    """Reads a picture in any encoding that every decoder must read. Yields what isn't as the coding procedure writes it, and where,
+    in the order of the data."""
+    mode, columns, limit, flags = words[0], int(words[1]), int(words[2]), words[3]
+    need(columns, "no columns", 0)
+    data, reference, count, left = Data(bits), [0] * columns, 0, 0
     has_eols = mode != "g4" and Data(bits).eol() is not None
-    need(has_eols or mode == "g4" or "l" not in flags, "no EOL")
+    need(has_eols or mode == "g4" or "l" not in flags, NO_EOL, 0)
     closes = "b" in flags and (mode == "g4" or has_eols)
-    while True:
-        is_full = limit and limit == count
-        if is_full and not (strict and closes):
+    while not limit or limit > count:
+        if closes and end_here(data, mode, count)[0]:
             break
-        if closes and mode == "g4" and data.has(EOL + EOL):
-            data.place += 24
-            break
-        if closes and mode != "g4" and count and (rtc := rtc_here(data, mode)):
-            data.place, fills = rtc[0], fills + rtc[1]
-            break
-        need(not is_full, "not closed")
-        if has_eols:
-            fill = data.eol()
-            need(fill is not None, "no EOL")
-            fills += fill if count == 0 else 0
+        start = data.place
+        fill = data.eol() if has_eols else 0
+        need(fill is not None, NO_EOL, start)
+        if fill and not count:
+            yield FILL, start
         start = data.place
         reference, is_two, prescribed = read_line(data, mode, reference, columns)
-        if strict:
-            need(bits[start : data.place] == prescribed, "not by the procedure")
-            if mode == "2d":
-                need(not is_two or left is None or left > 0, "a two-dimensional line where K asks for another")
-                left = left - 1 if is_two and left is not None else k and k - 1 if not is_two else None
-        if "a" in flags and not has_eols:
-            zeros_to_byte(data, "no zeros up to a whole byte")
-        count += 1
-    if strict:
-        zeros_to_byte(data, "more than the picture")
-        need(data.place == len(bits), "more than the picture")
-        # Fill is between a line and the EOL after it alone (T.4, 4.1.3). It is last, so that nothing else is wrong then.
-        need(fills == 0, "fill that T.4 doesn't have")
+        if mode == "2d":
+            if is_two and left is not None and left < 1:
+                yield KIND, start
+            left = left - 1 if is_two and left is not None else k and k - 1 if not is_two else None
+        if bits[start : data.place] != prescribed:
+            yield OTHER, start
+        count, after = count + 1, data.place
+        while "a" in flags and not has_eols and data.place % 8:
+            need(data.has("0"), "zeros up to a whole byte are expected (T.4, 4.1.3)", after)
+            data.place += 1
+    if closes:
+        end, fills = end_here(data, mode, count)
+        if fills or not end:
+            yield (FILL, fills[0]) if fills else (END, data.place)
+        data.place = end or data.place
+    if len(bits) - data.place > 7 or "1" in bits[data.place :]:
+        yield END, data.place
+
+
+def bits_of(words, data):
+    return "".join(f"{byte:08b}"[:: -1 if "r" in words[3] else 1] for byte in data)
+
+
+def first_broken(words, bits, strict, k=None):
+    """The first rule that bits break, which needn't be whole bytes, and where; None if they break none."""
+    try:
+        departures = list(read_picture(words, bits, k))
+    except Broken as error:
+        return error.args
+    return departures[0] if strict and departures else None
 
 
 def broken(words, data, strict, k=None):
-    """Why data breaks a rule of T.4 or T.6; None if it doesn't. The data begins with an encoding that every decoder must read
-    back as its rows; and with `strict` it is one that the coding procedure writes, with at most `k` - 1 two-dimensional lines
-    after a one-dimensional one, if `k` is given, and ends with it."""
-    mode, columns, limit, flags = words
-    bits = "".join(f"{byte:08b}"[:: -1 if "r" in flags else 1] for byte in data)
-    try:
-        read_picture(mode, int(columns), int(limit), flags, bits, strict, k)
-        return None
-    except Broken as why:
-        return str(why)
-
-
-def reads(words, bits):
-    """Whether bits conform, which needn't be whole bytes."""
-    mode, columns, limit, flags = words
-    try:
-        read_picture(mode, int(columns), int(limit), flags, bits, False)
-        return True
-    except Broken:
-        return False
+    """The first rule of T.4 or T.6 that data breaks, and where; None if it doesn't. The data begins with an encoding that every
+    decoder must read back as its rows; and with `strict` it is one that the coding procedure writes, with at most `k` - 1
+    two-dimensional lines after a one-dimensional one, if `k` is given, and ends with it. Of data that isn't the first kind the rule
+    is one of that, wherever it is."""
+    return first_broken(words, bits_of(words, data), strict, k)
 
 
 # ---- data to check
@@ -285,45 +299,55 @@ def some_2d(chosen, reference, row):
 
 
 def some_data(chosen):
-    """A picture, mostly with a right encoding, and settings to read it."""
+    """A picture, mostly with a right encoding, half of them by the procedure, and settings to read it; some data at random."""
     mode, columns, count = chosen.choice(["g4", "1d", "2d"]), chosen.choice([1, 2, 3, 8, 9, 33, 70, 2700]), chosen.randrange(5)
     flags = "".join(letter for letter in "bla" if chosen.random() < 0.5)
     has_eols = mode != "g4" and ("l" in flags or chosen.random() < 0.5)
-    text, reference = "", [0] * columns
-    for _ in range(count):
+    is_plain, text, reference = chosen.random() < 0.5, "", [0] * columns
+    for number in range(count):
         row = some_row(chosen, columns)
         if has_eols:
-            text += "0" * chosen.choice([0, 0, 0, 5]) + EOL
-        is_two = mode == "g4" or mode == "2d" and chosen.random() < 0.5
+            text += "0" * chosen.choice([0, 0, 0, 0 if is_plain and not number else 5]) + EOL
+        is_two = mode == "g4" or mode == "2d" and chosen.random() < 0.5 and not (is_plain and not number)
         tag = "01"[not is_two] if mode == "2d" else ""
-        text += tag + (some_2d(chosen, reference, row) if is_two else prescribed_1d(row))
+        if is_two:
+            text += tag + (prescribed_2d(reference, row) if is_plain else some_2d(chosen, reference, row))
+        else:
+            text += tag + prescribed_1d(row, prescribed_run if is_plain else lambda *run: some_run(chosen, *run))
         text += "0" * (-len(text) % 8) if "a" in flags and not has_eols else ""
         reference = row
     if "b" in flags and mode == "g4":
         text += EOL + EOL
     elif "b" in flags and has_eols:
-        text += (EOL + "1" * (mode == "2d")) * chosen.choice([6, 6, 6, 5])
+        for number in range(chosen.choice([6, 6, 6, 5])):
+            text += "0" * chosen.choice([0] * 30 + [3]) + EOL + "1" * (mode == "2d")
     if chosen.random() < 0.2:
         place = chosen.randrange(len(text) + 1)
         text = text[:place] + chosen.choice(["", "0", "1", "01"]) + text[place + 1 :]
-    text += "0" * (-len(text) % 8)
-    data = bytes(int(text[place : place + 8], 2) for place in range(0, len(text), 8))
+    text += "0" * (-len(text) % 8) + chosen.choice([""] * 15 + ["0" * 8])
+    data = bytes(int(text[place : place + 8], 2) for place in range(0, len(text), 8)) if chosen.random() < 0.95 else chosen.randbytes(9)
     limit = chosen.choice([count, count, count, 0, count + 1])
     return (mode, str(columns), str(limit), flags or "-"), data
 
 
+def agrees(words, data):
+    """What `faxrows -c` says of data is what this check does: `ok`, or the place and the rule. Returns the rule."""
+    found = broken(words, data, False)
+    done = program.run(["-c", *words], data)
+    line = f"violation {found[1]} {found[0]}\n" if found else "ok\n"
+    assert (done.returncode, done.stdout.decode(), done.stderr) == (int(found is not None), line, b""), (words, data.hex(), found, done)
+    return found and found[0]
+
+
 def data_conforms(count=1000, seed=1):
-    """`faxrows -c` says `ok` of data exactly if it conforms by this check, in both orders of bits."""
+    """`faxrows -c` says of data what this check does, in either order of bits."""
     chosen, seen = random.Random(seed), Counter()
     for _ in range(count):
         words, data = some_data(chosen)
-        expected = broken(words, data, False)
-        for case, read in program.in_both_orders(*words, data):
-            done = program.run(["-c", *case], read)
-            assert (done.stdout == b"ok\n") == (expected is None), (case, read.hex(), expected, done.stdout)
-        seen[expected or "conform"] += 1
+        words, data = chosen.choice(program.in_both_orders(*words, data))
+        seen[agrees(words, data)] += 1
     assert len(seen) >= 8, seen
-    print(f"  {count} data: " + ", ".join(f"{number} {why}" for why, number in seen.most_common()))
+    print(f"  {count} data: " + ", ".join(f"{number} {rule or 'ok'}" for rule, number in seen.most_common()))
 
 
 def closes(words, bits):
@@ -365,7 +389,7 @@ def nothing_is_broken_before(count=600, seed=2):
         if not closes(words, bits[:place]):
             seen["cannot be closed"] += 1
             continue
-        found = any(reads(words, text) for text in completed(words, bits[:place]))
+        found = any(first_broken(words, text, False) is None for text in completed(words, bits[:place]))
         assert found, (words, data.hex(), done.stdout)
         seen["begin data that conform"] += 1
     assert seen["begin data that conform"] > count // 2, seen
@@ -383,35 +407,118 @@ def packed_by_the_procedure():
             strip = packing.strip_of(columns, bitmap, words)
             to_read = packing.to_read(columns, packing.rows_of(columns, bitmap), words)
             shortest, fills = "m" in words[1], "f" in words[1]
-            found = broken(to_read, strip, not shortest, int(words[2]) if len(words) > 2 else None)
-            expected = "fill that T.4 doesn't have" if fills and not shortest else None
-            assert found == expected, (columns, words, strip.hex(), found)
+            found = {rule for rule, _ in read_picture(to_read, bits_of(to_read, strip), int(words[2]) if len(words) > 2 else None)}
+            assert shortest or found == ({FILL} if fills else set()), (columns, words, strip.hex(), found)
             seen["shortest" if shortest else "filled" if fills else "by the procedure"] += 1
     assert len(seen) == 3, seen
     print("  strips: " + ", ".join(f"{number} {kind}" for kind, number in seen.items()))
 
 
-# Why strips of other encoders aren't what T.4 and T.6 prescribe, in any setting that reads them: all of their lines are.
-OTHERWISE = {"fill that T.4 doesn't have", "more than the picture"}
+# ---- strips of other encoders. Each is yielded with how it was made, its mode, the encoder's K, the columns and rows, and flags: b if it
+# has EOFB or RTC.
 
 
-def other_encoders_follow_the_procedure():
-    """Each line that libtiff, Ghostscript, MuPDF, netpbm and ImageMagick wrote is the one of the procedure: each strip conforms
-    in some of the settings that read it, or doesn't only for its fill or its end. mgetty ends a line with a run of no pixels."""
-    with open("corpus/manifest.tsv", encoding="utf-8") as file:
-        lines = [line.rstrip("\n").split("\t") for line in file if not line.startswith("#")]
-    follows, others = Counter(), Counter()
-    for name, path, mode, columns, _, runs, _, _, _, tool, *_ in lines:
-        with open(f"corpus/{path}", "rb") as file:
-            data = file.read()
-        if len(data) > 10_000 or tool.startswith("mgetty"):
+def by_libtiff(folder, pictures):
+    tool = packing.by_libtiff(folder)
+    if not tool:
+        leave_out("strips of libtiff", "libtiff")
+    for (columns, bitmap), way in itertools.product(pictures if tool else [], LIBTIFF):
+        size = str(columns), str(packing.rows_of(columns, bitmap)), f"{folder}/tiff"
+        mode, k = "1d" if "rle" in way else way[:2], (4 if "h" in way else 2) if "2d" in way else None
+        flags = "b" * (mode == "g4") + "a" * ("rle" in way) + "r" * (way[-1] == "r")
+        yield f"libtiff {way}", mode, k, columns, size[1], flags, packing.run(bitmap, tool, "encode", way, *size).stdout
+
+
+LIBTIFF = ["g4", "g4:r", "rle", "rle:r", "1d", "1d:f", "1d:fr", "2d", "2d:h", "2d:f", "2d:hfr"]
+ENCODE = """/buffer 65536 string def
+/encode {
+    /settings exch def /out exch def /in exch def
+    /source in (r) file def /into out (w) file def /target into settings /CCITTFaxEncode filter def
+    { source buffer readstring exch target exch writestring not { exit } if } loop
+    target closefile into closefile
+} def
+"""
+
+
+def by_ghostscript(folder, pictures):
+    text, made = ENCODE, []
+    for (columns, bitmap), k, some in itertools.product(pictures, (-1, 0, 1, 2, 4), packing.all_flags("bla")):
+        # Without EOLs its lines of two dimensions have no tags.
+        if k < 0 and "l" in some or k > 0 and "l" not in some:
             continue
-        settings = [run.split(":") for run in runs.split(",") if "s" not in run]
-        found = {broken((mode, columns, limit, flags), data, True) for limit, flags in settings}
-        assert None in found or found & OTHERWISE, (name, found)
-        (follows if None in found else others)[tool.split()[0]] += 1
-    assert follows["libtiff"] and follows["ghostscript"] and follows["MuPDF"], follows
-    print(f"  by the procedure: {dict(follows)}; but for fill or the end: {dict(others)}")
+        rows, name, has = packing.rows_of(columns, bitmap), f"{folder}/{len(made)}", {letter: str(letter in some).lower() for letter in "bla"}
+        Path(name).write_bytes(bitmap)
+        text += f"({name}) ({name}.out) << /K {k} /Columns {columns} /Rows {rows} /BlackIs1 true /EndOfBlock {has['b']} "
+        text += f"/EndOfLine {has['l']} /EncodedByteAlign {has['a']} >> encode\n"
+        mode, flags = "g4" if k < 0 else "2d" if k else "1d", some.strip("-").replace("l", "")
+        made.append((f"ghostscript {mode} {some}", mode, k if k > 0 else None, columns, rows, flags, f"{name}.out"))
+    Path(f"{folder}/encode.ps").write_text(text + "quit\n", encoding="ascii")
+    done = packing.run(b"", "gs", "-q", "-dNODISPLAY", "-dBATCH", "-dNOSAFER", f"{folder}/encode.ps")
+    assert (done.returncode, done.stdout, done.stderr) == (0, b"", b""), done
+    for *what, path in made:
+        yield *what, Path(path).read_bytes()
 
 
-CHECKS = [data_conforms, nothing_is_broken_before, packed_by_the_procedure, other_encoders_follow_the_procedure]
+def by_mupdf(folder, pictures):
+    """It writes Group 4 where it compresses images of one bit."""
+    head = "/Type /XObject /Subtype /Image /ColorSpace /DeviceGray /BitsPerComponent 1"
+    images = [stream_object(f"{head} /Width {columns} /Height {packing.rows_of(columns, bitmap)}".encode(), bitmap) for columns, bitmap in pictures]
+    page = b"<< /Type /Page /Parent 2 0 R /MediaBox [0 0 9 9] >>"
+    Path(f"{folder}/in.pdf").write_bytes(pdf_of([b"<< /Type /Catalog /Pages 2 0 R >>", b"<< /Type /Pages /Kids [3 0 R] /Count 1 >>", page, *images]))
+    subprocess.run(["mutool", "clean", "-i", f"{folder}/in.pdf", f"{folder}/out.pdf"], check=True, capture_output=True, timeout=60)
+    data = Path(f"{folder}/out.pdf").read_bytes()
+    found = re.finditer(rb" 0 obj\n<<[^\n]*/Length (\d+)[^\n]*/CCITTFaxDecode[^\n]*>>\nstream\n", data)
+    for (columns, bitmap), it in zip(pictures, found, strict=True):
+        yield "MuPDF g4", "g4", None, columns, packing.rows_of(columns, bitmap), "b", data[it.end() : it.end() + int(it[1])]
+
+
+def by_netpbm(_, pictures):
+    for (columns, bitmap), way in itertools.product(pictures, ([], ["-reversebits"], ["-align8"], ["-align16"])):
+        strip = packing.run(encoder.pbm(columns, bitmap), "pbmtog3", "-nofixedwidth", *way).stdout
+        yield " ".join(["netpbm", *way]), "1d", None, columns, packing.rows_of(columns, bitmap), "br" if "-r" in "".join(way) else "b", strip
+
+
+def by_mgetty(_, pictures):
+    """Its rows have 1728 columns."""
+    for (columns, bitmap), way in itertools.product(pictures, ([], ["-a"])):
+        strip = packing.run(encoder.pbm(columns, bitmap), "pbm2g3", *way).stdout
+        yield " ".join(["mgetty", *way]), "1d", None, 1728, packing.rows_of(columns, bitmap), "b", strip
+
+
+# Those with the tool that each needs. Debian's mgetty-fax, which has the last one, isn't among the packages of the checks.
+ENCODERS = [(by_libtiff, "gcc"), (by_ghostscript, "gs"), (by_mupdf, "mutool"), (by_netpbm, "pbmtog3"), (by_mgetty, "pbm2g3")]
+
+
+def some_pictures(chosen, count):
+    for number in range(count):
+        columns = [1, 2, 3, 8, 9, 31, 64, 70, 300, 1728, 2700, 5300][number % 12]
+        rows = [some_row(chosen, columns) for _ in range(chosen.randrange(1, 7))]
+        yield columns, b"".join(int("".join(map(str, row)).ljust(-columns // 8 * -8, "0"), 2).to_bytes(-(-columns // 8), "big") for row in rows)
+
+
+def other_encoders(count=12, seed=3):
+    """`faxrows -c` says of strips of libtiff, Ghostscript, MuPDF, netpbm and mgetty what this check does, with their number of rows and up
+    to the end of the block. All but mgetty's, whose lines may end with a run of no pixels, are readable; and whether they are by the
+    procedure, with the encoder's K, is printed."""
+    chosen, found = random.Random(seed), {}
+    with tempfile.TemporaryDirectory() as folder:
+        pictures = list(some_pictures(chosen, count))
+        for by, tool in ENCODERS:
+            if not shutil.which(tool):
+                leave_out(f"strips of {tool}", tool, tool != "pbm2g3")
+                continue
+            for name, mode, own, columns, rows, flags, strip in by(folder, pictures):
+                plain = flags.replace("b", "")
+                ways = [(mode, str(columns), str(limit), some or "-") for limit, some in ((rows, plain), (rows, "b" + plain), (0, "b" + plain))]
+                readable = {agrees(words, strip) for words in ways}
+                assert None in readable or "mgetty" in name, (name, columns, strip.hex(), readable)
+                rules = [it and it[0] for it in (broken(words, strip, True, own) for words in ways)]
+                found.setdefault(name, Counter())[None if None in rules else rules["b" in flags]] += 1
+    assert found
+    print(f"  {sum(map(Counter.total, found.values()))} strips by other encoders")
+    for name, rules in found.items():
+        print(f"  {name}: " + ", ".join(f"{number} {rule or 'by the procedure'}" for rule, number in rules.most_common()))
+
+
+CHECKS = [data_conforms, nothing_is_broken_before, packed_by_the_procedure, other_encoders]
+COMMANDS = {"data": data_conforms, "encoders": other_encoders}
