@@ -1,1 +1,5 @@
-pub mod PackedPictures
+mod DrawnRows
+mod LaidLists
+mod LaidRows
+mod OtherColours
+mod PackedPictures

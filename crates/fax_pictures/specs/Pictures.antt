@@ -1,5 +1,6 @@
 -- Pictures in memory.
-use Rattle.std.specs.Prelude.{◌≡◌, ℕ, suc, ◌*◌, ◌<◌, ◌≤◌, List, ◌∷◌, ◌++◌, length, take, drop, codes}
+use Rattle.std.specs.Prelude.{◌≡◌, ◌⊎◌, ℕ, suc, ◌+◌, ◌-◌, ◌*◌, ◌<◌, ◌≤◌, not, List, [], ◌∷◌, ◌++◌, length, take, drop, map}
+use Rattle.std.specs.Prelude.{codes, get_or}
 use Rattle.hayro_ccitt.specs.Bits.{bits_of}
 use Rattle.hayro_ccitt.specs.Rows.{Row}
 use Rattle.fax_encode.specs.Packed.{bytes_of_row, packed, shown}
@@ -28,6 +29,21 @@ pub record ArePacked (columns rows : ℕ) (bytes : List ℕ) : Type 0 where
 -- the rows of a picture, of which the one at an index is another
 abbrev pub with_row_at : ℕ → Row → List Row → List Row
 with_row_at index row rows = take index rows ++ (row ∷ drop (suc index) rows)
+
+-- a picture with black and white exchanged
+abbrev pub inverted : Picture → Picture
+inverted picture = record picture { rows = map (map not) picture.rows }
+
+-- auxiliary: the elements of a list over those of another from an index on, as far as the other reaches
+abbrev pub laid_over : {A : Type 0} → ℕ → List A → List A → List A
+laid_over left part row = take left row ++ (take (length row - left) part ++ drop (left + length part) row)
+
+-- Rows lie over a picture from a column and a row on, as far as it reaches, and the rest of the picture is as it was.
+pub record LieOver (left top : ℕ) (part : List Row) (old new : Picture) : Type 0 where
+  pub size : (new.columns ≡ old.columns) × (length new.rows ≡ length old.rows)
+  pub over : (k : ℕ) → k < length part → top + k < length old.rows
+      → get_or new.rows (top + k) [] ≡ laid_over left (get_or part k []) (get_or old.rows (top + k) [])
+  pub others : (y : ℕ) → (y < top) ⊎ (top + length part ≤ y) → get_or new.rows y [] ≡ get_or old.rows y []
 
 -- the text of an error
 abbrev pub text_of : PictureError → List ℕ

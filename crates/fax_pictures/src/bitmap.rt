@@ -1,14 +1,15 @@
 //! A picture in memory.
 
-ghost use Rattle.std.specs.Prelude.{◌≡◌, ◌↔◌, ◌<◌, ◌≤◌, ◌+◌, ◌*◌, length, ◌++◌, drop, replicate, take, Err, IfOk};
+ghost use Rattle.std.specs.Prelude.{◌≡◌, ◌↔◌, ◌<◌, ◌≤◌, ◌+◌, ◌*◌, ◌%◌, length, [], ◌++◌, drop, replicate, take, get_or};
+ghost use Rattle.std.specs.Prelude.{Err, IfOk, OnErr, OnOk};
 ghost use Rattle.hayro_ccitt.specs.Bits.{bits_of};
-ghost use Rattle.hayro_ccitt.specs.Rows.{AreChanges, pixels, white_row};
+ghost use Rattle.hayro_ccitt.specs.Rows.{AreChanges, pixel, pixels, white_row};
 ghost use Rattle.fax_encode.specs.Chosen.{filled_up};
 ghost use Rattle.fax_encode.specs.Packed.{bytes_of_row, packed};
-ghost use Rattle.fax_pictures.specs.Pictures.{HasRoom, with_row_at};
+ghost use Rattle.fax_pictures.specs.Pictures.{HasRoom, laid_over, with_row_at};
 
 use crate::error::PictureError;
-use fax_encode::paint_row;
+use fax_encode::{paint_row, rows_of_bitmap};
 use std::alloc::{AllocError, Global};
 use std::marker::Model;
 
@@ -59,7 +60,8 @@ impl Bitmap {
 
     /// Returns how many pixels a row has.
     pub fn columns(&self) -> u32
-        ensures { result ≡ self.now.columns }
+        ensures value { result ≡ self.now.columns }
+        ensures some { 0 < result }
     {
         self.columns
     }
@@ -87,6 +89,86 @@ impl Bitmap {
     {
         let start = index as usize * (self.columns as usize).div_ceil(8);
         paint_at(&mut self.bytes, start, self.columns, changes);
+    }
+
+    /// Returns the bytes of a row.
+    fn row_bytes(&self, index: u32) -> &[u8]
+        requires within { index < length self.now.rows }
+        ensures length { length result.now ≡ bytes_of_row self.now.columns }
+        ensures row { take self.now.columns (bits_of result.now) ≡ get_or self.now.rows index [] }
+    {
+        let width = (self.columns as usize).div_ceil(8);
+        let start = index as usize * width;
+        &self.bytes[start..start + width]
+    }
+
+    /// Returns the changes of a row.
+    ///
+    /// # Errors
+    ///
+    /// The allocation for them.
+    pub fn changes_of_row(&self, alloc: Global, index: u32) -> Result<Vec<u32>, AllocError>
+        requires within { index < length self.now.rows }
+        ensures lawful { IfOk result (λ changes. AreChanges self.now.columns changes.items) }
+        ensures row { IfOk result (λ changes. pixels self.now.columns changes.items ≡ get_or self.now.rows index []) }
+    {
+        changes_of_bits(alloc, self.columns, self.row_bytes(index))
+    }
+
+    /// Returns whether the pixel of a column and a row is black.
+    pub fn is_black(&self, column: u32, row: u32) -> bool
+        requires column { column < self.now.columns }
+        requires row { row < length self.now.rows }
+        ensures { result ≡ pixel (get_or self.now.rows row []) column }
+    {
+        let byte = self.row_bytes(row)[column as usize / 8];
+        byte >> (7 - column % 8) & 1 == 1
+    }
+
+    /// Lays bytes, of eight pixels each, over a row from a column on, as far as the row reaches.
+    pub(crate) fn lay_over_row(
+        &mut self,
+        alloc: Global,
+        left: u32,
+        index: u32,
+        part: &[u8],
+    ) -> Result<(), AllocError>
+        requires within { index < length self.old.rows }
+        requires whole { left % 8 ≡ 0 }
+        ensures laid { OnOk result (self.new ≡ record self.old {
+          rows = with_row_at index (laid_over left (bits_of part.now) (get_or self.old.rows index [])) self.old.rows;
+        }) }
+        ensures kept { OnErr result (self.new ≡ self.old) }
+    {
+        let mut line = self.row_bytes(index).to_vec(alloc)?;
+        lay_over(&mut line, left as usize / 8, part);
+        let changes = changes_of_bits(alloc, self.columns, line.as_slice())?;
+        self.paint_row(index, changes.as_slice());
+        Ok(())
+    }
+}
+
+/// Lays bytes over others from an index on, as far as those reach.
+fn lay_over(line: &mut [u8], left: usize, part: &[u8])
+    ensures laid { line.new ≡ laid_over left part.now line.old }
+    ensures length { length line.new ≡ length line.old }
+{
+    let start = left.min(line.len());
+    let count = part.len().min(line.len() - start);
+    line[start..start + count].copy_from_slice(&part[..count]);
+}
+
+/// Returns the changes of a row of packed pixels.
+fn changes_of_bits(alloc: Global, columns: u32, row: &[u8]) -> Result<Vec<u32>, AllocError>
+    requires some { 0 < columns }
+    requires size { length row.now ≡ bytes_of_row columns }
+    ensures lawful { IfOk result (λ changes. AreChanges columns changes.items) }
+    ensures row { IfOk result (λ changes. pixels columns changes.items ≡ take columns (bits_of row.now)) }
+{
+    let mut rows = rows_of_bitmap(alloc, columns, row)?;
+    match rows.pop() {
+        Some(changes) => Ok(changes),
+        None => unreachable!(),
     }
 }
 

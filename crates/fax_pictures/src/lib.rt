@@ -3,6 +3,8 @@
 
 mod bitmap;
 mod error;
+mod placing;
+mod turning;
 
 pub use bitmap::Bitmap;
 pub use error::PictureError;

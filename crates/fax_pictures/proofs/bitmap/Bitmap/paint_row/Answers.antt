@@ -1,22 +1,12 @@
-use Rattle.fax_encode.proofs.Names.{◌≡◌, ◌*◌, ◌+◌, ◌<◌, ◌≤◌, ◌++◌, ℕ, suc, List, length, take, drop, sym}
-use Rattle.fax_encode.proofs.Names.{ap, ◌∙◌, subst, arith, Bits, bits_of}
+use Rattle.fax_encode.proofs.Names.{◌≡◌, ◌*◌, ◌+◌, ◌<◌, ◌≤◌, ◌++◌, ℕ, List, length, take, drop, sym}
+use Rattle.fax_encode.proofs.Names.{ap, ◌∙◌, subst, arith, bits_of}
 use Rattle.fax_encode.proofs.Names.{Row, filled_up, bytes_of_row, shown, length-pixels, AreChanges}
 use Rattle.hayro_ccitt.specs.Rows.{pixels}
-use Rattle.std.proofs.Math.Nat.{mul-le-mul_right}
 use Rattle.std.proofs.lemmas.List.{with_items_is}
 use Rattle.fax_pictures.specs.Pictures.{ArePacked, Picture, with_row_at}
-use Rattle.fax_pictures.proofs.PackedPictures.{row_is_held, rows_counted}
+use Rattle.fax_pictures.proofs.PackedPictures.{inside_bytes, row_is_held, rows_counted}
+use Rattle.fax_pictures.proofs.bitmap.Bitmap.paint_row.Goals.{After-paint_at}
 use Rattle.fax_pictures.proofs.bitmap.Bitmap.paint_row.Goals as goal
-
--- a row lies within the bytes
-inside_bytes : (index rows width columns : ℕ) (bytes : List ℕ) → index < rows → width ≡ bytes_of_row columns
-    → length bytes ≡ rows * bytes_of_row columns → index * width + bytes_of_row columns ≤ length bytes
-inside_bytes index rows width columns bytes lt is size =
-    let w : ℕ = bytes_of_row columns in
-    let more : suc index * w ≤ rows * w = mul-le-mul_right w (omega (arith, lt)) in
-    let next : suc index * w ≡ index * w + w = omega arith in
-    let same : index * width ≡ index * w = ap (λ (k : ℕ). index * k) is in
-    omega (arith, more, next, same, size)
 
 -- what is held after a row was painted
 painted : (columns rows index width : ℕ) (changes bytes new : List ℕ) → ArePacked columns rows bytes → index < rows
@@ -40,8 +30,12 @@ paint_at-requires-clause-within c =
     (omega (arith, c.div_ceil.ensures)) c.self.invariant.size in
     omega (arith, within, c.deref_mut.ensures.len, ap length c.deref_mut.ensures.value)
 
-pub invariant_of-self : goal.invariant_of-self
-invariant_of-self c =
+-- the picture after the row was painted
+held_after : (c : After-paint_at) → ArePacked c.self.inside.columns c.self.inside.rows c.paint_at.new.bytes
+    × (shown c.self.inside.columns c.paint_at.new.bytes
+    ≡ with_row_at c.args.index (pixels c.self.inside.columns c.args.changes.now)
+    (shown c.self.inside.columns c.self.inside.bytes.items))
+held_after c =
     let inside = c.self.inside in
     let count : length (shown inside.columns inside.bytes.items) ≡ inside.rows =
     rows_counted inside.columns inside.rows inside.bytes.items c.self.invariant in
@@ -53,31 +47,21 @@ invariant_of-self c =
     ++ (filled_up (pixels inside.columns c.args.changes.now)
     ++ bits_of (drop (c.args.index * c.div_ceil.result + bytes_of_row inside.columns) l))) c.deref_mut.ensures.value
     c.paint_at.ensures.painted in
+    painted inside.columns inside.rows c.args.index c.div_ceil.result c.args.changes.now inside.bytes.items c.paint_at.new.bytes
+    c.self.invariant (omega (arith, lt, count)) lawful (omega (arith, c.div_ceil.ensures)) bits
+
+pub invariant_of-self : goal.invariant_of-self
+invariant_of-self c =
+    let inside = c.self.inside in
     let stored = with_items_is inside.bytes c.paint_at.new.bytes (c.paint_at.ensures.length ∙ c.deref_mut.ensures.len) in
-    subst (ArePacked inside.columns inside.rows) (sym stored)
-    (painted inside.columns inside.rows c.args.index c.div_ceil.result c.args.changes.now inside.bytes.items c.paint_at.new.bytes
-    c.self.invariant (omega (arith, lt, count)) lawful (omega (arith, c.div_ceil.ensures)) bits).0
+    subst (ArePacked inside.columns inside.rows) (sym stored) (held_after (goal.at.invariant_of-self c).After-paint_at).0
 
 pub returns : goal.returns
 returns c =
     let inside = c.self.inside in
-    let count : length (shown inside.columns inside.bytes.items) ≡ inside.rows =
-    rows_counted inside.columns inside.rows inside.bytes.items c.self.invariant in
-    let lt : c.args.index < length (shown inside.columns inside.bytes.items) =
-    subst (λ (p : Picture). c.args.index < length p.rows) (sym c.self.view_is) c.requires.within in
-    let lawful : AreChanges inside.columns c.args.changes.now =
-    subst (λ (p : Picture). AreChanges p.columns c.args.changes.now) (sym c.self.view_is) c.requires.changes in
-    let bits = subst (λ (l : List ℕ). bits_of c.paint_at.new.bytes ≡ bits_of (take (c.args.index * c.div_ceil.result) l)
-    ++ (filled_up (pixels inside.columns c.args.changes.now)
-    ++ bits_of (drop (c.args.index * c.div_ceil.result + bytes_of_row inside.columns) l))) c.deref_mut.ensures.value
-    c.paint_at.ensures.painted in
     let stored = with_items_is inside.bytes c.paint_at.new.bytes (c.paint_at.ensures.length ∙ c.deref_mut.ensures.len) in
     let picture : List Row → Picture = λ rows. record { columns = inside.columns; rows = rows } in
-    let rows : shown inside.columns c.paint_at.new.bytes
-    ≡ with_row_at c.args.index (pixels inside.columns c.args.changes.now) (shown inside.columns inside.bytes.items) =
-    (painted inside.columns inside.rows c.args.index c.div_ceil.result c.args.changes.now inside.bytes.items c.paint_at.new.bytes
-    c.self.invariant (omega (arith, lt, count)) lawful (omega (arith, c.div_ceil.ensures)) bits).1 in
-    ap picture (ap (shown inside.columns) stored ∙ rows)
+    ap picture (ap (shown inside.columns) stored ∙ (held_after (goal.at.returns c).After-paint_at).1)
     ∙ ap (λ (p : Picture). record {
       columns = p.columns;
       rows = with_row_at c.args.index (pixels p.columns c.args.changes.now) p.rows;

@@ -1,4 +1,4 @@
-use Rattle.fax_encode.proofs.Names.{◌≡◌, ◌*◌, ◌+◌, ◌/◌, ◌≤◌, ◌<◌, ℕ, List, replicate, sym, ap, ◌∙◌}
+use Rattle.fax_encode.proofs.Names.{◌≡◌, ◌*◌, ◌≤◌, ◌<◌, ℕ, List, replicate, sym, ap, ◌∙◌}
 use Rattle.fax_encode.proofs.Names.{subst, arith, Row, bytes_of_row, shown}
 use Rattle.hayro_ccitt.specs.Rows.{white_row}
 use Rattle.fax_pictures.specs.Pictures.{ArePacked, HasRoom, Picture}
