@@ -3,6 +3,7 @@ pub mod Decoded
 pub mod DrawingLines
 pub mod Names
 pub mod Readings
+pub mod TaggedBodies
 pub mod Work
 pub use Rattle.fax_bits.proofs.BitReading
 pub use Rattle.fax_bits.proofs.ErrorKinds

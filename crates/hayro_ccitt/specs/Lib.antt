@@ -1,4 +1,5 @@
 pub mod RowsOfFeeds
+pub mod TaggedBodies
 pub use Rattle.fax_bits.specs.Bits
 pub use Rattle.fax_bits.specs.CodeLists
 pub use Rattle.fax_bits.specs.CodeReading

@@ -53,6 +53,7 @@ mod in_step;
 pub mod laws;
 mod locality;
 mod reach;
+mod tagged;
 
 use bit_reader::{BitOrder, BitReader};
 pub use context::DecoderContext;
@@ -65,6 +66,7 @@ pub use fax_rows::row_reader::RowReader;
 pub use in_step::in_step_from;
 pub use locality::body_is_local;
 pub use reach::rows_reached;
+pub use tagged::tagged_body_is_local;
 
 /// Decodes the rows of an image according to its encoding.
 fn decode_rows<D: Decoder>(

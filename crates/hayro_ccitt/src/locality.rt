@@ -24,14 +24,19 @@ fn is_lenient_1d(settings: DecodeSettings) -> bool
 }
 
 /// Returns whether an error is an allocation failure.
-fn wants_memory(error: DecodeError) -> bool
+pub(crate) fn wants_memory(error: DecodeError) -> bool
     ensures { IsTrue result ↔ (error ≡ DecodeError.OutOfMemory) }
 {
     matches!(error, DecodeError::OutOfMemory)
 }
 
 /// Returns whether an EOL ends at an offset, or the data begins there. Each bit that is examined is a tick.
-fn is_following_eol(order: BitOrder, data: &[u8], place: usize, ticks: &mut Ticks) -> bool
+pub(crate) fn is_following_eol(
+    order: BitOrder,
+    data: &[u8],
+    place: usize,
+    ticks: &mut Ticks,
+) -> bool
     requires fit { BitsFit «data».now }
     requires within { place ≤ 8 * length «data».now }
     ensures after { IsTrue result ↔ ((place ≡ 0) ⊎ ((12 ≤ place)
@@ -49,7 +54,13 @@ fn is_following_eol(order: BitOrder, data: &[u8], place: usize, ticks: &mut Tick
 }
 
 /// Returns whether there is a one between two offsets. Each bit that is examined is a tick.
-fn holds_one(order: BitOrder, data: &[u8], from: usize, to: usize, ticks: &mut Ticks) -> bool
+pub(crate) fn holds_one(
+    order: BitOrder,
+    data: &[u8],
+    from: usize,
+    to: usize,
+    ticks: &mut Ticks,
+) -> bool
     requires fit { BitsFit «data».now }
     requires order { from ≤ to }
     requires within { to ≤ 8 * length «data».now }
@@ -62,7 +73,12 @@ fn holds_one(order: BitOrder, data: &[u8], from: usize, to: usize, ticks: &mut T
 }
 
 /// Returns the offset after the EOL at an offset. Each bit that is examined is a tick.
-fn end_of_eol(order: BitOrder, data: &[u8], place: usize, ticks: &mut Ticks) -> Option<usize>
+pub(crate) fn end_of_eol(
+    order: BitOrder,
+    data: &[u8],
+    place: usize,
+    ticks: &mut Ticks,
+) -> Option<usize>
     requires fit { BitsFit «data».now }
     requires within { place ≤ 8 * length «data».now }
     ensures end { after_eol 0 (drop place (bits_in order «data».now))
@@ -79,7 +95,13 @@ fn end_of_eol(order: BitOrder, data: &[u8], place: usize, ticks: &mut Ticks) -> 
 
 /// Returns whether there is an EOL between two offsets, the second of which is the start of one. Each bit that is
 /// examined is a tick.
-fn holds_eol(order: BitOrder, data: &[u8], from: usize, to: usize, ticks: &mut Ticks) -> bool
+pub(crate) fn holds_eol(
+    order: BitOrder,
+    data: &[u8],
+    from: usize,
+    to: usize,
+    ticks: &mut Ticks,
+) -> bool
     requires fit { BitsFit «data».now }
     requires order { from ≤ to }
     requires within { to ≤ 8 * length «data».now }

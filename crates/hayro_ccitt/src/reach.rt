@@ -143,7 +143,7 @@ fn rows_before_1d(ctx: &mut DecoderContext, reader: &mut BitReader<'_>) -> Optio
 }
 
 /// Returns whether these settings are those of lenient two-dimensional data of Group 3.
-fn is_lenient_2d(settings: DecodeSettings) -> bool
+pub(crate) fn is_lenient_2d(settings: DecodeSettings) -> bool
     ensures { IsTrue result ↔ ((settings.encoding ≡ EncodingMode.Group3_2D) × (settings.strict ≡ false)) }
 {
     matches!(settings.encoding, EncodingMode::Group3_2D) && !settings.strict

@@ -21,7 +21,7 @@ use hayro_ccitt::group3::{check_eob, decode_1d, decode_2d, recover};
 use hayro_ccitt::tables::Tables;
 use hayro_ccitt::{
     DecodeError, DecodeSettings, DecoderContext, EncodingMode, Result, bits_fit, body_is_local,
-    group4, in_step_from, rows_reached,
+    group4, in_step_from, rows_reached, tagged_body_is_local,
 };
 use std::alloc::AllocGlobal;
 use std::process::Abort;
@@ -156,6 +156,38 @@ pub(super) fn is_local(
 ) -> Result<bool> {
     assert!(rt; bits_fit(data));
     body_is_local(order, data, ctx, from, to)
+}
+
+/// Returns whether the tag and the body of a line lie between two offsets.
+pub(super) fn is_tagged_local(
+    rt: &impl Abort,
+    order: BitOrder,
+    data: &[u8],
+    ctx: &mut DecoderContext,
+    from: usize,
+    to: usize,
+) -> Result<bool> {
+    assert!(rt; bits_fit(data));
+    tagged_body_is_local(order, data, ctx, from, to)
+}
+
+/// Returns whether the tag and the body of a line lie between two offsets in an argument.
+fn is_tagged_local_by(
+    rt: &impl Abort,
+    order: BitOrder,
+    data: &[u8],
+    ctx: &mut DecoderContext,
+    argument: &str,
+) -> Result<bool> {
+    let (from, to) = argument.split_once(' ').expect(rt, argument);
+    is_tagged_local(
+        rt,
+        order,
+        data,
+        ctx,
+        number_in(rt, from) as usize,
+        number_in(rt, to) as usize,
+    )
 }
 
 /// Returns whether the body between two offsets in an argument is local.
@@ -332,6 +364,9 @@ fn says_of_damage(
 ) -> Option<Returned> {
     match call {
         "body_is_local" => Some(Returned::Answer(is_local_by(rt, order, data, ctx, argument))),
+        "tagged_body_is_local" => Some(Returned::Answer(is_tagged_local_by(
+            rt, order, data, ctx, argument,
+        ))),
         "rows_reached" => Some(Returned::Reach(reach_of(
             rt,
             order,

@@ -101,6 +101,52 @@ fn bodies_of_random_lines(rt: HostRuntime) {
     );
 }
 
+/// A two-dimensional line between one-dimensional ones; then zeros in its place, which are no line, and an EOL in it. Then a line
+/// against whose row the next ends within its EOL, and one after six EOLs with their tags.
+#[test]
+fn tagged_bodies_that_are_local(rt: HostRuntime) {
+    calls_each(
+        &rt,
+        "Group3_2D 4 columns 0 rows l | 001D800A003356003B | tagged_body_is_local 29 31 = Ok(true)
+        Group3_2D 4 columns 0 rows l | 001D800A003356003B | tagged_body_is_local 12 17 = Ok(true)
+        Group3_2D 4 columns 0 rows l | 001D800A003356003B | tagged_body_is_local 43 55 = Ok(true)
+        Group3_2D 4 columns 0 rows l | 001D800A003356003B | tagged_body_is_local 29 30 = Ok(false)
+        Group3_2D 4 columns 0 rows l | 001D800A003356003B | tagged_body_is_local 29 32 = Ok(false)
+        Group3_2D 4 columns 0 rows l | 001D800A003356003B | tagged_body_is_local 30 31 = Ok(false)
+        Group3_2D 4 columns 0 rows l | 001D800A003356003B | tagged_body_is_local 31 29 = Ok(false)
+        Group3_2D 4 columns 0 rows l | 001D800A003356003B | tagged_body_is_local 29 73 = Ok(false)
+        Group3_2D 4 columns 0 rows l s | 001D800A003356003B | tagged_body_is_local 29 31 = Ok(false)
+        Group3_1D 4 columns 0 rows l | 001D800A003356003B | tagged_body_is_local 29 31 = Ok(false)
+        Group3_2D 0 columns 0 rows l | 001D800A003356003B | tagged_body_is_local 29 31 = Ok(true)
+        Group3_2D 4 columns 0 rows l | 001D8008003356003B | tagged_body_is_local 29 31 = Ok(false)
+        Group3_2D 4 columns 0 rows l | 001D800A0028003356003B | tagged_body_is_local 29 31 = Ok(true)
+        Group3_2D 4 columns 0 rows l | 001D800A0028003356003B | tagged_body_is_local 29 45 = Ok(false)
+        Group3_2D 4 columns 0 rows l | 001D800A0028003356003B | tagged_body_is_local 43 45 = Ok(true)
+        Group3_2D 3 columns 0 rows l | 00094006E80070 | tagged_body_is_local 13 18 = Ok(true)
+        Group3_2D 3 columns 0 rows l | 000D4006E80070 | tagged_body_is_local 13 18 = Ok(false)
+        Group3_2D 3 columns 0 rows l | 001800C006003001800C00380012800B0018 | tagged_body_is_local 92 96 = Ok(false)
+        Group3_2D 3 columns 0 rows l | 001800C006003001800C00380012800B0018 | tagged_body_is_local 108 113 = Ok(true)
+        Group3_2D 3 columns 0 rows l | 001800C006003001800C00390012800B0018 | tagged_body_is_local 92 97 = Ok(false)
+        // Lines at random, some with a bit changed, left out or added: a reading of T.4 apart from this program found the answers.
+        Group3_2D 2 columns 0 rows | 00020111C370019AA1C0 | tagged_body_is_local 15 44 = Ok(true)
+        Group3_2D 1 columns 0 rows b l | 000BBCC4400019AA | tagged_body_is_local 13 34 = Ok(true)
+        Group3_2D 5 columns 0 rows b | 000C4000002F00 | tagged_body_is_local 13 18 = Ok(true)
+        Group3_2D 64 columns 0 rows | 001BFBE0000A50E00180 | tagged_body_is_local 12 28 = Ok(true)
+        Group3_2D 2 columns 0 rows l a | 000111D000088E8002E002C000 | tagged_body_is_local 71 75 = Ok(true)
+        Group3_2D 8 columns 0 rows l | 00022F8231A8008BF31A80 | tagged_body_is_local 15 45 = Ok(true)
+        Group3_2D 17 columns 0 rows l | 0005000037508E0003 | tagged_body_is_local 35 55 = Ok(true)
+        Group3_2D 5 columns 0 rows b a | 001DA000528D4000A2350018 | tagged_body_is_local 65 80 = Ok(true)
+        Group3_2D 2 columns 0 rows | 0002D94A0020C0 | tagged_body_is_local 15 31 = Ok(true)
+        Group3_2D 1 columns 0 rows a | 0019AA000000BABC | tagged_body_is_local 49 63 = Ok(false)
+        Group3_2D 8 columns 0 rows b l | 000000011359146A | tagged_body_is_local 32 63 = Ok(false)
+        Group3_2D 5 columns 0 rows b a | 0003741D00 | tagged_body_is_local 15 33 = Ok(false)
+        Group3_2D 30 columns 0 rows | 0019AAB43A1F4A10E9E0 | tagged_body_is_local 12 76 = Ok(false)
+        Group3_2D 3 columns 0 rows | 000000014000335C70 | tagged_body_is_local 51 68 = Ok(false)
+        Group3_2D 64 columns 0 rows l | 0011D140007A251000 | tagged_body_is_local 42 61 = Ok(false)
+        Group3_2D 8 columns 0 rows a | 000500011744746037 | tagged_body_is_local 32 72 = Ok(false)",
+    );
+}
+
 /// The EOL after a line, and how many rows damage to that line may change: its own, and those of the two-dimensional lines
 /// up to the next one-dimensional one.
 #[test]

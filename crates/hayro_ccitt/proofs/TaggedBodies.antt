@@ -1,0 +1,5 @@
+pub mod BodiesByTests
+pub mod LinesEnd
+pub mod LinesReached
+pub mod RowsPassed
+pub mod TagsOfLines
