@@ -3,7 +3,7 @@ use Rattle.std.specs.Prelude.{◌≡◌, ◌+◌, ◌*◌, ◌≤◌, ◌<◌, �
 use Rattle.fax_bits.specs.declared.error.DecodeError.{DecodeError}
 use Rattle.fax_bits.specs.declared.settings.DecodeSettings.{DecodeSettings}
 use Rattle.fax_bits.specs.declared.settings.EncodingMode.TheVariants.{Group3_2D}
-use Rattle.fax_bits.specs.Bits.{Bits, BitsAt, IsPrefix, here}
+use Rattle.fax_bits.specs.Bits.{Bits, BitsAt, IsPrefix}
 use Rattle.fax_bits.specs.EndOfLine.{after_eol}
 use Rattle.fax_bits.specs.Repetition.{Reaches}
 use Rattle.fax_reading.specs.Answers.{IsFault}

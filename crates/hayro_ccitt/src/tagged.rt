@@ -1,6 +1,7 @@
 //! Whether damage to a line of two-dimensional data stays before the next one-dimensional line.
 
-ghost use Rattle.std.specs.Prelude.{◌≡◌, ◌≢◌, ◌+◌, ◌-◌, ◌*◌, ◌^◌, ◌<◌, ◌≤◌, ◌⊎◌, ◌↔◌, ℕ, Some, None, Ok, Err, OnOk, IfOk, IfSome, IsOkUnless};
+ghost use Rattle.std.specs.Prelude.{◌≡◌, ◌≢◌, ◌+◌, ◌-◌, ◌*◌, ◌^◌, ◌<◌, ◌≤◌, ◌⊎◌, ◌↔◌, ℕ, Some, None, Ok};
+ghost use Rattle.std.specs.Prelude.{OnOk, IfOk, IfSome, IsOkUnless};
 ghost use Rattle.std.specs.Prelude.{IsTrue, true, false, length, drop, []};
 ghost use Rattle.hayro_ccitt.specs.Bits.{BitsFit, bits_in, here};
 ghost use Rattle.hayro_ccitt.specs.EndOfLine.{after_eol, next_eol};
@@ -23,8 +24,8 @@ use fax_lines::context::{DecoderContext, decode_1d_line, decode_2d_line};
 use fax_rows::row_reader::{RowState, first_stand, has_ended};
 use fax_rows::rows::try_row;
 
-/// Returns whether so many EOLs with their tags, after which this offset is, are RTC and end at another offset: a tag of one after six
-/// or more is passed too (T.4, 4.2.4).
+/// Returns whether so many EOLs with their tags, after which this offset is, are RTC and end at another offset: a tag of
+/// one after six or more is passed too (T.4, 4.2.4).
 fn are_rtc_before(count: usize, after: usize, end: usize) -> bool
     requires { end + 1 < 2 ^ 64 }
     ensures { IsTrue result ↔ ((6 ≤ count) × ((after ≡ end) ⊎ (after ≡ end + 1))) }
@@ -32,8 +33,8 @@ fn are_rtc_before(count: usize, after: usize, end: usize) -> bool
     count >= 6 && (after == end || after == end + 1)
 }
 
-/// Returns whether the tag at an offset where an EOL ends, or the data begins, is a line's and not that of RTC: whether fewer than
-/// six EOLs with their tags end there, wherever they begin (T.4, 4.2.2 and 4.2.4).
+/// Returns whether the tag at an offset where an EOL ends, or the data begins, is a line's and not that of RTC: whether
+/// fewer than six EOLs with their tags end there, wherever they begin (T.4, 4.2.2 and 4.2.4).
 fn is_tag_of_line(order: BitOrder, data: &[u8], end: usize, ticks: &mut Ticks) -> bool
     requires fit { BitsFit «data».now }
     requires within { end ≤ 8 * length «data».now }
@@ -56,8 +57,8 @@ fn is_tag_of_line(order: BitOrder, data: &[u8], end: usize, ticks: &mut Ticks) -
     true
 }
 
-/// Reads the row of the line here. If its line has a fault and isn't repaired, the reading has ended. `OutOfMemory` is the only
-/// error.
+/// Reads the row of the line here. If its line has a fault and isn't repaired, the reading has ended. `OutOfMemory` is the
+/// only error.
 fn read_row_here(
     rows: &mut RowState,
     ctx: &mut DecoderContext,
@@ -93,8 +94,8 @@ fn read_row_here(
     }
 }
 
-/// Reads the row of the line here and passes the gap after it, and returns whether another line follows. `OutOfMemory` is the only
-/// error.
+/// Reads the row of the line here and passes the gap after it, and returns whether another line follows. `OutOfMemory` is
+/// the only error.
 fn pass_line(
     rows: &mut RowState,
     ctx: &mut DecoderContext,
@@ -124,8 +125,8 @@ fn pass_line(
     }
 }
 
-/// Reads rows from the start of two-dimensional data on, and returns whether the reading comes to a line that begins at an offset; it is
-/// there then. `OutOfMemory` is the only error.
+/// Reads rows from the start of two-dimensional data on, and returns whether the reading comes to a line that begins at an
+/// offset; it is there then. `OutOfMemory` is the only error.
 fn come_to_line_at(
     ctx: &mut DecoderContext,
     reader: &mut BitReader<'_>,
@@ -206,8 +207,8 @@ fn line_here_ends_before(
     }
 }
 
-/// Returns whether the line at an offset of two-dimensional data, as it is read, is broken or ends at least twelve bits before another,
-/// or no line is read there. `OutOfMemory` is the only error.
+/// Returns whether the line at an offset of two-dimensional data, as it is read, is broken or ends at least twelve bits
+/// before another, or no line is read there. `OutOfMemory` is the only error.
 fn is_read_before(
     order: BitOrder,
     data: &[u8],
@@ -240,8 +241,9 @@ fn is_read_before(
     }
 }
 
-/// Returns where the EOL ends that begins at `to`, if the tag and the body of a line of two-dimensional data lie between the offsets, as
-/// far as the bits alone show it: only where the line ends as it is read isn't tested. Each bit that is examined is a tick.
+/// Returns where the EOL ends that begins at `to`, if the tag and the body of a line of two-dimensional data lie between
+/// the offsets, as far as the bits alone show it: only where the line ends as it is read isn't tested. Each bit that is
+/// examined is a tick.
 fn end_of_tagged_body(
     order: BitOrder,
     data: &[u8],
@@ -278,16 +280,17 @@ fn end_of_tagged_body(
     Some(end)
 }
 
-/// Returns whether the tag and the body of a line of lenient two-dimensional data of Group 3 lie from `from` to `to` (T.4, 4.2.2): then
-/// damage to these bits changes at most that line's row and, of those after it, as many as [`rows_reached`](crate::rows_reached) says,
-/// if the damaged bits are such a line too. An EOL ends at `from`, or it is 0; the bits contain a one after the first, which is the tag,
-/// and no EOL; fewer than six EOLs with their tags end at `from`, which six would make RTC; an EOL begins at `to`; and the line that is
-/// read at `from`, if one is, is broken or ends before the last twelve bits of that EOL. Each byte has its bits in this order. Offsets
-/// are counted in bits; if they are out of range or order, and with other settings, the result is false.
+/// Returns whether the tag and the body of a line of lenient two-dimensional data of Group 3 lie from `from` to `to` (T.4,
+/// 4.2.2): then damage to these bits changes at most that line's row and, of those after it, as many as
+/// [`rows_reached`](crate::rows_reached) says, if the damaged bits are such a line too. An EOL ends at `from`, or it is 0;
+/// the bits contain a one after the first, which is the tag, and no EOL; fewer than six EOLs with their tags end at `from`,
+/// which six would make RTC; an EOL begins at `to`; and the line that is read at `from`, if one is, is broken or ends
+/// before the last twelve bits of that EOL. Each byte has its bits in this order. Offsets are counted in bits; if they are
+/// out of range or order, and with other settings, the result is false.
 ///
-/// [`laws::locality_by_k`](crate::laws::locality_by_k) says what follows. Where the line ends depends on the rows before it: they
-/// are read from the start of the data on. The settings don't change; the rest of the context is unspecified afterwards, and it may be
-/// used again. The work is in proportion to the bits of the data.
+/// [`laws::locality_by_k`](crate::laws::locality_by_k) says what follows. Where the line ends depends on the rows before
+/// it: they are read from the start of the data on. The settings don't change; the rest of the context is unspecified
+/// afterwards, and it may be used again. The work is in proportion to the bits of the data.
 ///
 /// # Errors
 ///

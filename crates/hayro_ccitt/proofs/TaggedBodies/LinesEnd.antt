@@ -1,8 +1,10 @@
 -- Where a line ends, beside another position.
-use Rattle.fax_reading.proofs.Names.{DecodeSettings, DecodeError, OutOfMemory, DrawsLine, Line, Row, Bits, line_here, line_of_turn, Group3_2D}
-use Rattle.fax_reading.proofs.Names.{Progress, Reaches, move_on, first_line, line_1d, line_2d, row_before, line_by, EncodingMode}
-use Rattle.fax_reading.proofs.Names.{IsTrue, arith, common_steps, leb, leb-true, le-leb, length, length-drop, drop, Err, sym, ap, subst, refl}
-use Rattle.fax_reading.proofs.Names.{◌≡◌, ◌≢◌, ◌+◌, ◌<◌, ◌≤◌, ◌↔◌, ◌∙◌, ◌∷◌, [], ℕ, zero, true, false}
+use Rattle.fax_reading.proofs.Names.{DecodeSettings, Line, Row, Bits, line_here}
+use Rattle.fax_reading.proofs.Names.{Group3_2D}
+use Rattle.fax_reading.proofs.Names.{row_before, line_by, EncodingMode}
+use Rattle.fax_reading.proofs.Names.{IsTrue, arith, leb, leb-true, le-leb, length, length-drop, drop, sym}
+use Rattle.fax_reading.proofs.Names.{ap, subst, refl}
+use Rattle.fax_reading.proofs.Names.{◌≡◌, ◌+◌, ◌≤◌, ◌↔◌, ◌∙◌, ◌∷◌, [], ℕ, true, false}
 use Rattle.fax_reading.specs.LocalityByK.{IsReadBefore}
 use Rattle.hayro_ccitt.specs.TaggedBodies.{EndsHere}
 
@@ -14,16 +16,19 @@ whole_before settings reference bits line rest row place end is at within short 
   λ test row2 rest2 e.
       let both : Line.whole row rest ≡ Line.whole row2 rest2 = sym is ∙ e in
       let same : rest ≡ rest2 = cc in
-      omega (arith, leb-true (place + 12) end test, ap length at, ap length same, length-drop place bits, length-drop end bits, within),
+      omega (
+        arith,
+        leb-true
+            (place + 12) end test,
+        ap length at,
+        ap length same,
+        length-drop place bits,
+        length-drop end bits,
+        within,
+      ),
   λ ends. le-leb (place + 12) end
       (omega (arith, ends row rest is, ap length at, length-drop place bits, length-drop end bits, within, short)),
 )
-
--- a broken line has no end
-pub broken_before : (settings : DecodeSettings) (reference : Row) (line after rest : Bits) (front : Row) (fault : DecodeError)
-    → fault ≢ OutOfMemory → DrawsLine (line_here settings reference line) (Err fault) front rest
-    → EndsHere settings reference line after
-broken_before settings reference line after rest front fault other is row rest2 is2 = grind (arith, common_steps)
 
 -- without columns a line is its tag
 bare_line_is : (strict : _) (reference : Row) (line : Bits) (row : Row) (rest : Bits) (bit : _)

@@ -2,18 +2,18 @@
 use Rattle.std.proofs.Common.{◌↔◌, IsTrue, ◌||◌, not}
 use Rattle.std.proofs.lemmas.Bool.{false≢true}
 use Rattle.std.proofs.lemmas.Bool.{cases_lt}
-use Rattle.fax_rows.proofs.Names.{◌≡◌, ◌≢◌, ◌+◌, ◌-◌, ◌<◌, ◌≤◌, ◌∙◌, ◌∷◌, ◌++◌, [], ℕ, suc, Bool, true, false, Option, Some, None}
-use Rattle.fax_rows.proofs.Names.{Ok, Err, Result, refl, sym, ap, subst, arith, common_steps, length, drop, length-append, length-drop, IfErr}
-use Rattle.fax_rows.proofs.Names.{DecodeSettings, DecodeError, Bits, BitsAt, here, Row, Line, Progress, Turn, Reaches, Gap, Held, Context}
+use Rattle.fax_rows.proofs.Names.{◌≡◌, ◌≢◌, ◌+◌, ◌<◌, ◌≤◌, ◌∙◌, ◌∷◌, ◌++◌, [], ℕ, suc, Bool, true, false, Option, Some, None}
+use Rattle.fax_rows.proofs.Names.{Ok, Err, Result, refl, sym, ap, subst, arith, common_steps, length, drop, length-append, length-drop}
+use Rattle.fax_rows.proofs.Names.{DecodeSettings, DecodeError, Bits, here, Row, Line, Progress, Turn, Reaches, Gap, Held}
 use Rattle.fax_rows.proofs.Names.{move_on, first_line, first_gap, line_of_turn, line_here, row_of_line, plain, context_at, no_repairs, failed_at}
-use Rattle.fax_rows.proofs.Names.{add_row, at_gap, gap_after_row, with_row, row_before, EncodingMode, Group3_2D, Group4, StandsAtLine, IsFault}
-use Rattle.fax_reading.proofs.Names.{next_eol, eols_here, misses_eol, cond, inl, inr}
+use Rattle.fax_rows.proofs.Names.{add_row, at_gap, gap_after_row, with_row, row_before, Group3_2D, Group4, StandsAtLine}
+use Rattle.fax_reading.proofs.Names.{next_eol, eols_here, misses_eol, inl, inr}
 use Rattle.fax_reading.specs.LocalityByK.{IsReadBefore}
 use Rattle.fax_bits.proofs.Repetition.Repeated.{next_is, not_next}
 use Rattle.fax_bits.proofs.CodeWords.ReadRuns.{chosen}
 use Rattle.fax_reading.proofs.Readings.RunsOverRows.{row_of_turn}
-use Rattle.fax_reading.proofs.Readings.RowsAndGaps.{after_damage-is, after_whole-is, unless_over, seek_from, seek_eol, after_row, row_added}
-use Rattle.fax_reading.proofs.Readings.TurnsMoveOn.{unless_over_next, move_shrinks, left_to_read, eols_here_counted}
+use Rattle.fax_reading.proofs.Readings.RowsAndGaps.{after_damage-is, after_whole-is, seek_from, after_row}
+use Rattle.fax_reading.proofs.Readings.TurnsMoveOn.{unless_over_next, move_shrinks, left_to_read}
 use Rattle.fax_reading.proofs.Readings.GapsAndRows.{first_gap_t4}
 use Rattle.fax_reading.proofs.KeptRows.TurnsLeave.{reached_leaves}
 use Rattle.fax_reading.proofs.DrawingLines.LinesLeaveBits.{LeavesBits}

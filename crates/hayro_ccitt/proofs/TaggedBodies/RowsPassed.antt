@@ -1,10 +1,12 @@
 -- Rows that are passed up to a line of whole data.
-use Rattle.fax_rows.proofs.Names.{◌≡◌, ◌≢◌, ◌+◌, ◌-◌, ◌<◌, ◌≤◌, ◌∙◌, ◌++◌, [], ℕ, Bool, true, false, Option, Some, None, inl, inr, ◌⊎◌}
-use Rattle.fax_rows.proofs.Names.{Ok, Err, Result, refl, sym, ap, subst, arith, common_steps, length, drop, append-nil, IfErr}
-use Rattle.fax_rows.proofs.Names.{DecodeSettings, DecodeError, Bits, BitsAt, here, Held, Context, plain, IsFault, most_counted, found_here, changes}
+use Rattle.fax_rows.proofs.Names.{◌≡◌, ◌≢◌, ◌+◌, ◌<◌, ◌≤◌, ◌∙◌, ◌++◌, [], ℕ, Bool, true, false, Option, Some, None, inl}
+use Rattle.fax_rows.proofs.Names.{inr, ◌⊎◌}
+use Rattle.fax_rows.proofs.Names.{Ok, Err, Result, refl, sym, ap, subst, arith, length, drop, append-nil, IfErr}
+use Rattle.fax_rows.proofs.Names.{DecodeSettings, DecodeError, Bits, BitsAt, here, Held, Context, plain, IsFault, most_counted}
+use Rattle.fax_rows.proofs.Names.{found_here, changes}
 use Rattle.fax_rows.specs.declared.row_reader.Stand.{Stand}
 use Rattle.fax_rows.specs.declared.row_reader.Stand.TheVariants.{AtLine, AfterRow, AtEnd, AtFault}
-use Rattle.fax_rows.proofs.Names.{ReaderStands, IsStanding, IsStandingAtLine, PaidAtLine, ended, is_at_line}
+use Rattle.fax_rows.proofs.Names.{ReaderStands, IsStanding, IsStandingAtLine, ended, is_at_line}
 use Rattle.fax_rows.proofs.Names.{stand_after, line_after, InvalidCode}
 use Rattle.std.proofs.lemmas.Bool.{false≢true}
 use Rattle.std.proofs.lemmas.Option.{none-some}
@@ -37,7 +39,8 @@ module _ {old new : Context} {before after : BitsAt} where
       → ReadsRow old new (Err e) (here before) (here after)
   failed_alone {e} tried fault =
       subst (λ (b : Bits). ReadsRow old new (Err e) b (here after)) (append-nil (here before))
-      (subst (λ (b : Bits). ReadsRow old new (Err e) (here before ++ []) b) (append-nil (here after)) (tried.failed fault [] no_more))
+      (subst (λ (b : Bits). ReadsRow old new (Err e) (here before ++ []) b) (append-nil (here after))
+      (tried.failed fault [] no_more))
 
 -- ---- What a row leaves
 
@@ -159,23 +162,9 @@ all_read AtEnd settings bits held place stands line ends fault = stands.0.all
 all_read (AtFault e) settings bits held place stands line ends fault = stands.0.all (fault e refl)
 
 module _ (rows kept : RowState) (old new : Context) (before after : BitsAt) where
-  -- the reading ended with the row
-  pub ends_with_row : ReadsRowHere rows kept old new before after → after.bits ≡ before.bits → is_some (ended kept.stand) ≡ true
-      → PassesLine rows kept old new before after false
-  ends_with_row read same ends = record {
-    line = λ is. absurd (false≢true is);
-    more = λ is. absurd (false≢true is);
-    over = λ is base at.
-        let all = all_read kept.stand new.held.settings after.bits new.held after.place (read.stands base at).0 read.no_line ends
-        read.fault in
-        let there : length (plain new.held.settings after.bits).rows ≡ length (plain old.held.settings before.bits).rows
-        = ap (λ (s : DecodeSettings). length (plain s after.bits).rows) read.settings
-        ∙ ap (λ (b : Bits). length (plain old.held.settings b).rows) same in
-        omega (arith, all, there, read.taken);
-  }
-
-  -- or with the gap, or a line follows
-  pub passes_line : (mid : RowState) (middle : Context) (between : BitsAt) → ReadsRowHere rows mid old middle before between → between.bits ≡ before.bits → ended mid.stand ≡ None
+  -- after the gap a line follows, or the reading has ended
+  pub passes_line : (mid : RowState) (middle : Context) (between : BitsAt) → ReadsRowHere rows mid old middle before between
+      → between.bits ≡ before.bits → ended mid.stand ≡ None
       → (answer : Result Bool DecodeError) (gap : PassesGapHere between.place mid kept middle new between after answer)
       → (follows : Bool) → ((answer ≡ Ok follows) ⊎ ((e : DecodeError) × (answer ≡ Err e) × (follows ≡ false)))
       → PassesLine rows kept old new before after follows
@@ -225,7 +214,8 @@ failing_most base rows old before now at least most =
 -- ---- What a try of a row says
 
 -- where no more data comes a line isn't left
-pub always_read : {old new : Context} {before after : BitsAt} {answer : Result Bool DecodeError} → TriesRow true old new answer before after
+pub always_read : {old new : Context} {before after : BitsAt} {answer : Result Bool DecodeError}
+    → TriesRow true old new answer before after
     → (b : Bool) → answer ≡ Ok b → answer ≡ Ok true
 always_read tried true is = is
 always_read tried false is = absurd (false≢true (sym (tried.short is).0))

@@ -4,12 +4,11 @@ use Rattle.fax_reading.proofs.Names.{length-drop, drop-drop, next_eol, Bool, len
 use Rattle.fax_reading.proofs.Names.{arith, false, subst, zero, true, drop, length, Some, None, refl, Bits, suc, sym, ap, inl, inr, []}
 use Rattle.fax_reading.proofs.Names.{◌+◌, ◌-◌, ◌<◌, ◌≤◌, ◌⊎◌, ◌∙◌, ◌∷◌, ◌++◌, ◌≡◌, ℕ}
 use Rattle.fax_bits.proofs.BitReading.ConsecutiveEols.{all_tagged, all_tagged-none, all_tagged-some, after_eol_shorter, past_tag_shorter, eol_of}
-use Rattle.fax_bits.proofs.BitReading.ConsecutiveEols.{count_some, counts_tagged, count_moves, count_shorter}
+use Rattle.fax_bits.proofs.BitReading.ConsecutiveEols.{count_some, counts_tagged, count_moves}
 use Rattle.fax_reading.proofs.DrawingLines.LinesLeaveBits.{LeavesBits, leaves_trans}
 use Rattle.fax_reading.proofs.KeptRows.TurnsLeave.{past_tag_leaves, count_leaves}
 use Rattle.fax_reading.proofs.DamagedLines.LineTails.{drop_at, zeros_of_eol}
 use Rattle.fax_reading.proofs.DamagedLines.PastEol.{after_eol_is, next_eol_leaves}
-use Rattle.fax_reading.proofs.Work.EolsPassed.{looked_most}
 use Rattle.fax_bits.proofs.BitReading.ZeroRuns.{looked_eol}
 use Rattle.fax_bits.proofs.BitReading.ConsecutiveEols.{next_eol_found, count_past, last_tag_shorter}
 use Rattle.fax_reading.proofs.Names.{looked, ◌*◌}

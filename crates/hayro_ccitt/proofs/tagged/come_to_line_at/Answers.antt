@@ -1,12 +1,11 @@
-use Rattle.fax_rows.proofs.Names.{◌≡◌, ◌≢◌, ◌∙◌, ◌≤◌, ◌<◌, ◌+◌, ◌-◌, ℕ, Bool, true, false, sym, ap, subst, arith, refl, Ok, Err, Result, DecodeError}
-use Rattle.fax_rows.proofs.Names.{Bits, DecodeSettings, StandsAtLine, ended, length, length-drop, drop, here, plain}
+use Rattle.fax_rows.proofs.Names.{◌≡◌, ◌≢◌, ◌∙◌, ◌+◌, ◌-◌, Bool, true, false, sym, ap, subst, arith, refl, Ok, Result, DecodeError}
+use Rattle.fax_rows.proofs.Names.{Bits, DecodeSettings, StandsAtLine, ended, length, length-drop, here, plain}
 use Rattle.std.proofs.lemmas.Bool.{eq-eqb}
 use Rattle.std.proofs.Common.{is_some}
-use Rattle.std.proofs.lemmas.Bool.{false≢true}
 use Rattle.fax_rows.specs.declared.row_reader.RowState.{RowState}
 use Rattle.fax_rows.proofs.Readings.RowByRow.{at_line_stands, room_at_line}
 use Rattle.fax_rows.proofs.Work.CallsPaid.{within_most}
-use Rattle.hayro_ccitt.specs.TaggedBodies.{ComesLater, IsNotRead}
+use Rattle.hayro_ccitt.specs.TaggedBodies.{ComesLater}
 use Rattle.hayro_ccitt.proofs.TaggedBodies.LinesReached.{later_on, none_whole, past_place}
 use Rattle.hayro_ccitt.proofs.TaggedBodies.RowsPassed.{none_if_ended, standing_most}
 use Rattle.hayro_ccitt.proofs.tagged.come_to_line_at.Goals.{After-pass_line}

@@ -1,6 +1,5 @@
-use Rattle.hayro_ccitt.proofs.Names.{◌≡◌, ◌+◌, ◌-◌, ◌*◌, ◌≤◌, ◌∙◌, ◌↔◌, ℕ, true, false, Some, None, sym, ap, arith, common_steps, refl, subst}
-use Rattle.hayro_ccitt.proofs.Names.{Bits, bits_in, drop, length, length-drop, looked, after_eol, next_eol, take, is_some, false≢true, Option, DecodeSettings, Group3_1D, List}
-use Rattle.fax_bits.specs.declared.bit_reader.BitOrder.{BitOrder}
+use Rattle.hayro_ccitt.proofs.Names.{◌≡◌, ◌+◌, ◌-◌, ◌≤◌, ◌∙◌, ℕ, false, Some, None, sym, ap, arith, refl}
+use Rattle.hayro_ccitt.proofs.Names.{Bits, bits_in, drop, length, length-drop, looked, after_eol, next_eol, take, is_some, false≢true, Option, DecodeSettings, Group3_1D}
 use Rattle.fax_reading.proofs.Names.{none-some}
 use Rattle.fax_reading.proofs.Work.EolsPassed.{looked_most}
 use Rattle.hayro_ccitt.proofs.BitReading.BitLists.{length-bits_in}

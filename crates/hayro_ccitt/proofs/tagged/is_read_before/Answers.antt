@@ -1,4 +1,4 @@
-use Rattle.hayro_ccitt.proofs.Names.{◌≡◌, ◌≢◌, ◌+◌, ◌*◌, ◌≤◌, ◌<◌, ◌∙◌, ◌↔◌, ℕ, Bool, true, Ok, sym, ap, subst, arith, refl, IfOk-weaker}
+use Rattle.hayro_ccitt.proofs.Names.{◌≡◌, ◌<◌, ◌∙◌, ◌↔◌, ℕ, Bool, true, Ok, sym, ap, subst, arith, refl, IfOk-weaker}
 use Rattle.hayro_ccitt.proofs.Names.{Bits, BitsAt, Context, DecodeSettings, IsTrue, bits_in, drop, here, length, length-drop}
 use Rattle.hayro_ccitt.specs.Work.{found_here}
 use Rattle.hayro_ccitt.specs.LocalityByK.{IsReadBefore}

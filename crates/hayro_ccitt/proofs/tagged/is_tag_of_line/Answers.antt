@@ -1,5 +1,5 @@
-use Rattle.fax_reading.proofs.Names.{◌≡◌, ◌+◌, ◌-◌, ◌*◌, ◌≤◌, ◌⊎◌, ◌≢◌, ◌∙◌, ℕ, Bits, BitsAt, length, drop, here, arith, ap, sym, inl, inr, refl}
-use Rattle.fax_reading.proofs.Names.{IsTagOfLine, common_steps, length-drop, next_eol, tagged_eols, None, Some, subst}
+use Rattle.fax_reading.proofs.Names.{◌≡◌, ◌*◌, ◌≤◌, ◌⊎◌, ◌∙◌, ℕ, Bits, BitsAt, length, drop, here, arith, ap, sym, inl, inr, refl}
+use Rattle.fax_reading.proofs.Names.{common_steps, length-drop, next_eol, tagged_eols, None, Some}
 use Rattle.fax_bits.specs.Bits.{bits_in}
 use Rattle.fax_bits.proofs.BitReading.BitLists.{length-bits_in}
 use Rattle.fax_reading.proofs.Work.EolsPassed.{looked_most}

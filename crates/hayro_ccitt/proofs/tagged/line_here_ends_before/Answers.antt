@@ -1,5 +1,4 @@
-use Rattle.fax_rows.proofs.Names.{◌≡◌, ◌∙◌, ◌≤◌, ap, subst, sym, arith, common_steps, here, drop, length, Bits, BitsAt, Line, line_here}
-use Rattle.fax_reading.proofs.Names.{EncodingMode, line_by}
+use Rattle.fax_rows.proofs.Names.{◌≡◌, ◌∙◌, ap, sym, arith, common_steps, here, drop, length, Bits, Line, line_here}
 use Rattle.hayro_ccitt.proofs.TaggedBodies.LinesEnd.{whole_before}
 use Rattle.hayro_ccitt.proofs.tagged.line_here_ends_before.Goals as goal
 

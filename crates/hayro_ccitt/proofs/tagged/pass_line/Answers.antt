@@ -1,5 +1,5 @@
-use Rattle.fax_rows.proofs.Names.{◌≡◌, ◌∙◌, ◌≤◌, ◌+◌, ◌⊎◌, ℕ, Bool, true, false, None, sym, ap, subst, arith, Ok, Err, Result, DecodeError, Held, inl, inr, refl}
-use Rattle.fax_rows.proofs.Names.{IsStanding, IsStandingAtLine, ended, length, most_counted}
+use Rattle.fax_rows.proofs.Names.{◌≡◌, ◌∙◌, ◌≤◌, ◌+◌, ◌⊎◌, ℕ, Bool, false, None, sym, subst, Ok, Err, DecodeError, inl, inr, refl}
+use Rattle.fax_rows.proofs.Names.{IsStandingAtLine, ended, length, most_counted}
 use Rattle.fax_rows.specs.RowsTried.{PassesGapHere}
 use Rattle.hayro_ccitt.specs.TaggedBodies.{PassesLine, ReadsRowHere}
 use Rattle.hayro_ccitt.proofs.TaggedBodies.RowsPassed.{can_take, failing_most, gap_here, gap_taken, isnt_there, passes_line, standing_most}

@@ -1,4 +1,4 @@
-use Rattle.fax_rows.proofs.Names.{◌≡◌, ◌∙◌, true, rules, sym, ap, subst, arith, Ok, Err, Result, Bool, DecodeError, Held, IsFault}
+use Rattle.fax_rows.proofs.Names.{◌∙◌, true, rules, sym, ap, subst, arith, Ok, Err, Result, Bool, DecodeError}
 use Rattle.fax_rows.specs.RowsTried.{TriesRow}
 use Rattle.std.proofs.lemmas.Bool.{false≢true}
 use Rattle.hayro_ccitt.specs.TaggedBodies.{ReadsRowHere}

@@ -1,7 +1,7 @@
-use Rattle.hayro_ccitt.proofs.Names.{◌≡◌, ◌+◌, ◌≤◌, ◌∙◌, ◌↔◌, Bool, None, sym, ap, arith, IfOk-weaker, false≢true, false, Group3_2D}
-use Rattle.hayro_ccitt.proofs.Names.{Bits, DecodeSettings, IsTrue, bits_in, drop, length}
+use Rattle.hayro_ccitt.proofs.Names.{◌≡◌, ◌∙◌, ◌↔◌, sym, ap, arith, IfOk-weaker, false≢true, false, Group3_2D}
+use Rattle.hayro_ccitt.proofs.Names.{DecodeSettings, IsTrue, bits_in, drop}
 use Rattle.hayro_ccitt.specs.LocalityByK.{IsReadBefore}
-use Rattle.hayro_ccitt.specs.TaggedBodies.{IsLocal2D, IsTaggedBodyTo}
+use Rattle.hayro_ccitt.specs.TaggedBodies.{IsLocal2D}
 use Rattle.hayro_ccitt.proofs.BitReading.BitLists.{length-bits_in}
 use Rattle.hayro_ccitt.proofs.DamagedLines.BodyWork.{eol_after_body}
 use Rattle.hayro_ccitt.proofs.TaggedBodies.BodiesByTests.{ends_far, local_if_read}
