@@ -1,4 +1,5 @@
--- Whether damage to a line of lenient two-dimensional data ends at the next one-dimensional line, and what calls leave that test it.
+-- Whether damage to a line of lenient two-dimensional data ends at the next one-dimensional line, and what calls leave that
+-- test it.
 use Rattle.std.specs.Prelude.{◌≡◌, ◌+◌, ◌*◌, ◌≤◌, ◌<◌, ◌⊎◌, ◌∷◌, [], ℕ, Bool, true, false, drop, length, None, Some, Err}
 use Rattle.fax_bits.specs.declared.error.DecodeError.{DecodeError}
 use Rattle.fax_bits.specs.declared.settings.DecodeSettings.{DecodeSettings}

@@ -2,7 +2,8 @@
 use Rattle.fax_reading.proofs.Names.{length-take-le, length-append, append_assoc, common_steps, [], length-drop, DecodeSettings}
 use Rattle.fax_reading.proofs.Names.{IsTagOfLine, IsTaggedBody, IsPrefix, take-append-drop, Group3_1D, Group3_2D}
 use Rattle.fax_reading.proofs.Names.{after_eol, drop-drop, replicate, next_eol, line_1d, Line, IsTrue, Option}
-use Rattle.fax_reading.proofs.Names.{arith, false, true, subst, Bits, Bool, List, None, Some, drop, take, refl, zero, suc, sym, ap, length}
+use Rattle.fax_reading.proofs.Names.{arith, false, true, subst, Bits, Bool, List, None, Some, drop, take, refl, zero, suc, sym}
+use Rattle.fax_reading.proofs.Names.{ap, length}
 use Rattle.fax_reading.proofs.Names.{◌++◌, ◌+◌, ◌-◌, ◌<◌, ◌≤◌, ◌↔◌, ◌∙◌, ◌∷◌, ◌≡◌, ◌≢◌, ◌⊎◌, ℕ, EndsBefore}
 use Rattle.fax_reading.specs.LocalityByK.{IsReadBefore}
 use Rattle.fax_reading.proofs.DamagedLines.BodyTests.{local_by_tests}

@@ -49,6 +49,7 @@ bare_lines settings bits from end encoding none far within so_far reaches at row
     by_line [] is = absurd (omega (arith, ap length (sym at ∙ is), length-drop from bits, far, within))
     by_line (bit ∷ line) is =
         let left : rest ≡ line = bare_line_is settings.strict (row_before settings.columns so_far.rows) line row rest bit
-        (subst (λ (b : Bits). line_by Group3_2D settings.strict 0 (row_before settings.columns so_far.rows) b ≡ Line.whole row rest)
+        (subst (λ (b : Bits). line_by Group3_2D settings.strict 0 (row_before settings.columns so_far.rows) b
+        ≡ Line.whole row rest)
         is read) in
         omega (arith, ap length left, ap length (sym at ∙ is), length-drop from bits, length-drop end bits, far, within)

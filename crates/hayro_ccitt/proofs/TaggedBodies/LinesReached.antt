@@ -3,9 +3,11 @@ use Rattle.std.proofs.Common.{◌↔◌, IsTrue, ◌||◌, not}
 use Rattle.std.proofs.lemmas.Bool.{false≢true}
 use Rattle.std.proofs.lemmas.Bool.{cases_lt}
 use Rattle.fax_rows.proofs.Names.{◌≡◌, ◌≢◌, ◌+◌, ◌<◌, ◌≤◌, ◌∙◌, ◌∷◌, ◌++◌, [], ℕ, suc, Bool, true, false, Option, Some, None}
-use Rattle.fax_rows.proofs.Names.{Ok, Err, Result, refl, sym, ap, subst, arith, common_steps, length, drop, length-append, length-drop}
+use Rattle.fax_rows.proofs.Names.{Ok, Err, Result, refl, sym, ap, subst, arith, common_steps, length, drop, length-append}
+use Rattle.fax_rows.proofs.Names.{length-drop}
 use Rattle.fax_rows.proofs.Names.{DecodeSettings, DecodeError, Bits, here, Row, Line, Progress, Turn, Reaches, Gap, Held}
-use Rattle.fax_rows.proofs.Names.{move_on, first_line, first_gap, line_of_turn, line_here, row_of_line, plain, context_at, no_repairs, failed_at}
+use Rattle.fax_rows.proofs.Names.{move_on, first_line, first_gap, line_of_turn, line_here, row_of_line, plain, context_at}
+use Rattle.fax_rows.proofs.Names.{no_repairs, failed_at}
 use Rattle.fax_rows.proofs.Names.{add_row, at_gap, gap_after_row, with_row, row_before, Group3_2D, Group4, StandsAtLine}
 use Rattle.fax_reading.proofs.Names.{next_eol, eols_here, misses_eol, inl, inr}
 use Rattle.fax_reading.specs.LocalityByK.{IsReadBefore}
@@ -30,7 +32,8 @@ module _ (settings : DecodeSettings) where
   adds_one : (s t : Progress) → move_on settings s ≡ Turn.next t → length t.rows ≡ suc (length s.rows)
   adds_one s t e = by_row (row_of_turn settings s) e
     where
-      by_row : (row : Result (Row × Bits) DecodeError) → add_row settings s row ≡ Turn.next t → length t.rows ≡ suc (length s.rows)
+      by_row : (row : Result (Row × Bits) DecodeError) → add_row settings s row ≡ Turn.next t → length t.rows
+          ≡ suc (length s.rows)
       by_row (Err fault) e = absurd (not_next _ t e)
       by_row (Ok (row, rest)) e = at (gap_after_row settings (length (s.rows ++ row ∷ [])) s.has_eols rest) e
         where
@@ -110,10 +113,12 @@ module _ (settings : DecodeSettings) where
         by_sought : (b d : Bool) → s.has_eols ≡ b → t.has_eols ≡ d → next_eol s.rest ≡ None
         by_sought false d is also = absurd (grind (arith, common_steps, fewer, le))
         by_sought true true is also = absurd (grind (arith, common_steps, fewer, le))
-        by_sought true false is also = subst (λ (b : Bits). next_eol b ≡ None) same (line_gives_up s t (line_of_turn settings s) e is also)
+        by_sought true false is also = subst (λ (b : Bits). next_eol b
+            ≡ None) same (line_gives_up s t (line_of_turn settings s) e is also)
 
     -- where an EOL is left, no later state has as many bits
-    no_later : (s t : Progress) → (next_eol s.rest ≡ None → ⊥) → Reaches (move_on settings) s t → length s.rest ≤ length t.rest → s ≡ t
+    no_later : (s t : Progress) → (next_eol s.rest ≡ None → ⊥) → Reaches (move_on settings) s t
+        → length s.rest ≤ length t.rest → s ≡ t
     no_later s t some (Reaches.stays same) le = refl
     no_later s t some (Reaches.moves from after last e on) le =
         let leaves = (reached_leaves settings after last on).0 in
@@ -168,7 +173,8 @@ module _ (settings : DecodeSettings) (encoding : settings.encoding ≡ Group3_2D
     ]
 
     -- past the position there is none
-    pub past_place : length line < length (drop place bits) → ComesLater settings bits place held.taken → IsNotRead settings bits place
+    pub past_place : length line < length (drop place bits) → ComesLater settings bits place held.taken
+        → IsNotRead settings bits place
     past_place short later so_far reaches is row rest e =
         let on = along settings (first_line settings bits) now so_far from_first reaches
         (omega (arith, taken_is, later so_far reaches is)) in

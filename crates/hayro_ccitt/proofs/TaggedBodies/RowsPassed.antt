@@ -88,7 +88,8 @@ module _ (base : ℕ) (rows kept : RowState) (old new : Context) (before after :
   passed : PassesGap old new gap.over (here before) (drop after.place before.bits)
   passed = subst (λ (b : Bits). PassesGap old new gap.over (here before) (drop after.place b)) gap.same_bits
       (subst (PassesGap old new gap.over (here before)) (append-nil (here after))
-      (subst (λ (s : Bits). PassesGap old new gap.over s (here after ++ [])) (append-nil (here before)) (gap.passes [] (inl refl))))
+      (subst (λ (s : Bits). PassesGap old new gap.over s (here after ++ [])) (append-nil (here before)) (gap.passes []
+      (inl refl))))
 
   pub gap_here : ended rows.stand ≡ None → is_at_line rows.stand ≡ false → IsStanding base rows old before
       → IsStanding base kept new after
@@ -199,7 +200,8 @@ standing_most base kept new after settings bits stands same is = (
 )
 
 -- so it is where a line isn't read
-pub failing_most : (base : ℕ) (rows : RowState) (old : Context) (before : BitsAt) (now : ℕ) → IsStandingAtLine base rows old before
+pub failing_most : (base : ℕ) (rows : RowState) (old : Context) (before : BitsAt) (now : ℕ)
+    → IsStandingAtLine base rows old before
     → old.ticks ≤ now
     → now ≤ old.ticks + 4 * length (found_here old.held.settings old.held.reference (here before)) + 2
     + length (changes old.held.reference)

@@ -1,9 +1,13 @@
 -- EOLs with their tags that end at a position, from wherever they are read.
-use Rattle.fax_reading.proofs.Names.{none-some, IsTagOfLine, pass_last_tag, tagged_eols, take, append_assoc, take-append-drop, leb, leb-true, ◌≢◌}
-use Rattle.fax_reading.proofs.Names.{length-drop, drop-drop, next_eol, Bool, length-append, length-replicate, common_steps, cases_lt, lt-leb, after_eol, past_tag, one_more, replicate, Option}
-use Rattle.fax_reading.proofs.Names.{arith, false, subst, zero, true, drop, length, Some, None, refl, Bits, suc, sym, ap, inl, inr, []}
+use Rattle.fax_reading.proofs.Names.{none-some, IsTagOfLine, pass_last_tag, tagged_eols, take, append_assoc, take-append-drop}
+use Rattle.fax_reading.proofs.Names.{leb, leb-true, ◌≢◌}
+use Rattle.fax_reading.proofs.Names.{length-drop, drop-drop, next_eol, Bool, length-append, length-replicate, common_steps}
+use Rattle.fax_reading.proofs.Names.{cases_lt, lt-leb, after_eol, past_tag, one_more, replicate, Option}
+use Rattle.fax_reading.proofs.Names.{arith, false, subst, zero, true, drop, length, Some, None, refl, Bits, suc, sym, ap, inl}
+use Rattle.fax_reading.proofs.Names.{inr, []}
 use Rattle.fax_reading.proofs.Names.{◌+◌, ◌-◌, ◌<◌, ◌≤◌, ◌⊎◌, ◌∙◌, ◌∷◌, ◌++◌, ◌≡◌, ℕ}
-use Rattle.fax_bits.proofs.BitReading.ConsecutiveEols.{all_tagged, all_tagged-none, all_tagged-some, after_eol_shorter, past_tag_shorter, eol_of}
+use Rattle.fax_bits.proofs.BitReading.ConsecutiveEols.{all_tagged, all_tagged-none, all_tagged-some, after_eol_shorter}
+use Rattle.fax_bits.proofs.BitReading.ConsecutiveEols.{past_tag_shorter, eol_of}
 use Rattle.fax_bits.proofs.BitReading.ConsecutiveEols.{count_some, counts_tagged, count_moves}
 use Rattle.fax_reading.proofs.DrawingLines.LinesLeaveBits.{LeavesBits, leaves_trans}
 use Rattle.fax_reading.proofs.KeptRows.TurnsLeave.{past_tag_leaves, count_leaves}
@@ -44,7 +48,8 @@ among_more count rest here (inl none) = inl none
 among_more count rest here (inr some) = inr (some.0, omega (arith, some.1), some.2)
 
 -- a pair by its parts
-pair_is : (found : ℕ × Bits) (count : ℕ) (rest : Bits) → one_more found ≡ (count, rest) → (count ≡ suc found.0) × (found ≡ (found.0, rest))
+pair_is : (found : ℕ × Bits) (count : ℕ) (rest : Bits) → one_more found ≡ (count, rest) → (count ≡ suc found.0) × (found
+    ≡ (found.0, rest))
 pair_is (n, bits) count rest e = grind (arith, common_steps)
 
 -- after an EOL and its tag
@@ -54,7 +59,8 @@ after_tag [] rest count k le on = on k le
 after_tag (false ∷ r) rest count k le on = on k le
 after_tag (true ∷ r) rest count k le on = by_eol k le (after_eol 0 r) refl
   where
-    by_eol : (k : ℕ) → length rest + k ≤ suc (length r) → (o : Option Bits) → after_eol 0 r ≡ o → Among count rest (drop k (true ∷ r))
+    by_eol : (k : ℕ) → length rest + k ≤ suc (length r) → (o : Option Bits) → after_eol 0 r ≡ o
+        → Among count rest (drop k (true ∷ r))
     by_eol k le None e =
         let same : past_tag (true ∷ r) ≡ true ∷ r = rw (e, past_tag) refl in
         subst (λ (b : Bits). Among count rest (drop k b)) same (on k (rw same le))
@@ -91,15 +97,18 @@ among_step k count here rest is le on = by_eol (after_eol 0 here) refl
           | inl past ↦
               let there : drop k here ≡ drop (k - (z + 1)) r = ap (drop k) split ∙ drop_one k z r past in
               let long : length here ≡ z + (1 + length r)
-              = ap length split ∙ length-append (replicate z false) (true ∷ r) ∙ ap (λ (m : ℕ). m + suc (length r)) (length-replicate z false)
+              = ap length split ∙ length-append (replicate z false) (true ∷ r)
+              ∙ ap (λ (m : ℕ). m + suc (length r)) (length-replicate z false)
               ∙ omega arith in
               subst (Among count rest) (sym there) (subst (λ (c : ℕ). Among c rest (drop (k - (z + 1)) r)) (sym parts.0)
               (among_more (all_tagged (past_tag r)).0 rest (drop (k - (z + 1)) r)
               (after_tag r rest (all_tagged (past_tag r)).0 (k - (z + 1)) (omega (arith, le, long, past)) more)))
           | inr within ↦
-              let there : drop k here ≡ replicate (z - k) false ++ true ∷ r = ap (drop k) split ∙ drop_zeros k z (true ∷ r) within in
+              let there : drop k here ≡ replicate (z - k) false ++ true ∷ r = ap (drop k) split
+              ∙ drop_zeros k z (true ∷ r) within in
               elim (cases_lt (z - k) 11) [
-                | inl few ↦ inl (all_tagged-none (drop k here) (ap (after_eol 0) there ∙ few_zeros 0 (z - k) r (omega (arith, few))))
+                | inl few ↦ inl (all_tagged-none (drop k here) (ap (after_eol 0) there
+                    ∙ few_zeros 0 (z - k) r (omega (arith, few))))
                 | inr many ↦ inr (
                   count,
                   omega arith,
@@ -123,7 +132,8 @@ none_before [] found k e lt = absurd cc
 none_before (bit ∷ here) found k e lt = by_eol k lt (none_before here found) (after_eol 0 (bit ∷ here)) refl
   where
     by_eol : (k : ℕ) → length found < length (drop k (bit ∷ here)) → ((j : ℕ) → next_eol here ≡ Some found
-        → length found < length (drop j here) → after_eol 0 (drop j here) ≡ None) → (o : Option Bits) → after_eol 0 (bit ∷ here) ≡ o
+        → length found < length (drop j here) → after_eol 0 (drop j here) ≡ None) → (o : Option Bits)
+        → after_eol 0 (bit ∷ here) ≡ o
         → after_eol 0 (drop k (bit ∷ here)) ≡ None
     by_eol k lt on (Some rest) f = let g : ◌≡◌ {A = Option Bits} (Some (bit ∷ here)) (Some found) = rw (f, next_eol) at e in
         let same : (bit ∷ here) ≡ found = cc in absurd (omega (arith, lt, ap length same, length-drop k (bit ∷ here)))
@@ -162,7 +172,8 @@ ends_apart bits end one two =
 
 -- fewer than six EOLs with their tags end at a position that begin before another
 abbrev pub HaveFewBefore : Bits → ℕ → ℕ → Type 0
-HaveFewBefore bits end limit = (place count : ℕ) → place < limit → all_tagged (drop place bits) ≡ (count, drop end bits) → count < 6
+HaveFewBefore bits end limit = (place count : ℕ) → place < limit → all_tagged (drop place bits) ≡ (count, drop end bits)
+    → count < 6
 
 -- ---- The end of EOLs with their tags
 
@@ -216,11 +227,13 @@ tagged_ends (suc n) (suc count) here rest size is =
     let parts = pair_is (all_tagged (past_tag some.0)) (suc (suc count)) rest (sym (all_tagged-some here some.0 some.1) ∙ is) in
     let more : (all_tagged (past_tag some.0)).0 ≡ suc count = omega (arith, parts.0) in
     let last : Bits = replicate 11 false ++ true ∷ rest in
-    let short : length (past_tag some.0) ≤ n = omega (arith, size, after_eol_shorter 0 here some.0 some.1, past_tag_shorter some.0) in
+    let short : length (past_tag some.0) ≤ n = omega
+    (arith, size, after_eol_shorter 0 here some.0 some.1, past_tag_shorter some.0) in
     let on = tagged_ends n count (past_tag some.0) rest short
     (subst (λ (c : ℕ). all_tagged (past_tag some.0) ≡ (c, rest)) more parts.1) in
     leaves_trans here (true ∷ some.0) last
-    (leaves_trans here (replicate 11 false ++ true ∷ some.0) (true ∷ some.0) (eol_ends here some.0 some.1) (replicate 11 false, refl))
+    (leaves_trans here (replicate 11 false ++ true ∷ some.0) (true ∷ some.0) (eol_ends here some.0 some.1)
+    (replicate 11 false, refl))
     (leaves_trans (true ∷ some.0) some.0 last (true ∷ [], refl)
     (leaves_trans some.0 (past_tag some.0) last (past_tag_leaves some.0) on))
 
@@ -231,12 +244,14 @@ module _ (bits : Bits) where
   place_left : (q : ℕ) (rest : Bits) → LeavesBits (drop q bits) rest → rest ≡ drop (length bits - length rest) bits
   place_left q rest leaves =
       let whole : bits ≡ (take q bits ++ leaves.0) ++ rest
-      = sym (take-append-drop q bits) ∙ ap (λ (b : Bits). take q bits ++ b) leaves.1 ∙ sym (append_assoc (take q bits) leaves.0 rest) in
+      = sym (take-append-drop q bits) ∙ ap (λ (b : Bits). take q bits ++ b) leaves.1
+      ∙ sym (append_assoc (take q bits) leaves.0 rest) in
       sym (drop_at bits (take q bits ++ leaves.0) rest (length bits - length rest) whole
       (omega (arith, ap length whole, length-append (take q bits ++ leaves.0) rest)))
 
   -- twelve bits before a place
-  eol_place : (q end : ℕ) → end ≤ length bits → LeavesBits (drop q bits) (replicate 11 false ++ true ∷ drop end bits) → EndsEol bits end
+  eol_place : (q end : ℕ) → end ≤ length bits → LeavesBits (drop q bits) (replicate 11 false ++ true ∷ drop end bits)
+      → EndsEol bits end
   eol_place q end within leaves =
       let last : Bits = replicate 11 false ++ true ∷ drop end bits in
       let size : length last ≡ 12 + length (drop end bits) = omega arith in
@@ -249,7 +264,8 @@ module _ (bits : Bits) where
       )
 
   -- an EOL of twelve bits
-  pub twelve_end : (end : ℕ) → end ≤ length bits → 12 ≤ end → after_eol 0 (drop (end - 12) bits) ≡ Some (drop end bits) → EndsEol bits end
+  pub twelve_end : (end : ℕ) → end ≤ length bits → 12 ≤ end → after_eol 0 (drop (end - 12) bits) ≡ Some (drop end bits)
+      → EndsEol bits end
   twelve_end end within far e = eol_place (end - 12) end within (eol_ends (drop (end - 12) bits) (drop end bits) e)
 
   module _ (end : ℕ) where
@@ -296,7 +312,8 @@ before_last_tag (n, true ∷ rest) count after e = by_six (leb 6 n) refl
 
 module _ (bits : Bits) (end limit q next count : ℕ) (short : next ≤ length bits) (within : end ≤ length bits)
     (there : q ≤ length bits)
-    (found : next_eol (drop limit bits) ≡ Some (drop q bits)) (counted : tagged_eols (drop q bits) ≡ (count, drop next bits)) where
+    (found : next_eol (drop limit bits) ≡ Some (drop q bits)) (counted : tagged_eols (drop q bits)
+    ≡ (count, drop next bits)) where
   abbrev rest : Bits
   rest = (all_tagged (drop q bits)).1
 
@@ -328,7 +345,8 @@ module _ (bits : Bits) (end limit q next count : ℕ) (short : next ≤ length b
           = drop-drop (place - q) q bits ∙ ap (λ (n : ℕ). drop n bits) (omega (arith, past)) in
           let fits : length rest + (place - q) ≤ length (drop q bits)
           = omega (arith, reach, length-drop q bits, past, lt, short) in
-          at_place (subst (Among count rest) same (among (length (drop q bits)) (place - q) count (drop q bits) rest (omega arith) parts.0 fits))
+          at_place (subst (Among count rest) same (among (length (drop q bits)) (place - q) count (drop q bits) rest
+          (omega arith) parts.0 fits))
     ]
   ]
     where
@@ -379,7 +397,8 @@ module _ (bits : Bits) (end limit q next count : ℕ) (short : next ≤ length b
           (parts.0 ∙ ap (λ (c : ℕ). (c, rest)) n)
 
       its_end : EndsEol bits place
-      its_end = eol_place bits q place (omega arith) (subst (λ (b : Bits). LeavesBits (drop q bits) (replicate 11 false ++ true ∷ b)) left last)
+      its_end = eol_place bits q place (omega arith) (subst (λ (b : Bits). LeavesBits (drop q bits)
+          (replicate 11 false ++ true ∷ b)) left last)
 
       near : (end ≤ place + 1) × (place ≤ end + 1)
       near = elim reach [
@@ -421,7 +440,13 @@ looked_before_eol p q r found eol =
 -- an EOL has twelve bits or more
 eol_is_long : (q r : Bits) → after_eol 0 q ≡ Some r → 12 + length r ≤ length q
 eol_is_long q r e = let ends = eol_ends q r e in
-    omega (arith, ap length ends.1, length-append ends.0 (replicate 11 false ++ true ∷ r), length-append (replicate 11 false) (true ∷ r))
+    omega (
+      arith,
+      ap length ends.1,
+      length-append ends.0 (replicate 11 false ++ true ∷ r),
+      length-append (replicate 11 false)
+          (true ∷ r),
+    )
 
 -- EOLs and tags that are passed are paid by their bits
 pub eols_work : (base size ticks0 ticks1 ticks2 : ℕ) (p q r e : Bits) → next_eol p ≡ Some q → after_eol 0 q ≡ Some r

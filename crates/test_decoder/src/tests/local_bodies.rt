@@ -127,7 +127,8 @@ fn tagged_bodies_that_are_local(rt: HostRuntime) {
         Group3_2D 3 columns 0 rows l | 001800C006003001800C00380012800B0018 | tagged_body_is_local 92 96 = Ok(false)
         Group3_2D 3 columns 0 rows l | 001800C006003001800C00380012800B0018 | tagged_body_is_local 108 113 = Ok(true)
         Group3_2D 3 columns 0 rows l | 001800C006003001800C00390012800B0018 | tagged_body_is_local 92 97 = Ok(false)
-        // Lines at random, some with a bit changed, left out or added: a reading of T.4 apart from this program found the answers.
+        // Lines at random, some with a bit changed, left out or added: a reading of T.4 apart from this program found the
+        // answers.
         Group3_2D 2 columns 0 rows | 00020111C370019AA1C0 | tagged_body_is_local 15 44 = Ok(true)
         Group3_2D 1 columns 0 rows b l | 000BBCC4400019AA | tagged_body_is_local 13 34 = Ok(true)
         Group3_2D 5 columns 0 rows b | 000C4000002F00 | tagged_body_is_local 13 18 = Ok(true)

@@ -1,4 +1,5 @@
-use Rattle.fax_rows.proofs.Names.{◌≡◌, ◌≢◌, ◌∙◌, ◌+◌, ◌-◌, Bool, true, false, sym, ap, subst, arith, refl, Ok, Result, DecodeError}
+use Rattle.fax_rows.proofs.Names.{◌≡◌, ◌≢◌, ◌∙◌, ◌+◌, ◌-◌, Bool, true, false, sym, ap, subst, arith, refl, Ok, Result}
+use Rattle.fax_rows.proofs.Names.{DecodeError}
 use Rattle.fax_rows.proofs.Names.{Bits, DecodeSettings, StandsAtLine, ended, length, length-drop, here, plain}
 use Rattle.std.proofs.lemmas.Bool.{eq-eqb}
 use Rattle.std.proofs.Common.{is_some}
@@ -15,7 +16,8 @@ pub returns-then-has_ended-clause-none : goal.returns-then-has_ended-clause-none
 returns-then-has_ended-clause-none c = λ e.
     let settings = c.args.ctx.now.held.settings in
     let bits = c.args.reader.now.bits in
-    let ends = ap (λ (r : RowState). is_some (ended r.stand)) (sym c.new-rows.ensures) ∙ sym c.has_ended.ensures ∙ c.if-has_ended.true in
+    let ends = ap (λ (r : RowState). is_some (ended r.stand)) (sym c.new-rows.ensures) ∙ sym c.has_ended.ensures
+    ∙ c.if-has_ended.true in
     none_whole settings c.requires.encoding c.requires.wide bits c.args.place 0
     (none_if_ended c.first_stand.result settings bits c.first_stand.new.ctx.held c.first_stand.new.reader.place
     c.first_stand.ensures.alone.stands ends c.first_stand.ensures.unfailed c.first_stand.ensures.takes_none.none_taken)
@@ -110,5 +112,6 @@ returns-clause-none c = λ e.
 
 pub returns-clause-at_most : goal.returns-clause-at_most
 returns-clause-at_most c =
-    (standing_most c.args.ctx.now.ticks c.lines.rows c.lines.ctx c.lines.reader c.args.ctx.now.held.settings c.args.reader.now.bits
+    (standing_most c.args.ctx.now.ticks c.lines.rows c.lines.ctx c.lines.reader c.args.ctx.now.held.settings
+    c.args.reader.now.bits
     c.lines.invariant.at.1 c.lines.invariant.settings c.lines.invariant.bits).1

@@ -1,5 +1,6 @@
 use Rattle.hayro_ccitt.proofs.Names.{◌≡◌, ◌+◌, ◌-◌, ◌≤◌, ◌∙◌, ℕ, false, Some, None, sym, ap, arith, refl}
-use Rattle.hayro_ccitt.proofs.Names.{Bits, bits_in, drop, length, length-drop, looked, after_eol, next_eol, take, is_some, false≢true, Option, DecodeSettings, Group3_1D}
+use Rattle.hayro_ccitt.proofs.Names.{Bits, bits_in, drop, length, length-drop, looked, after_eol, next_eol, take, is_some}
+use Rattle.hayro_ccitt.proofs.Names.{false≢true, Option, DecodeSettings, Group3_1D}
 use Rattle.fax_reading.proofs.Names.{none-some}
 use Rattle.fax_reading.proofs.Work.EolsPassed.{looked_most}
 use Rattle.hayro_ccitt.proofs.BitReading.BitLists.{length-bits_in}
@@ -13,7 +14,8 @@ returns-then-from-to-clause-none c = λ e settings body.
 pub returns-then-not-is_following_eol-clause-none : goal.returns-then-not-is_following_eol-clause-none
 returns-then-not-is_following_eol-clause-none c = λ e settings body.
     false≢true (sym c.if-not-is_following_eol.true
-    ∙ c.is_following_eol.ensures.after.1 (body_tests settings (bits_in c.args.order c.args.data.now) c.args.from c.args.to body).0)
+    ∙ c.is_following_eol.ensures.after.1 (body_tests settings
+    (bits_in c.args.order c.args.data.now) c.args.from c.args.to body).0)
 
 pub returns-then-not-holds_one-clause-none : goal.returns-then-not-holds_one-clause-none
 returns-then-not-holds_one-clause-none c = λ e settings body.
@@ -40,9 +42,11 @@ returns-clause-body c =
     let short : c.in-Some.end ≤ length bits
     = omega (arith, rw c.in-Some.is at c.end_of_eol.ensures.within, length-bits_in c.args.order c.args.data.now) in
     let eol : after_eol 0 (drop c.args.to bits) ≡ Some (drop c.in-Some.end bits) = rw c.in-Some.is at c.end_of_eol.ensures.end in
-    by_tests any_settings bits (drop c.in-Some.end bits) c.args.from c.args.to c.if-from-to.false within eol c.in-Some.end refl short
+    by_tests any_settings bits
+    (drop c.in-Some.end bits) c.args.from c.args.to c.if-from-to.false within eol c.in-Some.end refl short
     (c.is_following_eol.ensures.after.0 c.if-not-is_following_eol.false) (c.holds_one.ensures.one.0 c.if-not-holds_one.false)
-    (none_is (next_eol (take (c.args.to - c.args.from) (drop c.args.from bits))) (sym c.holds_eol.ensures.eol ∙ c.if-holds_eol.false))
+    (none_is (next_eol (take (c.args.to - c.args.from) (drop c.args.from bits))) (sym c.holds_eol.ensures.eol
+    ∙ c.if-holds_eol.false))
     (c.is_tag_of_line.ensures.tag.0 c.if-not-is_tag_of_line.false)
   where
     none_is : (o : Option Bits) → is_some o ≡ false → o ≡ None

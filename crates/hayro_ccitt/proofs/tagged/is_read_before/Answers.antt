@@ -60,7 +60,8 @@ module _ (c : After-line_here_ends_before) where
   here_is = ap (λ (b : Bits). drop now.place b) bits_is ∙ ap (λ (n : ℕ). drop n bits) (c.come_to_line_at.ensures.at came)
 
   first : ComesFirst c.args.ctx.now.ticks settings bits c.args.from there
-  first = subst (λ (n : ℕ). ComesFirst n settings bits c.args.from there) (ap (λ (ctx : Context). ctx.ticks) c.reset.ensures.frame)
+  first = subst (λ (n : ℕ). ComesFirst n settings bits c.args.from there) (ap (λ
+      (ctx : Context). ctx.ticks) c.reset.ensures.frame)
       (subst (λ (s : DecodeSettings). ComesFirst c.reset.new.self.ticks s bits c.args.from there) reset_settings
       (subst (λ (b : Bits). ComesFirst c.reset.new.self.ticks c.reset.new.self.held.settings b c.args.from there) start_bits
       (c.come_to_line_at.ensures.there came)))
@@ -68,12 +69,14 @@ module _ (c : After-line_here_ends_before) where
   wide : 0 < settings.columns
   wide = omega (arith, c.if-settings-eq0.false, ap (λ (s : DecodeSettings). s.columns) c.settings.ensures.value)
 
-  decided : (before : Bool) → IsTrue before ↔ EndsHere there.held.settings there.held.reference (here now) (drop c.args.end now.bits)
+  decided : (before : Bool) → IsTrue before ↔ EndsHere there.held.settings there.held.reference (here now)
+      (drop c.args.end now.bits)
       → IsTrue before ↔ IsReadBefore settings bits c.args.from (drop c.args.end bits)
   decided before is =
       read_before settings c.requires.encoding wide bits c.args.from first.stands (omega (arith, length-drop c.args.from bits))
       (drop c.args.end bits) before refl first.later c.requires.eol
-      (subst (λ (s : DecodeSettings). IsTrue before ↔ EndsHere s there.held.reference (drop c.args.from bits) (drop c.args.end bits))
+      (subst (λ (s : DecodeSettings). IsTrue before ↔ EndsHere s there.held.reference (drop c.args.from bits)
+      (drop c.args.end bits))
       settings_is
       (subst (λ (l : Bits). IsTrue before ↔ EndsHere there.held.settings there.held.reference l (drop c.args.end bits)) here_is
       (subst (λ (b : Bits). IsTrue before ↔ EndsHere there.held.settings there.held.reference (here now) (drop c.args.end b))
@@ -93,5 +96,6 @@ returns-in-Ok-true-clause-at_most c =
     let at = (goal.at.returns-in-Ok-true-clause-at_most c).After-line_here_ends_before in
     let words = ap (λ (s : DecodeSettings). length (found_here s (there at).held.reference (here (now at)))) (settings_is at)
     ∙ ap (λ (l : Bits). length (found_here (settings at) (there at).held.reference l)) (here_is at) in
-    failed_most c.args.ctx.now.ticks (settings at) (wide at) (bits at) (there at).held (drop c.args.from (bits at)) (there at).ticks
+    failed_most c.args.ctx.now.ticks (settings at) (wide at) (bits at) (there at).held (drop c.args.from (bits at))
+    (there at).ticks
     (first at).paid c.line_here_ends_before.new.ctx.ticks (omega (arith, c.line_here_ends_before.ensures.at_most, words))

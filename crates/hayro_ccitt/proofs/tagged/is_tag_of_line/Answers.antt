@@ -5,7 +5,8 @@ use Rattle.fax_bits.proofs.BitReading.BitLists.{length-bits_in}
 use Rattle.fax_reading.proofs.Work.EolsPassed.{looked_most}
 use Rattle.fax_reading.proofs.Names.{false≢true}
 use Rattle.fax_bits.proofs.BitReading.ConsecutiveEols.{next_eol_found, tagged_eols_counted}
-use Rattle.hayro_ccitt.proofs.TaggedBodies.TagsOfLines.{found_within, few_past_end, few_if_none, few_after, six_there, twelve_end, EndsEol, Passed, passed, few_at_first}
+use Rattle.hayro_ccitt.proofs.TaggedBodies.TagsOfLines.{found_within, few_past_end, few_if_none, few_after, six_there}
+use Rattle.hayro_ccitt.proofs.TaggedBodies.TagsOfLines.{twelve_end, EndsEol, Passed, passed, few_at_first}
 use Rattle.hayro_ccitt.proofs.tagged.is_tag_of_line.Goals.{After-are_rtc_before, Then-not-skip_to_eol, After-eols}
 use Rattle.hayro_ccitt.proofs.tagged.is_tag_of_line.Goals as goal
 
@@ -85,7 +86,8 @@ module _ (c : After-are_rtc_before) where
 
   step : Passed c.args.ticks.now (length bits) c.eols.ticks c.read_tagged_eols-count.new.ticks (here c.eols.reader) (here now)
   step = passed c.args.ticks.now (length bits) c.eols.ticks c.skip_to_eol.new.ticks c.read_tagged_eols-count.new.ticks
-      c.read_tagged_eols-count.result (here c.eols.reader) (here c.skip_to_eol.new.self) (here now) c.if-not-skip_to_eol.ensures.next
+      c.read_tagged_eols-count.result (here c.eols.reader) (here c.skip_to_eol.new.self)
+      (here now) c.if-not-skip_to_eol.ensures.next
       c.read_tagged_eols-count.ensures.eols c.eols.invariant.work c.if-not-skip_to_eol.ensures.ticks
       c.read_tagged_eols-count.ensures.at_most
 
@@ -143,8 +145,11 @@ eols-preserved c =
 
 pub returns-clause-tag : goal.returns-clause-tag
 returns-clause-tag c =
-    let past : c.args.end ≤ c.eols.reader.place = omega (arith, c.eols-test.false, c.bit_pos.ensures.place) in
-    (λ is. few_past_end (bits_in c.args.order c.args.data.now) c.args.end c.eols.reader.place c.eols.invariant.few past, λ tag. refl)
+    let past : c.args.end ≤ c.eols.reader.place = omega (arith, c.eols-test.false, c.bit_pos.ensures.place) in (
+      λ is. few_past_end (bits_in c.args.order c.args.data.now) c.args.end c.eols.reader.place c.eols.invariant.few past,
+      λ tag.
+          refl,
+    )
 
 pub returns-clause-at_most : goal.returns-clause-at_most
 returns-clause-at_most c =

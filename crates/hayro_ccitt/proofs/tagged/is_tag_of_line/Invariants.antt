@@ -9,7 +9,8 @@ invariant-eols l = record {
   same : l.reader.bits ≡ bits_in l.fn.order l.fn.data;
   few : HaveFewBefore (bits_in l.fn.order l.fn.data) l.fn.end l.reader.place;
   counts : l.fn.ticks ≤ l.ticks;
-  work : l.ticks + 5 * length (here l.reader) ≤ l.fn.ticks + 5 * length (bits_in l.fn.order l.fn.data) + looked (drop 1 (here l.reader));
+  work : l.ticks + 5 * length (here l.reader) ≤ l.fn.ticks + 5 * length (bits_in l.fn.order l.fn.data) + looked (drop 1
+      (here l.reader));
 }
 
 abbrev pub decreases-eols : goal.decreases-eols

@@ -2,7 +2,8 @@ use Rattle.fax_rows.proofs.Names.{◌≡◌, ◌∙◌, ◌≤◌, ◌+◌, ◌�
 use Rattle.fax_rows.proofs.Names.{IsStandingAtLine, ended, length, most_counted}
 use Rattle.fax_rows.specs.RowsTried.{PassesGapHere}
 use Rattle.hayro_ccitt.specs.TaggedBodies.{PassesLine, ReadsRowHere}
-use Rattle.hayro_ccitt.proofs.TaggedBodies.RowsPassed.{can_take, failing_most, gap_here, gap_taken, isnt_there, passes_line, standing_most}
+use Rattle.hayro_ccitt.proofs.TaggedBodies.RowsPassed.{can_take, failing_most, gap_here, gap_taken, isnt_there, passes_line}
+use Rattle.hayro_ccitt.proofs.TaggedBodies.RowsPassed.{standing_most}
 use Rattle.hayro_ccitt.proofs.tagged.pass_line.Goals.{After-pass_gap_here}
 use Rattle.hayro_ccitt.proofs.tagged.pass_line.Goals as goal
 
@@ -31,7 +32,8 @@ module _ (c : After-pass_gap_here) where
 
   settings_kept : c.pass_gap_here.new.ctx.held.settings ≡ c.args.ctx.now.held.settings
   settings_kept = (gap_taken 0 c.read_row_here.new.rows c.pass_gap_here.new.self c.read_row_here.new.ctx c.pass_gap_here.new.ctx
-      c.read_row_here.new.reader c.pass_gap_here.new.reader c.pass_gap_here.result gap_passed).1 ∙ c.read_row_here.ensures.settings
+      c.read_row_here.new.reader c.pass_gap_here.new.reader c.pass_gap_here.result gap_passed).1
+      ∙ c.read_row_here.ensures.settings
 
   passes_to : (follows : Bool) → ((c.pass_gap_here.result ≡ Ok follows)
       ⊎ ((e : DecodeError) × (c.pass_gap_here.result ≡ Err e) × (follows ≡ false))) → PassesLine c.args.rows.now
@@ -42,7 +44,8 @@ module _ (c : After-pass_gap_here) where
 
   most : (base : ℕ) → IsStandingAtLine base c.args.rows.now c.args.ctx.now c.args.reader.now
       → (base ≤ c.pass_gap_here.new.ctx.ticks)
-      × (c.pass_gap_here.new.ctx.ticks ≤ base + most_counted c.args.ctx.now.held.settings.encoding (length c.args.reader.now.bits))
+      × (c.pass_gap_here.new.ctx.ticks ≤ base + most_counted c.args.ctx.now.held.settings.encoding
+      (length c.args.reader.now.bits))
   most base at = standing_most base c.pass_gap_here.new.self c.pass_gap_here.new.ctx c.pass_gap_here.new.reader
       c.args.ctx.now.held.settings c.args.reader.now.bits
       (gap_here base c.read_row_here.new.rows c.pass_gap_here.new.self c.read_row_here.new.ctx c.pass_gap_here.new.ctx

@@ -9,7 +9,8 @@ use Rattle.hayro_ccitt.proofs.tagged.read_row_here.Goals as goal
 row_read : (c : After-note_line) → ReadsRowHere c.args.rows.now c.note_line.new.self c.args.ctx.now c.try_row-read.new.ctx
     c.args.reader.now c.try_row-read.new.reader
 row_read c =
-    row_here c.args.rows.now c.note_line.new.self c.args.ctx.now c.try_row-read.new.ctx c.args.reader.now c.try_row-read.new.reader
+    row_here c.args.rows.now c.note_line.new.self c.args.ctx.now c.try_row-read.new.ctx c.args.reader.now
+    c.try_row-read.new.reader
     (omega (arith, c.bit_pos-line_start.ensures.place, c.bit_pos-line_start.ensures.within))
     (omega (arith, c.bit_pos-end.ensures.place, c.bit_pos-end.ensures.within)) c.try_row-read.ensures.same_bits (Ok tt)
     (search rules)

@@ -42,7 +42,8 @@ pub is_read_before-requires-clause-eol : goal.is_read_before-requires-clause-eol
 is_read_before-requires-clause-eol c =
     let bits = bits_in c.args.order c.args.data.now in
     let body = c.in-Some.ensures.body in
-    eol_after_body bits (drop c.in-Some.end bits) c.args.from c.args.to (omega (arith, body.one.1, body.one.2)) body.within body.eol
+    eol_after_body bits (drop c.in-Some.end bits) c.args.from c.args.to (omega
+    (arith, body.one.1, body.one.2)) body.within body.eol
 
 pub returns-clause-local : goal.returns-clause-local
 returns-clause-local c =
