@@ -1,14 +1,14 @@
 -- Whether damage to a line of lenient two-dimensional data ends at the next one-dimensional line, and what calls leave that
 -- test it.
-use Rattle.std.specs.Prelude.{◌≡◌, ◌+◌, ◌*◌, ◌≤◌, ◌<◌, ◌⊎◌, ◌∷◌, [], ℕ, Bool, true, false, drop, length, None, Some, Err}
+use Rattle.std.specs.Prelude.{◌≡◌, ◌≢◌, ◌+◌, ◌*◌, ◌≤◌, ◌<◌, ◌⊎◌, ◌∷◌, [], ℕ, Bool, true, false, drop, length, None, Some, Err}
 use Rattle.fax_bits.specs.declared.error.DecodeError.{DecodeError}
 use Rattle.fax_bits.specs.declared.settings.DecodeSettings.{DecodeSettings}
 use Rattle.fax_bits.specs.declared.settings.EncodingMode.TheVariants.{Group3_2D}
 use Rattle.fax_bits.specs.Bits.{Bits, BitsAt, IsPrefix}
-use Rattle.fax_bits.specs.EndOfLine.{after_eol}
+use Rattle.fax_bits.specs.EndOfLine.{after_eol, next_eol}
 use Rattle.fax_bits.specs.Repetition.{Reaches}
 use Rattle.fax_reading.specs.Answers.{IsFault}
-use Rattle.fax_reading.specs.Context.{Context}
+use Rattle.fax_reading.specs.Context.{Context, Held, fresh}
 use Rattle.fax_reading.specs.Lines.{Line}
 use Rattle.fax_reading.specs.LocalityByK.{IsTaggedBody, IsTagOfLine}
 use Rattle.fax_reading.specs.Locality.{IsEol}
@@ -45,6 +45,20 @@ pub record IsTaggedBodyTo (bits : Bits) (from to end : ℕ) : Type 0 where
 abbrev pub ComesLater : DecodeSettings → Bits → ℕ → ℕ → Type 0
 ComesLater settings bits place taken = (so_far : Progress) → Reaches (move_on settings) (first_line settings bits) so_far
     → so_far.rest ≡ drop place bits → taken ≤ length so_far.rows
+
+-- what must be where a reading is to come to a line at a position: it is at the start of two-dimensional data that has columns
+pub record CanComeTo (held : Held) (now : BitsAt) (place : ℕ) : Type 0 where
+  pub encoding : held.settings.encoding ≡ Group3_2D
+  pub wide : 0 < held.settings.columns
+  pub fresh : held ≡ fresh held.settings
+  pub start : now.place ≡ 0
+  pub within : place ≤ length now.bits
+
+-- a position is at least a tag and the last twelve bits of an EOL after another, from which on there is an EOL
+pub record MayEndBefore (bits : Bits) (from end : ℕ) : Type 0 where
+  pub far : from + 13 ≤ end
+  pub within : end ≤ length bits
+  pub eol : next_eol (drop from bits) ≢ None
 
 -- the reading has no whole line that begins at a position
 abbrev pub IsNotRead : DecodeSettings → Bits → ℕ → Type 0

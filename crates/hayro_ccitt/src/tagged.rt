@@ -12,8 +12,8 @@ ghost use Rattle.hayro_ccitt.specs.Rows.{changes};
 ghost use Rattle.hayro_ccitt.specs.Work.{found_here, most_counted};
 ghost use Rattle.hayro_ccitt.specs.RowsRead.{IsStandingAtLine, is_at_line};
 ghost use Rattle.fax_rows.specs.TakenRows.{CanTakeRow};
-ghost use Rattle.hayro_ccitt.specs.TaggedBodies.{ComesFirst, EndsHere, IsLocal2D, IsNotRead, IsTaggedBodyTo};
-ghost use Rattle.hayro_ccitt.specs.TaggedBodies.{PassesLine, ReadsRowHere, most_for_tagged_body};
+ghost use Rattle.hayro_ccitt.specs.TaggedBodies.{CanComeTo, ComesFirst, EndsHere, IsLocal2D, IsNotRead, IsTaggedBodyTo};
+ghost use Rattle.hayro_ccitt.specs.TaggedBodies.{MayEndBefore, PassesLine, ReadsRowHere, most_for_tagged_body};
 
 use crate::locality::{end_of_eol, holds_eol, holds_one, is_following_eol, wants_memory};
 use crate::reach::is_lenient_2d;
@@ -132,17 +132,12 @@ fn come_to_line_at(
     reader: &mut BitReader<'_>,
     place: usize,
 ) -> Result<bool>
-    requires encoding { ctx.old.held.settings.encoding ≡ EncodingMode.Group3_2D }
-    requires wide { 0 < ctx.old.held.settings.columns }
-    requires fresh { ctx.old.held ≡ fresh ctx.old.held.settings }
-    requires start { reader.old.place ≡ 0 }
-    requires within { place ≤ length reader.old.bits }
+    requires { CanComeTo ctx.old.held reader.old place }
     ensures there { result ≡ Ok true → ComesFirst ctx.old.ticks ctx.old.held.settings reader.old.bits place ctx.new }
     ensures at { result ≡ Ok true → reader.new.place ≡ place }
     ensures none { result ≡ Ok false → IsNotRead ctx.old.held.settings reader.old.bits place }
     ensures only_memory { IsOkUnless result DecodeError.OutOfMemory }
-    ensures settings { ctx.new.held.settings ≡ ctx.old.held.settings }
-    ensures same_bits { reader.new.bits ≡ reader.old.bits }
+    ensures kept { (ctx.new.held.settings ≡ ctx.old.held.settings) × (reader.new.bits ≡ reader.old.bits) }
     ensures counts { ctx.old.ticks ≤ ctx.new.ticks }
     ensures at_most { ctx.new.ticks ≤ ctx.old.ticks + most_counted ctx.old.held.settings.encoding (length reader.old.bits) }
 {
@@ -218,9 +213,7 @@ fn is_read_before(
 ) -> Result<bool>
     requires fit { BitsFit «data».now }
     requires encoding { ctx.old.held.settings.encoding ≡ EncodingMode.Group3_2D }
-    requires far { from + 13 ≤ end }
-    requires within { end ≤ 8 * length «data».now }
-    requires eol { next_eol (drop from (bits_in order «data».now)) ≢ None }
+    requires line { MayEndBefore (bits_in order «data».now) from end }
     ensures before { IfOk result (λ before. IsTrue before
         ↔ IsReadBefore ctx.old.held.settings (bits_in order «data».now) from (drop end (bits_in order «data».now))) }
     ensures only_memory { IsOkUnless result DecodeError.OutOfMemory }

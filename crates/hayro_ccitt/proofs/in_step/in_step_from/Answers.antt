@@ -1,7 +1,6 @@
 use Rattle.hayro_ccitt.proofs.Names.{common_steps}
 use Rattle.hayro_ccitt.proofs.Names.{◌≡◌, ℕ, length, drop, sym, ap, subst, ◌∙◌, arith, DecodeSettings, Bits, BitsAt, bits_in}
 use Rattle.hayro_ccitt.proofs.Names.{here, TellsStep, IsInStepFrom, ◌⊎◌, ◌<◌, false, Group3_1D, Group3_2D, refl, Some, ◌↔◌}
-use Rattle.hayro_ccitt.proofs.Names.{HighestFirst}
 use Rattle.hayro_ccitt.proofs.BitReading.BitLists.{bits_are_whole, length-bits_in}
 use Rattle.hayro_ccitt.proofs.KeptRows.StepsReported.{step_found, no_step_found, rows_follow}
 use Rattle.hayro_ccitt.proofs.in_step.in_step_from.Goals.{After-bit_pos}

@@ -2,7 +2,6 @@ use Rattle.hayro_ccitt.proofs.Names.{◌≡◌, ◌<◌, ◌∙◌, ◌↔◌, �
 use Rattle.hayro_ccitt.proofs.Names.{Bits, BitsAt, Context, DecodeSettings, IsTrue, bits_in, drop, here, length, length-drop}
 use Rattle.hayro_ccitt.specs.Work.{found_here}
 use Rattle.hayro_ccitt.specs.LocalityByK.{IsReadBefore}
-use Rattle.hayro_ccitt.proofs.BitReading.BitLists.{length-bits_in}
 use Rattle.fax_rows.proofs.Work.CallsPaid.{failed_most}
 use Rattle.hayro_ccitt.specs.TaggedBodies.{ComesFirst, EndsHere}
 use Rattle.hayro_ccitt.proofs.TaggedBodies.LinesEnd.{bare_lines}
@@ -14,7 +13,7 @@ pub returns-then-settings-eq0-clause-before : goal.returns-then-settings-eq0-cla
 returns-then-settings-eq0-clause-before c =
     let none = sym (ap (λ (s : DecodeSettings). s.columns) c.settings.ensures.value) ∙ c.if-settings-eq0.true in (
       λ is. bare_lines c.args.ctx.now.held.settings (bits_in c.args.order c.args.data.now) c.args.from c.args.end
-          c.requires.encoding none c.requires.far (omega (arith, c.requires.within, length-bits_in c.args.order c.args.data.now)),
+          c.requires.encoding none c.requires.line.far c.requires.line.within,
       λ read. refl,
     )
 
@@ -22,9 +21,8 @@ pub line_here_ends_before-requires-clause-within : goal.line_here_ends_before-re
 line_here_ends_before-requires-clause-within c =
     omega (
       arith,
-      c.requires.within,
-      length-bits_in c.args.order c.args.data.now,
-      ap length c.come_to_line_at.ensures.same_bits,
+      c.requires.line.within,
+      ap length c.come_to_line_at.ensures.kept.1,
       ap (λ (at : BitsAt). length at.bits) c.at_place-reader.ensures,
     )
 
@@ -48,13 +46,13 @@ module _ (c : After-line_here_ends_before) where
   reset_settings = ap (λ (ctx : Context). ctx.held.settings) c.reset.ensures.frame
 
   settings_is : there.held.settings ≡ settings
-  settings_is = c.come_to_line_at.ensures.settings ∙ reset_settings
+  settings_is = c.come_to_line_at.ensures.kept.0 ∙ reset_settings
 
   start_bits : c.at_place-reader.result.bits ≡ bits
   start_bits = ap (λ (at : BitsAt). at.bits) c.at_place-reader.ensures
 
   bits_is : now.bits ≡ bits
-  bits_is = c.come_to_line_at.ensures.same_bits ∙ start_bits
+  bits_is = c.come_to_line_at.ensures.kept.1 ∙ start_bits
 
   here_is : here now ≡ drop c.args.from bits
   here_is = ap (λ (b : Bits). drop now.place b) bits_is ∙ ap (λ (n : ℕ). drop n bits) (c.come_to_line_at.ensures.at came)
@@ -74,7 +72,7 @@ module _ (c : After-line_here_ends_before) where
       → IsTrue before ↔ IsReadBefore settings bits c.args.from (drop c.args.end bits)
   decided before is =
       read_before settings c.requires.encoding wide bits c.args.from first.stands (omega (arith, length-drop c.args.from bits))
-      (drop c.args.end bits) before refl first.later c.requires.eol
+      (drop c.args.end bits) before refl first.later c.requires.line.eol
       (subst (λ (s : DecodeSettings). IsTrue before ↔ EndsHere s there.held.reference (drop c.args.from bits)
       (drop c.args.end bits))
       settings_is

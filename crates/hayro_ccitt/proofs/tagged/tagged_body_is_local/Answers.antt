@@ -30,20 +30,16 @@ returns-then-to-data-clause-local c = (
   λ local. absurd (omega (arith, local.body.within, length-bits_in c.args.order c.args.data.now, c.if-to-data.true)),
 )
 
-pub is_read_before-requires-clause-far : goal.is_read_before-requires-clause-far
-is_read_before-requires-clause-far c =
-    ends_far (bits_in c.args.order c.args.data.now) c.args.from c.args.to c.in-Some.end c.in-Some.ensures.body
-
-pub is_read_before-requires-clause-within : goal.is_read_before-requires-clause-within
-is_read_before-requires-clause-within c =
-    omega (arith, c.in-Some.ensures.body.short, length-bits_in c.args.order c.args.data.now)
-
-pub is_read_before-requires-clause-eol : goal.is_read_before-requires-clause-eol
-is_read_before-requires-clause-eol c =
+pub is_read_before-requires-clause-line : goal.is_read_before-requires-clause-line
+is_read_before-requires-clause-line c =
     let bits = bits_in c.args.order c.args.data.now in
     let body = c.in-Some.ensures.body in
-    eol_after_body bits (drop c.in-Some.end bits) c.args.from c.args.to (omega
-    (arith, body.one.1, body.one.2)) body.within body.eol
+    record {
+      far = ends_far bits c.args.from c.args.to c.in-Some.end body;
+      within = body.short;
+      eol = eol_after_body bits (drop c.in-Some.end bits) c.args.from c.args.to (omega
+          (arith, body.one.1, body.one.2)) body.within body.eol;
+    }
 
 pub returns-clause-local : goal.returns-clause-local
 returns-clause-local c =
