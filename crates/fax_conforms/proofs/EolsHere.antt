@@ -91,8 +91,3 @@ no_eol_at_end None start none = λ rest (fill, stands).
 pub none_there : {A : Type 0} (o : Option A) (P : Type 0) → is_some o ≡ false → IfNone o P → P
 none_there (Some x) P e none = absurd cc
 none_there None P e none = none
-
-pub some_there : (o : Option BitsAt) (start : Bits) → is_some o ≡ true → IfSome o (λ after. start ≡ eol 0 ++ here after)
-    → (rest : Bits) × (start ≡ eol 0 ++ rest)
-some_there (Some after) start e found = (here after, found)
-some_there None start e found = absurd cc

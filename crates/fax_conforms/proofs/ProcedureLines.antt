@@ -2,18 +2,20 @@
 use Rattle.hayro_ccitt.proofs.Names.{◌≡◌, ℕ, ◌+◌, ◌<◌, ◌≤◌, Bool, true, false, Option, Some, [], ◌++◌, ◌↔◌, length, refl}
 use Rattle.hayro_ccitt.proofs.Names.{ap, sym, subst, ◌∙◌, append_assoc, append_cancel_left, arith, inl, inr, Bits, Row}
 use Rattle.hayro_ccitt.proofs.Names.{DecodeSettings, EncodingMode, Group4, Group3_1D, Group3_2D, EncodesLine, eol, padding}
-use Rattle.hayro_ccitt.proofs.Names.{cond, length-append, ◌≢◌, Ok}
+use Rattle.hayro_ccitt.proofs.Names.{cond, length-append, ◌≢◌, ◌⊎◌, Ok}
 use Rattle.std.specs.Prelude.{not, ◌&&◌}
 use Rattle.fax_encode.specs.Procedure.{line_by_procedure, part_by_procedure}
 use Rattle.fax_encode.specs.Chosen.{chosen_line_1d, chosen_line_2d}
 use Rattle.fax_encode.proofs.ChosenLines.{line_1d_encodes, line_2d_encodes}
 use Rattle.fax_conforms.specs.Standing.{LineStands, Leads, Never, IsOnly}
 use Rattle.fax_conforms.specs.Conforming.{EolStands}
-use Rattle.hayro_ccitt.proofs.Names.{List, None, Result, Err, AreChanges, pixels}
+use Rattle.hayro_ccitt.proofs.Names.{List, Result, Err, AreChanges, pixels}
 use Rattle.hayro_ccitt.proofs.PixelRows.ChangesAndPixels.{length-pixels}
+use Rattle.fax_conforms.specs.Stops.{IsViolated}
 use Rattle.fax_conforms.specs.declared.stops.Stop.{Stop}
 use Rattle.fax_conforms.specs.Checks.{IsOnlyPart, NoPart, PassesPart, ReadsPart, part_of}
-use Rattle.fax_conforms.specs.ByProcedure.{EndsHere, HasKind, LeadStands, LinesByProcedure, PartStands, left_after}
+use Rattle.fax_conforms.specs.ByProcedure.{EndStands, EndsHere, HasKind, LeadStands, LinesByProcedure, PartStands, left_after}
+use Rattle.hayro_ccitt.specs.Pictures.{Allows}
 use Rattle.fax_conforms.proofs.BodyLines.{line_has_bits}
 use Rattle.fax_conforms.proofs.EolsHere.{one_eol}
 
@@ -48,10 +50,20 @@ lead_shorter false taken here rest is = omega (arith, ap length is)
 -- ---- A line.
 
 -- the kind of the line that is passed
-abbrev pub kind_if : Bool → Result Bool Stop → Result (Option Bool) Stop
-kind_if is_two (Ok true) = Ok (Some is_two)
-kind_if is_two (Ok false) = Ok None
+abbrev pub kind_if : Bool → Result (Unit {0}) Stop → Result Bool Stop
+kind_if is_two (Ok done) = Ok is_two
 kind_if is_two (Err stop) = Err stop
+
+-- none is read
+pub no_part_read : (answer : Result Bool Stop) (settings : DecodeSettings) (line : Bool → Row → Bits → Type 0) (changes : List ℕ)
+    (here rest : Bits) → IsViolated answer → NoPart settings line → ReadsPart settings line changes here rest answer
+no_part_read (Ok is_two) settings line changes here rest violated none = absurd violated
+no_part_read (Err stop) settings line changes here rest violated none = λ broken. none
+
+pub none_passes : (answer : Result (Unit {0}) Stop) (part here rest : Bits) → IsViolated answer
+    → ((others : Bits) → here ≡ part ++ others → ⊥) → PassesPart part here rest answer
+none_passes (Ok done) part here rest violated none = absurd violated
+none_passes (Err stop) part here rest violated none = λ broken. none
 
 -- what the procedure writes is a line
 pub by_procedure_encodes : (encoding : EncodingMode) (is_two : Bool) (reference row : Row) → HasKind encoding is_two
@@ -141,12 +153,12 @@ module _ (settings : DecodeSettings) (has_eols : Bool) (left : Option ℕ) (refe
             }
 
         -- is compared with the bits
-        pub part_read : (rest : Bits) (answer : Result Bool Stop)
+        pub part_read : (rest : Bits) (answer : Result (Unit {0}) Stop)
             → PassesPart (part_of settings has_eols is_two reference read) here rest answer
             → ReadsPart settings (PartStands settings has_eols left reference here) changes here rest (kind_if is_two answer)
-        part_read rest (Ok true) passes = only_part rest passes
-        part_read rest (Ok false) passes = λ kind row others len part. passes others (part_of_row kind row others len part)
-        part_read rest (Err stop) passes = λ broken. absurd (passes broken)
+        part_read rest (Ok done) passes = only_part rest passes
+        part_read rest (Err stop) passes = λ broken kind row others len part.
+            passes broken others (part_of_row kind row others len part)
 
 -- ---- From one line to the next.
 module _ (settings : DecodeSettings) (k : Option ℕ) (has_eols : Bool) (taken : ℕ) (left : Option ℕ) (reference : Row)
@@ -185,3 +197,35 @@ module _ (settings : DecodeSettings) (k : Option ℕ) (has_eols : Bool) (taken :
       pub by_procedure_goes_on : LinesByProcedure settings k has_eols taken left reference here
           ↔ LinesByProcedure settings k has_eols (taken + 1) (left_after k left is_two) row next
       by_procedure_goes_on = (lines_on, λ lines. LinesByProcedure.line middle is_two row next lead row_len part lines)
+
+-- ---- The row limit.
+
+-- as many rows are allowed, and fewer
+fewer_allowed : (rows taken : ℕ) → (rows ≡ 0) ⊎ (taken + 1 ≤ rows) → (rows ≡ 0) ⊎ (taken ≤ rows)
+fewer_allowed rows taken (inl none) = inl none
+fewer_allowed rows taken (inr few) = inr (omega (arith, few))
+
+ended_allowed : (closed : Bool) (settings : DecodeSettings) (taken : ℕ) (here rest : Bits)
+    → EndStands closed settings taken here rest → Allows settings taken
+ended_allowed true settings taken here rest (allows, closing) = allows
+ended_allowed false settings taken here rest ((limit, some), is) = inr (omega (arith, limit))
+
+module _ (settings : DecodeSettings) (k : Option ℕ) (has_eols : Bool) where
+  lines_allowed : (taken : ℕ) (left : Option ℕ) (reference : Row) (here : Bits)
+      → LinesByProcedure settings k has_eols taken left reference here → Allows settings taken
+  lines_allowed taken left reference here (LinesByProcedure.over (rest, ends, few)) =
+      ended_allowed _ settings taken here rest ends
+  lines_allowed taken left reference here (LinesByProcedure.line middle is_two row rest lead len part lines) =
+      fewer_allowed settings.rows taken (lines_allowed (taken + 1) (left_after k left is_two) row rest lines)
+
+  none_allowed : (taken : ℕ) → (settings.rows ≡ taken) × (0 < taken) → Allows settings (taken + 1) → ⊥
+  none_allowed taken (limit, some) (inl none) = omega (arith, limit, some, none)
+  none_allowed taken (limit, some) (inr few) = omega (arith, limit, few)
+
+  -- no line follows where the row limit is met
+  pub no_lines_past_limit : (taken : ℕ) (left : Option ℕ) (reference : Row) (here : Bits)
+      → (settings.rows ≡ taken) × (0 < taken) → (EndsHere settings has_eols taken here → ⊥)
+      → LinesByProcedure settings k has_eols taken left reference here → ⊥
+  no_lines_past_limit taken left reference here met unended (LinesByProcedure.over ends) = unended ends
+  no_lines_past_limit taken left reference here met unended (LinesByProcedure.line middle is_two row rest lead len part lines) =
+      none_allowed taken met (lines_allowed (taken + 1) (left_after k left is_two) row rest lines)

@@ -5,6 +5,7 @@ use Rattle.hayro_ccitt.proofs.Names.{eol, white_row, after_eol, length-replicate
 use Rattle.hayro_ccitt.proofs.EncodedPictures.PicturesT4.{eol_stands, line_t4_starts, matches_itself}
 use Rattle.fax_conforms.specs.ByProcedure.{ClosingStands, ConformsByProcedure, EndStands, EndsHere, LinesByProcedure, left_at_first}
 use Rattle.fax_conforms.specs.Checks.{Checks}
+use Rattle.fax_conforms.specs.Stops.{IsViolated}
 use Rattle.fax_conforms.specs.Conforming.{EolStands}
 use Rattle.fax_conforms.specs.declared.stops.Stop.{Stop}
 use Rattle.fax_conforms.proofs.ProcedureLines.{part_is_line}
@@ -56,29 +57,34 @@ module _ (settings : DecodeSettings) (k : Option ℕ) (whole : Bits) (wide : 0 <
         absurd (let e : Option.Some rest ≡ None = sym (eol_stands fill rest) ∙ ap (after_eol 0) (sym is ∙ here ∙ stands)
         ∙ start.no_eol in cc)
 
-    pub eols_by_procedure : settings.columns ≤ 4294967295 → (first : Bits) → whole ≡ eol 0 ++ first
+    pub eols_by_procedure : settings.columns ≤ 4294967295 → (first : Bits) → EolStands whole first
         → ConformsByProcedure settings k whole ↔ Lines true
     eols_by_procedure small first is = (to, λ lines. (wide, true, three, lines))
       where
         to : ConformsByProcedure settings k whole → Lines true
         to (some, true, may, lines) = lines
-        to (some, false, may, lines) = absurd (begins_with_none small lines first (0, is))
+        to (some, false, may, lines) = absurd (begins_with_none small lines first is)
 
-    module _ (none : (rest : Bits) → whole ≡ eol 0 ++ rest → ⊥) where
+    module _ (none : (rest : Bits) → EolStands whole rest → ⊥) where
       pub no_eols_by_procedure : settings.end_of_line ≡ false → ConformsByProcedure settings k whole ↔ Lines false
       no_eols_by_procedure unasked = (to, λ lines. (wide, false, inr unasked, lines))
         where
           to : ConformsByProcedure settings k whole → Lines false
-          to (some, true, may, lines) = let eol_here = begins_with_eol lines in absurd (none eol_here.0 eol_here.1)
+          to (some, true, may, lines) = let eol_here = begins_with_eol lines in absurd (none eol_here.0 (0, eol_here.1))
           to (some, false, may, lines) = lines
 
       pub asked_eols_by_procedure : settings.end_of_line ≡ true → ConformsByProcedure settings k whole → ⊥
       asked_eols_by_procedure asked (some, true, may, lines) =
-          let eol_here = begins_with_eol lines in none eol_here.0 eol_here.1
+          let eol_here = begins_with_eol lines in none eol_here.0 (0, eol_here.1)
       asked_eols_by_procedure asked (some, false, inl four, lines) = three four
       asked_eols_by_procedure asked (some, false, inr unasked, lines) = let e : true ≡ false = sym asked ∙ unasked in cc
 
 -- ---- What a check answers.
-pub checks_same : (r : Result Bool Stop) (P Q : Type 0) → (Q ↔ P) → Checks P r → Checks Q r
-checks_same (Ok holds) P Q same is = (λ t. same.1 (is.0 t), λ q. is.1 (same.0 q))
+pub checks_same : (r : Result (Unit {0}) Stop) (P Q : Type 0) → (Q ↔ P) → Checks P r → Checks Q r
+checks_same (Ok done) P Q same is = same.1 is
 checks_same (Err stop) P Q same none = λ broken q. none broken (same.0 q)
+
+-- where a rule is broken
+pub checks_none : (r : Result (Unit {0}) Stop) (P : Type 0) → IsViolated r → (P → ⊥) → Checks P r
+checks_none (Ok done) P violated none = absurd violated
+checks_none (Err stop) P violated none = λ broken p. none p

@@ -10,6 +10,11 @@ use Rattle.fax_encode.specs.Settings.{is_closed}
 use Rattle.fax_conforms.specs.Conforming.{BodyEnds, BodyStands, EolsStand, LinesEnd, LinesStand}
 use Rattle.fax_conforms.specs.ByProcedure.{ClosingStands, EndStands, HasKind, LinesByProcedure, PlainRtcStands}
 use Rattle.fax_conforms.specs.ByProcedure.{left_after, left_at_first, tagged_eols}
+use Rattle.fax_conforms.specs.ByProcedure.{ConformsIn}
+use Rattle.fax_conforms.specs.Conforming.{Conforms}
+use Rattle.fax_conforms.specs.declared.grades.Grade.{Grade}
+use Rattle.fax_conforms.specs.declared.grades.Grade.TheVariants.{Readable, Procedure}
+use Rattle.hayro_ccitt.specs.Settings.{AreSettings}
 use Rattle.fax_conforms.specs.Laws.{ProcedureIsReadable}
 use Rattle.fax_conforms.proofs.BodyLines.{none_more, one_more_row}
 use Rattle.fax_conforms.proofs.ChosenConforms.{all_filled, none_filled}
@@ -143,3 +148,9 @@ procedure_is_readable settings k whole are (wide, false, may, lines) =
             (λ rest stands. begins_with_none settings k whole wide three (omega (arith, are.columns)) lines rest stands) unasked).1 body
       ]
     ]
+
+-- what conforms in a grade is readable
+pub readable_in_grade : (grade : Grade) (settings : DecodeSettings) (whole : Bits) → AreSettings settings
+    → ConformsIn grade settings whole → Conforms settings whole
+readable_in_grade Readable settings whole are conforms = conforms
+readable_in_grade (Procedure k) settings whole are conforms = procedure_is_readable settings k whole are conforms

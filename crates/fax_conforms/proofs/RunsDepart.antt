@@ -26,6 +26,10 @@ wrong_run columns place pen Rule.Eol here more after other none next = absurd no
 wrong_run columns place pen Rule.Tag here more after other none next = absurd none
 wrong_run columns place pen Rule.Padding here more after other none next = absurd none
 wrong_run columns place pen Rule.PassToEnd here more after other none next = absurd none
+wrong_run columns place pen Rule.Procedure here more after other none next = absurd none
+wrong_run columns place pen Rule.Kind here more after other none next = absurd none
+wrong_run columns place pen Rule.Fill here more after other none next = absurd none
+wrong_run columns place pen Rule.End here more after other none next = absurd none
 
 -- where a wrong run is
 pub wrong_here : {T : Type 0} (r : Result T Stop) (columns : ℕ) (pen : Pen) (reader : BitsAt) (place : ℕ) (rule : Rule)

@@ -1,5 +1,9 @@
 -- Results that end early.
-use Rattle.hayro_ccitt.proofs.Names.{Result, Ok, Err, IfOk, OnOk, IfErr}
+use Rattle.hayro_ccitt.proofs.Names.{Result, Ok, Err, IfOk, OnOk, IfErr, Bits, DecodeSettings}
+use Rattle.fax_conforms.specs.Checks.{StopsIn}
+use Rattle.fax_conforms.specs.Stops.{EndsInPicture}
+use Rattle.fax_conforms.specs.declared.grades.Grade.{Grade}
+use Rattle.fax_conforms.specs.declared.grades.Grade.TheVariants.{Readable, Procedure}
 use Rattle.fax_conforms.specs.declared.stops.Stop.{Stop}
 use Rattle.fax_conforms.specs.Stops.{IsBroken}
 
@@ -27,3 +31,10 @@ if_done (Err e) P Q p on = tt
 pub if_both : {T : Type 0} (r : Result T Stop) (P Q R : Type 0) → OnOk r P → OnOk r Q → (P → Q → R) → OnOk r R
 if_both (Ok x) P Q R p q on = on p q
 if_both (Err e) P Q R p q on = tt
+
+-- what ends early in the readable grade, whichever is asked
+pub stops_in_grade : (grade : Grade) (settings : DecodeSettings) (bits : Bits) (stop : Stop) → EndsInPicture settings bits stop
+    → StopsIn grade settings bits stop
+stops_in_grade Readable settings bits (Stop.Violation found) at = at
+stops_in_grade (Procedure k) settings bits (Stop.Violation found) at = tt
+stops_in_grade grade settings bits Stop.OutOfMemory at = tt

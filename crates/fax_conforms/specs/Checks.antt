@@ -1,16 +1,19 @@
--- What a check by the coding procedure answers.
-use Rattle.std.specs.Prelude.{◌≡◌, ◌↔◌, ◌<◌, ◌++◌, ℕ, Bool, true, false, not, ◌&&◌, List, length, Option, None, Some, Result, Ok}
-use Rattle.std.specs.Prelude.{Err, IsTrue}
+-- What a check answers.
+use Rattle.std.specs.Prelude.{◌≡◌, ◌<◌, ◌++◌, ℕ, Bool, not, ◌&&◌, List, length, Result, Ok, Err}
 use Rattle.hayro_ccitt.specs.Bits.{Bits}
 use Rattle.hayro_ccitt.specs.DecodeSettings.{DecodeSettings}
 use Rattle.hayro_ccitt.specs.Rows.{Row, AreChanges, pixels}
 use Rattle.fax_encode.specs.Procedure.{part_by_procedure}
-use Rattle.fax_conforms.specs.Stops.{IsBroken}
+use Rattle.fax_conforms.specs.Stops.{IsBroken, IsViolationOf}
+use Rattle.fax_conforms.specs.declared.grades.Grade.{Grade}
+use Rattle.fax_conforms.specs.declared.grades.Grade.TheVariants.{Readable, Procedure}
 use Rattle.fax_conforms.specs.declared.stops.Stop.{Stop}
+use Rattle.fax_conforms.specs.declared.stops.Stop.TheVariants.{Violation, OutOfMemory}
+use Rattle.fax_conforms.specs.declared.stops.Violation as at
 
--- whether this holds; if the check ends early, and not because an allocation failed, it doesn't
-abbrev pub Checks : Type 0 → Result Bool Stop → Type 0
-Checks P (Ok holds) = IsTrue holds ↔ P
+-- this holds; if the check ends early, and not because an allocation failed, it doesn't
+abbrev pub Checks : Type 0 → Result (Unit {0}) Stop → Type 0
+Checks P (Ok done) = P
 Checks P (Err stop) = IsBroken stop → P → ⊥
 
 -- the line of a row below another as the procedure writes it, and zeros up to a whole byte if lines are aligned and have no EOLs
@@ -18,11 +21,10 @@ abbrev pub part_of : DecodeSettings → Bool → Bool → Row → Row → Bits
 part_of settings has_eols is_two reference row =
     part_by_procedure settings.encoding (settings.rows_are_byte_aligned && not has_eols) is_two reference row
 
--- these bits are here, and others follow them, or they aren't here; only an allocation fails
-abbrev pub PassesPart : Bits → Bits → Bits → Result Bool Stop → Type 0
-PassesPart part here rest (Ok true) = here ≡ part ++ rest
-PassesPart part here rest (Ok false) = (others : Bits) → here ≡ part ++ others → ⊥
-PassesPart part here rest (Err stop) = IsBroken stop → ⊥
+-- these bits are here, and others follow them; if it ends early, and not because an allocation failed, they aren't here
+abbrev pub PassesPart : Bits → Bits → Bits → Result (Unit {0}) Stop → Type 0
+PassesPart part here rest (Ok done) = here ≡ part ++ rest
+PassesPart part here rest (Err stop) = IsBroken stop → (others : Bits) → here ≡ part ++ others → ⊥
 
 -- no line of this width stands
 abbrev pub NoPart : DecodeSettings → (Bool → Row → Bits → Type 0) → Type 0
@@ -37,8 +39,17 @@ pub record IsOnlyPart (settings : DecodeSettings) (line : Bool → Row → Bits 
       → (kind ≡ is_two) × (row ≡ pixels settings.columns changes) × (others ≡ rest)
   pub shorter : length rest < length here
 
--- the line that stands is read, or none does
-abbrev pub ReadsPart : DecodeSettings → (Bool → Row → Bits → Type 0) → List ℕ → Bits → Bits → Result (Option Bool) Stop → Type 0
-ReadsPart settings line changes here rest (Ok (Some is_two)) = IsOnlyPart settings line changes here rest is_two
-ReadsPart settings line changes here rest (Ok None) = NoPart settings line
+-- the line that stands is read, and its kind; if it ends early, and not because an allocation failed, none does
+abbrev pub ReadsPart : DecodeSettings → (Bool → Row → Bits → Type 0) → List ℕ → Bits → Bits → Result Bool Stop → Type 0
+ReadsPart settings line changes here rest (Ok is_two) = IsOnlyPart settings line changes here rest is_two
 ReadsPart settings line changes here rest (Err stop) = IsBroken stop → NoPart settings line
+
+-- a violation of the readable grade is where the data departs; of one of the other grade nothing is said
+abbrev pub IsViolationIn : Grade → DecodeSettings → Bits → at.Violation → Type 0
+IsViolationIn Readable settings whole found = IsViolationOf settings whole found
+IsViolationIn (Procedure k) settings whole found = Unit {0}
+
+-- what ends early does so at such a violation, or because an allocation failed
+abbrev pub StopsIn : Grade → DecodeSettings → Bits → Stop → Type 0
+StopsIn grade settings whole (Violation found) = IsViolationIn grade settings whole found
+StopsIn grade settings whole OutOfMemory = Unit {0}

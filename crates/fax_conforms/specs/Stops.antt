@@ -58,7 +58,8 @@ IsTooNear here right =
 
 -- How the bits from a place on break a rule, where others would be right (T.4, 4.1.1 to 4.1.3 and 4.2.1.3): there is no word of
 -- the
--- kind that the others begin with, or one that can't be in its place. `Columns` is of the settings, and of no place.
+-- kind that the others begin with, or one that can't be in its place. `Columns` is of the settings, and of no place; the procedure's
+-- rules are broken by no word.
 abbrev pub Breaks : Rule → ℕ → Bits → Bits → Type 0
 Breaks rule.Mode place here right = ((mode : Mode) → ModeIsHere mode here → ⊥) × (mode : Mode) × ModeIsHere mode right
 Breaks rule.Run place here right =
@@ -71,6 +72,10 @@ Breaks rule.Tag place here right = (here ≡ []) × (right ≢ [])
 Breaks rule.Padding place here right =
     ((rest : Bits) → here ≡ padding place ++ rest → ⊥) × (rest : Bits) × (right ≡ padding place ++ rest)
 Breaks rule.PassToEnd place here right = ModeIsHere Pass here × (ModeIsHere Pass right → ⊥)
+Breaks rule.Procedure place here right = ⊥
+Breaks rule.Kind place here right = ⊥
+Breaks rule.Fill place here right = ⊥
+Breaks rule.End place here right = ⊥
 
 -- ---- Where what stands somewhere departs from what is right
 
@@ -103,6 +108,10 @@ IsWrongRun columns pen rule.Eol here = ⊥
 IsWrongRun columns pen rule.Tag here = ⊥
 IsWrongRun columns pen rule.Padding here = ⊥
 IsWrongRun columns pen rule.PassToEnd here = ⊥
+IsWrongRun columns pen rule.Procedure here = ⊥
+IsWrongRun columns pen rule.Kind here = ⊥
+IsWrongRun columns pen rule.Fill here = ⊥
+IsWrongRun columns pen rule.End here = ⊥
 
 -- such a run is at the place of a violation
 pub record HasWrongRun (columns : ℕ) (pen : Pen) (bits here : Bits) (found : at.Violation) : Type 0 where

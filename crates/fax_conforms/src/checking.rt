@@ -5,12 +5,12 @@ ghost use Rattle.hayro_ccitt.specs.Bits.{Bits, BitsFit, bits_in, here};
 ghost use Rattle.hayro_ccitt.specs.EncodingMode.TheVariants.{Group4};
 ghost use Rattle.fax_conforms.specs.Conforming.{Conforms, EolStands};
 ghost use Rattle.fax_conforms.specs.ByProcedure.{ConformsByProcedure, ConformsIn};
-ghost use Rattle.fax_conforms.specs.Checks.{Checks};
-ghost use Rattle.fax_conforms.specs.Stops.{EndsInPicture, IsBroken, IsViolationOf};
+ghost use Rattle.fax_conforms.specs.Checks.{Checks, IsViolationIn, StopsIn};
+ghost use Rattle.fax_conforms.specs.Stops.{EndsInPicture, IsBroken};
 
 use crate::grades::Grade;
 use crate::pictures::{has_eol, read_body, read_lines};
-use crate::procedure::{Asked, are_by_procedure, has_plain_eol, with_eols};
+use crate::procedure::{Asked, are_by_procedure, with_eols};
 use crate::stops::{Rule, Stop, Violation, broken};
 use crate::words::Words;
 use hayro_ccitt::bit_reader::{BitOrder, BitReader};
@@ -52,14 +52,14 @@ fn read_picture(
     read_body(words, reader, settings, reference, coding)
 }
 
-/// Reads a picture to its end, and returns whether it is what the coding procedure writes, with this K if it is given.
-fn follows_procedure(
+/// Reads a picture to its end, if it is what the coding procedure writes, with this K if it is given.
+fn follow_procedure(
     alloc: Global,
     words: &mut Words,
     reader: &mut BitReader<'_>,
     settings: DecodeSettings,
     k: Option<u32>,
-) -> Result<bool, Stop>
+) -> Result<(), Stop>
     requires wide { 0 < settings.columns }
     ensures { Checks (ConformsByProcedure settings k (here reader.old)) result }
 {
@@ -74,11 +74,11 @@ fn follows_procedure(
     if is_group4(settings) {
         return are_by_procedure(words, reader, asked);
     }
-    if has_plain_eol(reader, &mut words.ticks) {
+    if has_eol(reader, &mut words.ticks) {
         return are_by_procedure(words, reader, with_eols(asked));
     }
     if asked.settings.end_of_line {
-        return Ok(false);
+        return broken(0, Rule::Eol);
     }
     are_by_procedure(words, reader, asked)
 }
@@ -90,18 +90,41 @@ fn check_by_procedure(
     k: Option<u32>,
     order: BitOrder,
     data: &[u8],
-) -> Result<bool, Stop>
+) -> Result<(), Stop>
     requires fit { BitsFit «data».now }
     ensures { Checks (ConformsByProcedure settings k (bits_in order «data».now)) result }
 {
     if settings.columns == 0 {
-        return Ok(false);
+        return broken(0, Rule::Columns);
     }
     let Ok(mut words) = Words::new(alloc) else {
         return Err(Stop::OutOfMemory);
     };
     let mut reader = reader_of(order, data);
-    follows_procedure(alloc, &mut words, &mut reader, settings, k)
+    follow_procedure(alloc, &mut words, &mut reader, settings, k)
+}
+
+/// Checks data from the start of some bytes: whether it is readable, and then, if that is asked, whether it is what the coding
+/// procedure writes.
+fn check_data(
+    alloc: Global,
+    settings: DecodeSettings,
+    grade: Grade,
+    order: BitOrder,
+    data: &[u8],
+) -> Result<(), Stop>
+    requires fit { BitsFit «data».now }
+    ensures checks { Checks (ConformsIn grade settings (bits_in order «data».now)) result }
+    ensures at { IfErr result (StopsIn grade settings (bits_in order «data».now)) }
+{
+    // The ranges of numbers are known once they are read.
+    let _columns = settings.columns;
+    let _rows = settings.rows;
+    read_data(alloc, settings, order, data)?;
+    match grade {
+        Grade::Readable => Ok(()),
+        Grade::Procedure(k) => check_by_procedure(alloc, settings, k, order, data),
+    }
 }
 
 /// Creates a reader at the first bit of some bytes, which have their bits in this order.
@@ -145,16 +168,17 @@ fn read_data(
     )
 }
 
-/// Returns `None` if data begins with an encoding of a picture that every decoder must read back as its rows, closed as the
-/// settings ask: by EOFB (T.6, 2.4.1.1) or RTC (T.4, 4.1.4) with `end_of_block`, or by as many rows as the row limit, whichever
-/// comes first. Else it returns a place where the data breaks a rule of its encoding, and which rule. What follows the picture is
-/// ignored. Each byte has its bits in this order.
+/// Returns `None` if data conforms in a grade, and else a place where it breaks a rule, and which rule. Each byte has its bits in
+/// this order.
 ///
-/// Any make-up words, modes and kinds of line that lead to the rows are taken. So the choices that T.4 and T.6 prescribe to an
-/// encoder aren't checked: a run of 128 may be 64 + 64 + 0 (T.4, 4.1.1), horizontal mode may stand for a vertical one (T.4,
-/// 4.2.1.3.2), each line may be two-dimensional (T.4, 4.2.1), and fill may precede the first EOL (T.4, 4.1.3).
+/// In the grade [`Grade::Readable`] data conforms that begins with an encoding of a picture that every decoder must read back as
+/// its rows, closed as the settings ask: by EOFB (T.6, 2.4.1.1) or RTC (T.4, 4.1.4) with `end_of_block`, or by as many rows as the
+/// row limit, whichever comes first. What follows the picture is ignored. Any make-up words, modes and kinds of line that lead to
+/// the rows are taken. So the choices that T.4 and T.6 prescribe to an encoder aren't checked: a run of 128 may be 64 + 64 + 0
+/// (T.4, 4.1.1), horizontal mode may stand for a vertical one (T.4, 4.2.1.3.2), each line may be two-dimensional (T.4, 4.2.1), and
+/// fill may precede the first EOL (T.4, 4.1.3).
 ///
-/// The place is where the data departs from what conforms (`IsViolationOf`). Without columns it is 0, of [`Rule::Columns`]. Else
+/// In this grade the place is where the data departs from what conforms (`IsViolationOf`). Without columns it is 0, of [`Rule::Columns`]. Else
 /// the bits before it are the lines of some rows and the beginning of another line, of a row that the row limit allows; and each
 /// line that begins so goes on with other bits than the data, which break the rule as [`Rule`] says.
 ///
@@ -164,6 +188,11 @@ fn read_data(
 /// 4.1.3); and EOLs and their tags are only where they belong (T.4, 4.1.2 and 4.2.2). Whether the settings are strict has no
 /// effect.
 ///
+/// In the grade [`Grade::Procedure`] the choices are checked too. A violation is that of the other grade, if there is one. Else it
+/// is where the data departs from what the coding procedure writes: the start of a line ([`Rule::Procedure`]), the tag of a line that K
+/// doesn't allow ([`Rule::Kind`]), fill ([`Rule::Fill`]), or the end ([`Rule::End`]). In this grade the place and the rule are
+/// tested, and not proved.
+///
 /// # Errors
 ///
 /// `OutOfMemory` is the only one.
@@ -171,28 +200,31 @@ fn read_data(
 /// # Example
 ///
 /// In Group 4 with one column and `end_of_block` the bytes 10 01 00 10 are pass mode below a white row, and EOFB, from the
-/// fifth bit on. A strict reading takes the pass mode, and here it is the violation: place 0, [`Rule::PassToEnd`].
+/// fifth bit on. A strict reading takes the pass mode, and here it is the violation: place 0, [`Rule::PassToEnd`]. With 8 columns
+/// and a row limit of 1 the bytes 33 0D C0 are horizontal mode for a white row. Readable they are without a violation; the procedure
+/// writes a vertical mode: place 0, [`Rule::Procedure`].
 pub fn first_violation(
     alloc: Global,
     settings: DecodeSettings,
+    grade: Grade,
     order: BitOrder,
     data: &[u8],
 ) -> hayro_ccitt::Result<Option<Violation>>
     requires fit { BitsFit «data».now }
-    ensures none { IfOk result (λ found. (found ≡ None) ↔ Conforms settings (bits_in order «data».now)) }
-    ensures place { IfOk result (λ found. IfSome found (IsViolationOf settings (bits_in order «data».now))) }
+    ensures none { IfOk result (λ found. (found ≡ None) ↔ ConformsIn grade settings (bits_in order «data».now)) }
+    ensures place { IfOk result (λ found. IfSome found (IsViolationIn grade settings (bits_in order «data».now))) }
     ensures only_memory { IsOkUnless result DecodeError.OutOfMemory }
 {
-    match read_data(alloc, settings, order, data) {
+    match check_data(alloc, settings, grade, order, data) {
         Ok(()) => Ok(None),
         Err(Stop::Violation(violation)) => Ok(Some(violation)),
         Err(Stop::OutOfMemory) => Err(DecodeError::OutOfMemory),
     }
 }
 
-/// Returns whether data conforms in a grade: whether it begins with an encoding of a picture that every decoder must read back as
-/// its rows, closed as the settings ask, and so has no [`first_violation`]; or whether it is, up to zeros in its last byte, the
-/// picture that the coding procedure writes.
+/// Returns whether data conforms in a grade, and so has no [`first_violation`]: whether it begins with an encoding of a picture that
+/// every decoder must read back as its rows, closed as the settings ask; or whether it is, up to zeros in its last byte, the picture
+/// that the coding procedure writes.
 ///
 /// The procedure's words of a run are as many of 2560 as fit, at most one more make-up word, and a terminating word (T.4, 4.1.1);
 /// its modes are those of T.4, 4.2.1.3 and T.6, 2.2. In two-dimensional Group 3 the first line is one-dimensional, and at most
@@ -221,12 +253,5 @@ pub fn conforms(
     ensures conforms { IfOk result (λ conforms. IsTrue conforms ↔ ConformsIn grade settings (bits_in order «data».now)) }
     ensures only_memory { IsOkUnless result DecodeError.OutOfMemory }
 {
-    let Grade::Procedure(k) = grade else {
-        return Ok(first_violation(alloc, settings, order, data)?.is_none());
-    };
-    match check_by_procedure(alloc, settings, k, order, data) {
-        Ok(conforms) => Ok(conforms),
-        Err(Stop::Violation(_)) => Ok(false),
-        Err(Stop::OutOfMemory) => Err(DecodeError::OutOfMemory),
-    }
+    Ok(first_violation(alloc, settings, grade, order, data)?.is_none())
 }

@@ -1,7 +1,7 @@
 //! Pictures by the coding procedure: lines in order, and how they end.
 
 ghost use Rattle.std.specs.Prelude.{◌≡◌, ◌≢◌, ◌+◌, ◌<◌, ◌↔◌, ◌++◌, ◌^◌, Bool, true, false, Some, length, IsTrue};
-ghost use Rattle.std.specs.Prelude.{IfSome, IfNone};
+ghost use Rattle.std.specs.Prelude.{IfErr, IfNone, IfSome, OnOk, not, ◌&&◌};
 ghost use Rattle.hayro_ccitt.specs.Bits.{Bits, here};
 ghost use Rattle.hayro_ccitt.specs.Encodings.{eol, tag_of};
 ghost use Rattle.hayro_ccitt.specs.Pictures.{Allows};
@@ -11,11 +11,12 @@ ghost use Rattle.fax_encode.specs.Settings.{is_closed};
 ghost use Rattle.fax_conforms.specs.ByProcedure.{ClosingStands, EndStands, EndsHere, FewZerosStand, HasKind, LeadStands};
 ghost use Rattle.fax_conforms.specs.ByProcedure.{LinesByProcedure, PartStands, PlainRtcStands, left_after, left_at_first};
 ghost use Rattle.fax_conforms.specs.Checks.{Checks, PassesPart, ReadsPart, part_of};
+ghost use Rattle.fax_conforms.specs.Stops.{IsBroken};
 
 use crate::pictures::{
-    after_plain_eol, after_tagged_eol, draw_line, limit_met, pass_closing_tag, pass_eol,
+    after_plain_eol, after_tagged_eol, draw_line, has_eol, limit_met, pass_closing_tag, pass_eol,
 };
-use crate::stops::Stop;
+use crate::stops::{Rule, Stop, Violation, broken};
 use crate::words::Words;
 use fax_bits::bit_reader::copy;
 use fax_encode::{LineKind, RowBelow, pass_line_by_procedure};
@@ -78,54 +79,76 @@ fn next_is_two(encoding: EncodingMode, reader: &BitReader<'_>, ticks: &mut Ticks
     }
 }
 
-/// Consumes what is before a line: an EOL, if lines have EOLs, with no fill before the first one (T.4, 4.1.2 and 4.1.3). Returns
-/// whether it is there.
-fn pass_lead(has_eols: bool, taken: u64, reader: &mut BitReader<'_>, ticks: &mut Ticks) -> bool
-    ensures found { result ≡ true → LeadStands has_eols taken (here reader.old) (here reader.new) }
-    ensures none { result ≡ false → (rest : Bits) → LeadStands has_eols taken (here reader.old) rest → ⊥ }
+/// Consumes what is before a line: an EOL, if lines have EOLs, with no fill before the first one (T.4, 4.1.2 and 4.1.3). That one is
+/// known to be here, with some fill or none.
+fn pass_lead(
+    has_eols: bool,
+    taken: u64,
+    reader: &mut BitReader<'_>,
+    ticks: &mut Ticks,
+) -> Result<(), Stop>
+    ensures found { OnOk result (LeadStands has_eols taken (here reader.old) (here reader.new)) }
+    ensures none { IfErr result (λ e. IsBroken e → (rest : Bits) → LeadStands has_eols taken (here reader.old) rest → ⊥) }
     ensures same_bits { reader.new.bits ≡ reader.old.bits }
 {
+    let place = reader.bit_pos();
     if !has_eols {
-        return true;
+        return Ok(());
     }
     if taken > 0 {
-        return pass_eol(reader, ticks);
+        if pass_eol(reader, ticks) {
+            return Ok(());
+        }
+        return broken(place, Rule::Eol);
     }
     match after_plain_eol(reader, ticks) {
         Some(after) => {
             *reader = after;
-            true
+            Ok(())
         }
-        None => false,
+        None => broken(place, Rule::Fill),
     }
 }
 
-/// Consumes the line of a row, if it is here as the coding procedure writes it, and returns whether it is.
+/// Returns whether zeros up to a whole byte follow each line: if lines are aligned, and have no EOLs (T.4, 4.1.3).
+fn is_filled(asked: Asked) -> bool
+    ensures { result ≡ (asked.settings.rows_are_byte_aligned && not asked.has_eols) }
+{
+    asked.settings.rows_are_byte_aligned && !asked.has_eols
+}
+
+/// Consumes the line of a row, if it is here as the coding procedure writes it.
 fn pass_line(
     reader: &mut BitReader<'_>,
     asked: Asked,
     is_two: bool,
     rows: RowBelow<'_>,
-) -> Result<bool, Stop>
+) -> Result<(), Stop>
     requires reference { AreChanges asked.settings.columns rows.reference.now }
     requires changes { AreChanges asked.settings.columns rows.changes.now }
     ensures passes { PassesPart (part_of asked.settings asked.has_eols is_two (pixels asked.settings.columns rows.entry.reference.now)
         (pixels asked.settings.columns rows.entry.changes.now)) (here reader.old) (here reader.new) result }
     ensures same_bits { reader.new.bits ≡ reader.old.bits }
 {
+    let start = reader.bit_pos();
     let kind = LineKind {
         encoding: asked.settings.encoding,
         is_two_dimensional: is_two,
-        is_filled: asked.settings.rows_are_byte_aligned && !asked.has_eols,
+        is_filled: is_filled(asked),
     };
     match pass_line_by_procedure(asked.alloc, reader, asked.settings.columns, kind, rows) {
-        Ok(passed) => Ok(passed),
+        Ok(is_here) => {
+            if is_here {
+                return Ok(());
+            }
+            broken(start, Rule::Procedure)
+        }
         Err(_) => Err(Stop::OutOfMemory),
     }
 }
 
-/// Reads the next line, if it is one that the coding procedure writes, and leaves the changes of its row. Returns whether it is
-/// two-dimensional, or `None` if the procedure writes none of the lines that may come.
+/// Reads the next line, if it is one that the coding procedure writes and that may come next, and leaves the changes of its row.
+/// Returns whether it is two-dimensional.
 fn draw_part(
     words: &mut Words,
     reader: &mut BitReader<'_>,
@@ -133,7 +156,7 @@ fn draw_part(
     left: Option<u32>,
     reference: &[u32],
     coding: &mut Vec<u32>,
-) -> Result<Option<bool>, Stop>
+) -> Result<bool, Stop>
     requires wide { 0 < asked.settings.columns }
     requires reference { AreChanges asked.settings.columns reference.now }
     ensures reads { ReadsPart asked.settings (PartStands asked.settings asked.has_eols left (pixels asked.settings.columns reference.now)
@@ -143,10 +166,10 @@ fn draw_part(
 {
     // The range of a number is known once it is read.
     let _columns = asked.settings.columns;
-    let _start = reader.bit_pos();
+    let start = reader.bit_pos();
     let is_two = next_is_two(asked.settings.encoding, reader, &mut words.ticks);
     if !may_come(left, is_two) {
-        return Ok(None);
+        return broken(start, Rule::Kind);
     }
     let mut line = copy(reader);
     draw_line(words, &mut line, asked.settings, reference, coding)?;
@@ -154,10 +177,10 @@ fn draw_part(
         reference,
         changes: coding.as_slice(),
     };
-    if !pass_line(reader, asked, is_two, rows)? {
-        return Ok(None);
+    match pass_line(reader, asked, is_two, rows) {
+        Ok(()) => Ok(is_two),
+        Err(stop) => Err(stop),
     }
-    Ok(Some(is_two))
 }
 
 /// Returns a reader after the EOL without fill that is here, and its tag, if there is one (T.4, 4.1.4 and 4.2.4).
@@ -279,12 +302,96 @@ fn ends_here(asked: Asked, taken: u64, reader: &BitReader<'_>, ticks: &mut Ticks
     limit_met(asked.settings, taken) && has_few_zeros(reader, ticks)
 }
 
-/// Returns whether an EOL without fill is here (T.4, 4.1.2).
-pub fn has_plain_eol(reader: &BitReader<'_>, ticks: &mut Ticks) -> bool
-    ensures found { result ≡ true → (rest : Bits) × (here reader.now ≡ eol 0 ++ rest) }
-    ensures none { result ≡ false → (rest : Bits) → here reader.now ≡ eol 0 ++ rest → ⊥ }
+/// Returns where the EOL that is here with fill begins, if one is.
+fn filled_eol(reader: &BitReader<'_>, ticks: &mut Ticks) -> Option<Violation> {
+    let place = reader.bit_pos();
+    if has_eol(reader, ticks) {
+        return Some(Violation {
+            place,
+            rule: Rule::Fill,
+        });
+    }
+    None
+}
+
+/// Returns where fill is in the RTC that is here, after its first EOL (T.4, 4.1.3 and 4.1.4).
+fn fill_in_rtc(
+    encoding: EncodingMode,
+    reader: &BitReader<'_>,
+    ticks: &mut Ticks,
+) -> Option<Violation> {
+    let Some(mut next) = after_tagged_eol(encoding, reader, ticks) else {
+        return None;
+    };
+    let mut left: usize = 5;
+    'eols: while left > 0 {
+        match after_plain_tagged_eol(encoding, &next, ticks) {
+            Some(after) => next = after,
+            None => return filled_eol(&next, ticks),
+        }
+        left -= 1;
+    }
+    None
+}
+
+/// Returns what is wrong with the end of the block that is here after this number of rows, if there is one: what follows it, or
+/// fill in RTC.
+fn wrong_closing(
+    asked: Asked,
+    taken: u64,
+    reader: &BitReader<'_>,
+    ticks: &mut Ticks,
+) -> Option<Violation> {
+    if !is_closed(asked) {
+        return None;
+    }
+    let encoding = asked.settings.encoding;
+    if let Some(after) = after_closing(encoding, taken, reader, ticks) {
+        return Some(Violation {
+            place: after.bit_pos(),
+            rule: Rule::End,
+        });
+    }
+    match encoding {
+        EncodingMode::Group4 => None,
+        EncodingMode::Group3_1D | EncodingMode::Group3_2D => {
+            if taken == 0 {
+                return None;
+            }
+            fill_in_rtc(encoding, reader, ticks)
+        }
+    }
+}
+
+/// Returns the stop where lines don't go on in this way, or where the end of the block that is here is wrong.
+fn stop_here(
+    asked: Asked,
+    taken: u64,
+    reader: &BitReader<'_>,
+    ticks: &mut Ticks,
+    stop: Stop,
+) -> Stop
+    ensures { IsBroken result → IsBroken stop }
 {
-    after_plain_eol(reader, ticks).is_some()
+    match stop {
+        Stop::OutOfMemory => Stop::OutOfMemory,
+        Stop::Violation(found) => match wrong_closing(asked, taken, reader, ticks) {
+            Some(other) => Stop::Violation(other),
+            None => Stop::Violation(found),
+        },
+    }
+}
+
+/// Returns the stop where a picture ends after as many rows as the row limit, and its end is wrong.
+fn stop_at_limit(asked: Asked, taken: u64, reader: &BitReader<'_>, ticks: &mut Ticks) -> Stop {
+    let place = reader.bit_pos();
+    match wrong_closing(asked, taken, reader, ticks) {
+        Some(found) => Stop::Violation(found),
+        None => Stop::Violation(Violation {
+            place,
+            rule: Rule::End,
+        }),
+    }
 }
 
 /// Returns the same with an EOL before each line.
@@ -299,12 +406,12 @@ pub fn with_eols(asked: Asked) -> Asked
     }
 }
 
-/// Returns whether lines by the coding procedure are here, up to their end and that of the data (T.4, 4.1 and 4.2; T.6, 2).
+/// Reads lines by the coding procedure up to their end and that of the data, if they are here (T.4, 4.1 and 4.2; T.6, 2).
 pub fn are_by_procedure(
     words: &mut Words,
     reader: &mut BitReader<'_>,
     asked: Asked,
-) -> Result<bool, Stop>
+) -> Result<(), Stop>
     requires wide { 0 < asked.settings.columns }
     ensures { Checks (LinesByProcedure asked.settings asked.k asked.has_eols 0 (left_at_first asked.settings.encoding)
         (white_row asked.settings.columns) (here reader.old)) result }
@@ -315,10 +422,14 @@ pub fn are_by_procedure(
     let mut left = left_at_first(asked.settings.encoding);
     'rows: loop {
         if ends_here(asked, taken, reader, &mut words.ticks) {
-            return Ok(true);
+            return Ok(());
         }
-        if !pass_lead(asked.has_eols, taken, reader, &mut words.ticks) {
-            return Ok(false);
+        if limit_met(asked.settings, taken) {
+            return Err(stop_at_limit(asked, taken, reader, &mut words.ticks));
+        }
+        let start = copy(reader);
+        if let Err(stop) = pass_lead(asked.has_eols, taken, reader, &mut words.ticks) {
+            return Err(stop_here(asked, taken, &start, &mut words.ticks, stop));
         }
         let drawn = draw_part(
             words,
@@ -327,12 +438,14 @@ pub fn are_by_procedure(
             left,
             reference.as_slice(),
             &mut coding,
-        )?;
-        let Some(is_two) = drawn else {
-            return Ok(false);
-        };
-        mem::swap(&mut reference, &mut coding);
-        taken += 1;
-        left = left_after(asked.k, left, is_two);
+        );
+        match drawn {
+            Ok(is_two) => {
+                mem::swap(&mut reference, &mut coding);
+                taken += 1;
+                left = left_after(asked.k, left, is_two);
+            }
+            Err(stop) => return Err(stop_here(asked, taken, &start, &mut words.ticks, stop)),
+        }
     }
 }

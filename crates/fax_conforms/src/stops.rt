@@ -26,6 +26,16 @@ pub enum Rule {
     Padding,
     /// Pass mode where no pass mode is expected: b2 is the row's end, so that it isn't left of a1 (T.4, 4.2.1.3.2).
     PassToEnd,
+    /// The coding procedure writes the row of the line here with other words of a run or other modes (T.4, 4.1.1 and 4.2.1.3; T.6,
+    /// 2.2).
+    Procedure,
+    /// A two-dimensional line where K allows none (T.4, 4.2.1): the place is its tag's.
+    Kind,
+    /// Fill before the first EOL, or before another EOL of RTC than its first (T.4, 4.1.3 and 4.1.4).
+    Fill,
+    /// The end isn't as the coding procedure writes it: RTC or EOFB isn't here, though due (T.4, 4.1.4; T.6, 2.4.1.1), or more
+    /// than zeros up to a whole byte are here after the end.
+    End,
 }
 
 /// Where data breaks a rule: the offset in bits of the word that breaks it.

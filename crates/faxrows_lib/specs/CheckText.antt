@@ -6,6 +6,7 @@ use Rattle.fax_conforms.specs.Conforming.{Conforms}
 use Rattle.fax_conforms.specs.Stops.{IsViolationOf}
 use Rattle.fax_conforms.specs.declared.stops.Rule.{Rule}
 use Rattle.fax_conforms.specs.declared.stops.Rule.TheVariants.{Mode, Run, RowEnd, NoPixels, Columns, Eol, Tag, Padding, PassToEnd}
+use Rattle.fax_conforms.specs.declared.stops.Rule.TheVariants.{Procedure, Kind, Fill, End}
 use Rattle.fax_conforms.specs.declared.stops.Violation.{Violation}
 use Rattle.faxrows_lib.specs.DamageText.{number_and}
 use Rattle.faxrows_lib.specs.declared.program.Done.{Done}
@@ -22,6 +23,10 @@ text_of_rule Eol = codes "an EOL is expected (T.4, 4.1.2)"
 text_of_rule Tag = codes "a tag is expected (T.4, 4.2.2)"
 text_of_rule Padding = codes "zeros up to a whole byte are expected (T.4, 4.1.3)"
 text_of_rule PassToEnd = codes "pass mode to the row's end (T.4, 4.2.1.3.2)"
+text_of_rule Procedure = codes "not what the procedure writes (T.4, 4.1.1 and 4.2.1.3)"
+text_of_rule Kind = codes "a line of two dimensions where K allows none (T.4, 4.2.1)"
+text_of_rule Fill = codes "fill where none may be (T.4, 4.1.3 and 4.1.4)"
+text_of_rule End = codes "not the end that the procedure writes (T.4, 4.1.4; T.6, 2.4.1.1)"
 
 -- a rule, up to the line's end
 abbrev pub end_with_rule : Rule → List ℕ

@@ -10,7 +10,7 @@ use crate::damage_lines::put_number;
 use crate::input::read_input;
 use crate::output::{flush, put};
 use crate::program::Done;
-use fax_conforms::{Rule, Violation, first_violation};
+use fax_conforms::{Grade, Rule, Violation, first_violation};
 use fax_program::{Device, RunFault};
 use std::alloc::Global;
 use std::io::{Read, Write};
@@ -32,7 +32,9 @@ pub fn run_check<R: Read, W: Write>(
         (used W.contents writer.old writer.new) result }
 {
     let (arguments, input) = read_input(alloc, args, reader)?;
-    let Ok(found) = first_violation(alloc, arguments.settings, arguments.order, input.as_slice())
+    let grade = Grade::Readable;
+    let order = arguments.order;
+    let Ok(found) = first_violation(alloc, arguments.settings, grade, order, input.as_slice())
     else {
         return Err(RunFault::Memory);
     };
@@ -95,5 +97,9 @@ fn rule_and_end(rule: Rule) -> &'static [u8]
         Rule::Tag => b"a tag is expected (T.4, 4.2.2)\n",
         Rule::Padding => b"zeros up to a whole byte are expected (T.4, 4.1.3)\n",
         Rule::PassToEnd => b"pass mode to the row's end (T.4, 4.2.1.3.2)\n",
+        Rule::Procedure => b"not what the procedure writes (T.4, 4.1.1 and 4.2.1.3)\n",
+        Rule::Kind => b"a line of two dimensions where K allows none (T.4, 4.2.1)\n",
+        Rule::Fill => b"fill where none may be (T.4, 4.1.3 and 4.1.4)\n",
+        Rule::End => b"not the end that the procedure writes (T.4, 4.1.4; T.6, 2.4.1.1)\n",
     }
 }

@@ -8,6 +8,8 @@ use Rattle.fax_conforms.specs.declared.grades.Grade.{Grade}
 use Rattle.fax_conforms.specs.declared.grades.Grade.TheVariants.{Readable, Procedure}
 use Rattle.fax_conforms.specs.declared.stops.Rule.{Rule}
 use Rattle.fax_conforms.specs.declared.stops.Rule.TheVariants.{Mode, Run, RowEnd, NoPixels, Columns, Eol, Tag, Padding, PassToEnd}
+use Rattle.fax_conforms.specs.declared.stops.Rule.TheVariants.{Kind, Fill, End}
+use Rattle.fax_conforms.specs.declared.stops.Rule.TheVariants as rule
 use Rattle.fax_conforms.specs.declared.stops.Violation.{Violation}
 use Rattle.hayro_ccitt_c.specs.Reports.{OnSettings}
 use Rattle.hayro_ccitt_c.specs.declared.checks.ViolationOutcome.{ViolationOutcome}
@@ -35,6 +37,10 @@ number_of_rule Eol = 6
 number_of_rule Tag = 7
 number_of_rule Padding = 8
 number_of_rule PassToEnd = 9
+number_of_rule rule.Procedure = 10
+number_of_rule Kind = 11
+number_of_rule Fill = 12
+number_of_rule End = 13
 
 -- what C gets of a violation
 abbrev pub outcome_of_violation : Violation → ViolationOutcome

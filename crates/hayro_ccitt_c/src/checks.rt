@@ -53,6 +53,10 @@ fn number_of_rule(rule: Rule) -> u64
         Rule::Tag => 7,
         Rule::Padding => 8,
         Rule::PassToEnd => 9,
+        Rule::Procedure => 10,
+        Rule::Kind => 11,
+        Rule::Fill => 12,
+        Rule::End => 13,
     }
 }
 
@@ -99,7 +103,7 @@ fn outcome_in(
     if conforms(alloc, settings, grade, order, data)? {
         return Ok(None);
     }
-    match first_violation(alloc, settings, order, data)? {
+    match first_violation(alloc, settings, Grade::Readable, order, data)? {
         Some(found) => Ok(Some(outcome_of_violation(found))),
         None => Ok(Some(not_by_procedure())),
     }

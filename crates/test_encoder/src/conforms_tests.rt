@@ -57,7 +57,8 @@ fn written(rt: &(impl Abort + AllocGlobal), case: &str) -> String {
     let (settings, order, data) = case_of(rt, case);
     assert!(rt; bits_fit(&data), "too long");
     let holds = conforms(rt.alloc(), settings, Grade::Readable, order, &data).expect(rt, case);
-    match first_violation(rt.alloc(), settings, order, &data).expect(rt, case) {
+    let grade = Grade::Readable;
+    match first_violation(rt.alloc(), settings, grade, order, &data).expect(rt, case) {
         None if holds => format!(in rt.alloc(); "conforms").expect(rt, case),
         None => format!(in rt.alloc(); "no violation").expect(rt, case),
         Some(found) => {
@@ -127,14 +128,21 @@ fn each_rule_is_found_broken(rt: HostRuntime) {
     );
 }
 
-/// Writes whether data is readable, and whether it is what the coding procedure writes with this K.
+/// Writes whether data is readable, whether it is what the coding procedure writes with this K, and where it first isn't.
 fn grades(rt: &(impl Abort + AllocGlobal), k: Option<u32>, case: &str) -> String {
     let (settings, order, data) = case_of(rt, case);
     assert!(rt; bits_fit(&data), "too long");
     let readable = conforms(rt.alloc(), settings, Grade::Readable, order, &data).expect(rt, case);
     let grade = Grade::Procedure(k);
     let by_procedure = conforms(rt.alloc(), settings, grade, order, &data).expect(rt, case);
-    format!(in rt.alloc(); "{readable} {by_procedure}").expect(rt, case)
+    match first_violation(rt.alloc(), settings, grade, order, &data).expect(rt, case) {
+        None => format!(in rt.alloc(); "{readable} {by_procedure}").expect(rt, case),
+        Some(found) => format!(in rt.alloc();
+            "{readable} {by_procedure} at {}: {:?}",
+            found.place, found.rule
+        )
+        .expect(rt, case),
+    }
 }
 
 /// Checks each line of a text: the settings and the data, and in which grades it conforms.
@@ -152,19 +160,24 @@ fn each_choice_of_the_procedure_is_checked(rt: HostRuntime) {
         &rt,
         None,
         "1d 128 1 - 91A8: true true
-        1d 128 1 - DECD40: true false
+        1d 128 1 - DECD40: true false at 0: Procedure
         g4 8 1 - 80: true true
-        g4 8 1 - 330DC0: true false
+        g4 8 1 - 330DC0: true false at 0: Procedure
         2d 8 1 - CC: true true
-        2d 8 1 - 40: true false
-        2d 8 3 l 001400500140: true false
+        2d 8 1 - 40: true false at 0: Kind
+        2d 8 3 l 001400500140: true false at 12: Kind
         1d 8 0 b 001980080080080080080080: true true
-        1d 8 0 b 000330001000100010001000100010: true false
-        g4 8 1 - 8000: true false
-        g4 8 1 - 81: true false
-        g4 8 0 b 80080080: true true",
+        1d 8 0 b 000330001000100010001000100010: true false at 0: Fill
+        1d 8 0 b 001980080008008008008008: true false at 29: Fill
+        1d 8 1 l 000198: true false at 0: Fill
+        g4 8 1 - 8000: true false at 1: End
+        g4 8 1 - 81: true false at 1: End
+        g4 8 1 b 80: true false at 1: End
+        g4 8 0 b 80080080: true true
+        g4 8 0 b 8008008000: true false at 25: End
+        g4 8 2 - 31C0040040: false false at 10: Mode",
     );
-    check_grades(&rt, Some(2), "2d 8 3 - CD40: true false");
+    check_grades(&rt, Some(2), "2d 8 3 - CD40: true false at 8: Kind");
     check_grades(&rt, Some(3), "2d 8 3 - CD40: true true");
     check_grades(&rt, None, "2d 8 3 - CD40: true true");
 }
@@ -177,7 +190,8 @@ fn found(
     data: &[u8],
 ) -> Option<(usize, Rule)> {
     assert!(rt; bits_fit(data), "too long");
-    let found = first_violation(rt.alloc(), settings, order, data).expect(rt, "memory");
+    let grade = Grade::Readable;
+    let found = first_violation(rt.alloc(), settings, grade, order, data).expect(rt, "memory");
     found.map(|violation| (violation.place, violation.rule))
 }
 
@@ -231,25 +245,23 @@ fn is_want(error: &DecodeError) -> bool {
 fn both(
     alloc: Global,
     settings: DecodeSettings,
+    grade: Grade,
     order: BitOrder,
     data: &[u8],
 ) -> Result<(Option<Violation>, bool)> {
     if !bits_fit(data) {
         return Err(Refused);
     }
-    let found = first_violation(alloc, settings, order, data)?;
-    Ok((
-        found,
-        conforms(alloc, settings, Grade::Readable, order, data)?,
-    ))
+    let found = first_violation(alloc, settings, grade, order, data)?;
+    Ok((found, conforms(alloc, settings, grade, order, data)?))
 }
 
 /// Checks data with each allocation refused in turn, and compares what is found in the end.
-fn found_with(rt: &(impl Abort + AllocGlobal), case: &str, expected: &str) {
+fn found_with(rt: &(impl Abort + AllocGlobal), grade: Grade, case: &str, expected: &str) {
     let (settings, order, data) = case_of(rt, case);
     let made = made_at_last(
         rt.alloc(),
-        &|| both(rt.alloc(), settings, order, &data),
+        &|| both(rt.alloc(), settings, grade, order, &data),
         &is_want,
     );
     let made = format!(in rt.alloc(); "{made:?}").expect(rt, "memory");
@@ -258,10 +270,19 @@ fn found_with(rt: &(impl Abort + AllocGlobal), case: &str, expected: &str) {
 
 #[test]
 fn refused_memory(rt: HostRuntime) {
-    found_with(&rt, "g4 8 1 - 31C0", "Ok((None, true))");
+    let by_procedure = Grade::Procedure(None);
+    found_with(&rt, Grade::Readable, "g4 8 1 - 31C0", "Ok((None, true))");
     found_with(
         &rt,
+        Grade::Readable,
         "g4 8 2 - 31C0040040",
         "Ok((Some(Violation { place: 10, rule: Mode }), false))",
+    );
+    found_with(&rt, by_procedure, "g4 8 1 - 31C0", "Ok((None, true))");
+    found_with(
+        &rt,
+        by_procedure,
+        "g4 8 1 - 330DC0",
+        "Ok((Some(Violation { place: 0, rule: Procedure }), false))",
     );
 }
