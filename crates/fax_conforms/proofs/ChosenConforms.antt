@@ -13,17 +13,12 @@ use Rattle.fax_encode.specs.declared.settings.Effort.{Effort}
 use Rattle.fax_encode.specs.declared.settings.Effort.TheVariants.{Procedure}
 use Rattle.fax_conforms.specs.ByProcedure.{ConformsByProcedure, EndsHere, FewZerosStand, LeadStands, LinesByProcedure, MayCome}
 use Rattle.fax_conforms.specs.ByProcedure.{left_after, left_at_first, one_less, tagged_eols}
+use Rattle.fax_conforms.specs.Encoded.{chosen_kind}
 use Rattle.fax_conforms.specs.Laws.{ChosenConforms}
 use Rattle.fax_conforms.proofs.BodyLines.{none_more, one_more_row}
 use Rattle.fax_conforms.proofs.ProcedureEnds.{split_eols}
 
 -- ---- One line.
-
--- whether the line that is chosen is two-dimensional
-abbrev chosen_kind : EncodingMode → ℕ → Row → Row → Bool
-chosen_kind Group4 n reference row = true
-chosen_kind Group3_1D n reference row = false
-chosen_kind Group3_2D n reference row = is_two_dimensional Procedure n reference row
 
 tagged : (is_two : Bool) (x y : Bits) → cond is_two (false ∷ x) (true ∷ y) ≡ (not is_two ∷ []) ++ cond is_two x y
 tagged true x y = refl
@@ -36,7 +31,7 @@ line_is Group3_1D n reference row = refl
 line_is Group3_2D n reference row =
     tagged (is_two_dimensional Procedure n reference row) (chosen_line_2d reference row) (chosen_line_1d row)
 
-part_is : (encoding : EncodingMode) (n : ℕ) (fills : Bool) (reference row : Row) (rest : Bits)
+pub part_is : (encoding : EncodingMode) (n : ℕ) (fills : Bool) (reference row : Row) (rest : Bits)
     → chosen_line Procedure encoding n reference row
     ++ (cond fills (padding (length (chosen_line Procedure encoding n reference row))) [] ++ rest)
     ≡ part_by_procedure encoding fills (chosen_kind encoding n reference row) reference row ++ rest
@@ -149,7 +144,7 @@ few_left : (n : ℕ) → FewZerosStand (padding n)
 few_left n = ((8 - n % 8) % 8, omega arith, refl)
 
 -- the settings that read what is chosen
-abbrev read_by : EncodingMode → Bool → Bool → Bool → ℕ → ℕ → DecodeSettings
+abbrev pub read_by : EncodingMode → Bool → Bool → Bool → ℕ → ℕ → DecodeSettings
 read_by encoding eols aligned closed columns n = record {
   columns = columns;
   rows = cond (is_closed encoding eols closed) 0 n;
@@ -160,7 +155,7 @@ read_by encoding eols aligned closed columns n = record {
   strict = true;
 }
 
-plain_eols : (encoding : EncodingMode) (at n : ℕ) → chosen_eols encoding false at n ≡ tagged_eols encoding n
+pub plain_eols : (encoding : EncodingMode) (at n : ℕ) → chosen_eols encoding false at n ≡ tagged_eols encoding n
 plain_eols encoding at zero = refl
 plain_eols encoding at (suc n) =
     ap (λ (x : Bits). eol 0 ++ (tag_of encoding ++ x)) (plain_eols encoding (at + 12 + 0 + length (tag_of encoding)) n)

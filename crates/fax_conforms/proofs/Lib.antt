@@ -15,6 +15,7 @@ pub mod Passed
 pub mod PensDrawn
 pub mod PicturesConform
 pub mod PicturesDepart
+pub mod ProcedureEncoded
 pub mod ProcedureEnds
 pub mod ProcedureLines
 pub mod ProcedurePictures

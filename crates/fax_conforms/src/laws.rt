@@ -1,7 +1,7 @@
 //! Laws of data that conforms, whatever program reads or writes it: contracts of functions that do nothing.
 
 ghost use Rattle.fax_conforms.specs.Conforming.{RoundTrip};
-ghost use Rattle.fax_conforms.specs.Laws.{ChosenConforms, ProcedureIsReadable};
+ghost use Rattle.fax_conforms.specs.Laws.{ChosenConforms, ProcedureIsEncoded, ProcedureIsReadable};
 
 /// Data conforms exactly if it begins with an encoding of the rows that are decoded from it, closed as the settings ask: these
 /// rows, encoded by the same choices, are the same bits again.
@@ -19,4 +19,11 @@ pub fn chosen_conforms()
 /// What conforms by the procedure also conforms in the grade that every decoder must read back as its rows.
 pub fn procedure_is_readable()
     ensures { ProcedureIsReadable }
+{}
+
+/// What conforms by the procedure is, bit for bit, what `fax_encode` chooses with this effort for the rows of its lines. Of the
+/// data three things are asked: its lines have EOLs, and EOFB or RTC follows them, as the settings of the encoder ask; each line is
+/// of the kind that the encoder chooses, with this K; and no EOL has fill. So the procedure leaves no other choice.
+pub fn procedure_is_encoded()
+    ensures { ProcedureIsEncoded }
 {}
