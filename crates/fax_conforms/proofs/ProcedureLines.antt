@@ -20,10 +20,6 @@ use Rattle.fax_conforms.proofs.BodyLines.{line_has_bits}
 use Rattle.fax_conforms.proofs.EolsHere.{one_eol}
 
 -- ---- What is before a line.
-pub no_lead : (has_eols : Bool) (taken : ℕ) (here : Bits) → has_eols ≡ false → LeadStands has_eols taken here here
-no_lead true taken here none = absurd cc
-no_lead false taken here none = refl
-
 pub later_lead : (has_eols : Bool) (taken : ℕ) (here rest : Bits) → has_eols ≡ true → 0 < taken
     → EolStands here rest ↔ LeadStands has_eols taken here rest
 later_lead true taken here rest has later =

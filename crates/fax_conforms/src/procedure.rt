@@ -323,13 +323,13 @@ fn fill_in_rtc(
     let Some(mut next) = after_tagged_eol(encoding, reader, ticks) else {
         return None;
     };
-    let mut left: usize = 5;
-    'eols: while left > 0 {
+    let mut others: usize = 5;
+    'eols: while others > 0 {
         match after_plain_tagged_eol(encoding, &next, ticks) {
             Some(after) => next = after,
             None => return filled_eol(&next, ticks),
         }
-        left -= 1;
+        others -= 1;
     }
     None
 }
@@ -353,13 +353,10 @@ fn wrong_closing(
         });
     }
     match encoding {
-        EncodingMode::Group4 => None,
-        EncodingMode::Group3_1D | EncodingMode::Group3_2D => {
-            if taken == 0 {
-                return None;
-            }
+        EncodingMode::Group3_1D | EncodingMode::Group3_2D if taken > 0 => {
             fill_in_rtc(encoding, reader, ticks)
         }
+        _ => None,
     }
 }
 
