@@ -324,6 +324,8 @@ def encoding_dense_rows():
 # rows of 8 columns, as a bitmap of a byte each and as text.
 RUNS = [("-o g4 8 0 -", b"\0", b"", 1505), ("-o g4 8 0 r", b"\0", b"", 1507), ("g4 8 0 -", b"r\n", b"ok %d\n", 1353)]
 RUN_SIZES = (1 << 14, 1 << 16)
+# the columns of dense rows, which are the bytes of their strip, and the instructions a byte of a check by the procedure
+CHECK_SIZES, CHECKED = (1 << 18, 1 << 20), 844
 
 
 def runs_of_the_program():
@@ -343,6 +345,7 @@ def runs_of_the_program():
                 assert written == row * (8 * size) + (last and last % size), (words, size)
                 costs.append(cost)
             too_slow(f"faxrows {words}", costs, RUN_SIZES, measured, worse)
+        too_slow("faxrows -p of dense rows", [cost_of_check(folder, "-p", size) for size in CHECK_SIZES], CHECK_SIZES, CHECKED, worse)
     assert not worse, worse
 
 
@@ -382,11 +385,20 @@ def costs_of_pages():
                     cost, written = instructions(folder, [program.PROGRAM, *filter(None, first), mode, str(COLUMNS), "0", flags], whole=True, stdin=stdin)
                 assert first != ["-o"] or written == bitmap, (mode, way)
                 yield "text", mode, way, cost / changes
-        Path(f"{folder}/strip").write_bytes(filled(V0, DENSE, dense(DENSE)))
-        with open(f"{folder}/strip", "rb") as stdin:
-            cost, written = instructions(folder, [program.PROGRAM, "-c", "g4", str(DENSE), "3", "-"], whole=True, stdin=stdin)
-        assert written == b"ok\n", written
-        yield "dense", "g4", "faxrows -c", cost / (3 * (DENSE - 1))
+        for option in ("-c", "-p"):
+            yield "dense", "g4", f"faxrows {option}", cost_of_check(folder, option, DENSE) / (3 * (DENSE - 1))
+
+
+def cost_of_check(folder, option, columns):
+    """What a check of three rows of alternate pixels costs, whose strip by faxpack has as many bytes as they have columns, but for the ends of
+    their lines."""
+    strip = packing.run(b"\x55" * (3 * columns // 8), packing.PROGRAM, "-o", "g4", str(columns), "3", "-").stdout
+    assert abs(len(strip) - columns) < 8, len(strip)
+    Path(f"{folder}/strip").write_bytes(strip)
+    with open(f"{folder}/strip", "rb") as stdin:
+        cost, written = instructions(folder, [program.PROGRAM, option, "g4", str(columns), "3", "-"], whole=True, stdin=stdin)
+    assert written == b"ok\n", written
+    return cost
 
 
 def costs_of_page(folder, driver, page, encoding, rows, ways):

@@ -1,5 +1,5 @@
 """What conforms to T.4 and T.6, by a slow check from their words, apart from the definitions and the code: what `faxrows -c`
-says of data and where, and whether the strips of `faxpack` and of other encoders are what the coding procedure writes. Bits are a text, rows
+and `-p` say of data, and whether the strips of `faxpack` and of other encoders are what the coding procedure writes. Bits are a text, rows
 lists of pixels, 1 for black.
 
 `run.py conformance data 80000 SEED` checks so many data, and `run.py conformance encoders 80 SEED` the strips of so many pictures, some
@@ -330,24 +330,30 @@ def some_data(chosen):
     return (mode, str(columns), str(limit), flags or "-"), data
 
 
-def agrees(words, data):
-    """What `faxrows -c` says of data is what this check does: `ok`, or the place and the rule. Returns the rule."""
-    found = broken(words, data, False)
-    done = program.run(["-c", *words], data)
+KS = (None, 1, 2, 4)
+
+
+def agrees(words, data, strict, k=None):
+    """What `faxrows -c` says of data, or with `strict` `faxrows -p`, is what this check does: `ok`, or the place and the rule. Returns
+    the rule."""
+    found = broken(words, data, strict, k)
+    done = program.run(["-p" if strict else "-c", *words, *([str(k)] if k else [])], data)
     line = f"violation {found[1]} {found[0]}\n" if found else "ok\n"
-    assert (done.returncode, done.stdout.decode(), done.stderr) == (int(found is not None), line, b""), (words, data.hex(), found, done)
+    assert (done.returncode, done.stdout.decode(), done.stderr) == (int(found is not None), line, b""), (words, k, data.hex(), found, done)
     return found and found[0]
 
 
 def data_conforms(count=1000, seed=1):
-    """`faxrows -c` says of data what this check does, in either order of bits."""
-    chosen, seen = random.Random(seed), Counter()
+    """`faxrows -c` and `-p` say of data what this check does, in either order of bits and with any K."""
+    chosen, seen, seen_strict = random.Random(seed), Counter(), Counter()
     for _ in range(count):
         words, data = some_data(chosen)
         words, data = chosen.choice(program.in_both_orders(*words, data))
-        seen[agrees(words, data)] += 1
-    assert len(seen) >= 8, seen
-    print(f"  {count} data: " + ", ".join(f"{number} {rule or 'ok'}" for rule, number in seen.most_common()))
+        seen[agrees(words, data, False)] += 1
+        seen_strict[agrees(words, data, True, chosen.choice(KS))] += 1
+    assert len(seen) >= 8 and {None, OTHER, KIND, FILL, END} <= {*seen_strict}, (seen, seen_strict)
+    for grade, rules in (("-c", seen), ("-p", seen_strict)):
+        print(f"  {grade}, {count} data: " + ", ".join(f"{number} {rule or 'ok'}" for rule, number in rules.most_common()))
 
 
 def closes(words, bits):
@@ -497,9 +503,9 @@ def some_pictures(chosen, count):
 
 
 def other_encoders(count=12, seed=3):
-    """`faxrows -c` says of strips of libtiff, Ghostscript, MuPDF, netpbm and mgetty what this check does, with their number of rows and up
-    to the end of the block. All but mgetty's, whose lines may end with a run of no pixels, are readable; and whether they are by the
-    procedure, with the encoder's K, is printed."""
+    """`faxrows -c` and `-p` say of strips of libtiff, Ghostscript, MuPDF, netpbm and mgetty what this check does, with their number of rows
+    and up to the end of the block, and with any K. All but mgetty's, whose lines may end with a run of no pixels, are readable; and
+    whether they are by the procedure, with the encoder's K, is printed."""
     chosen, found = random.Random(seed), {}
     with tempfile.TemporaryDirectory() as folder:
         pictures = list(some_pictures(chosen, count))
@@ -510,9 +516,9 @@ def other_encoders(count=12, seed=3):
             for name, mode, own, columns, rows, flags, strip in by(folder, pictures):
                 plain = flags.replace("b", "")
                 ways = [(mode, str(columns), str(limit), some or "-") for limit, some in ((rows, plain), (rows, "b" + plain), (0, "b" + plain))]
-                readable = {agrees(words, strip) for words in ways}
+                readable = {agrees(words, strip, False) for words in ways}
                 assert None in readable or "mgetty" in name, (name, columns, strip.hex(), readable)
-                rules = [it and it[0] for it in (broken(words, strip, True, own) for words in ways)]
+                rules = {k: [agrees(words, strip, True, k) for words in ways] for k in ({*KS, own} if mode == "2d" else [None])}[own]
                 found.setdefault(name, Counter())[None if None in rules else rules["b" in flags]] += 1
     assert found
     print(f"  {sum(map(Counter.total, found.values()))} strips by other encoders")

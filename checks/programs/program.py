@@ -160,6 +160,7 @@ def statuses():
 
 USAGE = """\
 usage: faxrows [-o | -i | -d | -c] MODE COLUMNS ROWS FLAGS
+       faxrows -p MODE COLUMNS ROWS FLAGS [K]
        faxrows --help | --version
 
 Decodes a strip of CCITT fax data from standard input, and writes to standard output:
@@ -168,9 +169,11 @@ Decodes a strip of CCITT fax data from standard input, and writes to standard ou
   -i  the same lines as without an option, each as soon as it is known
   -d  the damage: the rows that were repaired or cut, and the EOLs that were missed
   -c  ok if every decoder must read the data back as the same rows, or a rule that it breaks
+  -p  ok if the data is what the coding procedure writes for its rows, or a rule that it breaks
 
 MODE is g4 (Group 4), 1d or 2d (Group 3). COLUMNS is the width in pixels, ROWS the largest
-number of rows, 0 for no limit. FLAGS are letters, or - for none:
+number of rows, 0 for no limit. K is that of two-dimensional Group 3: at most K - 1 lines in
+turn have two dimensions, or any number without it. FLAGS are letters, or - for none:
   b  EOFB or RTC may end the data
   l  an EOL precedes each line
   a  rows are aligned to bytes
@@ -255,6 +258,16 @@ def damage():
 
 
 MODE, RUN = "a mode is expected (T.4, 4.2.1.3)", "a run is expected (T.4, 4.1.1)"
+# Arguments after `-c` and `-p`, data that is readable, and the line that `-p` writes: a run of 128 as 64 + 64 + 0 (T.4, 4.1.1),
+# horizontal mode in place of V0 (T.6, 2.2.5), no one-dimensional line first, and none among three (T.4, 4.2.1), fill before the first EOL
+# and in RTC (T.4, 4.1.3 and 4.1.4).
+CHOSEN = [
+    ("1d 128 1 -", "DECD40", "violation 0 not what the procedure writes (T.4, 4.1.1 and 4.2.1.3)"),
+    ("g4 8 1 -", "330DC0", "violation 0 not what the procedure writes (T.4, 4.1.1 and 4.2.1.3)"),
+    ("2d 8 1 -", "40", "violation 0 a two-dimensional line where none may be (T.4, 4.2.1)"),
+    ("2d 8 3 l", "001400500140", "violation 12 a two-dimensional line where none may be (T.4, 4.2.1)"),
+    ("1d 8 0 b", "000330001000100010001000100010", "violation 0 fill where none may be (T.4, 4.1.3 and 4.1.4)"),
+]
 # Arguments after `-c` and data, the line that the program writes, and its status: EOFB closes it, in either order, and with `s`, which
 # has no effect; the row limit closes it, and what follows is ignored; nothing closes it; pass mode to the end of a row of one pixel,
 # which is read strictly without a fault; five EOLs in place of RTC; and nothing at all.
@@ -267,22 +280,33 @@ CHECKED = [
     ("g4 1 0 b", "10010010", "violation 0 pass mode to the row's end (T.4, 4.2.1.3.2)", 1),
     ("1d 8 0 b", "00198008008008008008", f"violation 29 {RUN}", 1),
     ("1d 8 1 -", "", f"violation 0 {RUN}", 1),
-    # What T.4 and T.6 prescribe to an encoder, and no decoder can tell from the rows, isn't checked: a run of 128 as 64 + 64 + 0 (T.4,
-    # 4.1.1), horizontal mode in place of V0 (T.6, 2.2.5), no one-dimensional line first, and none among three (T.4, 4.2.1), fill
-    # before the first EOL and in RTC (T.4, 4.1.3 and 4.1.4).
-    ("1d 128 1 -", "DECD40", "ok", 0),
-    ("g4 8 1 -", "330DC0", "ok", 0),
-    ("2d 8 1 -", "40", "ok", 0),
-    ("2d 8 3 l", "001400500140", "ok", 0),
-    ("1d 8 0 b", "000330001000100010001000100010", "ok", 0),
+    # What T.4 and T.6 prescribe to an encoder, and no decoder can tell from the rows, isn't checked.
+    *[(words, data, "ok", 0) for words, data, _ in CHOSEN],
+]
+# Arguments after `-p`, data and the line: those choices; what `-c` reports is reported first; any K, and 3 and 2 where two lines follow a
+# one-dimensional one; what follows the last row or EOFB, and none where it is asked for.
+BY_PROCEDURE = [
+    *CHOSEN,
+    ("g4 8 0 b", "31C0040040", "ok"),
+    ("g4 8 2 -", "330DC0", f"violation 18 {MODE}"),
+    ("2d 8 3 -", "CD40", "ok"),
+    ("2d 8 3 - 3", "CD40", "ok"),
+    ("2d 8 3 - 2", "CD40", "violation 8 a two-dimensional line where none may be (T.4, 4.2.1)"),
+    ("2d 8 3 - 2", "CDCC", "ok"),
+    ("2d 8 3 - 4294967295", "CDCC", "ok"),
+    ("g4 8 1 -", "31C0FF", "violation 10 not the end that the procedure writes (T.4, 4.1.4; T.6, 2.4.1.1)"),
+    ("g4 8 1 b", "31C0", "violation 10 not the end that the procedure writes (T.4, 4.1.4; T.6, 2.4.1.1)"),
+    ("g4 8 0 b", "31C004004000", "violation 34 not the end that the procedure writes (T.4, 4.1.4; T.6, 2.4.1.1)"),
 ]
 
 
 def conforming():
-    for words, data, line, status in CHECKED:
-        done = run(["-c", *words.split()], bytes.fromhex(data))
-        assert (done.returncode, done.stdout.decode(), done.stderr) == (status, f"{line}\n", b""), (words, done)
-    for words in ("-c", "-c -d g4 8 1 -", "-d -c g4 8 1 -", "-c g4 8 1 -c", "-c --help"):
+    checked = [("-p", words, data, line, int(line != "ok")) for words, data, line in BY_PROCEDURE]
+    for option, words, data, line, status in [*[("-c", *it) for it in CHECKED], *checked]:
+        done = run([option, *words.split()], bytes.fromhex(data))
+        assert (done.returncode, done.stdout.decode(), done.stderr) == (status, f"{line}\n", b""), (option, words, done)
+    of_k = ("-p 2d 8 3 - 0", "-p 2d 8 3 - x", "-p 2d 8 3 - 4294967296", "-p 2d 8 3 - 2 2", "-p 2d 8 3 2", "-c 2d 8 3 - 2", "-p -c 2d 8 3 -")
+    for words in ("-c", "-c -d g4 8 1 -", "-d -c g4 8 1 -", "-c g4 8 1 -c", "-c --help", "-p", *of_k):
         done = run(words.split(), bytes.fromhex("31C0"))
         assert (done.returncode, done.stdout, done.stderr) == (2, b"", b"faxrows: bad arguments\n"), (words, done)
 

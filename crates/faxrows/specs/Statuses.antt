@@ -1,4 +1,4 @@
--- The status that the program exits with: 0 if the data was decoded or conforms, 1 if the data is invalid or doesn't, 2 for
+-- The status that the program exits with: 0 if the data was decoded or conforms as asked, 1 if it is invalid or doesn't, 2 for
 -- invalid arguments, and 3 for a failed allocation or device.
 use Rattle.std.specs.Prelude.{◌≡◌, ◌⊎◌, ℕ, Result, Ok, Err}
 use Rattle.hayro_ccitt.specs.DecodeError.{DecodeError}

@@ -1,8 +1,8 @@
 //! `faxrows`: decodes a fax image from standard input, and writes its rows as text to standard output.
 //!
 //! It is called as `faxrows MODE COLUMNS ROWS FLAGS`. Before these arguments `-o` writes the rows as a bitmap, `-i` each row as
-//! it is read, `-d` the damage, and `-c` whether every decoder must read the data back as the same rows. `--help` explains the
-//! arguments.
+//! it is read, `-d` the damage, `-c` whether every decoder must read the data back as the same rows, and `-p` whether it is what
+//! the coding procedure writes for them, for which a K may follow. `--help` explains the arguments.
 #![tactic(auto)]
 
 ghost use Rattle.std.specs.Prelude.{◌≡◌, IfOk};
@@ -11,7 +11,9 @@ ghost use Rattle.faxrows.specs.Statuses.{IsStatusOfRun, status_of_answer, status
 use fax_program::arguments::{is_first_arg, is_only_arg};
 use fax_program::{Uninterrupted, args, print, status_of_fault};
 pub use fax_program::{Device, Failed, RunFault};
-pub use faxrows_lib::{Done, TextSink, run, run_by_row, run_check, run_damage, run_packed};
+pub use faxrows_lib::{
+    Done, TextSink, run, run_by_procedure, run_by_row, run_check, run_damage, run_packed,
+};
 use hayro_ccitt::DecodeError;
 use std::process::ExitCode;
 
@@ -61,6 +63,8 @@ fn run_with(rt: &HostRuntime, args: &[String]) -> Result<u8, RunFault>
         run_damage(rt.alloc(), &args[1..], &mut reader, &mut writer)?
     } else if is_first_arg(args, "-c") {
         run_check(rt.alloc(), &args[1..], &mut reader, &mut writer)?
+    } else if is_first_arg(args, "-p") {
+        run_by_procedure(rt.alloc(), &args[1..], &mut reader, &mut writer)?
     } else {
         run(rt.alloc(), args, &mut reader, &mut writer)?
     };
@@ -70,6 +74,7 @@ fn run_with(rt: &HostRuntime, args: &[String]) -> Result<u8, RunFault>
 /// What `--help` prints.
 const USAGE: &str = "\
 usage: faxrows [-o | -i | -d | -c] MODE COLUMNS ROWS FLAGS
+       faxrows -p MODE COLUMNS ROWS FLAGS [K]
        faxrows --help | --version
 
 Decodes a strip of CCITT fax data from standard input, and writes to standard output:
@@ -78,9 +83,11 @@ Decodes a strip of CCITT fax data from standard input, and writes to standard ou
   -i  the same lines as without an option, each as soon as it is known
   -d  the damage: the rows that were repaired or cut, and the EOLs that were missed
   -c  ok if every decoder must read the data back as the same rows, or a rule that it breaks
+  -p  ok if the data is what the coding procedure writes for its rows, or a rule that it breaks
 
 MODE is g4 (Group 4), 1d or 2d (Group 3). COLUMNS is the width in pixels, ROWS the largest
-number of rows, 0 for no limit. FLAGS are letters, or - for none:
+number of rows, 0 for no limit. K is that of two-dimensional Group 3: at most K - 1 lines in
+turn have two dimensions, or any number without it. FLAGS are letters, or - for none:
   b  EOFB or RTC may end the data
   l  an EOL precedes each line
   a  rows are aligned to bytes

@@ -5,8 +5,9 @@ pub use Rattle.fax_program.specs.Devices.{AppendsFront, WasRead}
 pub use Rattle.faxrows_lib.specs.Arguments.{arguments_of}
 pub use Rattle.fax_program.specs.declared.fault.RunFault.{RunFault}
 pub use Rattle.fax_program.specs.declared.fault.RunFault.TheVariants.{BadArguments, Read, TooLong, Write, Memory as FaultOfMemory}
-pub use Rattle.fax_conforms.specs.Conforming.{Conforms}
-pub use Rattle.fax_conforms.specs.Stops.{IsViolationOf}
+pub use Rattle.fax_conforms.specs.ByProcedure.{ConformsIn}
+pub use Rattle.fax_conforms.specs.Checks.{IsViolationIn}
+pub use Rattle.fax_conforms.specs.declared.grades.Grade.{Grade}
 pub use Rattle.fax_conforms.specs.declared.stops.Violation.{Violation}
 pub use Rattle.faxrows_lib.specs.CheckText.{IsCheck, done_of_check, end_with_rule, line_of_check, line_of_violation}
 pub use Rattle.faxrows_lib.specs.DamageText.{IsDamageText, IsDamageWithoutMemory, damage_after, damage_lines, damage_of_row}

@@ -1,5 +1,5 @@
 -- What the arguments of the program mean: a mode, the columns, the rows, and flags.
-use Rattle.std.specs.Prelude.{ℕ, List, [], ◌∷◌, Option, Some, None, if◌then◌else◌, codes}
+use Rattle.std.specs.Prelude.{ℕ, List, [], ◌∷◌, Option, Some, None, if◌then◌else◌, codes, nat_lt, take}
 use Rattle.hayro_ccitt.specs.EncodingMode.{EncodingMode}
 use Rattle.hayro_ccitt.specs.DecodeSettings.{DecodeSettings}
 use Rattle.fax_program.specs.Arguments.{are_flags, has_flag, mode_of, number_of, order_with, ◌>>=◌}
@@ -35,3 +35,22 @@ arguments_of_four mode columns rows flags = do
 abbrev pub arguments_of : List (List ℕ) → Option Arguments
 arguments_of (mode ∷ columns ∷ rows ∷ flags ∷ []) = arguments_of_four mode columns rows flags
 arguments_of _ = None
+
+-- the K that a word writes, a number of at least 1: it counts the one-dimensional line (T.4, 4.2.1)
+abbrev pub k_of_word : List ℕ → Option ℕ
+k_of_word word = do
+  k ← number_of word
+  if nat_lt 0 k then Some k else None
+
+-- the K that is the last of five arguments, if there is one
+abbrev pub k_of : List (List ℕ) → Option ℕ
+k_of (mode ∷ columns ∷ rows ∷ flags ∷ word ∷ []) = k_of_word word
+k_of _ = None
+
+-- the arguments without it
+abbrev pub without : Option ℕ → List (List ℕ) → List (List ℕ)
+without None args = args
+without (Some k) args = take 4 args
+
+abbrev pub without_k : List (List ℕ) → List (List ℕ)
+without_k args = without (k_of args) args

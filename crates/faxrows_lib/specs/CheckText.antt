@@ -2,8 +2,9 @@
 use Rattle.std.specs.Prelude.{◌≡◌, ℕ, List, [], ◌∷◌, ◌++◌, codes, Option, None, Some}
 use Rattle.hayro_ccitt.specs.Bits.{Bits}
 use Rattle.hayro_ccitt.specs.DecodeSettings.{DecodeSettings}
-use Rattle.fax_conforms.specs.Conforming.{Conforms}
-use Rattle.fax_conforms.specs.Stops.{IsViolationOf}
+use Rattle.fax_conforms.specs.ByProcedure.{ConformsIn}
+use Rattle.fax_conforms.specs.Checks.{IsViolationIn}
+use Rattle.fax_conforms.specs.declared.grades.Grade.{Grade}
 use Rattle.fax_conforms.specs.declared.stops.Rule.{Rule}
 use Rattle.fax_conforms.specs.declared.stops.Rule.TheVariants.{Mode, Run, RowEnd, NoPixels, Columns, Eol, Tag, Padding, PassToEnd}
 use Rattle.fax_conforms.specs.declared.stops.Rule.TheVariants.{Procedure, Kind, Fill, End}
@@ -24,7 +25,7 @@ text_of_rule Tag = codes "a tag is expected (T.4, 4.2.2)"
 text_of_rule Padding = codes "zeros up to a whole byte are expected (T.4, 4.1.3)"
 text_of_rule PassToEnd = codes "pass mode to the row's end (T.4, 4.2.1.3.2)"
 text_of_rule Procedure = codes "not what the procedure writes (T.4, 4.1.1 and 4.2.1.3)"
-text_of_rule Kind = codes "a line of two dimensions where K allows none (T.4, 4.2.1)"
+text_of_rule Kind = codes "a two-dimensional line where none may be (T.4, 4.2.1)"
 text_of_rule Fill = codes "fill where none may be (T.4, 4.1.3 and 4.1.4)"
 text_of_rule End = codes "not the end that the procedure writes (T.4, 4.1.4; T.6, 2.4.1.1)"
 
@@ -46,10 +47,10 @@ abbrev pub done_of_check : Option Violation → Done
 done_of_check None = Good
 done_of_check (Some found) = Faulty
 
--- A run over some data may end like this, and write this: with `ok` if it begins with an encoding of a picture that is closed as
--- the settings ask, and otherwise with the line of a violation.
-abbrev pub IsCheck : DecodeSettings → Bits → Done → List ℕ → Type 0
-IsCheck settings bits Good text = Conforms settings bits × (text ≡ codes "ok\n")
-IsCheck settings bits Faulty text = (Conforms settings bits → ⊥) × (found : Violation) × IsViolationOf settings bits found
-    × (text ≡ line_of_violation found)
-IsCheck settings bits Memory text = ⊥
+-- A run over some data that asks for a grade may end like this, and write this: with `ok` if the data conforms in that grade, and
+-- otherwise with the line of a violation.
+abbrev pub IsCheck : Grade → DecodeSettings → Bits → Done → List ℕ → Type 0
+IsCheck grade settings bits Good text = ConformsIn grade settings bits × (text ≡ codes "ok\n")
+IsCheck grade settings bits Faulty text = (ConformsIn grade settings bits → ⊥) × (found : Violation)
+    × IsViolationIn grade settings bits found × (text ≡ line_of_violation found)
+IsCheck grade settings bits Memory text = ⊥

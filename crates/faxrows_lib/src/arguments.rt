@@ -1,7 +1,7 @@
 //! The arguments of the program, and what they mean.
 
 ghost use Rattle.std.specs.Prelude.{◌≡◌, map, string_bytes};
-ghost use Rattle.faxrows_lib.specs.Arguments.{arguments_of};
+ghost use Rattle.faxrows_lib.specs.Arguments.{arguments_of, k_of, k_of_word, without_k};
 
 use fax_program::arguments::{are_flags, has_flag, mode_of, number_of, order_with};
 use hayro_ccitt::DecodeSettings;
@@ -43,4 +43,29 @@ pub fn arguments_of(args: &[String]) -> Option<Arguments>
         settings,
         order: order_with(flags),
     })
+}
+
+/// Returns the K that a word writes, a number of at least 1: it counts the one-dimensional line (T.4, 4.2.1).
+fn k_of_word(word: &str) -> Option<u32>
+    ensures { result ≡ k_of_word word.now }
+{
+    let k = number_of(word)?;
+    if k == 0 {
+        return None;
+    }
+    Some(k)
+}
+
+/// Splits the arguments into the K that is the last of five, if it is one, and the others.
+pub fn split_k(args: &[String]) -> (Option<u32>, &[String])
+    ensures k { result.0 ≡ k_of (map string_bytes args.now) }
+    ensures others { map string_bytes result.1.now ≡ without_k (map string_bytes args.now) }
+{
+    let [_, _, _, _, word] = args else {
+        return (None, args);
+    };
+    match k_of_word(word.as_str()) {
+        Some(k) => (Some(k), &args[..4]),
+        None => (None, args),
+    }
 }

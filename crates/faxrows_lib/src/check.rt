@@ -1,11 +1,13 @@
-//! A run of the program that writes whether the data is an encoding of a picture that every decoder must read back as its rows,
-//! and otherwise where it breaks a rule.
+//! Runs of the program that write whether the data conforms: whether it is an encoding of a picture that every decoder must read
+//! back as its rows, or what the coding procedure writes; and otherwise where it breaks a rule.
 
 ghost use Rattle.std.specs.Prelude.{◌≡◌, map, string_bytes};
+ghost use Rattle.faxrows_lib.specs.Arguments.{k_of, without_k};
 ghost use Rattle.faxrows_lib.specs.CheckText.{IsCheck, done_of_check, end_with_rule, line_of_check};
 ghost use Rattle.faxrows_lib.specs.Output.{PutsText, WritesText, used};
 ghost use Rattle.faxrows_lib.specs.ProgramRuns.{RunsProgram};
 
+use crate::arguments::split_k;
 use crate::damage_lines::put_number;
 use crate::input::read_input;
 use crate::output::{flush, put};
@@ -16,7 +18,7 @@ use std::alloc::Global;
 use std::io::{Read, Write};
 
 /// Reads all that the reader has, and writes whether it begins with an encoding of a picture that every decoder must read back as
-/// its rows, closed as the arguments ask ([`first_violation`]): `ok` if it does; and if not, `violation`, an offset in bits, and
+/// its rows, closed as the arguments ask ([`Grade::Readable`]): `ok` if it does; and if not, `violation`, an offset in bits, and
 /// the rule that is broken there. It is `Done::Good` in the first case, and `Done::Faulty` in the second.
 ///
 /// # Errors
@@ -28,11 +30,44 @@ pub fn run_check<R: Read, W: Write>(
     reader: &mut Device<R>,
     writer: &mut Device<W>,
 ) -> std::result::Result<Done, RunFault>
-    ensures runs { RunsProgram IsCheck (map string_bytes args.now) (used R.remaining reader.old reader.new)
+    ensures runs { RunsProgram (IsCheck Grade.Readable) (map string_bytes args.now) (used R.remaining reader.old reader.new)
+        (used W.contents writer.old writer.new) result }
+{
+    check_input(alloc, Grade::Readable, args, reader, writer)
+}
+
+/// Reads all that the reader has, and writes whether it is what the coding procedure writes for its rows, closed as the arguments
+/// ask ([`Grade::Procedure`]), as [`run_check`] does. After the four arguments there may be K, a number of at least 1: then at most
+/// K - 1 lines after a one-dimensional one are two-dimensional (T.4, 4.2.1).
+///
+/// # Errors
+///
+/// Those of [`run_check`].
+pub fn run_by_procedure<R: Read, W: Write>(
+    alloc: Global,
+    args: &[String],
+    reader: &mut Device<R>,
+    writer: &mut Device<W>,
+) -> std::result::Result<Done, RunFault>
+    ensures runs { RunsProgram (IsCheck (Grade.Procedure (k_of (map string_bytes args.now)))) (without_k (map string_bytes args.now))
+        (used R.remaining reader.old reader.new) (used W.contents writer.old writer.new) result }
+{
+    let (k, words) = split_k(args);
+    check_input(alloc, Grade::Procedure(k), words, reader, writer)
+}
+
+/// Reads all that the reader has, and writes whether it conforms in a grade.
+fn check_input<R: Read, W: Write>(
+    alloc: Global,
+    grade: Grade,
+    args: &[String],
+    reader: &mut Device<R>,
+    writer: &mut Device<W>,
+) -> std::result::Result<Done, RunFault>
+    ensures runs { RunsProgram (IsCheck grade) (map string_bytes args.now) (used R.remaining reader.old reader.new)
         (used W.contents writer.old writer.new) result }
 {
     let (arguments, input) = read_input(alloc, args, reader)?;
-    let grade = Grade::Readable;
     let order = arguments.order;
     let Ok(found) = first_violation(alloc, arguments.settings, grade, order, input.as_slice())
     else {
@@ -98,7 +133,7 @@ fn rule_and_end(rule: Rule) -> &'static [u8]
         Rule::Padding => b"zeros up to a whole byte are expected (T.4, 4.1.3)\n",
         Rule::PassToEnd => b"pass mode to the row's end (T.4, 4.2.1.3.2)\n",
         Rule::Procedure => b"not what the procedure writes (T.4, 4.1.1 and 4.2.1.3)\n",
-        Rule::Kind => b"a line of two dimensions where K allows none (T.4, 4.2.1)\n",
+        Rule::Kind => b"a two-dimensional line where none may be (T.4, 4.2.1)\n",
         Rule::Fill => b"fill where none may be (T.4, 4.1.3 and 4.1.4)\n",
         Rule::End => b"not the end that the procedure writes (T.4, 4.1.4; T.6, 2.4.1.1)\n",
     }

@@ -1,6 +1,6 @@
 //! The runs of the program `faxrows`: each reads all that a reader has, decodes it as the arguments mean, and writes the rows as
-//! text or as a bitmap, or the damage, or whether it is an encoding that every decoder must
-//! read back as its rows.
+//! text or as a bitmap, or the damage, or whether it is an encoding that every decoder must read back as its rows, or what the
+//! coding procedure writes for them.
 #![tactic(auto)]
 
 mod arguments;
@@ -17,7 +17,7 @@ pub mod program;
 pub mod text_sink;
 
 pub use by_row::run_by_row;
-pub use check::run_check;
+pub use check::{run_by_procedure, run_check};
 pub use damage::run_damage;
 pub use packed::run_packed;
 pub use program::{Done, run};

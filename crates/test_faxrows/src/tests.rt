@@ -1,5 +1,7 @@
 use fax_program::{Device, RunFault};
-use faxrows_lib::{Done, TextSink, run, run_by_row, run_check, run_damage, run_packed};
+use faxrows_lib::{
+    Done, TextSink, run, run_by_procedure, run_by_row, run_check, run_damage, run_packed,
+};
 use std::alloc::AllocGlobal;
 use std::fmt::Debug;
 use std::io;
@@ -144,6 +146,7 @@ fn made<R: Read, W: Write>(
     match name {
         "run" => run(alloc, words, reader, writer),
         "run_by_row" => run_by_row(alloc, words, reader, writer),
+        "run_by_procedure" => run_by_procedure(alloc, words, reader, writer),
         "run_check" => run_check(alloc, words, reader, writer),
         "run_damage" => run_damage(alloc, words, reader, writer),
         "run_packed" => match run_packed(alloc, words, reader, writer)? {
@@ -241,6 +244,28 @@ fn checks_each_rule(rt: HostRuntime) {
         g4 8 2 a: C0: Ok(Faulty) "violation 1 zeros up to a whole byte are expected (T.4, 4.1.3)\n"
         g4 1 0 b: 10010010: Ok(Faulty) "violation 0 pass mode to the row's end (T.4, 4.2.1.3.2)\n"
         g4 8 1 bb: 31C0: Err(BadArguments) ""
+        "#,
+    );
+}
+
+#[test]
+fn checks_by_the_procedure(rt: HostRuntime) {
+    check(
+        &rt,
+        "run_by_procedure",
+        r#"
+        g4 8 0 b: 31C0040040: Ok(Good) "ok\n"
+        // What every decoder must read breaks a rule first.
+        g4 8 2 -: 330DC0: Ok(Faulty) "violation 18 a mode is expected (T.4, 4.2.1.3)\n"
+        g4 8 1 -: 330DC0: Ok(Faulty) "violation 0 not what the procedure writes (T.4, 4.1.1 and 4.2.1.3)\n"
+        1d 8 0 b: 000330001000100010001000100010: Ok(Faulty) "violation 0 fill where none may be (T.4, 4.1.3 and 4.1.4)\n"
+        g4 8 1 -: 31C0FF: Ok(Faulty) "violation 10 not the end that the procedure writes (T.4, 4.1.4; T.6, 2.4.1.1)\n"
+        // Two lines after a one-dimensional one are two-dimensional.
+        2d 8 3 -: CD40: Ok(Good) "ok\n"
+        2d 8 3 - 3: CD40: Ok(Good) "ok\n"
+        2d 8 3 - 2: CD40: Ok(Faulty) "violation 8 a two-dimensional line where none may be (T.4, 4.2.1)\n"
+        2d 8 3 - 0: CD40: Err(BadArguments) ""
+        2d 8 3 - 2 2: CD40: Err(BadArguments) ""
         "#,
     );
 }
