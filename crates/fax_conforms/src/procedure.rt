@@ -305,13 +305,13 @@ fn ends_here(asked: Asked, taken: u64, reader: &BitReader<'_>, ticks: &mut Ticks
 /// Returns where the EOL that is here with fill begins, if one is.
 fn filled_eol(reader: &BitReader<'_>, ticks: &mut Ticks) -> Option<Violation> {
     let place = reader.bit_pos();
-    if has_eol(reader, ticks) {
-        return Some(Violation {
-            place,
-            rule: Rule::Fill,
-        });
+    if after_plain_eol(reader, ticks).is_some() || !has_eol(reader, ticks) {
+        return None;
     }
-    None
+    Some(Violation {
+        place,
+        rule: Rule::Fill,
+    })
 }
 
 /// Returns where fill is in the RTC that is here, after its first EOL (T.4, 4.1.3 and 4.1.4).
