@@ -246,7 +246,7 @@ def checked_cases():
         data, settings = corpus.bytes_of(text), settings_of(*words.split())
         for grade, answer in enumerate(found):
             place, _, rule = answer.partition(" ")
-            told = (0, 0, 0) if answer == "ok" else (VIOLATION, 0, 0) if answer == "no" else (VIOLATION, int(place), numbers[rule])
+            told = (0, 0, 0) if answer == "ok" else (VIOLATION, int(place), numbers[rule])
             for flags, turned in ((settings.flags, data), (settings.flags ^ 16, data.translate(MIRRORED))):
                 yield (settings.encoding, settings.columns, settings.rows, flags), turned, grade, int(k), told
     for encoding, flags, grade in ((3, 0, 0), (0, 64, 0), (2, 1 << 31, 1), (0, 1, 2), (1, 1, 4294967295)):

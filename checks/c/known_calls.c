@@ -17,9 +17,8 @@
 
      c ENCODING COLUMNS ROWS FLAGS DATA GRADE K STATUS PLACE RULE
 
-   is data to check, and what is found: with the outcome exactly as long as it must be, strictly and not, and whatever the polarity. A
-   rule of 0 after a violation isn't compared, nor its place, but the place is within the data and a rule has a text. Bytes are in
-   hexadecimal, `-` for none, and numbers as the headers have them. The last line counts calls. */
+   is data to check, and what is found: with the outcome exactly as long as it must be, strictly and not, and whatever the polarity.
+   Bytes are in hexadecimal, `-` for none, and numbers as the headers have them. The last line counts calls. */
 #include "guarded.h"
 
 #include <fax_encode.h>
@@ -225,11 +224,8 @@ static void check(const known *it, uint32_t more, uint32_t grade, uint32_t k, ui
     hayro_ccitt_settings settings = it->settings;
     settings.flags |= more;
     ended(hayro_ccitt_check(it->data, it->length, &settings, grade, k, found), it->status, "the status of the check");
-    if (it->status == HAYRO_CCITT_VIOLATION) {
-        must(found->place <= 8 * it->length, "a place of the data");
-        must(found->rule > 0 && found->rule < sizeof texts / sizeof *texts, "a rule that has a text");
-    }
-    if (it->status != HAYRO_CCITT_VIOLATION || rule) must(found->place == place && found->rule == rule, "the violation");
+    must(found->place == place && found->rule == rule, "the violation");
+    must(found->rule < sizeof texts / sizeof *texts, "a rule that has a text");
     take_back(found);
 }
 

@@ -39,12 +39,18 @@ pub enum Rule {
     Padding,
     /// Pass mode is used to the row's end.
     PassToEnd,
-    /// What every decoder must read isn't what the coding procedure writes. The place of such a violation is 0.
+    /// The coding procedure writes the line here with other words of a run, or other modes. The place is the line's start.
     Procedure,
+    /// A line is two-dimensional where K allows none. The place is that of its tag.
+    Kind,
+    /// Fill is before the first EOL, or before an EOL of RTC but its first.
+    Fill,
+    /// EOFB or RTC is due, or the end of the data.
+    End,
 }
 
 /// The rules by their numbers, from 1 on, and their texts.
-const RULES: [(Rule, &str); 10] = [
+const RULES: [(Rule, &str); 13] = [
     (Rule::Mode, "a mode is expected (T.4, 4.2.1.3)"),
     (Rule::Run, "a run is expected (T.4, 4.1.1)"),
     (
@@ -65,8 +71,11 @@ const RULES: [(Rule, &str); 10] = [
     ),
     (
         Rule::Procedure,
-        "not by the coding procedure (T.4, 4.1 and 4.2; T.6, 2)",
+        "not by the coding procedure (T.4, 4.1.1 and 4.2.1.3; T.6, 2.2)",
     ),
+    (Rule::Kind, "a two-dimensional line too many (T.4, 4.2.1)"),
+    (Rule::Fill, "fill in the wrong place (T.4, 4.1.3 and 4.1.4)"),
+    (Rule::End, "the end is expected (T.4, 4.1.4; T.6, 2.4.1.1)"),
 ];
 
 impl fmt::Display for Rule {
@@ -118,7 +127,8 @@ impl fmt::Display for Violation {
 /// };
 /// let data = [0x33, 0x0D, 0xC0];
 /// assert_eq!(first_violation(&data, settings, Grade::Readable)?, None);
-/// assert!(first_violation(&data, settings, Grade::Procedure(None))?.is_some());
+/// let found = first_violation(&data, settings, Grade::Procedure(None))?;
+/// assert_eq!(found.map(|it| (it.place, it.rule)), Some((0, Rule::Procedure)));
 /// // Horizontal mode, and then the words of no run.
 /// let found = first_violation(&[0x20, 0x00], settings, Grade::Readable)?;
 /// assert_eq!(found.map(|it| (it.place, it.rule)), Some((3, Rule::Run)));

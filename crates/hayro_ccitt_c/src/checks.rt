@@ -1,18 +1,16 @@
 //! Whether data conforms, for C.
 
-ghost use Rattle.std.specs.Prelude.{◌≡◌, ◌≢◌, ◌⊎◌, ◌↔◌, None, IfOk, IfSome};
-ghost use Rattle.hayro_ccitt.specs.Bits.{BitsFit, bits_in};
+ghost use Rattle.std.specs.Prelude.{◌≡◌, ◌≢◌, ◌⊎◌, ◌↔◌, None};
+ghost use Rattle.hayro_ccitt.specs.Bits.{BitsFit};
 ghost use Rattle.fax_conforms.specs.ByProcedure.{ConformsIn};
 ghost use Rattle.hayro_ccitt_c.specs.Checked.{IsViolationTold, OnGrade, grade_of, k_of, no_violation, number_of_rule};
-ghost use Rattle.hayro_ccitt_c.specs.Checked.{not_by_procedure, outcome_of_violation};
+ghost use Rattle.hayro_ccitt_c.specs.Checked.{outcome_of_violation};
 ghost use Rattle.hayro_ccitt_c.specs.Settings.{settings_of};
 ghost use Rattle.hayro_ccitt_c.specs.declared.status.TheConstants.{OK, OUT_OF_MEMORY, NOT_TAKEN, VIOLATION};
 
 use crate::settings::{Settings, order_of, settings_for};
 use crate::status;
-use fax_conforms::{Grade, Rule, Violation, conforms, first_violation};
-use hayro_ccitt::DecodeSettings;
-use hayro_ccitt::bit_reader::BitOrder;
+use fax_conforms::{Grade, Rule, Violation, first_violation};
 use std::alloc::Global;
 
 /// What a check fills in for C.
@@ -30,13 +28,6 @@ fn no_violation() -> ViolationOutcome
     ensures { result ≡ no_violation }
 {
     ViolationOutcome { place: 0, rule: 0 }
-}
-
-/// Returns the outcome of readable data that isn't what the coding procedure writes.
-fn not_by_procedure() -> ViolationOutcome
-    ensures { result ≡ not_by_procedure }
-{
-    ViolationOutcome { place: 0, rule: 10 }
 }
 
 /// Returns the number of a rule.
@@ -88,27 +79,6 @@ fn grade_of(grade: u32, k: u32) -> Option<Grade>
     }
 }
 
-/// Returns what C gets of data that doesn't conform in a grade, `None` if it does. The only error is `OutOfMemory`.
-fn outcome_in(
-    alloc: Global,
-    settings: DecodeSettings,
-    grade: Grade,
-    order: BitOrder,
-    data: &[u8],
-) -> hayro_ccitt::Result<Option<ViolationOutcome>>
-    requires fit { BitsFit «data».now }
-    ensures none { IfOk result (λ told. (told ≡ None) ↔ ConformsIn grade settings (bits_in order «data».now)) }
-    ensures told { IfOk result (λ told. IfSome told (IsViolationTold grade settings (bits_in order «data».now))) }
-{
-    if conforms(alloc, settings, grade, order, data)? {
-        return Ok(None);
-    }
-    match first_violation(alloc, settings, Grade::Readable, order, data)? {
-        Some(found) => Ok(Some(outcome_of_violation(found))),
-        None => Ok(Some(not_by_procedure())),
-    }
-}
-
 /// Checks whether data conforms in a grade (`conforms` of `fax_conforms`): 0 if every decoder must read it back as the rows of a
 /// picture, closed as the settings ask, and 1 if it is what the coding procedure writes (T.4, 4.1 and 4.2; T.6, 2), of
 /// two-dimensional Group 3 with this K (T.4, 4.2.1), or any where `k` is 0. `k` has no effect in the other grade. Flags of a strict
@@ -141,10 +111,10 @@ pub extern "C" fn hayro_ccitt_check(
     let Some(asked) = grade_of(grade, k) else {
         return status::NOT_TAKEN;
     };
-    match outcome_in(alloc, meant, asked, order_of(settings), data) {
+    match first_violation(alloc, meant, asked, order_of(settings), data) {
         Ok(None) => status::OK,
-        Ok(Some(told)) => {
-            *violation = told;
+        Ok(Some(found)) => {
+            *violation = outcome_of_violation(found);
             status::VIOLATION
         }
         Err(_) => status::OUT_OF_MEMORY,
