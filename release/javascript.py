@@ -79,7 +79,7 @@ def module_of(erased, folder, *words, linked=()):
         "CARGO_TARGET_DIR": os.path.abspath(folder),
         "CARGO_TARGET_WASM32_UNKNOWN_UNKNOWN_LINKER": "wasm-ld",
     }
-    options = ["--release", "--target", TARGET, "--lib", "--crate-type", "cdylib", *words]
+    options = ["--release", "--target", TARGET, "--lib", "--crate-type", "cdylib", "--no-default-features", *words]
     command = with_sources_of_std("rustc", *options, "--", *(f"-Clink-arg={it}" for it in linked))
     done = subprocess.run(command, cwd=f"{in_one_workspace(erased, folder)}/c", env=environment, capture_output=True, text=True, check=False)
     if done.returncode != 0:

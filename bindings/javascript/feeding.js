@@ -22,7 +22,7 @@ const USUAL_BYTES = 1 << 20;
 const forgotten = new FinalizationRegistry(close);
 
 /** The settings of hayro_ccitt.h that these are. */
-export function settingsOf({
+function settingsOf({
     columns = 1728, rows = 0, k = 0, endOfLine = false, encodedByteAlign = false, endOfBlock = true, blackIs1 = false, lowFirst = false,
     strict = false, ...others
 }) {

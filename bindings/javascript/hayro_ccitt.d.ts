@@ -98,47 +98,6 @@ export function decode(data: Data, settings?: DecodeSettings): Picture;
  */
 export function encode(packed: Data, settings: EncodeSettings): Uint8Array;
 
-/** What is asked of data: `readable`: it begins with an encoding of a picture that every decoder must read back as its rows, closed as the
- * settings ask, with any make-up words, modes and kinds of line; `procedure`: it is what the coding procedure writes for its rows (T.4,
- * 4.1 and 4.2; T.6, 2), and fewer than eight zeros. */
-export type Grade = "readable" | "procedure";
-
-/** A rule that data breaks. `text` of a violation says what it is. */
-export type Rule =
-    | "mode" | "run" | "rowEnd" | "noPixels" | "columns" | "eol" | "tag" | "padding" | "passToEnd" | "procedure" | "kind" | "fill" | "end";
-
-/** How data is checked. `strict` and `blackIs1` have no effect. */
-export interface CheckSettings extends DecodeSettings {
-    /** `readable` unless it is given. */
-    grade?: Grade;
-    /** K of two-dimensional Group 3, for the grade `procedure`: at most `kLimit` - 1 two-dimensional lines may follow a one-dimensional
-     * one (T.4, 4.2.1); 0, the default, for any number of them. */
-    kLimit?: number;
-}
-
-/** Where data breaks a rule. */
-export class Violation {
-    /** The offset in bits of the word that breaks the rule, or at which what it asks for is missing. */
-    readonly place: number;
-    /** The rule that is broken there. */
-    readonly rule: Rule;
-    /** What it says. */
-    readonly text: string;
-    /** The sections of T.4 and T.6 that have it; empty if there is none. */
-    readonly section: string;
-    constructor(place: number, rule: Rule, text: string, section: string);
-    /** The place, the text and the sections. */
-    toString(): string;
-}
-
-/**
- * Checks whether an encoder that wrote some data kept the rules of T.4 and T.6. Returns null if the data conforms in the grade.
- *
- * @throws {OutOfMemory} {@link RangeError}, {@link TypeError}: as of `decode`.
- * @throws {Overflow} the data has 2 ** 29 - 8 bytes or more.
- */
-export function check(data: Data, settings?: CheckSettings): Violation | null;
-
 /**
  * Reads the rows of an image from data that comes in pieces, each as soon as no data that follows can change its line.
  *

@@ -3,7 +3,7 @@
 import { OutOfMemory } from "./errors.js";
 import { calls } from "./module.js";
 
-export const [OK, UNEXPECTED_EOF, INVALID_CODE, OVERFLOW, OUT_OF_MEMORY, REFUSED, NOT_TAKEN, NO_ROW, NEEDS_MORE, VIOLATION] = Array(10).keys();
+export const [OK, UNEXPECTED_EOF, INVALID_CODE, OVERFLOW, OUT_OF_MEMORY, REFUSED, NOT_TAKEN, NO_ROW, NEEDS_MORE] = Array(9).keys();
 
 const LONGEST = 2 ** 32 - 1;
 

@@ -68,6 +68,8 @@ FROM_LISTS = ["AllocError", "AllocFailed", "Box", "Global", "Vec"]
 # What `system.rs` has in place of it, in the programs, and what is Rust's own std there.
 FROM_SYSTEM = ["HostRuntime"]
 OF_SYSTEM, OF_STD = r"::(env|process)\b", r"::io\b"
+# The features of the library for C that calls need.
+FEATURES = {"hayro_ccitt_check": "check"}
 DROPPED_USES = r"use std::(alloc::[^;]*|marker::Model|simd::prelude::\*)"
 KEPT_ATTRIBUTES = r"#!?\[(inline(\((always|never)\))?|cold|derive\([\w, ]*\)|repr\(C\)|rattlefmt::skip)\]"
 DROPPED_ATTRIBUTES = r"#!?\[(tactic\(.*\)|unsafe\(no_mangle\))\]"
@@ -342,6 +344,7 @@ def lent_calls(calls):
             else:
                 of_c.append(f"{it['name']}: {re.sub(r'(?=[A-Z])', 'calls::', it['type'], count=1)}")
                 passed.append(it["name"])
+        text += f'\n#[cfg(feature = "{FEATURES[name]}")]' if name in FEATURES else ""
         text += f'\n#[unsafe(no_mangle)]\npub unsafe extern "C" fn {name}({", ".join(of_c)}) -> u32 {{\n'
         text += "// SAFETY: as the headers say.\n" if "unsafe" in "".join(passed) else ""
         text += f"calls::{name}({', '.join(passed)})\n}}\n"

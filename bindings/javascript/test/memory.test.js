@@ -25,7 +25,6 @@ const fed = (data, meant) => {
 };
 const wide = { columns: 80_000, k: -1 };
 const rows = Uint8Array.from({ length: 20_000 }, (_, index) => (index * 37) >> 3);
-const few = fax.encode(picture.packed.subarray(0, 20 * 155), { columns: 1240, k: -1 });
 const CALLS = {
     "a page": () => fax.decode(page, settings),
     "a page without a limit": () => fax.decode(page, { ...settings, rows: 0 }),
@@ -36,8 +35,6 @@ const CALLS = {
     "a bitmap of which there is more data": () => fax.encode(Uint8Array.from(rows, (byte) => byte * 89), { columns: 64, k: 0, endOfLine: true }),
     "wide rows": () => fax.decode(fax.encode(rows, wide), wide),
     "no encoding": () => fax.encode(rows, { columns: 64, k: -1, endOfLine: true }),
-    "a check": () => `${fax.check(few, { columns: 1240, k: -1, grade: "procedure" })}`,
-    "a check that finds a violation": () => `${fax.check(page.subarray(0, 9000), settings)}`,
     "no rows": () => fax.encode(new Uint8Array(), { columns: 64, k: 0 }),
 };
 

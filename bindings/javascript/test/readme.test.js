@@ -15,7 +15,7 @@ test("the examples print what they say", () => {
         copyFileSync(new URL("strips/page/gs-g4", corpus), join(folder, "strip"));
         const page = readFileSync(new URL("../README.md", import.meta.url), "utf8");
         const examples = [...page.matchAll(/^```js\n([^]*?)^```$/gm)].map((found) => found[1]);
-        assert.equal(examples.length, 4);
+        assert.equal(examples.length, 3);
         for (const example of examples) {
             writeFileSync(join(folder, "example.mjs"), example);
             const said = [...example.matchAll(/console\.log\(.*\); \/\/ (.*)$/gm)].map((found) => `${found[1]}\n`);
