@@ -192,6 +192,7 @@ PASSED_ON = {
         "Result",
         "bit_reader::BitOrder",
         "bit_reader::BitReader",
+        "bit_reader::copy",
         "bits_fit",
         "codes::Color",
         "codes::Mode",

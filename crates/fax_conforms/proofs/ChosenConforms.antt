@@ -1,5 +1,6 @@
 -- What is chosen with the effort of the procedure conforms by it.
-use Rattle.hayro_ccitt.proofs.Names.{◌≡◌, ◌≢◌, ℕ, zero, suc, ◌+◌, ◌-◌, ◌%◌, ◌<◌, Bool, true, false, not, ◌&&◌, cond, List, [], ◌∷◌}
+use Rattle.hayro_ccitt.proofs.Names.{◌≡◌, ◌≢◌, ℕ, zero, suc, ◌+◌, ◌-◌, ◌%◌, ◌<◌, Bool, true, false, not, ◌&&◌, cond, List, []}
+use Rattle.hayro_ccitt.proofs.Names.{◌∷◌}
 use Rattle.hayro_ccitt.proofs.Names.{◌++◌, Option, Some, None, length, refl, ap, sym, subst, ◌∙◌, append_assoc, arith, inl, inr}
 use Rattle.hayro_ccitt.proofs.Names.{All-head, All-tail, Bits, Row, DecodeSettings, EncodingMode, Group4, Group3_1D, Group3_2D}
 use Rattle.hayro_ccitt.proofs.Names.{HaveWidth, eol, padding, tag_of, white_row}
@@ -249,8 +250,10 @@ module _ (k : ℕ) (aligned closed : Bool) (columns : ℕ) (rows : List Row) (pi
   picture_conforms : (encoding : EncodingMode) (eols : Bool) → (needs_row encoding closed ≡ true → 0 < length rows)
       → ConformsAs encoding eols (chosen_picture Procedure encoding eols k false aligned closed white rows)
   picture_conforms Group4 eols some = group4_conforms eols some
-  picture_conforms Group3_1D eols some = group3_conforms Group3_1D eols (λ four. let e : Group3_1D ≡ Group4 = four in cc) (some refl)
-  picture_conforms Group3_2D eols some = group3_conforms Group3_2D eols (λ four. let e : Group3_2D ≡ Group4 = four in cc) (some refl)
+  picture_conforms Group3_1D eols some =
+      group3_conforms Group3_1D eols (λ four. let e : Group3_1D ≡ Group4 = four in cc) (some refl)
+  picture_conforms Group3_2D eols some =
+      group3_conforms Group3_2D eols (λ four. let e : Group3_2D ≡ Group4 = four in cc) (some refl)
 
 pub chosen_conforms : ChosenConforms
 chosen_conforms settings columns rows procedure unfilled some picture =

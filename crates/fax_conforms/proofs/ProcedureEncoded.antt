@@ -1,5 +1,6 @@
 -- What conforms by the procedure is what is chosen for its rows.
-use Rattle.hayro_ccitt.proofs.Names.{◌≡◌, ◌≢◌, ℕ, zero, suc, ◌+◌, ◌-◌, ◌%◌, ◌<◌, Bool, true, false, not, ◌&&◌, cond, List, [], ◌∷◌}
+use Rattle.hayro_ccitt.proofs.Names.{◌≡◌, ◌≢◌, ℕ, zero, suc, ◌+◌, ◌-◌, ◌%◌, ◌<◌, Bool, true, false, not, ◌&&◌, cond, List, []}
+use Rattle.hayro_ccitt.proofs.Names.{◌∷◌}
 use Rattle.hayro_ccitt.proofs.Names.{◌++◌, Option, Some, None, length, refl, ap, sym, subst, ◌∙◌, append_assoc, arith, Bits, Row}
 use Rattle.hayro_ccitt.proofs.Names.{DecodeSettings, EncodingMode, Group4, Group3_1D, Group3_2D, eol, padding, tag_of, white_row}
 use Rattle.hayro_ccitt.proofs.Names.{append-nil, length-append, length-replicate, replicate}
@@ -7,7 +8,8 @@ use Rattle.hayro_ccitt.specs.Bits.{AreWholeBytes}
 use Rattle.fax_encode.specs.Chosen.{filled_up}
 use Rattle.fax_encode.specs.Procedure.{part_by_procedure}
 use Rattle.fax_encode.specs.Settings as choice
-use Rattle.fax_encode.specs.Settings.{chosen_group3, chosen_group4, chosen_line, chosen_lines, chosen_lines_with_eols, chosen_picture}
+use Rattle.fax_encode.specs.Settings.{chosen_group3, chosen_group4, chosen_line, chosen_lines, chosen_lines_with_eols}
+use Rattle.fax_encode.specs.Settings.{chosen_picture}
 use Rattle.fax_encode.specs.Settings.{is_closed}
 use Rattle.fax_encode.specs.declared.settings.Effort.{Effort}
 use Rattle.fax_encode.specs.declared.settings.Effort.TheVariants.{Procedure}
@@ -175,14 +177,18 @@ module _ (k : ℕ) (aligned : Bool) (columns count : ℕ) (whole : Bits) (bytes 
   picture_is Group4 eols true = λ lines kinds none. from_body Group4 eols true lines kinds none
   picture_is Group4 eols false = λ lines kinds none. from_body Group4 eols false lines kinds none
   picture_is Group3_1D true true = λ lines kinds none. from_lines Group3_1D true lines kinds none
-      ∙ ap (λ (x : Bits). filled_up (chosen_lines_with_eols Procedure Group3_1D k false 0 0 (white_row columns) (rows_in lines) ++ x))
-      (sym (plain_eols Group3_1D (length (chosen_lines_with_eols Procedure Group3_1D k false 0 0 (white_row columns) (rows_in lines))) 6))
+      ∙ ap (λ (x : Bits). filled_up
+      (chosen_lines_with_eols Procedure Group3_1D k false 0 0 (white_row columns) (rows_in lines) ++ x))
+      (sym (plain_eols Group3_1D
+      (length (chosen_lines_with_eols Procedure Group3_1D k false 0 0 (white_row columns) (rows_in lines))) 6))
   picture_is Group3_1D true false = λ lines kinds none. from_lines Group3_1D false lines kinds none
   picture_is Group3_1D false closed = λ lines kinds none. from_body Group3_1D false closed lines kinds none
       ∙ ap filled_up (no_end (chosen_lines Procedure Group3_1D k aligned 0 (white_row columns) (rows_in lines)))
   picture_is Group3_2D true true = λ lines kinds none. from_lines Group3_2D true lines kinds none
-      ∙ ap (λ (x : Bits). filled_up (chosen_lines_with_eols Procedure Group3_2D k false 0 0 (white_row columns) (rows_in lines) ++ x))
-      (sym (plain_eols Group3_2D (length (chosen_lines_with_eols Procedure Group3_2D k false 0 0 (white_row columns) (rows_in lines))) 6))
+      ∙ ap (λ (x : Bits). filled_up
+      (chosen_lines_with_eols Procedure Group3_2D k false 0 0 (white_row columns) (rows_in lines) ++ x))
+      (sym (plain_eols Group3_2D
+      (length (chosen_lines_with_eols Procedure Group3_2D k false 0 0 (white_row columns) (rows_in lines))) 6))
   picture_is Group3_2D true false = λ lines kinds none. from_lines Group3_2D false lines kinds none
   picture_is Group3_2D false closed = λ lines kinds none. from_body Group3_2D false closed lines kinds none
       ∙ ap filled_up (no_end (chosen_lines Procedure Group3_2D k aligned 0 (white_row columns) (rows_in lines)))

@@ -13,7 +13,8 @@ no_one_there : (m n : ℕ) (rest : Bits) → replicate m false ≡ replicate n f
 no_one_there zero zero rest e = absurd cc
 no_one_there zero (suc n) rest e = absurd cc
 no_one_there (suc m) zero rest e = absurd cc
-no_one_there (suc m) (suc n) rest e = no_one_there m n rest (let f : replicate m false ≡ replicate n false ++ true ∷ rest = cc in f)
+no_one_there (suc m) (suc n) rest e =
+    no_one_there m n rest (let f : replicate m false ≡ replicate n false ++ true ∷ rest = cc in f)
 
 -- fewer than eight zeros were counted up to a one, or up to the end
 pub few_zeros_counted : (o : Option BitsAt) (n : ℕ) (start bits : Bits) (ended : Bool) → n < 8 → is_some o ≡ not ended

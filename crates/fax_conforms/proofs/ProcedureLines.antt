@@ -63,7 +63,8 @@ none_passes (Err stop) part here rest violated none = λ broken. none
 
 -- what the procedure writes is a line
 pub by_procedure_encodes : (encoding : EncodingMode) (is_two : Bool) (reference row : Row) → HasKind encoding is_two
-    → length reference ≡ length row → 0 < length row → EncodesLine encoding reference row (line_by_procedure encoding is_two reference row)
+    → length reference ≡ length row → 0 < length row
+    → EncodesLine encoding reference row (line_by_procedure encoding is_two reference row)
 by_procedure_encodes Group4 true reference row kind same some = line_2d_encodes reference row same
 by_procedure_encodes Group4 false reference row kind same some = absurd cc
 by_procedure_encodes Group3_1D true reference row kind same some = absurd cc
@@ -103,7 +104,8 @@ module _ (settings : DecodeSettings) (has_eols : Bool) (left : Option ℕ) (refe
       (only_kind : (kind : Bool) (row : Row) (rest : Bits) → HasKind settings.encoding kind
       → here ≡ part_by_procedure settings.encoding fills kind reference row ++ rest → kind ≡ is_two) where
     -- nor where one of that kind may not come
-    pub no_kind_no_part : ((is_two ≡ true → left ≢ Some 0) → ⊥) → NoPart settings (PartStands settings has_eols left reference here)
+    pub no_kind_no_part : ((is_two ≡ true → left ≢ Some 0) → ⊥)
+        → NoPart settings (PartStands settings has_eols left reference here)
     no_kind_no_part never kind row rest len ((has, may), is) =
         never (subst (λ (b : Bool). b ≡ true → left ≢ Some 0) (only_kind kind row rest has is) may)
 
@@ -123,7 +125,8 @@ module _ (settings : DecodeSettings) (has_eols : Bool) (left : Option ℕ) (refe
           → PartStands settings has_eols left reference here kind row rest
           → here ≡ part_by_procedure settings.encoding fills is_two reference read ++ rest
       part_of_row kind row rest len ((has, may), is) =
-          is ∙ ap (λ (b : Bool). part_by_procedure settings.encoding fills b reference row ++ rest) (only_kind kind row rest has is)
+          is
+          ∙ ap (λ (b : Bool). part_by_procedure settings.encoding fills b reference row ++ rest) (only_kind kind row rest has is)
           ∙ ap (λ (r : Row). part_by_procedure settings.encoding fills is_two reference r ++ rest)
           (row_is kind row rest len ((has, may), is))
 
@@ -184,11 +187,13 @@ module _ (settings : DecodeSettings) (k : Option ℕ) (has_eols : Bool) (taken :
           → LinesByProcedure settings k has_eols (taken + 1) (left_after k left is_two) row next
       lines_on (LinesByProcedure.over ends) = absurd (unended ends)
       lines_on (LinesByProcedure.line first kind other others lead2 len part2 lines) =
-          let same = only kind other others len (subst (λ (x : Bits). PartStands settings has_eols left reference x kind other others)
+          let same = only kind other others len
+          (subst (λ (x : Bits). PartStands settings has_eols left reference x kind other others)
           (one_lead has_eols taken here first middle lead2 lead) part2) in
           subst (λ (x : Bits). LinesByProcedure settings k has_eols (taken + 1) (left_after k left is_two) row x) same.2
           (subst (λ (r : Row). LinesByProcedure settings k has_eols (taken + 1) (left_after k left is_two) r others) same.1
-          (subst (λ (b : Bool). LinesByProcedure settings k has_eols (taken + 1) (left_after k left b) other others) same.0 lines))
+          (subst (λ (b : Bool). LinesByProcedure settings k has_eols (taken + 1) (left_after k left b) other others)
+          same.0 lines))
 
       pub by_procedure_goes_on : LinesByProcedure settings k has_eols taken left reference here
           ↔ LinesByProcedure settings k has_eols (taken + 1) (left_after k left is_two) row next

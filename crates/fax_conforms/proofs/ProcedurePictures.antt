@@ -3,7 +3,8 @@ use Rattle.hayro_ccitt.proofs.Names.{◌≡◌, ◌≢◌, ℕ, ◌<◌, ◌≤�
 use Rattle.hayro_ccitt.proofs.Names.{◌∙◌, arith, inl, inr, Bits, DecodeSettings, EncodingMode, Group4, Group3_1D, Group3_2D}
 use Rattle.hayro_ccitt.proofs.Names.{eol, white_row, after_eol, length-replicate, Result, Ok, Err}
 use Rattle.hayro_ccitt.proofs.EncodedPictures.PicturesT4.{eol_stands, line_t4_starts, matches_itself}
-use Rattle.fax_conforms.specs.ByProcedure.{ClosingStands, ConformsByProcedure, EndStands, EndsHere, LinesByProcedure, left_at_first}
+use Rattle.fax_conforms.specs.ByProcedure.{ClosingStands, ConformsByProcedure, EndStands, EndsHere, LinesByProcedure}
+use Rattle.fax_conforms.specs.ByProcedure.{left_at_first}
 use Rattle.fax_conforms.specs.Checks.{Checks}
 use Rattle.fax_conforms.specs.Stops.{IsViolated}
 use Rattle.fax_conforms.specs.Conforming.{EolStands}
@@ -40,9 +41,9 @@ module _ (settings : DecodeSettings) (k : Option ℕ) (whole : Bits) (wide : 0 <
     unended has_eols (rest, ends, few) = omega (arith, ends_later _ settings 0 whole rest three ends)
 
     -- lines with EOLs begin with one without fill
-    pub begins_with_eol : Lines true → (rest : Bits) × (whole ≡ eol 0 ++ rest)
-    begins_with_eol (LinesByProcedure.over ends) = absurd (unended true ends)
-    begins_with_eol (LinesByProcedure.line middle is_two row rest (fill, few, is) len part lines) =
+    pub eol_at_start : Lines true → (rest : Bits) × (whole ≡ eol 0 ++ rest)
+    eol_at_start (LinesByProcedure.over ends) = absurd (unended true ends)
+    eol_at_start (LinesByProcedure.line middle is_two row rest (fill, few, is) len part lines) =
         (middle, is ∙ ap (λ (n : ℕ). eol n ++ middle) (few refl))
 
     -- the others don't
@@ -70,12 +71,12 @@ module _ (settings : DecodeSettings) (k : Option ℕ) (whole : Bits) (wide : 0 <
       no_eols_by_procedure unasked = (to, λ lines. (wide, false, inr unasked, lines))
         where
           to : ConformsByProcedure settings k whole → Lines false
-          to (some, true, may, lines) = let eol_here = begins_with_eol lines in absurd (none eol_here.0 (0, eol_here.1))
+          to (some, true, may, lines) = let eol_here = eol_at_start lines in absurd (none eol_here.0 (0, eol_here.1))
           to (some, false, may, lines) = lines
 
       pub asked_eols_by_procedure : settings.end_of_line ≡ true → ConformsByProcedure settings k whole → ⊥
       asked_eols_by_procedure asked (some, true, may, lines) =
-          let eol_here = begins_with_eol lines in none eol_here.0 (0, eol_here.1)
+          let eol_here = eol_at_start lines in none eol_here.0 (0, eol_here.1)
       asked_eols_by_procedure asked (some, false, inl four, lines) = three four
       asked_eols_by_procedure asked (some, false, inr unasked, lines) = let e : true ≡ false = sym asked ∙ unasked in cc
 

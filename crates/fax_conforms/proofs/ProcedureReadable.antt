@@ -21,7 +21,7 @@ use Rattle.fax_conforms.proofs.ChosenConforms.{all_filled, none_filled}
 use Rattle.fax_conforms.proofs.EolsHere.{one_eol_less}
 use Rattle.fax_conforms.proofs.PicturesConform.{group4_conforms, eols_conform, lines_conform}
 use Rattle.fax_conforms.proofs.ProcedureLines.{by_procedure_encodes}
-use Rattle.fax_conforms.proofs.ProcedurePictures.{begins_with_eol, begins_with_none}
+use Rattle.fax_conforms.proofs.ProcedurePictures.{begins_with_none, eol_at_start}
 
 -- ---- RTC.
 tagged_close : (encoding : EncodingMode) (n : ℕ) → ClosesWithEols encoding n (tagged_eols encoding n)
@@ -51,10 +51,26 @@ module _ (settings : DecodeSettings) where
   lines_end Group4 true taken start rest three same closed stands = absurd (three refl)
   lines_end Group3_1D true taken start rest three same closed (allows, closing) =
       let (some, rtc) = subst (λ (e : EncodingMode). ClosingStands e taken start rest) same closing in
-      inr ((closed, some, subst (λ (e : EncodingMode). EolsStand e 6 start) (sym same) (rtc_closes Group3_1D start rest rtc)), allows)
+      inr (
+        (
+          closed,
+          some,
+          subst (λ (e : EncodingMode). EolsStand e 6 start) (sym same)
+              (rtc_closes Group3_1D start rest rtc),
+        ),
+        allows,
+      )
   lines_end Group3_2D true taken start rest three same closed (allows, closing) =
       let (some, rtc) = subst (λ (e : EncodingMode). ClosingStands e taken start rest) same closing in
-      inr ((closed, some, subst (λ (e : EncodingMode). EolsStand e 6 start) (sym same) (rtc_closes Group3_2D start rest rtc)), allows)
+      inr (
+        (
+          closed,
+          some,
+          subst (λ (e : EncodingMode). EolsStand e 6 start) (sym same)
+              (rtc_closes Group3_2D start rest rtc),
+        ),
+        allows,
+      )
 
   -- ---- Lines.
   abbrev HasRow : Row → Type 0
@@ -132,7 +148,7 @@ is_group4 Group3_2D = inr (λ four. let e : Group3_2D ≡ Group4 = four in cc)
 
 pub procedure_is_readable : ProcedureIsReadable
 procedure_is_readable settings k whole are (wide, true, three, lines) =
-    let begins = begins_with_eol settings k whole wide three lines in
+    let begins = eol_at_start settings k whole wide three lines in
     (eols_conform settings wide whole (omega (arith, are.columns)) three begins.0 (0, begins.1)).1
     (to_lines settings k wide three 0 (left_at_first settings.encoding) (white_row settings.columns) whole
     (length-replicate settings.columns false) lines)
@@ -145,7 +161,8 @@ procedure_is_readable settings k whole are (wide, false, may, lines) =
       | inr three ↦ elim may [
         | inl four ↦ absurd (three four)
         | inr unasked ↦ (lines_conform settings wide whole (omega (arith, are.columns)) three
-            (λ rest stands. begins_with_none settings k whole wide three (omega (arith, are.columns)) lines rest stands) unasked).1 body
+            (λ rest stands. begins_with_none settings k whole wide three (omega (arith, are.columns)) lines rest stands)
+            unasked).1 body
       ]
     ]
 

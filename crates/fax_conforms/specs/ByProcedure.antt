@@ -73,8 +73,8 @@ ClosingStands Group4 taken here rest = here ≡ eol 0 ++ (eol 0 ++ rest)
 ClosingStands Group3_1D taken here rest = (0 < taken) × PlainRtcStands Group3_1D here rest
 ClosingStands Group3_2D taken here rest = (0 < taken) × PlainRtcStands Group3_2D here rest
 
--- What ends a picture of this number of rows stands here: the end of the block, if there is to be one, and else nothing, where the
--- row limit is met.
+-- What ends a picture of this number of rows stands here: the end of the block, if there is to be one, and else nothing, where
+-- the row limit is met.
 abbrev pub EndStands : Bool → DecodeSettings → ℕ → Bits → Bits → Type 0
 EndStands true settings taken here rest = Allows settings taken × ClosingStands settings.encoding taken here rest
 EndStands false settings taken here rest = ((settings.rows ≡ taken) × (0 < taken)) × (here ≡ rest)
@@ -108,8 +108,8 @@ abbrev pub MayHaveEols : DecodeSettings → Bool → Type 0
 MayHaveEols settings true = settings.encoding ≢ Group4
 MayHaveEols settings false = (settings.encoding ≡ Group4) ⊎ (settings.end_of_line ≡ false)
 
--- The data is a picture as the coding procedure writes it, with at most K - 1 two-dimensional lines after a one-dimensional one, if
--- K is given (T.4, 4.1 and 4.2; T.6, 2).
+-- The data is a picture as the coding procedure writes it, with at most K - 1 two-dimensional lines after a one-dimensional one,
+-- if K is given (T.4, 4.1 and 4.2; T.6, 2).
 abbrev pub ConformsByProcedure : DecodeSettings → Option ℕ → Bits → Type 0
 ConformsByProcedure settings k whole = (0 < settings.columns) × (has_eols : Bool) × MayHaveEols settings has_eols
     × LinesByProcedure settings k has_eols 0 (left_at_first settings.encoding) (white_row settings.columns) whole

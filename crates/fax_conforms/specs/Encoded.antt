@@ -18,14 +18,15 @@ abbrev pub rows_in : {settings : DecodeSettings} {k : Option ℕ} {with_eols : B
 rows_in (LinesByProcedure.over ends) = []
 rows_in (LinesByProcedure.line middle is_two row rest lead len part lines) = row ∷ rows_in lines
 
--- whether `fax_encode` writes a row in two dimensions, if this many lines may be: in two-dimensional Group 3 if that line is no longer
--- (T.4, 4.2.1)
+-- whether `fax_encode` writes a row in two dimensions, if this many lines may be: in two-dimensional Group 3 if that line is no
+-- longer (T.4, 4.2.1)
 abbrev pub chosen_kind : EncodingMode → ℕ → Row → Row → Bool
 chosen_kind Group4 n reference row = true
 chosen_kind Group3_1D n reference row = false
 chosen_kind Group3_2D n reference row = is_two_dimensional Procedure n reference row
 
--- each line is of the kind that `fax_encode` chooses for its row, with this K, if this many lines may be two-dimensional (T.4, 4.2.1)
+-- each line is of the kind that `fax_encode` chooses for its row, with this K, if this many lines may be two-dimensional (T.4,
+-- 4.2.1)
 abbrev pub KindsAreChosen : {settings : DecodeSettings} {k : Option ℕ} {with_eols : Bool} {taken : ℕ} {left : Option ℕ}
     {reference : Row} {here : Bits} → ℕ → ℕ → LinesByProcedure settings k with_eols taken left reference here → Type 0
 KindsAreChosen most n (LinesByProcedure.over ends) = Unit {0}

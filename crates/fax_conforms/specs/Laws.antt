@@ -13,8 +13,9 @@ use Rattle.fax_conforms.specs.ByProcedure.{ConformsByProcedure, LinesByProcedure
 use Rattle.fax_conforms.specs.Conforming.{Conforms}
 use Rattle.fax_conforms.specs.Encoded.{HaveNoFill, KindsAreChosen, rows_in}
 
--- What is chosen for a picture with the effort of the procedure conforms by it, with the K of its settings, if EOLs needn't end at
--- whole bytes. Where they must, fill is before the first one and before each of RTC, where the procedure writes none (T.4, 4.1.3).
+-- What is chosen for a picture with the effort of the procedure conforms by it, with the K of its settings, if EOLs needn't end
+-- at whole bytes. Where they must, fill is before the first one and before each of RTC, where the procedure writes none (T.4,
+-- 4.1.3).
 abbrev pub ChosenConforms : Type 0
 ChosenConforms = (settings : EncodeSettings) (columns : ℕ) (rows : List Row) → settings.effort ≡ Procedure
     → settings.eols_end_at_bytes ≡ false → (needs_row settings.encoding settings.end_of_block ≡ true → 0 < length rows)
@@ -27,9 +28,9 @@ abbrev pub ProcedureIsReadable : Type 0
 ProcedureIsReadable = (settings : DecodeSettings) (k : Option ℕ) (whole : Bits) → AreSettings settings
     → ConformsByProcedure settings k whole → Conforms settings whole
 
--- Whatever conforms by the procedure is what `fax_encode` writes for its rows with the effort of the procedure, bit for bit: if it has
--- EOLs, RTC or EOFB as these settings ask, its lines are of the kinds that `fax_encode` chooses, and no EOL has fill. So the procedure
--- leaves no other choice.
+-- Whatever conforms by the procedure is what `fax_encode` writes for its rows with the effort of the procedure, bit for bit: if
+-- it has EOLs, RTC or EOFB as these settings ask, its lines are of the kinds that `fax_encode` chooses, and no EOL has fill. So
+-- the procedure leaves no other choice.
 abbrev pub ProcedureIsEncoded : Type 0
 ProcedureIsEncoded = (settings : EncodeSettings) (columns count : ℕ) (whole : Bits) → settings.effort ≡ Procedure
     → settings.eols_end_at_bytes ≡ false → AreWholeBytes whole

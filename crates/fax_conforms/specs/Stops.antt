@@ -57,9 +57,8 @@ IsTooNear here right =
     ⊎ ((k : ℤ) × ModeIsHere (Vertical k) here × ((other : ℤ) → ModeIsHere (Vertical other) right → k <ℤ other))
 
 -- How the bits from a place on break a rule, where others would be right (T.4, 4.1.1 to 4.1.3 and 4.2.1.3): there is no word of
--- the
--- kind that the others begin with, or one that can't be in its place. `Columns` is of the settings, and of no place; the procedure's
--- rules are broken by no word.
+-- the kind that the others begin with, or one that can't be in its place. `Columns` is of the settings, and of no place; the
+-- procedure's rules are broken by no word.
 abbrev pub Breaks : Rule → ℕ → Bits → Bits → Type 0
 Breaks rule.Mode place here right = ((mode : Mode) → ModeIsHere mode here → ⊥) × (mode : Mode) × ModeIsHere mode right
 Breaks rule.Run place here right =

@@ -18,9 +18,8 @@ use crate::pictures::{
 };
 use crate::stops::{Rule, Stop, Violation, broken};
 use crate::words::Words;
-use fax_bits::bit_reader::copy;
 use fax_encode::{LineKind, RowBelow, pass_line_by_procedure};
-use hayro_ccitt::bit_reader::BitReader;
+use hayro_ccitt::bit_reader::{BitReader, copy};
 use hayro_ccitt::codes::Ticks;
 use hayro_ccitt::{DecodeSettings, EncodingMode};
 use std::alloc::Global;

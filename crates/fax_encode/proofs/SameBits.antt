@@ -1,6 +1,7 @@
 -- Bits that are compared one by one.
-use Rattle.fax_encode.proofs.Names.{◌≡◌, ℕ, zero, suc, ◌-◌, ◌<◌, ◌≤◌, Bool, [], ◌∷◌, ◌++◌, length, take, refl, ap, sym, ◌∙◌, arith}
-use Rattle.fax_encode.proofs.Names.{Bits, ◌+◌, ◌%◌, ◌^◌, List, false, drop, replicate, length-append, length-replicate, length-drop}
+use Rattle.fax_encode.proofs.Names.{◌≡◌, ℕ, zero, suc, ◌-◌, ◌<◌, ◌≤◌, Bool, [], ◌∷◌, ◌++◌, length, take, refl, ap, sym, ◌∙◌}
+use Rattle.fax_encode.proofs.Names.{Bits, ◌+◌, ◌%◌, ◌^◌, List, false, drop, replicate, length-append, length-replicate}
+use Rattle.fax_encode.proofs.Names.{arith, length-drop}
 use Rattle.fax_encode.proofs.Names.{padding, filled_up, length-bits_of, bits_of, take-append_seam}
 use Rattle.hayro_ccitt.specs.Bits.{BitsFit}
 use Rattle.std.specs.Prelude.{◌↔◌}
@@ -26,10 +27,6 @@ pub one_differs : (here other : Bits) (left : ℕ) (rest : Bits) → 0 < left �
 one_differs here other zero rest some enough none is = absurd (omega arith)
 one_differs here [] (suc m) rest some enough none is = absurd (omega arith)
 one_differs here (bit ∷ more) (suc m) rest some enough none is = none bit (take m more ++ rest) more is refl
-
-pub none_left : (here other : Bits) (left : ℕ) → 0 ≡ left → here ≡ take left other ++ here
-none_left here other zero none = refl
-none_left here other (suc m) none = absurd (omega arith)
 
 -- ---- What was written, with zeros up to a whole byte.
 

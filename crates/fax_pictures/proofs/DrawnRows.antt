@@ -17,10 +17,6 @@ pub record AreDrawn (pixel : ℕ → Bool) (x : ℕ) (places : List ℕ) (before
   pub changes : places ≡ changes_from 0 false (map pixel (range_with_len 0 x))
   pub last : before ≡ last_pixel false (map pixel (range_with_len 0 x))
 
--- there are none
-pub none_drawn : (pixel : ℕ → Bool) → AreDrawn pixel 0 [] false
-none_drawn pixel = record { changes = refl; last = refl }
-
 module _ (pixel : ℕ → Bool) (x : ℕ) (places : List ℕ) (before here : Bool) (drawn : AreDrawn pixel x places before)
     (is : here ≡ pixel x) where
   abbrev front : Row

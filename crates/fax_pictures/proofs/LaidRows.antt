@@ -9,10 +9,6 @@ use Rattle.hayro_ccitt.specs.Rows.{Row}
 use Rattle.fax_pictures.specs.Pictures.{laid_over, with_row_at, LieOver, Picture}
 use Rattle.fax_pictures.proofs.LaidLists.{with_row_at-set}
 
--- nothing lies over a picture yet
-pub none_lie : (left top : ℕ) (old : Picture) → LieOver left top [] old old
-none_lie left top old = record { size = (refl, refl); over = λ k h within. absurd (omega (arith, h)); others = λ y h. refl }
-
 -- and one row more
 pub one_more_lies : (left top index k : ℕ) (part : List Row) (row : Row) (old now new : Picture) → index ≡ top + k
     → k < length part → row ≡ get_or part k [] → index < length old.rows → LieOver left top (take k part) old now

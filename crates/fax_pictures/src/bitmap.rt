@@ -116,7 +116,7 @@ impl Bitmap {
     }
 
     /// Returns whether the pixel of a column and a row is black.
-    pub fn is_black(&self, column: u32, row: u32) -> bool
+    pub(crate) fn is_black(&self, column: u32, row: u32) -> bool
         requires column { column < self.now.columns }
         requires row { row < length self.now.rows }
         ensures { result ≡ pixel (get_or self.now.rows row []) column }

@@ -21,7 +21,7 @@ ghost use Rattle.hayro_ccitt.specs.Work.{CountsWork};
 
 /// The bits of a slice of bytes, read from the start.
 pub mod bit_reader {
-    pub use fax_bits::bit_reader::{BitOrder, BitReader};
+    pub use fax_bits::bit_reader::{BitOrder, BitReader, copy};
 }
 
 /// Colours, modes, and the count of work.

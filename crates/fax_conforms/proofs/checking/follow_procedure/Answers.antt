@@ -5,8 +5,8 @@ use Rattle.fax_conforms.proofs.checking.follow_procedure.Goals as goal
 use Rattle.fax_conforms.proofs.checking.follow_procedure.Goals.{Else-is_group4}
 
 -- Group 3
-three : (c : Else-is_group4) → c.args.settings.encoding ≢ Group4
-three c = λ four. false≢true (sym c.if-is_group4.false ∙ c.is_group4.ensures.1 four)
+not_group4 : (c : Else-is_group4) → c.args.settings.encoding ≢ Group4
+not_group4 c = λ four. false≢true (sym c.if-is_group4.false ∙ c.is_group4.ensures.1 four)
 
 pub returns-then-is_group4 : goal.returns-then-is_group4
 returns-then-is_group4 c = checks_same c.are_by_procedure.result _ _ (group4_by_procedure c.args.settings c.args.k
@@ -16,16 +16,16 @@ pub returns-then-has_eol : goal.returns-then-has_eol
 returns-then-has_eol c =
     let found = c.has_eol.ensures.found c.if-has_eol.true in
     checks_same c.are_by_procedure-then-has_eol.result _ _ (eols_by_procedure c.args.settings c.args.k (here c.args.reader.now)
-    c.requires.wide (three (goal.at.returns-then-has_eol c).Else-is_group4) (omega arith) found.0 found.1)
+    c.requires.wide (not_group4 (goal.at.returns-then-has_eol c).Else-is_group4) (omega arith) found.0 found.1)
     (rw c.with_eols.ensures at c.are_by_procedure-then-has_eol.ensures)
 
 pub returns-then-asked : goal.returns-then-asked
 returns-then-asked c = checks_none c.broken.result _ c.broken.ensures.violated (λ conforms.
     asked_eols_by_procedure c.args.settings c.args.k (here c.args.reader.now) c.requires.wide
-    (three (goal.at.returns-then-asked c).Else-is_group4) (c.has_eol.ensures.none c.if-has_eol.false)
+    (not_group4 (goal.at.returns-then-asked c).Else-is_group4) (c.has_eol.ensures.none c.if-has_eol.false)
     c.if-asked.true conforms)
 
 pub returns : goal.returns
 returns c = checks_same c.are_by_procedure-2.result _ _ (no_eols_by_procedure c.args.settings c.args.k
-    (here c.args.reader.now) c.requires.wide (three (goal.at.returns c).Else-is_group4)
+    (here c.args.reader.now) c.requires.wide (not_group4 (goal.at.returns c).Else-is_group4)
     (c.has_eol.ensures.none c.if-has_eol.false) c.if-asked.false) c.are_by_procedure-2.ensures

@@ -42,7 +42,8 @@ rows-smaller c =
 pub rows-preserved : goal.rows-preserved
 rows-preserved c =
     let part : IsOnlyPart c.args.asked.settings (PartStands c.args.asked.settings c.args.asked.has_eols c.rows.left
-    (pixels c.args.asked.settings.columns c.rows.reference.items) (here c.pass_lead.new.reader)) c.draw_part-drawn.new.coding.items
+    (pixels c.args.asked.settings.columns c.rows.reference.items) (here c.pass_lead.new.reader))
+    c.draw_part-drawn.new.coding.items
     (here c.pass_lead.new.reader) (here c.draw_part-drawn.new.reader) c.in-Ok.is_two =
     rw c.as_slice.ensures.value at c.in-Ok.ensures.reads in
     let row : Row = pixels c.args.asked.settings.columns c.draw_part-drawn.new.coding.items in

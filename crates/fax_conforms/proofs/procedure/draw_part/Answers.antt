@@ -17,8 +17,9 @@ returns-in_err-draw_line-clause-reads c =
 
 pub returns-then-not-may_come-clause-reads : goal.returns-then-not-may_come-clause-reads
 returns-then-not-may_come-clause-reads c = no_part_read c.broken.result c.args.asked.settings
-    (PartStands c.args.asked.settings c.args.asked.has_eols c.args.left (pixels c.args.asked.settings.columns c.args.reference.now)
-    (here c.args.reader.now)) c.args.coding.now.items (here c.args.reader.now) (here c.args.reader.now) c.broken.ensures.violated
+    (PartStands c.args.asked.settings c.args.asked.has_eols c.args.left
+    (pixels c.args.asked.settings.columns c.args.reference.now) (here c.args.reader.now)) c.args.coding.now.items
+    (here c.args.reader.now) (here c.args.reader.now) c.broken.ensures.violated
     (no_kind_no_part c.args.asked.settings c.args.asked.has_eols c.args.left
     (pixels c.args.asked.settings.columns c.args.reference.now) (here c.args.reader.now) c.requires.wide (omega arith)
     (length-pixels c.args.asked.settings.columns c.args.reference.now c.requires.reference) c.next_is_two-is_two.result
@@ -44,7 +45,8 @@ reads c = part_read c.args.asked.settings c.args.asked.has_eols c.args.left
     c.pass_line.result (subst (λ (places : List ℕ). PassesPart
     (part_of c.args.asked.settings c.args.asked.has_eols c.next_is_two-is_two.result
     (pixels c.args.asked.settings.columns c.args.reference.now) (pixels c.args.asked.settings.columns places))
-    (here c.args.reader.now) (here c.pass_line.new.reader) c.pass_line.result) c.as_slice.ensures.value c.pass_line.ensures.passes)
+    (here c.args.reader.now) (here c.pass_line.new.reader) c.pass_line.result) c.as_slice.ensures.value
+    c.pass_line.ensures.passes)
 
 pub returns-in-Ok-clause-reads : goal.returns-in-Ok-clause-reads
 returns-in-Ok-clause-reads c =
