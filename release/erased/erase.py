@@ -24,7 +24,7 @@ ROOTS = ["lib", "main"]
 # Modules that no call needs, or the whole crate.
 LEFT_OUT = {
     "fax_reading": None,
-    "hayro_ccitt": ["in_step", "laws", "locality", "reach"],
+    "hayro_ccitt": ["in_step", "laws", "locality", "reach", "tagged"],
     "fax_encode": ["laws"],
     "fax_conforms": ["laws"],
 }
