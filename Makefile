@@ -9,11 +9,12 @@
 #   make uninstall PREFIX=DIR
 #   make erased               the Cargo package hayro-ccitt, in build/hayro-ccitt: the proved sources without contracts
 #   make javascript           the package for JavaScript, in build/javascript, by Debian's rustc-web, rust-web-src and lld
+#   make web                  the page that opens fax files in a browser, build/fax.html, of that package
 #   make dist                 the packages of a release, in build/dist
 #   make TARGET=aarch64-unknown-linux-gnu
 #                             the same for ARM64, into build/aarch64-unknown-linux-gnu, by a cross compiler (Debian's
-#                             gcc-aarch64-linux-gnu). Rust compiles faxrows and faxpack, of the proved sources, with its std for
-#                             the target. `library`, `install`, `install-library` and `dist` take TARGET too
+#                             gcc-aarch64-linux-gnu). Rust compiles faxrows, faxpack and faxconv, of the proved sources, with its std
+#                             for the target. `library`, `install`, `install-library` and `dist` take TARGET too
 #   make clean                removes build/; the results of proofs in crates/*/out stay
 #
 # `rt`, of the Rattle kit, proves and compiles the crates first. JOBS=1 runs it with one job at a time.
@@ -53,6 +54,7 @@ ERASED = $(BUILD)/hayro-ccitt
 # The kit links programs for this machine alone. For another one Rust compiles them, of the same sources.
 FAXROWS = $(if $(TARGET),$(BUILD)/cargo/$(TARGET)/programs,crates/faxrows/out)/faxrows
 FAXPACK = $(if $(TARGET),$(BUILD)/cargo/$(TARGET)/programs,crates/faxpack/out)/faxpack
+FAXCONV = $(if $(TARGET),$(BUILD)/cargo/$(TARGET)/programs,crates/faxconv/out)/faxconv
 CARGO_LINKER = CARGO_TARGET_$(shell echo '$(TARGET)' | tr 'a-z-' 'A-Z_')_LINKER
 HEADERS = c/hayro_ccitt.h c/fax_encode.h c/hayro_ccitt_heap.h
 CALLS = hayro_ccitt_measure hayro_ccitt_decode_packed hayro_ccitt_decode_changes \
@@ -61,17 +63,6 @@ CALLS = hayro_ccitt_measure hayro_ccitt_decode_packed hayro_ccitt_decode_changes
 	hayro_ccitt_feed_rows_changes hayro_ccitt_feed_rows_packed hayro_ccitt_feed_unused hayro_ccitt_feed_close hayro_ccitt_check fax_encode_bitmap \
 	fax_encode_open fax_encode_row_packed fax_encode_row_changes fax_encode_finish fax_encode_close
 EXAMPLES = strip_to_pbm pbm_to_strip rows_to_pbm rows_to_strip inline_image_filter
-# faxconv writes PNG and reads compressed PDF by zlib, where pkg-config finds it, or the compiler for another machine; WITH_ZLIB= builds
-# it without.
-HAS_ZLIB = $(if $(TARGET),echo 'int main(void) { return 0; }' | $(CC) $(LDFLAGS) -include zlib.h -x c - -lz -o /dev/null,pkg-config --exists zlib)
-WITH_ZLIB ?= $(shell $(HAS_ZLIB) 2>/dev/null && echo zlib)
-ZLIB_FLAGS = $(if $(WITH_ZLIB),-DFAX_HAVE_ZLIB $(shell pkg-config --cflags zlib))
-ZLIB_LIBS = $(if $(WITH_ZLIB),$(shell pkg-config --libs zlib))
-# It reads PDF's structure by libqpdf, if that was found here, and again when it runs; WITH_QPDF= builds it with its own reader alone.
-WITH_QPDF ?= $(shell pkg-config --exists 'libqpdf >= 10.6' 2>/dev/null && \
-	objdump -p "$$(pkg-config --variable=libdir libqpdf)/libqpdf.so" 2>/dev/null | sed -n 's/^ *SONAME *//p')
-QPDF_FLAGS = $(if $(WITH_QPDF),-DFAX_QPDF='"$(WITH_QPDF)"' $(shell pkg-config --cflags libqpdf))
-QPDF_LIBS = $(if $(WITH_QPDF),-ldl)
 COMPLETIONS ?= $(PREFIX)/share/bash-completion/completions
 
 # The loader refuses the shared library in one line on a processor below the level x86-64-v2.
@@ -80,24 +71,24 @@ SHARED = libhayro_ccitt.so.$(VERSION)
 SONAME = libhayro_ccitt.so.$(INTERFACE)
 OBJECTS = $(BUILD)/proved.o $(BUILD)/calls.o $(BUILD)/heap.o
 
-.PHONY: all library programs first test tools check install install-library uninstall clean dist erased javascript prove-library prove-programs prove-test_streams prove-test_files prove-test_outputs
+.PHONY: all library programs first test tools check install install-library uninstall clean dist erased javascript web prove-library prove-programs prove-test_streams prove-test_files prove-test_outputs
 
 # Ends with a line that names the programs that are missing.
 missing = $(strip $(foreach program,$(1),$(if $(shell command -v $(program)),,$(program))))
 need = $(if $(call missing,$(1)),$(error missing: $(call missing,$(1)); README.md says where each is from))
 # the Debian packages of the tools without which some checks are left out
 TESTED_WITH = cargo chromium cmake gcc-aarch64-linux-gnu gcc-i686-linux-gnu gcc-s390x-linux-gnu ghostscript img2pdf \
-	libc6-dev-arm64-cross libc6-dev-i386-cross libc6-dev-s390x-cross libjbig2dec0-dev libmupdf-dev libqpdf-dev libtiff-dev \
-	libtiff-tools lintian lld man-db mandoc mupdf-tools netpbm nodejs pkg-config \
+	libc6-dev-arm64-cross libc6-dev-i386-cross libc6-dev-s390x-cross libjbig2dec0-dev libjs-pdf libmupdf-dev \
+	libtiff-dev libtiff-tools lintian lld man-db mandoc mgetty-fax mupdf-tools mypy netpbm nodejs pkg-config \
 	poppler-utils python3-distributed python3-numpy python3-pikepdf python3-pil python3-pip python3-pycryptodome python3-pypdf python3-pytest \
-	qemu-user qpdf rust-web-src rustc-web valgrind zlib1g-dev
+	qemu-user qpdf rust-web-src rustc-web valgrind
 # those that are missing; Debian's cargo is too old, and its cargo-web isn't
 LACKING = $$(for it in $(TESTED_WITH); do \
 	dpkg -s $$it >/dev/null 2>&1 || command -v $$it >/dev/null || echo $$it; done | sed 's/^cargo$$/cargo-web/')
 
 all: library programs
 library: $(BUILD)/libhayro_ccitt.a $(BUILD)/libhayro_ccitt.so $(BUILD)/hayro_ccitt.pc
-programs: prove-programs $(BUILD)/faxrows $(BUILD)/faxpack $(BUILD)/fax2pbm $(EXAMPLES:%=$(BUILD)/%)
+programs: prove-programs $(BUILD)/faxrows $(BUILD)/faxpack $(BUILD)/faxconv $(BUILD)/fax2pbm $(EXAMPLES:%=$(BUILD)/%)
 
 # rt itself rebuilds what has changed, and what depends on it. It makes the library for every machine under one name: that for this
 # machine is put back.
@@ -116,6 +107,7 @@ ifeq ($(TARGET),)
 prove-programs:
 	cd crates/faxrows && printf '\061\300' | $(RT) run $(RT_JOBS) -- g4 8 1 - > /dev/null
 	cd crates/faxpack && printf 'P4\n8 1\n\030' | $(RT) run $(RT_JOBS) -- g4 - > /dev/null
+	cd crates/faxconv && $(RT) run $(RT_JOBS) -- --version > /dev/null
 else
 prove-programs:
 	@$(call need,python3 cargo rustfmt)
@@ -128,7 +120,7 @@ prove-test_streams prove-test_files prove-test_outputs: prove-%:
 	cd crates/$* && $(RT) run $(RT_JOBS) < stdin > /dev/null
 
 $(PROVED): prove-library ;
-$(FAXROWS) $(FAXPACK): prove-programs ;
+$(FAXROWS) $(FAXPACK) $(FAXCONV): prove-programs ;
 
 $(BUILD):
 	mkdir -p $@
@@ -157,9 +149,8 @@ $(BUILD)/faxrows: $(FAXROWS) | $(BUILD)
 	cp $< $@
 $(BUILD)/faxpack: $(FAXPACK) | $(BUILD)
 	cp $< $@
-$(BUILD)/faxconv: $(wildcard tools/fax/*.[ch]) $(HEADERS) $(BUILD)/libhayro_ccitt.a
-	$(CC) $(CFLAGS) $(WARNINGS) -std=c99 -Ic $(ZLIB_FLAGS) $(QPDF_FLAGS) $(LDFLAGS) -o $@ $(filter %.c,$^) $(BUILD)/libhayro_ccitt.a \
-		$(ZLIB_LIBS) $(QPDF_LIBS)
+$(BUILD)/faxconv: $(FAXCONV) | $(BUILD)
+	cp $< $@
 $(BUILD)/fax2pbm: $(BUILD)/faxconv
 	cp $< $@
 $(BUILD)/%: examples/%.c $(HEADERS) $(BUILD)/libhayro_ccitt.a
@@ -193,7 +184,7 @@ install: $(if $(wildcard $(BUILD)/faxrows),,all) install-library
 	$(INSTALL) -d $(DESTDIR)$(BINDIR) $(DESTDIR)$(MANDIR)/man1 $(DESTDIR)$(COMPLETIONS)
 	$(INSTALL) -m 755 $(BUILD)/faxrows $(BUILD)/faxpack $(BUILD)/faxconv $(DESTDIR)$(BINDIR)
 	ln -sf faxconv $(DESTDIR)$(BINDIR)/fax2pbm
-	$(INSTALL) -m 644 tools/fax/faxconv.bash $(DESTDIR)$(COMPLETIONS)/faxconv
+	$(INSTALL) -m 644 completions/faxconv.bash $(DESTDIR)$(COMPLETIONS)/faxconv
 	$(INSTALL) -m 644 man/faxrows.1 man/faxpack.1 man/faxconv.1 man/fax2pbm.1 $(DESTDIR)$(MANDIR)/man1
 install-library: $(if $(wildcard $(BUILD)/libhayro_ccitt.so),,library)
 	$(INSTALL) -d $(DESTDIR)$(LIBDIR)/pkgconfig $(DESTDIR)$(CMAKEDIR) $(DESTDIR)$(INCLUDEDIR) $(DESTDIR)$(MANDIR)/man3
@@ -232,7 +223,11 @@ erased:
 	cd $(ERASED)/c && cargo build -q --release --offline
 	cd $(ERASED)/programs && cargo build -q --profile programs --offline
 
-# The package for JavaScript: the library for C of the Cargo package as a module of WebAssembly, and what calls it.
+# The package for JavaScript: the library for C of the Cargo package, and what reads files, as modules of WebAssembly, and what calls them.
 javascript:
 	python3 release/erased/erase.py $(ERASED)
 	python3 release/javascript.py $(ERASED) $(BUILD)/javascript
+
+# The page that opens fax files, of that package: one file, which loads nothing else.
+web: javascript
+	python3 release/web.py $(BUILD)/javascript $(BUILD)/fax.html

@@ -246,7 +246,7 @@ enum {
     HAYRO_CCITT_RULE_PASS_TO_END = 9, /* pass mode is used to the row's end (T.4, 4.2.1.3.2) */
     /* these only with HAYRO_CCITT_BY_PROCEDURE, in data that every decoder must read: */
     HAYRO_CCITT_RULE_PROCEDURE = 10,  /* the procedure writes the line here with other words of a run, or another mode (T.4, 4.1.1 and
-                                       * 4.2.1.3; T.6, 2.2); the place is the line's start */
+                                       * 4.2.1.3; T.6, 2.2); the place is the first bit that differs */
     HAYRO_CCITT_RULE_KIND = 11,       /* a line is two-dimensional where K allows none (T.4, 4.2.1) */
     HAYRO_CCITT_RULE_FILL = 12,       /* fill is before the first EOL, or before an EOL of RTC but its first (T.4, 4.1.3 and 4.1.4) */
     HAYRO_CCITT_RULE_END = 13         /* EOFB or RTC is due, or the end of the data (T.4, 4.1.4; T.6, 2.4.1.1) */
@@ -259,8 +259,9 @@ enum {
         "beyond the row's end (T.4, 4.1.1 and 4.2.1.3)", "no pixels (T.4, 4.1.1 and 4.2.1.3)", "no columns",                   \
         "an EOL is expected (T.4, 4.1.2)", "a tag is expected (T.4, 4.2.2)",                                                   \
         "zeros up to a whole byte are expected (T.4, 4.1.3)", "pass mode to the row's end (T.4, 4.2.1.3.2)",                   \
-        "not by the coding procedure (T.4, 4.1.1 and 4.2.1.3; T.6, 2.2)", "a two-dimensional line too many (T.4, 4.2.1)",      \
-        "fill in the wrong place (T.4, 4.1.3 and 4.1.4)", "the end is expected (T.4, 4.1.4; T.6, 2.4.1.1)"                     \
+        "not what the coding procedure writes (T.4, 4.1.1 and 4.2.1.3; T.6, 2.2)",                                             \
+        "a two-dimensional line where none may be (T.4, 4.2.1)", "fill where none may be (T.4, 4.1.3 and 4.1.4)",              \
+        "not the end that the coding procedure writes (T.4, 4.1.4; T.6, 2.4.1.1)"                                              \
     }
 
 /* What a check fills in, whatever it returns: zeros, unless it returns HAYRO_CCITT_VIOLATION. */

@@ -28,6 +28,8 @@ SIZES = (1 << 16, 1 << 18)
 MOST = 4.5
 # by what factor a shape may exceed its measured instructions a byte
 SLACK = 1.5
+# by what factor a figure may exceed that of the last version, if no commit's message names it
+RISE = 1.03
 # How many times the crate's instructions a shape may take: lines below rows of few changes have no ways of their own.
 MOST_OF_CRATE = 1.06
 # how many seconds a run under callgrind may take
@@ -423,10 +425,10 @@ def instructions_of_each(folder, command):
     return counts, done.stdout
 
 
-def lines_of_the_table():
-    """Page, encoding, way and instructions of each line of cost.tsv."""
-    with open(TABLE, encoding="utf-8") as file:
-        return [line.split("\t") for line in file if not line.startswith("#")]
+def figures(table):
+    """The instructions of each line of a text like that of cost.tsv, by page, encoding and way."""
+    lines = [line.split("\t") for line in table.splitlines() if line[:1] != "#"]
+    return {tuple(line[:3]): float(line[3]) for line in lines}
 
 
 def real_pages():
@@ -435,7 +437,7 @@ def real_pages():
         leave_out("the cost of pages", "valgrind")
         return
     c_library.build()
-    known = {tuple(line[:3]): float(line[3]) for line in lines_of_the_table()}
+    known = figures(Path(TABLE).read_text(encoding="utf-8"))
     found = {(page, mode, way): cost for page, mode, way, cost in costs_of_pages()}
     assert found.keys() == known.keys(), found.keys() ^ known.keys()
     slower = [f"{' '.join(key)}: {cost:.1f} instructions a change, not {known[key]}" for key, cost in found.items() if cost > NEAR * known[key]]
@@ -443,6 +445,25 @@ def real_pages():
     faster = [f"{' '.join(key)}: {cost:.1f} instructions a change, not {known[key]}" for key, cost in found.items() if NEAR * cost < known[key]]
     assert not faster, "\n".join(["faster now: python3 checks/cost.py --write", *faster])
     print(f"  {len(found)} ways on pages")
+
+
+def no_figure_rises_unsaid():
+    """A figure that is 3 % above that of the last version is named in a commit's message since, as `text g4 encode`."""
+    version = re.search(r'HAYRO_CCITT_VERSION_TEXT "[^"]*"', Path("c/hayro_ccitt.h").read_text(encoding="utf-8"))[0]
+    commits = git("log", "--format=%H", f"-S{version}", "--", "c/hayro_ccitt.h").split()
+    before = figures(git("show", f"{commits[-1]}^:{TABLE}")) if commits else {}
+    if not before:
+        leave_out("figures of the last version", "the repository's history", False)
+        return
+    said = git("log", "--format=%B", f"{commits[-1]}^..")
+    risen = [key for key, cost in figures(Path(TABLE).read_text(encoding="utf-8")).items() if key in before and cost > RISE * before[key]]
+    unsaid = [" ".join(key) for key in risen if " ".join(key) not in said]
+    assert not unsaid, "\n".join(["risen since the last version, and named in no commit's message:", *unsaid])
+    print(f"  {len(before)} figures of the last version, {len(risen)} risen")
+
+
+def git(*words):
+    return subprocess.run(["git", *words], capture_output=True, text=True, check=False).stdout
 
 
 def write_table():
@@ -453,7 +474,7 @@ def write_table():
             file.write(f"{page}\t{mode}\t{way}\t{cost:.1f}\n")
 
 
-CHECKS = [slow_shapes, encoding_dense_rows, real_pages, runs_of_the_program]
+CHECKS = [slow_shapes, encoding_dense_rows, real_pages, no_figure_rises_unsaid, runs_of_the_program]
 
 if __name__ == "__main__":
     if sys.argv[1:] != ["--write"]:

@@ -3,7 +3,7 @@
     python3 checks/run.py                  all of them
     python3 checks/run.py NAME             those of one file, or one check: repository, program, cost.slow_shapes ..
     python3 checks/run.py --without NAME   all but those of one file
-    python3 checks/run.py NAME COMMAND ..  what else a file does: fax mutated N SEED; fax_limits edges N SEED, or refused N SEED;
+    python3 checks/run.py NAME COMMAND ..  what else a file does: fax mutated N SEED; fax_limits edges N SEED;
                                            repository --write, which writes the lists of places anew
 
 README.md says which file checks what. Several checks run in parallel, each in a process of its own: one for each processor.
@@ -21,25 +21,26 @@ import cost  # noqa: E402
 from c import arm64, c_library, cuts, encoder, feed, hostile, inline_images, large, memory, refusals, row_by_row  # noqa: E402
 from gate import built  # noqa: E402
 from gate.skipped import LEFT_OUT  # noqa: E402
-from programs import built_tests, claims, conformance, devices, directories, fax, fax_limits, fax_others, fax_output, files, objects, outputs, packing, pages, pictures, program, streams  # noqa: E402
-from releases import browsers, clients, erased, erased_programs, erased_targets, installed, javascript, released, released_arm64, systems, users  # noqa: E402
+from programs import built_tests, claims, conformance, devices, directories, fax, fax_limits, fax_others, fax_output, faxconv, files, objects, outputs, packing, pages, pictures, program, streams  # noqa: E402
+from releases import browsers, clients, erased, erased_programs, erased_targets, installed, javascript, released, released_arm64, systems, users, web  # noqa: E402
 from repository import definitions, repository  # noqa: E402
 
 
 FILES = [
     *(repository, definitions),
-    *(program, claims, pictures, built_tests, packing, conformance, streams, directories, pages, objects, outputs),
+    *(program, claims, pictures, built_tests, packing, conformance, streams, directories, pages, objects, outputs, faxconv),
     *(c_library, row_by_row, feed, encoder, refusals, devices, cuts, hostile, memory, large),
     *(installed, users, files, fax, fax_output, fax_limits, fax_others, inline_images),
-    *(released, systems, erased, erased_programs, erased_targets, javascript, browsers, clients, cost, arm64, released_arm64),
+    *(released, systems, erased, erased_programs, erased_targets, javascript, browsers, web, clients, cost, arm64, released_arm64),
 ]
-# those that run beside the build of the library for C
-WITHOUT_LIBRARY = [repository, definitions, program, claims, pictures, built_tests, packing, conformance, streams, directories, pages, objects, outputs, devices]
+# those that run beside the build of the library for C, as they don't use it
+WITHOUT_LIBRARY = [repository, definitions, program, claims, pictures, built_tests, packing, conformance, streams, directories, pages, objects, outputs, faxconv, fax,
+                   fax_limits, fax_others, fax_output, devices, browsers, web]
 # those that call `make`, which run in turn, and those that take longest
 MAKE = [installed, users, files, arm64, released_arm64]
 LONG = [cost, large, memory, hostile, released, systems, fax_limits]
 # those that build by cargo, in one folder, in turn
-ERASED = [erased, erased_programs, erased_targets, javascript, browsers]
+ERASED = [erased, erased_programs, erased_targets, javascript, browsers, web]
 # The files by their names.
 NAMED = {it.__name__.rpartition(".")[2]: it for it in FILES}
 
@@ -86,15 +87,15 @@ def run_in_parallel(chosen):
     with ThreadPoolExecutor(1) as builder, ThreadPoolExecutor(len(os.sched_getaffinity(0))) as pool:
         library = builder.submit(c_library.build) if {*chosen} - {*WITHOUT_LIBRARY} else None
 
-        def run_in_turn(names, library):
-            outputs.update({name: run_beside(name, library) for name in names})
+        def run_in_turn(checks):
+            for it, name in checks:
+                outputs[name] = run_beside(name, None if it in WITHOUT_LIBRARY else library)
 
-        others = [it for it in chosen if it not in [*WITHOUT_LIBRARY, *MAKE, *ERASED]]
-        turns = [([name], None) for it in chosen if it in WITHOUT_LIBRARY for name in names_of(it)]
-        for together in (ERASED, MAKE):
-            turns.append(([name for it in chosen if it in together for name in names_of(it)], library))
-        turns += [([name], library) for it in sorted(others, key=lambda it: it not in LONG) for name in names_of(it)]
-        for running in [pool.submit(run_in_turn, *turn) for turn in turns]:
+        checks = [(it, name) for it in sorted(chosen, key=lambda it: (it not in WITHOUT_LIBRARY, it not in LONG)) for name in names_of(it)]
+        turns = [[check for check in checks if check[0] in together] for together in (ERASED, MAKE)]
+        turns += [[check] for check in checks if check[0] not in [*ERASED, *MAKE]]
+        turns = sorted(filter(None, turns), key=lambda turn: turn[0][0] not in WITHOUT_LIBRARY)
+        for running in [pool.submit(run_in_turn, turn) for turn in turns]:
             running.result()
     return [outputs[name] for it in chosen for name in names_of(it)]
 
@@ -113,7 +114,7 @@ def main():
     if unknown:
         sys.exit(f"no file of checks is named {', '.join(sorted(unknown))}")
     chosen = [it for name, it in NAMED.items() if not words or (name in words) != is_without]
-    if {*chosen} - {repository, definitions, built_tests}:
+    if {*chosen} - {repository, definitions, built_tests, browsers, web}:
         built.have("faxrows")
         built.have("faxpack")
     if streams in chosen:
@@ -122,6 +123,8 @@ def main():
         built.have("test_files")
     if outputs in chosen:
         built.have("test_outputs")
+    if {fax, fax_limits, fax_others, fax_output, faxconv} & {*chosen}:
+        built.have("faxconv")
     passed, failed, left_out = 0, 0, []
     for *lines, last in map(str.splitlines, run_in_parallel(chosen)):
         print(*lines, sep="\n", flush=True)

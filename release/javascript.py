@@ -17,9 +17,10 @@ DEBIAN = os.environ.get("RUST_OF_DEBIAN", "/usr")
 VENDORED = f"{DEBIAN}/lib/rustlib/src/rust/library/vendor"
 SOURCES = "bindings/javascript"
 TARGET = "wasm32-unknown-unknown"
-MODULE = "hayro_ccitt.wasm"
+# The modules, by the folders of their packages.
+MODULES = {"c": "hayro_ccitt.wasm", "files": "hayro_ccitt_files.wasm"}
 WORKSPACE = """[workspace]
-members = ["hayro-ccitt/c"]
+members = ["hayro-ccitt/c", "hayro-ccitt/files"]
 resolver = "3"
 
 [profile.release]
@@ -27,6 +28,10 @@ lto = true
 codegen-units = 1
 panic = "abort"
 strip = true
+
+# What reads files is asked once a page, and decoding for each row.
+[profile.release.package.hayro-ccitt-files]
+opt-level = "s"
 """
 
 
@@ -54,8 +59,8 @@ def rustc_of_debian(folder):
 
 
 def in_one_workspace(erased, folder):
-    """A copy of the Cargo package in a folder, and of the library for C, as one workspace: cargo's names of its packages, and by them the
-    order of functions, don't depend then on where it lies."""
+    """A copy of the Cargo package in a folder, and of what is in its folders, as one workspace: cargo's names of its packages, and by them
+    the order of functions, don't depend then on where it lies."""
     copy = f"{folder}/sources/hayro-ccitt"
     shutil.copytree(erased, copy, ignore=shutil.ignore_patterns("target"), dirs_exist_ok=True)
     for name in ("Cargo.toml", "c/Cargo.toml"):
@@ -68,23 +73,23 @@ def in_one_workspace(erased, folder):
     return copy
 
 
-def module_of(erased, folder, *words, linked=()):
-    """The path of the module that cargo makes in a folder of the library for C, with what else cargo and the linker are to be told."""
+def module_of(erased, folder, *words, package="c", linked=()):
+    """The path of the module that cargo makes in a folder of a package, with what else cargo and the linker are to be told."""
     environment = {
         **os.environ,
         "RUSTC": os.path.abspath(rustc_of_debian(folder)),
         "RUSTC_BOOTSTRAP": "1",
-        # No places in sources are kept.
-        "RUSTFLAGS": "-Zlocation-detail=none",
+        # No places in sources are kept, and no texts of panics: these end the module at once.
+        "RUSTFLAGS": "-Zlocation-detail=none -Zunstable-options -Cpanic=immediate-abort",
         "CARGO_TARGET_DIR": os.path.abspath(folder),
         "CARGO_TARGET_WASM32_UNKNOWN_UNKNOWN_LINKER": "wasm-ld",
     }
     options = ["--release", "--target", TARGET, "--lib", "--crate-type", "cdylib", "--no-default-features", *words]
     command = with_sources_of_std("rustc", *options, "--", *(f"-Clink-arg={it}" for it in linked))
-    done = subprocess.run(command, cwd=f"{in_one_workspace(erased, folder)}/c", env=environment, capture_output=True, text=True, check=False)
+    done = subprocess.run(command, cwd=f"{in_one_workspace(erased, folder)}/{package}", env=environment, capture_output=True, text=True, check=False)
     if done.returncode != 0:
         sys.exit(f"the module of WebAssembly: {done.stdout}{done.stderr[-3000:]}")
-    return f"{folder}/{TARGET}/release/{MODULE}"
+    return f"{folder}/{TARGET}/release/{MODULES[package]}"
 
 
 def sources():
@@ -106,7 +111,8 @@ def make(erased, folder):
     if missing := lacking():
         sys.exit(f"missing: {', '.join(missing)}")
     os.makedirs(folder, exist_ok=True)
-    shutil.copy(module_of(erased, f"{folder}.cargo"), f"{folder}/{MODULE}")
+    for package, module in MODULES.items():
+        shutil.copy(module_of(erased, f"{folder}.cargo", package=package), f"{folder}/{module}")
     for name, data in sources().items():
         with open(f"{folder}/{name}", "wb") as file:
             file.write(data)

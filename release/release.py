@@ -2,11 +2,10 @@
 
     python3 release/release.py BUILD VERSION [TARGET]
 
-BUILD/dist gets the binary tarball, the Debian package, the two Cargo packages, the Python wheel, the source tarball, the package for
-JavaScript if `make javascript` made its module, and SHA256SUMS; for another target than x86-64 the tarball, the Debian package and the
-wheel, which are what differs. The same files give the same bytes in any folder. A version that CHANGELOG.md doesn't have is refused, and
-a file that is for another machine."""
-import base64
+BUILD/dist gets the binary tarball, the Debian package, the two Cargo packages, the Python package as a wheel and as sources, the source
+tarball, the package for JavaScript and the page that opens fax files if `make web` made them, and SHA256SUMS; for another target than
+x86-64 the tarball, the Debian package and the wheel, which are what differs. The same files give the same bytes in any folder. A version
+that CHANGELOG.md doesn't have is refused, and a file that is for another machine."""
 import collections
 import email.utils
 import gzip
@@ -20,9 +19,11 @@ import subprocess
 import sys
 import tarfile
 import tempfile
-import zipfile
 
 import javascript
+
+sys.path.insert(0, "bindings/python")
+import build_backend  # noqa: E402
 
 CRATE = "hayro-ccitt-0.5.0"
 PROVED_CRATE = "hayro-ccitt-proved-0.5.0"
@@ -33,7 +34,7 @@ TARGETS = {
     "": Target("x86_64", "x86_64-linux-gnu", "amd64", "", 62, "x86-64"),
     "aarch64-unknown-linux-gnu": Target("aarch64", "aarch64-linux-gnu", "arm64", "aarch64-linux-gnu-", 183, "ARM64"),
 }
-PROVED = ["hayro_ccitt_c", "faxrows", "faxpack"]
+PROVED = ["hayro_ccitt_c", "faxrows", "faxpack", "faxconv"]
 PROGRAMS = ["faxrows", "faxpack", "faxconv"]
 DESCRIPTION = "decoder and encoder for CCITT fax images, with proofs"
 MAKERS = "hayro_ccitt <hayro_ccitt@example.org>"
@@ -116,8 +117,8 @@ def provenance(build, version, name):
     changed = "" if commit == "none" or not said("git", "status", "--porcelain") else ", with changes that aren't committed"
     built = [f"{build}/proved.o"]
     if not name:
-        built += [f"{build}/faxrows", f"{build}/faxpack", *(f"{build}/{other}/proved.o" for other in targets_in(build) if other)]
-    of_rust = f"{CRATE}.crate and the package for JavaScript have none of these. They are" if not name else "The programs faxrows and faxpack have none of these. They are"
+        built += [*(f"{build}/{program}" for program in PROGRAMS), *(f"{build}/{other}/proved.o" for other in targets_in(build) if other)]
+    of_rust = f"{CRATE}.crate, the Python package as sources and that for JavaScript have none of these. They are" if not name else "The programs have none of these. They are"
     programs = dotted(newest_libc([f"{build}/{name}" for name in PROGRAMS]))
     library = dotted(newest_libc([f"{build}/libhayro_ccitt.so.{version}"]))
     return "\n".join(
@@ -133,7 +134,7 @@ def provenance(build, version, name):
             "The proved crates: the SHA-256 of the list that `sha256sum` prints for the files of src, specs and proofs, in order.",
             *proved_sources(),
             "",
-            f"What the kit compiled them to: the object of the library, its calls renamed to proved_*{'' if name else ', and two programs'}.",
+            f"What the kit compiled them to: the object of the library, its calls renamed to proved_*{'' if name else ', and three programs'}.",
             *(f"{sha256(read(path))}  {os.path.relpath(path, build)}" for path in built),
             "",
             f"{of_rust} the proved sources, compiled by Rust: release/erased erased their contracts.",
@@ -237,11 +238,6 @@ def dotted(version):
     return ".".join(map(str, version))
 
 
-def needs_zlib(path):
-    listed = subprocess.run(["objdump", "-p", path], capture_output=True, text=True, check=True).stdout
-    return "NEEDED" in listed and "libz.so" in listed
-
-
 def debian_package(build, version, target, told, epoch, work):
     root = f"{work}/debian"
     installed(build, root, "PREFIX=/usr", f"LIBDIR=/usr/lib/{target.triplet}")
@@ -263,14 +259,13 @@ def debian_package(build, version, target, told, epoch, work):
     subprocess.run([strip, "--strip-debug", f"{root}/usr/lib/{target.triplet}/libhayro_ccitt.a"], check=True)
     size = sum(os.path.getsize(f"{root}/{name}") for name in files_in(root)) // 1024
     libc = dotted(newest_libc([*programs, library]))
-    zlib = ", zlib1g" if any(needs_zlib(path) for path in programs) else ""
     control = [
         "Package: hayro-ccitt",
         f"Version: {version}-1",
         f"Architecture: {target.debian}",
         f"Maintainer: {MAKERS}",
         f"Installed-Size: {size}",
-        f"Depends: libc6 (>= {libc}){zlib}",
+        f"Depends: libc6 (>= {libc})",
         "Section: graphics",
         "Priority: optional",
         f"Description: {DESCRIPTION}",
@@ -337,32 +332,39 @@ def wheel(build, version, target, told, epoch):
     for name, line in (("__init__", f'__version__ = "{version}"'), ("_library", f'SONAME = "libhayro_ccitt.so.{interface}"')):
         if line not in read(f"bindings/python/hayro_ccitt/{name}.py").decode():
             fail(f"bindings/python/hayro_ccitt/{name}.py isn't of version {version}")
-    tag = f"py3-none-manylinux_{'_'.join(map(str, newest_libc([library])))}_{target.machine}"
-    about = f"hayro_ccitt-{version}.dist-info"
-    metadata = f"Metadata-Version: 2.1\nName: hayro_ccitt\nVersion: {version}\nSummary: A {DESCRIPTION}\nRequires-Python: >=3.9\n"
-    modules = [name for name in tracked() if re.match(r"bindings/python/hayro_ccitt/[^/]+(\.py|py\.typed)$", name)]
-    files = {name.removeprefix("bindings/python/"): read(name) for name in modules}
-    files |= {
+    platform = f"manylinux_{'_'.join(map(str, newest_libc([library])))}_{target.machine}"
+    files = {
+        **python_modules(),
         "hayro_ccitt/libhayro_ccitt.so": read(library),
-        f"{about}/METADATA": metadata.encode(),
-        f"{about}/WHEEL": f"Wheel-Version: 1.0\nGenerator: hayro_ccitt\nRoot-Is-Purelib: false\nTag: {tag}\n".encode(),
-        f"{about}/PROVENANCE": told.encode(),
+        f"hayro_ccitt-{version}.dist-info/PROVENANCE": told.encode(),
     }
-    digests = {name: base64.urlsafe_b64encode(hashlib.sha256(data).digest()).rstrip(b"=").decode() for name, data in files.items()}
-    record = "".join(f"{name},sha256={digests[name]},{len(data)}\n" for name, data in files.items()) + f"{about}/RECORD,,\n"
-    files[f"{about}/RECORD"] = record.encode()
-    packed = io.BytesIO()
-    with zipfile.ZipFile(packed, "w", zipfile.ZIP_DEFLATED) as zipped:
-        for name, data in files.items():
-            item = zipfile.ZipInfo(name, (1980, 1, 1, 0, 0, 0))
-            item.compress_type, item.external_attr = zipfile.ZIP_DEFLATED, 0o644 << 16
-            zipped.writestr(item, data)
-    return f"hayro_ccitt-{version}-{tag}.whl", packed.getvalue()
+    return build_backend.packed_wheel(version, platform, files)
 
 
-def javascript_package(module, version, told, epoch):
-    """The package for JavaScript with this module, laid out as `npm pack` does it."""
-    files = {**javascript.sources(), javascript.MODULE: read(module), "PROVENANCE": told.encode()}
+def python_modules():
+    """The modules of the Python package."""
+    modules = [name for name in tracked() if re.match(r"bindings/python/hayro_ccitt/[^/]+(\.py|py\.typed)$", name)]
+    return {name.removeprefix("bindings/python/"): read(name) for name in modules}
+
+
+def python_sources(version, erased, told, epoch):
+    """The Python package with the erased sources, of which pip makes a wheel by cargo."""
+    top = f"hayro_ccitt-{version}"
+    files = {
+        **python_modules(),
+        **{f"rust/{name}": data for name, data in erased.items()},
+        "build_backend.py": read("bindings/python/build_backend.py"),
+        "pyproject.toml": b'[build-system]\nrequires = []\nbuild-backend = "build_backend"\nbackend-path = ["."]\n',
+        "PKG-INFO": build_backend.metadata(version).encode(),
+        "PROVENANCE": told.encode(),
+    }
+    return f"{top}.tar.gz", packed_tar([(f"{top}/{name}", 0o644, data) for name, data in files.items()], epoch)
+
+
+def javascript_package(folder, version, told, epoch):
+    """The package for JavaScript with the modules in a folder, laid out as `npm pack` does it."""
+    modules = {name: read(f"{folder}/{name}") for name in javascript.MODULES.values()}
+    files = {**javascript.sources(), **modules, "PROVENANCE": told.encode()}
     if json.loads(files["package.json"])["version"] != version:
         fail(f"bindings/javascript/package.json isn't of version {version}")
     return f"hayro-ccitt-{version}.tgz", packed_tar([(f"package/{name}", 0o644, data) for name, data in files.items()], epoch)
@@ -377,7 +379,7 @@ def source_tarball(build, version, erased, told, epoch, work):
         fail(assembly.stderr.decode())
     write(f"{root}/proved.s", assembly.stdout)
     strip = "corpus/strips/page/gs-g4"
-    for name in [it for it in tracked() if it.startswith(("c/", "man/", "tools/"))] + ["CHANGELOG.md", "SECURITY.md", strip, "corpus/pictures/page"]:
+    for name in [it for it in tracked() if it.startswith("c/") or it == "man/hayro_ccitt.3"] + ["CHANGELOG.md", "SECURITY.md", strip, "corpus/pictures/page"]:
         write(f"{root}/{name}", read(name))
     for name in [it for it in tracked() if re.match(r"examples/[^/]*\.[ch]$", it)]:
         write(f"{root}/{name}", read(name))
@@ -417,9 +419,12 @@ def main(build, version, name=""):
                 cargo_package(erased, told, epoch),
                 proved_cargo_package(build, told, epoch),
                 source_tarball(build, version, erased, told, epoch, work),
+                python_sources(version, erased, told, epoch),
             ]
-            if os.path.exists(module := f"{build}/javascript/{javascript.MODULE}"):
-                packages.append(javascript_package(module, version, told, epoch))
+            if os.path.exists(f"{build}/javascript"):
+                packages.append(javascript_package(f"{build}/javascript", version, told, epoch))
+            if os.path.exists(page := f"{build}/fax.html"):
+                packages.append((f"hayro_ccitt-{version}-fax.html", read(page)))
     shutil.rmtree(f"{build}/dist", ignore_errors=True)
     for package, data in packages:
         write(f"{build}/dist/{package}", data)

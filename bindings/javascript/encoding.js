@@ -1,7 +1,21 @@
 // Encoding a bitmap.
 
+import { bytesOf } from "./bytes.js";
 import { NoEncoding, NoRows, NotWholeRows, OutOfMemory } from "./errors.js";
-import { NOT_TAKEN, OUT_OF_MEMORY, REFUSED, bytesAt, bytesOf, encodingOf, lend, lendCopy, number, readLong, refuseOthers, sumOf, writeNumbers } from "./memory.js";
+import {
+    NOT_TAKEN,
+    OUT_OF_MEMORY,
+    REFUSED,
+    bytesAt,
+    encodingOf,
+    lend,
+    lendCopy,
+    number,
+    readLong,
+    refuseOthers,
+    sumOf,
+    writeNumbers,
+} from "./memory.js";
 import { calls } from "./module.js";
 
 // What a call is lent: fax_encode_settings, and fax_encode_outcome, of which the second number is that of the bytes.

@@ -1,9 +1,28 @@
 // Rows from data that comes in pieces.
 
+import { bytesOf } from "./bytes.js";
 import { InvalidCode, OutOfMemory, Overflow, UnexpectedEof } from "./errors.js";
 import {
-    INVALID_CODE, NO_ROW, NOT_TAKEN, OK, OUT_OF_MEMORY, OVERFLOW, REFUSED, UNEXPECTED_EOF,
-    bytesAt, bytesOf, encodingOf, giveBack, lend, lendCopy, number, longIn, readNumber, refuseOthers, sumOf, take, writeNumbers,
+    INVALID_CODE,
+    NO_ROW,
+    NOT_TAKEN,
+    OK,
+    OUT_OF_MEMORY,
+    OVERFLOW,
+    REFUSED,
+    UNEXPECTED_EOF,
+    bytesAt,
+    encodingOf,
+    giveBack,
+    lend,
+    lendCopy,
+    number,
+    longIn,
+    readNumber,
+    refuseOthers,
+    sumOf,
+    take,
+    writeNumbers,
 } from "./memory.js";
 import { calls } from "./module.js";
 

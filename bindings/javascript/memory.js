@@ -65,17 +65,6 @@ export function longIn(bytes, place) {
     return view.getUint32(0, true) + view.getUint32(4, true) * 2 ** 32;
 }
 
-/** What a caller passes as data, as bytes. */
-export function bytesOf(data) {
-    if (ArrayBuffer.isView(data)) {
-        return new Uint8Array(data.buffer, data.byteOffset, data.byteLength);
-    }
-    if (data instanceof ArrayBuffer || (globalThis.SharedArrayBuffer && data instanceof SharedArrayBuffer)) {
-        return new Uint8Array(data);
-    }
-    throw new TypeError("data is an ArrayBuffer, or a view of one");
-}
-
 /** The value of a setting, if it is a whole number that is at least this, and below 2 ** 32. */
 export function number(name, value, least = 0) {
     if (typeof value !== "number") {

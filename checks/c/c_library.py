@@ -63,7 +63,7 @@ def build():
     """Each build of the library, installed, unless the one that is there is built from the same files."""
     for crate in built.BUILT:
         built.have(crate)
-    made_from = built.sum_of("Makefile", "c", "tools/fax", "examples", "man", *map(built.place, built.BUILT))
+    made_from = built.sum_of("Makefile", "c", "examples", "man", *map(built.place, built.BUILT))
     for name, flags in BUILDS.items():
         library = f"{INSTALLED[name]}/lib/libhayro_ccitt.a"
         if built.is_made_from(library, made_from):
@@ -230,11 +230,13 @@ def calls_on_known_cases():
 
 
 def rules():
-    """The rules of hayro_ccitt.h by their names, and their texts by their numbers."""
+    """The rules of hayro_ccitt.h by their names, and their texts by their numbers, which are those of faxrows."""
     header = Path("c/hayro_ccitt.h").read_text(encoding="utf-8")
     numbers = {name: int(number) for name, number in re.findall(r"\bHAYRO_CCITT_RULE_(\w+) = (\d+)", header)}
     texts = re.findall(r'"([^"]*)"', re.search(r"#define HAYRO_CCITT_RULE_TEXTS(.*?)\n    }\n", header, re.DOTALL)[1])
     assert sorted(numbers.values()) == list(range(1, len(texts))), (numbers, texts)
+    written = Path("crates/faxrows_lib/specs/CheckText.antt").read_text(encoding="utf-8")
+    assert texts[1:] == re.findall(r'text_of_rule \w+ = codes "([^"]*)"', written), "faxrows has other texts"
     return numbers, texts
 
 

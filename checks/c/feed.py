@@ -99,7 +99,7 @@ READER, SINGLE = cost.WAYS.index("next_changes"), len(cost.WAYS)
 
 def costs_of_pieces():
     """What feeding pieces costs, beside one call for the whole data and a reader of it, as cost.tsv says it."""
-    known = {tuple(line[:3]): float(line[3]) for line in cost.lines_of_the_table()}
+    known = cost.figures(Path(cost.TABLE).read_text(encoding="utf-8"))
     for way in PIECES:
         pieces = "feed_packed" if way.endswith("packed") else "feed_pieces"
         factors = {(page, mode): known[page, mode, pieces] / known[page, mode, way] for page in cost.PAGES for mode, _ in cost.PICTURES}

@@ -14,6 +14,7 @@ BUILT = {
     "test_streams": "test_streams",
     "test_files": "test_files",
     "test_outputs": "test_outputs",
+    "faxconv": "faxconv",
 }
 RULES = {
     "hayro_ccitt_c": "prove-library",
@@ -22,6 +23,7 @@ RULES = {
     "test_streams": "prove-test_streams",
     "test_files": "prove-test_files",
     "test_outputs": "prove-test_outputs",
+    "faxconv": "prove-programs",
 }
 # How many builds of each are kept on this machine.
 MOST = 6
@@ -149,3 +151,24 @@ def refused_in_turn(shim, words, data):
         if b"refused\n" not in done.stderr:
             return
     raise AssertionError("it never ran without a refusal")
+
+
+@functools.cache
+def program_of(crate):
+    """The path of a crate's program, built from the files as they stand."""
+    have(crate)
+    return os.path.abspath(place(crate))
+
+
+def answer(crate, data, *words):
+    """What a crate's program writes of its input, and its status."""
+    done = subprocess.run([program_of(crate), *words], input=data, capture_output=True, check=False, timeout=600)
+    assert not done.stderr, done.stderr[:300]
+    return done.stdout, done.returncode
+
+
+def said(crate, records, *words):
+    """What it writes of records, of which it can't end otherwise than well."""
+    told, status = answer(crate, b"".join(records), *words)
+    assert status == 0, status
+    return told

@@ -11,7 +11,7 @@ from gate.built import files_below, preload, with_libraries
 NAMED = {
     "test_encoder": {
         "callers_tests::refused_memory": (17, 12),
-        "conforms_tests::refused_memory": (16, 12),
+        "conforms_tests::refused_memory": (12, 8),
         "page_feed_tests::refused_memory": (21, 19),
         "settings_tests::refused_memory": (10, 8),
         "settings_tests::refused_memory_row_by_row": (11, 9),

@@ -19,9 +19,10 @@ from pdf import pdf_of, stream_object
 from programs import packing, program
 
 NO_EOL, FILL = "an EOL is expected (T.4, 4.1.2)", "fill where none may be (T.4, 4.1.3 and 4.1.4)"
+MODE, RUN = "a mode is expected (T.4, 4.2.1.3)", "a run is expected (T.4, 4.1.1)"
 BEYOND, NO_PIXELS = "beyond the row's end (T.4, 4.1.1 and 4.2.1.3)", "no pixels (T.4, 4.1.1 and 4.2.1.3)"
-OTHER, KIND = "not what the procedure writes (T.4, 4.1.1 and 4.2.1.3)", "a two-dimensional line where none may be (T.4, 4.2.1)"
-END = "not the end that the procedure writes (T.4, 4.1.4; T.6, 2.4.1.1)"
+OTHER, KIND = "not what the coding procedure writes (T.4, 4.1.1 and 4.2.1.3; T.6, 2.2)", "a two-dimensional line where none may be (T.4, 4.2.1)"
+END = "not the end that the coding procedure writes (T.4, 4.1.4; T.6, 2.4.1.1)"
 
 EOL = "0" * 11 + "1"
 
@@ -77,7 +78,7 @@ def read_run(data, color):
     """Any make-up words and a terminating one (T.4, 4.1.1)."""
     start, total, word = data.place, 0, 64
     while word >= 64:
-        word = data.word(RUNS[color], program.RUN, start)
+        word = data.word(RUNS[color], RUN, start)
         total += word
     return total
 
@@ -127,7 +128,7 @@ def read_2d(data, reference, columns):
     while a0 < columns:
         b1 = change_right_of(reference, a0, 1 - color)
         start = data.place
-        mode = data.word(MODES, program.MODE)
+        mode = data.word(MODES, MODE)
         if mode == "P":
             b2 = change_right_of(reference, b1)
             need(b2 < columns, "pass mode to the row's end (T.4, 4.2.1.3.2)", start)
@@ -183,6 +184,11 @@ def read_line(data, mode, reference, columns):
     return row, is_two, tag + (prescribed_2d(reference, row) if is_two else prescribed_1d(row))
 
 
+def first_difference(bits, start, prescribed):
+    """The place of the first bit, from a line's start on, that the procedure writes otherwise."""
+    return next(place for place, bit in enumerate(prescribed, start) if bits[place : place + 1] != bit)
+
+
 def end_here(data, mode, count):
     """Where an end of the block ends that is here after so many rows, None if none is here, and the places of fill in it: EOFB (T.6,
     2.4.1.1); or after some row RTC, six EOLs, each with a tag of 1 in two-dimensional Group 3, with fill before the first alone
@@ -223,7 +229,7 @@ def read_picture(words, bits, k):
                 yield KIND, start
             left = left - 1 if is_two and left is not None else k and k - 1 if not is_two else None
         if bits[start : data.place] != prescribed:
-            yield OTHER, start
+            yield OTHER, first_difference(bits, start, prescribed)
         count, after = count + 1, data.place
         while "a" in flags and not has_eols and data.place % 8:
             need(data.has("0"), "zeros up to a whole byte are expected (T.4, 4.1.3)", after)
@@ -491,7 +497,7 @@ def by_mgetty(_, pictures):
         yield " ".join(["mgetty", *way]), "1d", None, 1728, packing.rows_of(columns, bitmap), "b", strip
 
 
-# Those with the tool that each needs. Debian's mgetty-fax, which has the last one, isn't among the packages of the checks.
+# Those with the tool that each needs.
 ENCODERS = [(by_libtiff, "gcc"), (by_ghostscript, "gs"), (by_mupdf, "mutool"), (by_netpbm, "pbmtog3"), (by_mgetty, "pbm2g3")]
 
 
@@ -511,7 +517,7 @@ def other_encoders(count=12, seed=3):
         pictures = list(some_pictures(chosen, count))
         for by, tool in ENCODERS:
             if not shutil.which(tool):
-                leave_out(f"strips of {tool}", tool, tool != "pbm2g3")
+                leave_out(f"strips of {tool}", tool)
                 continue
             for name, mode, own, columns, rows, flags, strip in by(folder, pictures):
                 plain = flags.replace("b", "")

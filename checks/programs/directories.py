@@ -1,5 +1,4 @@
 """Checks of the reader of TIFF directories, by the program `test_files`: files with known tags, beside `tiffinfo`; and damaged ones."""
-import functools
 import os
 import random
 import re
@@ -23,11 +22,9 @@ ORIENTATIONS = ["row 0 top, col 0 lhs", "row 0 top, col 0 rhs", "row 0 bottom, c
 UNITS = {1: " (unitless)", 2: " pixels/inch", 3: " pixels/cm"}
 
 
-@functools.cache
-def program():
-    """The program, built from the files as they stand."""
-    built.have("test_files")
-    return os.path.abspath(built.place("test_files"))
+def said_of(files, *words):
+    """What the program says of files, each its bytes and an allowance."""
+    return built.said("test_files", (struct.pack("<2I", len(of), allowance) + of for of, allowance in files), *words)
 
 
 class Numbers:
@@ -71,17 +68,14 @@ class Answer:
 
 def answers(records):
     """The answers to records, each the bytes of a file and an allowance. The steps paid are those of the contracts."""
-    data = b"".join(struct.pack("<2I", len(of), allowance) + of for of, allowance in records)
-    done = subprocess.run([program()], input=data, capture_output=True, check=False, timeout=600)
-    assert done.returncode == 0 and not done.stderr, done.stderr[:300]
-    numbers, found = Numbers(done.stdout), []
+    numbers, found = Numbers(said_of(records)), []
     for of, allowance in records:
         answer = Answer(numbers)
         assert answer.letter in "onels" and answer.left <= allowance, (of[:60], answer.letter, answer.left)
         if answer.letter in "oel" and answer.pages:
             assert allowance - answer.left == steps_of(len(of), answer), (of[:60], allowance, answer.left, steps_of(len(of), answer))
         found.append(answer)
-    assert numbers.at == len(done.stdout)
+    assert numbers.at == len(numbers.data)
     return found
 
 

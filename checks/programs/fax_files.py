@@ -104,7 +104,7 @@ COMPRESSIONS = {
     "rle": (2, ONE, ALIGNED, None),
     "words": (32771, None, 0, None),
 }
-BYTE, SHORT, LONG, RATIONAL, LONG8 = 1, 3, 4, 5, 16
+BYTE, ASCII, SHORT, LONG, RATIONAL, LONG8 = 1, 2, 3, 4, 5, 16
 CODES = {BYTE: "B", SHORT: "H", LONG: "I", LONG8: "Q"}
 
 

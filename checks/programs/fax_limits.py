@@ -1,23 +1,22 @@
 """Checks of `faxconv` where memory or its allowance runs out: each allocation refused in turn, files that read one text many times, and files
-made at the edge of each allowance, under ASan and UBSan.
+made at the edge of each allowance.
 
     python3 checks/run.py fax_limits edges N SEED     N files at the edges, as many as one likes
-    python3 checks/run.py fax_limits refused N SEED   N mutated files, of whose allocations each hundredth is refused
 """
 import os
 import random
-import subprocess
 import tempfile
 import zlib
 
-from gate.skipped import leave_out
+from gate.built import preload, refused_in_turn
 from programs import fax
-from programs.fax import PICTURE, has_qpdf, has_zlib, mutated_file, run, seeds
+from programs.fax import PICTURE, run
 from programs.fax_files import BLOCK, EOL, G4, LONG, ONE, Page, Pdf, Rule, SHORT, TWO, drawn, image, made_page, tiff
 
 INLINE = b"BI /W 8 /H 1 /BPC 1 /CS /C /F /CCF /DP << /K -1 /Columns 8 >> ID \x31\xc0\x80\x80 EI\n"
-WRAPPED = ["checks/programs/refuse_wrapped.c", "-Wl,--wrap=main,--wrap=malloc,--wrap=calloc,--wrap=realloc"]
-EACH, FILES, EDGES = 100, 300, 60
+EDGES = 60
+# the first ones are also those of files with several pictures
+FORMS = [["-f", "tiff"], ["-f", "pdf"], ["-f", "tiff", "--copy"], ["-f", "png"], ["-f", "pdf", "-e", "2d"], ["-f", "pbm", "--check"], ["-f", "pbm"]]
 
 
 def page_of(content, objects, resources, more=b""):
@@ -57,53 +56,20 @@ def texts_read_again(length, times):
 
 
 def texts_read_again_are_paid_for():
-    """Small files of which one text is read many times end within a second and 150 MB, by each reader of PDF."""
+    """Small files of which one text is read many times end within a second."""
     fax.encoder()
-    if not has_zlib():
-        leave_out("texts that are read again", "zlib")
-        return
     made = list(texts_read_again(100000, 100000))
-    with tempfile.TemporaryDirectory() as folder:
-        for tool in fax.by_each_reader(folder):
-            for name, file in made:
-                status, _, told = run("--check", data=file, tool=tool)
-                assert status in (0, 1) and len(file) < 1000000, f"{tool} {name}: {status} {told[-300:]}"
+    for name, file in made:
+        status, _, told = run("--check", data=file)
+        assert status in (0, 1) and len(file) < 1000000, f"{name}: {status} {told[-300:]}"
     print(f"  {len(made)} files")
 
 
-def longer_than_the_allowance():
-    """An image in a page's content that is longer than what is left to read: the page is told as one that can't be read."""
-    content = b"BI /W 8 /H 1 /F /CCF ID " + b"\x80" * 9500000
-    return page_of(content, [], b"")
-
-
 def an_allowance_ends_within_a_call():
-    """A file whose image in the content ends the allowance is refused, and no memory is used that was freed."""
+    """A file whose image in the page's content is longer than what is left to read is refused."""
     fax.encoder()
-    if has_zlib():
-        file = longer_than_the_allowance()
-        fax.ran_sanitized([file])
-        status, _, told = run(data=file)
-        assert status == 1 and told, (status, told)
-
-
-def wrapped(folder, with_qpdf=False):
-    """`faxconv` with ASan and UBSan, whose allocations can be refused; or None."""
-    made = fax.compiled(f"{folder}/fax-wrapped-{with_qpdf}", *fax.SANITIZED, *WRAPPED, with_qpdf=with_qpdf)
-    if not made:
-        leave_out("faxconv without memory", "gcc's sanitizers")
-    return made
-
-
-def runs_of(tool, words, data=None, **variables):
-    """Runs the wrapped tool. Returns of each run its number, its status, its milliseconds and what it wrote, as refuse_wrapped.c says."""
-    with tempfile.TemporaryDirectory() as folder:
-        environment = {**os.environ, "REPORT": f"{folder}/report", "ASAN_OPTIONS": "detect_leaks=0", **variables}
-        done = subprocess.run([tool, *words], env=environment, stdin=data, stdout=subprocess.DEVNULL, stderr=subprocess.PIPE, check=False, timeout=3000)
-        text = done.stderr.decode(errors="replace")
-        assert done.returncode == 0 and "Sanitizer" not in text and "runtime error" not in text, f"{words[:9]}: {text[:3000]}"
-        with open(f"{folder}/report", encoding="utf-8") as file:
-            return [tuple(map(int, line.split())) for line in file]
+    status, _, told = run(data=page_of(b"BI /W 8 /H 1 /F /CCF ID " + b"\x80" * 9500000, [], b""))
+    assert status == 1 and told, (status, told)
 
 
 def files_for_refusals(encode):
@@ -127,59 +93,41 @@ def files_for_refusals(encode):
         yield f"raw {mode}", encode(PICTURE, encoding, flags), ["-m", mode, "-w", "61"], True
     yield "raw, damaged", bytes(damaged), ["-m", "1d", "-w", "61", "-F", "l"], True
     wanted = {"g4", "1d aligned", "wrong alignment", "false EndOfLine", "ink palette", "/FlateDecode", "/LZWDecode", "object streams", "references",
-              "in the content", "in a compressed content", "an explicit mask", "in a form", "in an annotation", "named only", "two pages"}
+              "in the content", "in a compressed content", "in a form", "in an annotation", "named only", "two pages"}
     for name, file, pictures in fax.made_pdfs(encode):
-        if name in wanted and (has_zlib() or b"Flate" not in file):
+        if name in wanted:
             yield name, file, [], pictures.count(b"P4\n") == 1
 
 
-def refused_in_turn(tool, words, output, data=None):
-    """Refuses each allocation of a run. Returns how many there were. The status is 2, and no file is written over; or all is as without
-    that, since the decoder can do without some of its memory."""
-    status = subprocess.run([fax.FAX, *words], stdin=data, stdout=subprocess.DEVNULL, stderr=subprocess.DEVNULL, check=False, timeout=60).returncode
-    whole = [status, 1] if os.path.exists(output) and os.path.getsize(output) else [status, 0]
-    if whole[1]:
-        os.replace(output, f"{output}.whole")
-    told = runs_of(tool, words, data, TURNS="1", OUTPUT=output, EXPECTED=f"{output}.whole")
-    os.remove(output)
-    answers = [[it[1], it[3]] for it in told]
-    assert answers[-1] == whole and all(it in ([2, 0], whole) for it in answers), f"{words}: {whole} {answers}"
-    assert answers.count([2, 0]) > 1, f"{words}: {answers}"
-    return len(told)
+def refused(shim, words, output, data=None):
+    """Refuses each allocation of a run in turn. Returns how many there were. The status is 2, and no file is written; or all is as without that, since
+    the decoder can do without some of its memory."""
+    answers = []
+    for status, out, _ in refused_in_turn(shim, [fax.FAX, *words], data):
+        made = b""
+        if os.path.exists(output):
+            with open(output, "rb") as file:
+                made = file.read()
+            os.remove(output)
+        answers.append((status, out, made))
+    assert sum(it == (2, b"", b"") for it in answers) > 1, (words, len(answers))
+    assert all(it in ((2, b"", b""), answers[-1]) for it in answers), (words, {it[0] for it in answers})
+    return len(answers)
 
 
 def each_allocation_refused():
-    """Each allocation of each run refused: the status is 2, nothing is reported, and no file is written over."""
-    encode, runs, counts = fax.encoder(), 0, {}
-    forms = [["-f", "pbm"], ["-f", "png"], ["-f", "tiff"], ["-f", "pdf"], ["-f", "pdf", "-e", "2d"], ["-f", "tiff", "--copy"], ["-f", "pbm", "--check"]]
+    """Each allocation of each run refused: the status is 2, which is told, and no file is written."""
+    encode, counts = fax.encoder(), {}
     with tempfile.TemporaryDirectory() as folder:
-        tools = [wrapped(folder, with_qpdf) for with_qpdf in (False, True)[: 1 + has_qpdf()]]
-        for at, (name, file, words, is_one) in enumerate(files_for_refusals(encode) if all(tools) else []):
-            counts[name] = 0
-            with open(f"{folder}/file", "wb") as out:
+        shim, path, output = preload(folder, "c/refuse"), f"{folder}/file", f"{folder}/made"
+        for at, (name, file, words, is_one) in enumerate(files_for_refusals(encode)):
+            with open(path, "wb") as out:
                 out.write(file)
-            for form in forms if has_zlib() else [it for it in forms if "png" not in it]:
-                if "--check" not in form and not is_one and form[1] in ("pbm", "png"):
-                    continue  # a picture that is whole is written before the next one
-                for tool in tools if file.startswith(b"%PDF") and form == forms[3] else tools[:1]:
-                    made = refused_in_turn(tool, [*form, *words, "-o", f"{folder}/made", f"{folder}/file"], f"{folder}/made")
-                    runs, counts[name] = runs + made, max(counts[name], made)
+            form = FORMS[at % (len(FORMS) if is_one else 3)]
+            counts[name] = refused(shim, [*form, *words, "-o", output, path], output)
             if words:
-                with open(f"{folder}/file", "rb") as data:
-                    runs += refused_in_turn(tools[0], [*words, "-o", f"{folder}/made.pbm"], f"{folder}/made.pbm", data)
-    print(f"  {runs} runs of {len(counts)} files, of up to {max(counts.values(), default=0)} allocations")
-
-
-def library_without_memory():
-    """An allocation of libqpdf, of what it needs or of the decoder refused, one in each run: the picture is right, or the status is 2."""
-    data, runs = fax.pdf_of(image(PICTURE), fax.encoder()(PICTURE, G4, BLOCK)).file(), range(1, 2200, 43)
-    with tempfile.TemporaryDirectory() as folder:
-        subprocess.run(["gcc", "-shared", "-fPIC", "-o", f"{folder}/refuse.so", "checks/c/refuse.c", "-ldl"], check=True)
-        for number in runs:
-            environment = {**os.environ, "LD_PRELOAD": f"{folder}/refuse.so", "REFUSE": str(number)}
-            done = subprocess.run([fax.FAX], input=data, env=environment, capture_output=True, check=False, timeout=600)
-            assert (done.returncode, done.stdout) in ((0, PICTURE.pbm()), (2, b"")), (number, done)
-    print(f"  {len(runs)} runs")
+                counts[f"{name} on standard input"] = refused(shim, [*words, "-f", "pbm", "-o", output], output, file)
+    print(f"  {sum(counts.values())} runs of {len(counts)} files, of up to {max(counts.values())} allocations")
 
 
 def edge_of_tiff(chance, encode):
@@ -237,50 +185,15 @@ def edge_of_pdf(chance, encode):
 
 
 def edges(count, seed):
-    """Runs so many files at the edges, each by itself and with each hundredth allocation refused: nothing is reported, and none takes more
-    than a second by the tool as it is installed."""
+    """Runs so many files at the edges."""
     chance, encode = random.Random(seed), fax.encoder()
-    return run_each(count, lambda: (edge_of_tiff if chance.random() < 0.4 else edge_of_pdf)(chance, encode), chance)
-
-
-def refused(count, seed):
-    """Runs so many mutated files, of whose allocations each hundredth is refused."""
-    chance = random.Random(seed)
-    files = seeds(fax.encoder())
-    return run_each(count, lambda: mutated_file(chance, files), chance)
-
-
-def run_each(count, made, chance):
-    forms = [[], ["-f", "png", "-p", "1"], ["-f", "tiff"], ["-f", "pdf"], ["--check"], ["-m", "2d", "-w", "61"], ["-f", "pdf", "-e", "2d"], ["-f", "pdf", "--copy"]]
-    done = 0
-    with tempfile.TemporaryDirectory() as folder:
-        tools = [wrapped(folder, with_qpdf) for with_qpdf in (False, True)[: 1 + has_qpdf()]] if has_zlib() else []
-        while done < count and tools and all(tools):
-            paths, words = [], chance.choice(forms)
-            for number in range(min(50, count - done)):
-                paths.append(f"{folder}/{number}")
-                with open(paths[-1], "wb") as out:
-                    out.write(made())
-            for each in (0, EACH):
-                told = runs_of(tools[done // 50 % len(tools)], [*words, "--", *paths], EACH=str(each))
-                wrong = [(paths[it[0] - 1], it) for it in told if it[1] not in (0, 1, 2, 3)]
-                assert not wrong, f"{words} {each}: {wrong[:5]}"
-                slow = list(fax.slow_ones(fax.FAX, [paths[it[0] - 1] for it in told if it[2] > 1000 and not each], words))
-                assert not slow, slow
-            done += len(paths)
-    return done
+    return fax.try_each(count, lambda: (edge_of_tiff if chance.random() < 0.4 else edge_of_pdf)(chance, encode), chance)
 
 
 def files_at_the_edges():
-    """Files at the edge of each allowance."""
-    print(f"  {edges(EDGES, 1)} files, none reported, none that takes more than a second")
+    """Files at the edge of each allowance end with a status that is documented, and none takes more than a second."""
+    print(f"  {edges(EDGES, 1)} files")
 
 
-def hundredth_allocations_refused():
-    """Mutated files, of whose allocations each hundredth is refused."""
-    print(f"  {refused(FILES, 1)} files, none reported")
-
-
-CHECKS = [texts_read_again_are_paid_for, an_allowance_ends_within_a_call, each_allocation_refused, library_without_memory, files_at_the_edges,
-          hundredth_allocations_refused]
-COMMANDS = {"edges": edges, "refused": refused}
+CHECKS = [texts_read_again_are_paid_for, an_allowance_ends_within_a_call, each_allocation_refused, files_at_the_edges]
+COMMANDS = {"edges": edges}

@@ -162,37 +162,33 @@ def pdfs_of_tiffs(folder, name, picture):
 PDFS = [pdfs_by_ghostscript, pdfs_of_tiffs]
 
 
-def check(makers, tools):
-    """Each file has the picture that was encoded, by each of these builds of `faxconv`, and nothing is told."""
+def check(makers):
+    """Each file has the picture that was encoded, and nothing is told."""
+    fax.encoder()
     runs, wrong = 0, []
     with tempfile.TemporaryDirectory() as folder:
         for maker, (name, picture) in itertools.product(makers, PICTURES.items()):
             for what, path, expected in maker(folder, name, picture):
                 runs += 1
-                for tool in tools:
-                    status, pictures, told = fax.run(path, tool=tool)
-                    if (status, pictures, told) != (0, expected, ""):
-                        wrong.append(f"{maker.__name__} {what}: {status} {told.strip()}{'' if pictures == expected else ' another picture'}")
+                status, pictures, told = fax.run(path)
+                if (status, pictures, told) != (0, expected, ""):
+                    wrong.append(f"{maker.__name__} {what}: {status} {told.strip()}{'' if pictures == expected else ' another picture'}")
     assert not wrong, f"{len(wrong)} of {runs}:\n" + "\n".join(wrong)
     print(f"  {runs} files")
 
 
 def tiffs_by_others():
     """TIFF files by other programs."""
-    fax.encoder()
-    check(TIFFS, [fax.FAX])
+    check(TIFFS)
 
 
 def pdfs_by_others():
-    """PDF files by other programs, by each reader of PDF."""
-    fax.encoder()
-    with tempfile.TemporaryDirectory() as folder:
-        check(PDFS, fax.by_each_reader(folder))
+    """PDF files by other programs."""
+    check(PDFS)
 
 
 def raw_by_others():
     """Raw data by netpbm and Ghostscript: the picture, and of data that nothing closes also a line."""
-    fax.encoder()
     picture, runs = PICTURES["wide"], 0
     with tempfile.TemporaryDirectory() as folder:
         with open(f"{folder}/page.ps", "wb") as out:
@@ -217,25 +213,19 @@ def raw_by_others():
 
 
 def encrypted():
-    """A file that qpdf encrypts is read with libqpdf if it opens without a password, whatever the key's length; else it is refused as
-    encrypted, as it always is without libqpdf."""
-    fax.encoder()
+    """A file that qpdf encrypts is refused as encrypted, whatever the key's length, also one that opens without a password: what decrypts it
+    is named."""
     if not has("qpdf"):
         return
     with tempfile.TemporaryDirectory() as folder:
-        tools = fax.by_each_reader(folder)
-        source = fax.pdf_of(fax_files.image(fax.PICTURE), fax.encoder()(fax.PICTURE, fax_files.G4, fax_files.BLOCK)).file()
         with open(f"{folder}/plain.pdf", "wb") as out:
-            out.write(source)
+            out.write(fax.pdf_of(fax_files.image(fax.PICTURE), fax.encoder()(fax.PICTURE, fax_files.G4, fax_files.BLOCK)).file())
         for words in (["40"], ["128", "--use-aes=n"], ["128", "--use-aes=y"], ["256"]):
             for streams, user in itertools.product(("generate", "disable"), ("", "user")):
                 assert done("qpdf", "--warning-exit-0", "--allow-weak-crypto", f"--object-streams={streams}", "--encrypt", user, "owner", *words, "--", f"{folder}/plain.pdf", f"{folder}/made.pdf")
-                for tool in tools:
-                    answer = fax.run(f"{folder}/made.pdf", tool=tool)
-                    if tool == fax.FAX and fax.has_qpdf() and not user:
-                        assert answer == (0, fax.PICTURE.pbm(), ""), (words, streams, answer)
-                    else:
-                        assert answer[:2] == (1, b"") and answer[2].endswith(": it is encrypted\n"), (tool, words, user, answer)
+                answer = fax.run(f"{folder}/made.pdf")
+                assert answer[:2] == (1, b"") and ": it is encrypted; `qpdf --decrypt IN OUT` " in answer[2], (words, user, answer)
+        assert done("qpdf", "--decrypt", f"{folder}/made.pdf", "--password=user", f"{folder}/again.pdf") and fax.run(f"{folder}/again.pdf") == (0, fax.PICTURE.pbm(), "")
 
 
 CHECKS = [tiffs_by_others, pdfs_by_others, raw_by_others, encrypted]

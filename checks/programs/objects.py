@@ -2,14 +2,13 @@
 other forms, updated, damaged, encrypted, and with too small an allowance."""
 import base64
 import random
-import struct
 import subprocess
 import tempfile
 import zlib
 
 from gate.skipped import leave_out
 from pdf import pdf_of, stream_object
-from programs.directories import MANY, Numbers, program
+from programs.directories import MANY, Numbers, said_of
 
 HEAD = ("pages", "images", "others", "unread")
 IMAGE = (
@@ -23,10 +22,7 @@ FORMS = (["--object-streams=generate"], ["--object-streams=disable", "--qdf"], [
 
 def answers(files, allowance=MANY):
     """Of each file what it has, its images with their data, and the letter of the answer."""
-    records = b"".join(struct.pack("<2I", len(of), allowance) + of for of in files)
-    done = subprocess.run([program(), "images"], input=records, capture_output=True, check=False, timeout=600)
-    assert done.returncode == 0 and not done.stderr, done.stderr[:300]
-    numbers, found = Numbers(done.stdout), []
+    numbers, found = Numbers(said_of(((of, allowance) for of in files), "images")), []
     for _ in files:
         head, images = {}, []
         while (letter := numbers.take(1).decode()) in "FAB" or (letter in "besm" and images and "data" not in images[-1]):
@@ -39,7 +35,7 @@ def answers(files, allowance=MANY):
         left = numbers.next()
         assert letter in "onxebsm" and left <= allowance and len(images) == head.get("images", 0), (letter, left, head)
         found.append((head, images, letter))
-    assert numbers.at == len(done.stdout)
+    assert numbers.at == len(numbers.data)
     return found
 
 
@@ -104,8 +100,7 @@ class Made:
 
     def page(self, number):
         """A page that shows some images, some of them in a form, and names others."""
-        # Not empty: qpdf says of empty contents that they are deflated, and then they can't be read.
-        shown, named, contents = [], [], b"q Q\n"
+        shown, named, contents = [], [], self.chance.choice((b"", b"q Q\n"))
         resources = b""
         for index in range(self.chance.choice((0, 1, 1, 2))):
             image, known = self.image()
@@ -122,6 +117,8 @@ class Made:
                 named.append(known)
         self.expected += [{"page": number, **known} for known in shown + named]
         data, head = (zlib.compress(contents), b"/Filter /FlateDecode") if self.chance.random() < 0.5 else (contents, b"")
+        # qpdf says of empty contents that they are deflated
+        head = head or b"/Filter /FlateDecode" * (not contents)
         stream = self.add(stream_object(head, data))
         return self.add(b"<< /Type /Page /Parent 2 0 R /MediaBox [0 0 9 9] /Resources << /XObject << %s>> >> /Contents %d 0 R >>" % (resources, stream))
 
@@ -188,19 +185,23 @@ def updates_and_refusals():
 
 
 def encrypted_files():
-    """An encrypted file is refused by name."""
+    """An encrypted file is refused by name. What `qpdf --decrypt` makes of it has the images of the file that was encrypted."""
+    data, pages, expected = Made(random.Random(3)).file()
     with tempfile.TemporaryDirectory() as folder:
-        with open(f"{folder}/made.pdf", "wb") as file:
-            file.write(Made(random.Random(3)).file()[0])
+        plain, closed, opened = (f"{folder}/{name}.pdf" for name in ("made", "closed", "opened"))
+        with open(plain, "wb") as file:
+            file.write(data)
         for bits, more in ((128, ["--use-aes=y"]), (256, [])):
-            words = ["qpdf", "--encrypt", "", "owner", str(bits), *more, "--", f"{folder}/made.pdf", f"{folder}/closed.pdf"]
             try:
-                subprocess.run(words, check=True, capture_output=True)
+                subprocess.run(["qpdf", "--encrypt", "", "owner", str(bits), *more, "--", plain, closed], check=True, capture_output=True)
             except FileNotFoundError:
                 leave_out("encrypted files", "qpdf")
                 return
-            with open(f"{folder}/closed.pdf", "rb") as file:
-                assert answers([file.read()])[0][2] == "x"
+            subprocess.run(["qpdf", "--decrypt", closed, opened], check=True, capture_output=True)
+            with open(closed, "rb") as file, open(opened, "rb") as again:
+                refused, read = answers([file.read(), again.read()])
+            assert refused[2] == "x"
+            assert_images(read, pages, expected, (bits, "decrypted"))
 
 
 CHECKS = [images_of_made_files, written_anew, updates_and_refusals, encrypted_files]

@@ -11,7 +11,7 @@ from c import encoder
 from c.encoder import pbm
 from gate.built import preload, refused_in_turn
 from gate.skipped import leave_out
-from pdf import pdf_of, stream_object
+from pdf import pdf_of_images
 from programs import program
 
 PROGRAM = os.path.abspath("crates/faxpack/out/faxpack")
@@ -319,16 +319,9 @@ def pdf_settings(words, columns, rows, black_is_1):
 
 
 def pdf_of_strips(strips, black_is_1):
-    """A PDF file with a page that paints each strip as an image. The image with index n is object n + 4."""
-    names = " ".join(f"/I{index} {index + 4} 0 R" for index in range(len(strips)))
-    page = f"/MediaBox [0 0 100 100] /Contents {len(strips) + 4} 0 R /Resources << /XObject << {names} >> >>"
-    objects = [b"<< /Type /Catalog /Pages 2 0 R >>", b"<< /Type /Pages /Kids [3 0 R] /Count 1 >>", f"<< /Type /Page /Parent 2 0 R {page} >>".encode()]
-    for columns, bitmap, words, strip in strips:
-        rows = rows_of(columns, bitmap)
-        head = f"/Type /XObject /Subtype /Image /Width {columns} /Height {rows} /ColorSpace /DeviceGray /BitsPerComponent 1"
-        objects.append(stream_object(f"{head} /Filter /CCITTFaxDecode /DecodeParms << {pdf_settings(words, columns, rows, black_is_1)} >>".encode(), strip))
-    painted = "\n".join(f"q 9 0 0 9 0 0 cm /I{index} Do Q" for index in range(len(strips)))
-    return pdf_of([*objects, stream_object(b"", painted.encode())])
+    """A PDF file with a page that paints each strip."""
+    sizes = [(columns, rows_of(columns, bitmap)) for columns, bitmap, _, _ in strips]
+    return pdf_of_images([(*size, pdf_settings(words, *size, black_is_1), strip) for size, (_, _, words, strip) in zip(sizes, strips)])
 
 
 DECODE = """/buffer 65536 string def

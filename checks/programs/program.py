@@ -121,41 +121,41 @@ def known_cases(each=1):
     print(f"  {seen} cases, each in both orders of bits")
 
 
-# Arguments and data, what the program writes, and its status: 0 for ok, 1 for a fault of the data, 2 for invalid arguments.
+# Each way to run: arguments and data, what is written, to standard error too, and the status: 0 for ok, 1 for a fault of the data. What else
+# each way writes is tested in crates/test_faxrows.
 RUNS = [
-    ("g4 8 1 -", "31C0", b"r 3 5\nok 2\n", 0),
-    ("g4 0000000008 1 -", "31C0", b"r 3 5\nok 2\n", 0),
-    ("g4 0 0 -", "31C0", b"ok 0\n", 0),
-    ("g4 8 0 -", "80", b"r\nerror: invalid CCITT code sequence\n", 1),
-    ("1d 8 0 l", "0019800C700033", b"r\nr 3 5\nr\nok 7\n", 0),
-    ("1d 8 0 s", "001980", b"r\nerror: invalid CCITT code sequence\n", 1),
-    ("2d 8 1 sal", "CC", b"r\nok 1\n", 0),
-    ("g4 8 1 r", "8C03", b"r 3 5\nok 2\n", 0),
-    ("g4 8 1 r", "31C0", b"r\nok 1\n", 0),
-    ("g4 8 1 -", "8C03", b"r\nok 1\n", 0),
-    ("1d 8 0 sr", "009801", b"r\nerror: invalid CCITT code sequence\n", 1),
-    ("g4 8 1 rr", "8C03", b"", 2),
-    ("g4 8 1 rbr", "8C03", b"", 2),
-    ("g4 8 1 R", "8C03", b"", 2),
-    ("", "31C0", b"", 2),
-    ("g4 8 1", "31C0", b"", 2),
-    ("g4 8 1 - -", "31C0", b"", 2),
-    ("g4 8 1 bb", "31C0", b"", 2),
-    ("3d 8 1 -", "31C0", b"", 2),
-    ("g4 00000000008 1 -", "31C0", b"", 2),
-    ("g4 4294967296 1 -", "31C0", b"", 2),
+    ("g4 8 1 -", "31C0", b"r 3 5\nok 2\n", b"", 0),
+    ("g4 8 0 -", "80", b"r\nerror: invalid CCITT code sequence\n", b"", 1),
+    ("-o g4 8 0 b", "31C0040040", b"\x18", b"", 0),
+    ("-o g4 8 1 r", "8C03", b"\x18", b"", 0),
+    ("-o g4 8 0 -", "80", b"\x00", b"faxrows: invalid CCITT code sequence\n", 1),
+    ("-d 1d 8 2 l", "0019F800CC", b"missed 0 17\nok 2 0 5\n", b"", 0),
+    ("-d g4 8 0 -", "31C000", b"error 1 10 invalid CCITT code sequence\n", b"", 1),
+    # A thousand EOLs with a line of four ones after each, the last of which is cut and read again.
+    ("-d 1d 8 0 l", "001F" * 1000, b"".join(b"damaged %d %d invalid CCITT code sequence\n" % (row, 12 + 16 * row) for row in range(999))
+     + b"damaged 999 15996 unexpected end of input\nerror 1000 15996 unexpected end of input\n", b"", 1),
+    ("-c g4 8 0 br", "8C03200002", b"ok\n", b"", 0),
+    # Five EOLs in place of RTC.
+    ("-c 1d 8 0 b", "00198008008008008008", b"violation 29 a run is expected (T.4, 4.1.1)\n", b"", 1),
+    ("-p 2d 8 3 - 4294967295", "CDCC", b"ok\n", b"", 0),
+    ("-p 2d 8 3 l", "001400500140", b"violation 12 a two-dimensional line where none may be (T.4, 4.2.1)\n", b"", 1),
+    ("-p g4 8 0 b", "31C004004000", b"violation 34 not the end that the coding procedure writes (T.4, 4.1.4; T.6, 2.4.1.1)\n", b"", 1),
 ]
+# Arguments that mean nothing. The last ones have another K than there is.
+BAD = """
+g4 8 1|g4 8 1 - -|g4 8 1 rbr|3d 8 1 -|g4 00000000008 1 -|g4 4294967296 1 -|-i|-i -i g4 8 1 -|-i -o g4 8 1 -|-o -i g4 8 1 -|-i --help|--help -i
+--version -i|-o|-o g4 8 1 rr|-o -o g4 8 1 -|-d|-d -i g4 8 1 -|-i -d g4 8 1 -|-d g4 8 1 -d|-c|-c -d g4 8 1 -|-d -c g4 8 1 -|-c g4 8 1 -c|-c --help
+-p|-p -c 2d 8 3 -|-p 2d 8 3 - 0|-p 2d 8 3 - x|-p 2d 8 3 - 4294967296|-p 2d 8 3 - 2 2|-p 2d 8 3 2|-c 2d 8 3 - 2
+"""
 
 
-def statuses():
-    for words, data, text, status in RUNS:
+def each_way():
+    bad = [(words, "31C0", b"", b"faxrows: bad arguments\n", 2) for words in ["", *BAD.strip().replace("\n", "|").split("|")]]
+    for words, data, text, error, status in RUNS + bad:
         done = run(words.split(), bytes.fromhex(data))
-        error = b"faxrows: bad arguments\n" if status == 2 else b""
         assert (done.returncode, done.stdout, done.stderr) == (status, text, error), (words, done)
-        assert_same_by_row(words.split(), bytes.fromhex(data), done)
-    for words in ("-i", "-i -i g4 8 1 -", "-i -o g4 8 1 -", "-o -i g4 8 1 -", "-i --help", "--help -i", "--version -i"):
-        done = run(words.split(), bytes.fromhex("31C0"))
-        assert (done.returncode, done.stdout, done.stderr) == (2, b"", b"faxrows: bad arguments\n"), (words, done)
+        if not words.startswith("-"):
+            assert_same_by_row(words.split(), bytes.fromhex(data), done)
 
 
 USAGE = """\
@@ -198,117 +198,6 @@ def words_alone():
         for word in ("--help", "--version"):
             done = subprocess.run([PROGRAM, word], stdout=full, stderr=subprocess.PIPE, timeout=60, check=False)
             assert (done.returncode, done.stderr) == (3, b"faxrows: cannot write\n"), done
-
-
-# Arguments after `-o` and data, the bytes that the program writes, its standard error, and its status.
-BITMAPS = [
-    ("-o g4 8 0 b", "31C0040040", b"\x18", b"", 0),
-    ("-o g4 8 0 -", "80", b"\x00", b"faxrows: invalid CCITT code sequence\n", 1),
-    ("-o g4 8 1 r", "8C03", b"\x18", b"", 0),
-    ("-o g4 8 1 r", "31C0", b"\x00", b"", 0),
-    ("-o g4 8 1 rr", "8C03", b"", b"faxrows: bad arguments\n", 2),
-    ("-o", "31C0", b"", b"faxrows: bad arguments\n", 2),
-    ("-o -o g4 8 1 -", "31C0", b"", b"faxrows: bad arguments\n", 2),
-]
-
-
-def bitmaps():
-    for words, data, text, error, status in BITMAPS:
-        done = run(words.split(), bytes.fromhex(data))
-        assert (done.returncode, done.stdout, done.stderr) == (status, text, error), (words, done)
-
-
-INVALID, CUT = "invalid CCITT code sequence", "unexpected end of input"
-# Arguments after `-d` and data, the lines that the program writes, and its status: data without damage; an EOL that is missed, also
-# before a fault, before RTC and after a damaged line; a run that is cut; in a strict reading the EOL that is missing at 17; a damaged
-# second line, which begins after its EOL at 17 to 29; the same in a strict reading; a tag that is missing; a fault where nothing is
-# repaired; and a thousand EOLs with a line of four ones after each, the last of which is cut and read again.
-DAMAGE = [
-    ("g4 8 1 -", "31C0", ["ok 1 0 2"], 0),
-    ("g4 8 1 r", "8C03", ["ok 1 0 2"], 0),
-    ("1d 8 2 l", "0019F800CC", ["missed 0 17", "ok 2 0 5"], 0),
-    ("1d 8 0 l", "0019CC", ["missed 0 17", f"error 2 22 {CUT}"], 1),
-    ("1d 8 0 lb", "0019C0040040040040040040", ["missed 0 17", "ok 1 0 12"], 0),
-    ("1d 8 4 l", "0019800C400033800CC0", [f"damaged 1 29 {INVALID}", "missed 2 56", "ok 4 1 10"], 0),
-    ("1d 8 1 l", "001380", ["cut 0 12", "ok 1 0 3"], 0),
-    ("1d 8 0 sl", "0019CC", [f"error 1 17 {INVALID}"], 1),
-    ("1d 8 0 l", "0019800C400033", [f"damaged 1 29 {INVALID}", "ok 3 1 7"], 0),
-    ("1d 8 0 sl", "0019800C400033", [f"error 1 29 {INVALID}"], 1),
-    ("2d 8 0 l", "", [f"damaged 0 0 {CUT}", "ok 1 1 0"], 0),
-    ("g4 8 0 -", "31C000", [f"error 1 10 {INVALID}"], 1),
-    (
-        "1d 8 0 l",
-        "001F" * 1000,
-        [
-            *[f"damaged {row} {12 + 16 * row} {INVALID}" for row in range(999)],
-            *[f"damaged 999 15996 {CUT}", f"error 1000 15996 {CUT}"],
-        ],
-        1,
-    ),
-]
-
-
-def damage():
-    for words, data, lines, status in DAMAGE:
-        done = run(["-d", *words.split()], bytes.fromhex(data))
-        assert (done.returncode, done.stdout.decode().splitlines(), done.stderr) == (status, lines, b""), (words, done)
-    for words in ("-d", "-d -i g4 8 1 -", "-i -d g4 8 1 -", "-d g4 8 1 -d"):
-        done = run(words.split(), bytes.fromhex("31C0"))
-        assert (done.returncode, done.stdout, done.stderr) == (2, b"", b"faxrows: bad arguments\n"), (words, done)
-
-
-MODE, RUN = "a mode is expected (T.4, 4.2.1.3)", "a run is expected (T.4, 4.1.1)"
-# Arguments after `-c` and `-p`, data that is readable, and the line that `-p` writes: a run of 128 as 64 + 64 + 0 (T.4, 4.1.1),
-# horizontal mode in place of V0 (T.6, 2.2.5), no one-dimensional line first, and none among three (T.4, 4.2.1), fill before the first EOL
-# and in RTC (T.4, 4.1.3 and 4.1.4).
-CHOSEN = [
-    ("1d 128 1 -", "DECD40", "violation 0 not what the procedure writes (T.4, 4.1.1 and 4.2.1.3)"),
-    ("g4 8 1 -", "330DC0", "violation 0 not what the procedure writes (T.4, 4.1.1 and 4.2.1.3)"),
-    ("2d 8 1 -", "40", "violation 0 a two-dimensional line where none may be (T.4, 4.2.1)"),
-    ("2d 8 3 l", "001400500140", "violation 12 a two-dimensional line where none may be (T.4, 4.2.1)"),
-    ("1d 8 0 b", "000330001000100010001000100010", "violation 0 fill where none may be (T.4, 4.1.3 and 4.1.4)"),
-]
-# Arguments after `-c` and data, the line that the program writes, and its status: EOFB closes it, in either order, and with `s`, which
-# has no effect; the row limit closes it, and what follows is ignored; nothing closes it; pass mode to the end of a row of one pixel,
-# which is read strictly without a fault; five EOLs in place of RTC; and nothing at all.
-CHECKED = [
-    ("g4 8 0 b", "31C0040040", "ok", 0),
-    ("g4 8 0 br", "8C03200002", "ok", 0),
-    ("g4 8 0 bs", "31C0040040", "ok", 0),
-    ("g4 8 1 -", "31C0FF", "ok", 0),
-    ("g4 8 0 -", "31C0", f"violation 10 {MODE}", 1),
-    ("g4 1 0 b", "10010010", "violation 0 pass mode to the row's end (T.4, 4.2.1.3.2)", 1),
-    ("1d 8 0 b", "00198008008008008008", f"violation 29 {RUN}", 1),
-    ("1d 8 1 -", "", f"violation 0 {RUN}", 1),
-    # What T.4 and T.6 prescribe to an encoder, and no decoder can tell from the rows, isn't checked.
-    *[(words, data, "ok", 0) for words, data, _ in CHOSEN],
-]
-# Arguments after `-p`, data and the line: those choices; what `-c` reports is reported first; any K, and 3 and 2 where two lines follow a
-# one-dimensional one; what follows the last row or EOFB, and none where it is asked for.
-BY_PROCEDURE = [
-    *CHOSEN,
-    ("g4 8 0 b", "31C0040040", "ok"),
-    ("g4 8 2 -", "330DC0", f"violation 18 {MODE}"),
-    ("2d 8 3 -", "CD40", "ok"),
-    ("2d 8 3 - 3", "CD40", "ok"),
-    ("2d 8 3 - 2", "CD40", "violation 8 a two-dimensional line where none may be (T.4, 4.2.1)"),
-    ("2d 8 3 - 2", "CDCC", "ok"),
-    ("2d 8 3 - 4294967295", "CDCC", "ok"),
-    ("g4 8 1 -", "31C0FF", "violation 10 not the end that the procedure writes (T.4, 4.1.4; T.6, 2.4.1.1)"),
-    ("g4 8 1 b", "31C0", "violation 10 not the end that the procedure writes (T.4, 4.1.4; T.6, 2.4.1.1)"),
-    ("g4 8 0 b", "31C004004000", "violation 34 not the end that the procedure writes (T.4, 4.1.4; T.6, 2.4.1.1)"),
-]
-
-
-def conforming():
-    checked = [("-p", words, data, line, int(line != "ok")) for words, data, line in BY_PROCEDURE]
-    for option, words, data, line, status in [*[("-c", *it) for it in CHECKED], *checked]:
-        done = run([option, *words.split()], bytes.fromhex(data))
-        assert (done.returncode, done.stdout.decode(), done.stderr) == (status, f"{line}\n", b""), (option, words, done)
-    of_k = ("-p 2d 8 3 - 0", "-p 2d 8 3 - x", "-p 2d 8 3 - 4294967296", "-p 2d 8 3 - 2 2", "-p 2d 8 3 2", "-c 2d 8 3 - 2", "-p -c 2d 8 3 -")
-    for words in ("-c", "-c -d g4 8 1 -", "-d -c g4 8 1 -", "-c g4 8 1 -c", "-c --help", "-p", *of_k):
-        done = run(words.split(), bytes.fromhex("31C0"))
-        assert (done.returncode, done.stdout, done.stderr) == (2, b"", b"faxrows: bad arguments\n"), (words, done)
 
 
 def conforming_strips(each=1):
@@ -406,16 +295,4 @@ def refused_memory():
             print(f"  {words}: {len(answers)} allocations refused in turn, {len(expected)} answers")
 
 
-CHECKS = [
-    real_strips,
-    known_cases,
-    statuses,
-    words_alone,
-    bitmaps,
-    damage,
-    conforming,
-    conforming_strips,
-    rows_of_an_open_pipe,
-    closed_streams,
-    refused_memory,
-]
+CHECKS = [real_strips, known_cases, each_way, words_alone, conforming_strips, rows_of_an_open_pipe, closed_streams, refused_memory]

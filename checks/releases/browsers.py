@@ -1,4 +1,5 @@
-"""The package for JavaScript in browsers, without a window: the strips of the corpus in a page and in a worker, as they are on a canvas."""
+"""The package for JavaScript in browsers, without a window: the strips of the corpus in a page and in a worker, as they are on a canvas. And
+in pdf.js, in place of its own decoder, by examples/pdfjs."""
 import hashlib
 import http.server
 import json
@@ -12,11 +13,13 @@ import tempfile
 import threading
 
 from gate.skipped import leave_out
+from pdf import pdf_of_images
 
 sys.path.insert(0, os.path.abspath("release"))
 import javascript as package  # noqa: E402
 
 ERASED = os.path.abspath("build/hayro-ccitt")
+BUILT = os.path.abspath("build/checked/web")
 # What each browser is called with, so that it opens an address without a window, and keeps its files in a folder.
 BROWSERS = {
     "chromium": ["--headless", "--no-sandbox", "--disable-gpu", "--no-first-run", "--user-data-dir={}"],
@@ -28,7 +31,17 @@ MOST_PIXELS = 1 << 20
 POLICY = "default-src 'self'; script-src 'self' 'wasm-unsafe-eval'"
 PAGE = '<!doctype html><meta charset="utf-8"><script type="module" src="in_browser.js"></script>'
 SECONDS = 300
+# Where Debian's libjs-pdf is, and the strip that this pdf.js reads wrong.
+PDFJS = "/usr/share/javascript/pdf/build"
+MISREAD = "corpus/strips/syn-w8/mg-1d-a"
 MODES = {"g4": -1, "1d": 0, "2d": 1}
+
+
+def made():
+    """The folder of the package, made of the sources."""
+    subprocess.run([sys.executable, "release/erased/erase.py", ERASED], check=True)
+    package.make(ERASED, f"{BUILT}/package")
+    return f"{BUILT}/package"
 
 
 def cases():
@@ -45,7 +58,7 @@ def cases():
             packed = file.read()[first * width : (first + rows) * width]
         keys = {"endOfBlock": "b", "endOfLine": "l", "encodedByteAlign": "a", "strict": "s", "lowFirst": "r"}
         meant = {"columns": columns, "rows": int(limit), "k": MODES[mode], "blackIs1": True, **{key: letter in flags for key, letter in keys.items()}}
-        found.append({"file": f"corpus/{path}", "settings": meant, "picture": hashlib.sha256(packed).hexdigest()})
+        found.append({"file": f"corpus/{path}", "rows": rows, "settings": meant, "picture": hashlib.sha256(packed).hexdigest()})
     return found
 
 
@@ -97,8 +110,7 @@ def in_browsers():
         leave_out("the package for JavaScript in a browser", ", ".join(missing))
         return
     with tempfile.TemporaryDirectory() as folder:
-        subprocess.run([sys.executable, "release/erased/erase.py", ERASED], check=True)
-        package.make(ERASED, f"{folder}/package")
+        shutil.copytree(made(), f"{folder}/package")
         shutil.copy(f"{package.SOURCES}/test/in_browser.js", folder)
         shutil.copytree("corpus", f"{folder}/corpus")
         known = cases()
@@ -111,4 +123,27 @@ def in_browsers():
     print(f"  {len(known)} strips in {' and '.join(browsers)}")
 
 
-CHECKS = [in_browsers]
+def in_pdfjs():
+    """pdf.js has the same images by this decoder as by its own, but of the strip that it reads wrong."""
+    missing = package.lacking() + ([] if shutil.which("node") else ["node"]) + ([] if os.path.exists(PDFJS) else ["libjs-pdf"])
+    if missing:
+        leave_out("this decoder in pdf.js", ", ".join(missing))
+        return
+    with tempfile.TemporaryDirectory() as folder:
+        shutil.copytree("examples/pdfjs", folder, dirs_exist_ok=True)
+        shutil.copytree(made(), f"{folder}/node_modules/hayro-ccitt")
+        names = {}
+        for number, it in enumerate(it for it in cases() if not it["settings"]["lowFirst"] and not it["settings"]["strict"]):
+            with open(it["file"], "rb") as strip, open(f"{folder}/{number}.pdf", "wb") as file:
+                keys = {key: it["settings"][key] for key in ("k", "columns", "rows", "blackIs1", "endOfBlock", "endOfLine", "encodedByteAlign")}
+                parameters = " ".join(f"/{key[0].upper()}{key[1:]} {str(value).lower()}" for key, value in keys.items())
+                file.write(pdf_of_images([(keys["columns"], it["rows"], parameters, strip.read())]))
+            names[f"{number}.pdf"] = it["file"]
+        told = subprocess.run(["node", "compare.mjs", PDFJS, *names], cwd=folder, capture_output=True, text=True, check=True).stdout
+        found = dict(re.findall(r"^(\S+): 1 images, (the same|OTHERS),", told, re.MULTILINE))
+    others = {names[name] for name, says in found.items() if says == "OTHERS"}
+    assert len(found) == len(names) > 100 and others == {MISREAD}, (len(found), others)
+    print(f"  {len(found)} strips in pdf.js")
+
+
+CHECKS = [in_browsers, in_pdfjs]

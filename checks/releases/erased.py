@@ -113,28 +113,29 @@ def lines_of_code(folder):
 
 
 def the_package_is_clean():
-    """It has at most 350 lines of code by hand, each file says where it comes from, and rustfmt, clippy and rustdoc find nothing, with
+    """It has at most 570 lines of code by hand, and what reads files 370, each file says where it comes from, and rustfmt, clippy and rustdoc find nothing, with
     and without std."""
     if lacks_tools("the erased package"):
         return
     make_package()
-    by_hand = sum(1 for _ in lines_of_code("release/erased"))
-    assert by_hand <= 350, by_hand
+    of_files = sum(1 for _ in lines_of_code("release/erased/files"))
+    by_hand = sum(1 for _ in lines_of_code("release/erased")) - of_files
+    assert by_hand <= 570 and of_files <= 370, (by_hand, of_files)
     files = 0
-    for folder, _, names in (found for of in ("src", "c/src", "programs/src") for found in os.walk(f"{PACKAGE}/{of}")):
+    for folder, _, names in (found for of in ("src", "c/src", "files/src", "programs/src") for found in os.walk(f"{PACKAGE}/{of}")):
         for name in names:
             with open(f"{folder}/{name}", encoding="utf-8") as file:
                 first = file.readline()
             assert re.match(r"// (crates|bindings|release)/\S+\.(rs|rt)[ ,]", first), (name, first)
             files += 1
-    run("rustfmt", "--check", "--edition", "2024", "src/lib.rs", "programs/src/lib.rs", cwd=PACKAGE)
+    run("rustfmt", "--check", "--edition", "2024", "src/lib.rs", "files/src/lib.rs", "programs/src/lib.rs", cwd=PACKAGE)
     if shutil.which("cargo-clippy"):
         for more in ([], ["--all-features", "--all-targets"]):
             run("cargo", "clippy", "-q", "--offline", *more, "--", "-D", "warnings", cwd=PACKAGE)
-        for beside in ("c", "programs"):
+        for beside in ("c", "files", "programs"):
             run("cargo", "clippy", "-q", "--offline", "--all-features", "--", "-D", "warnings", cwd=f"{PACKAGE}/{beside}")
     run("cargo", "doc", "-q", "--offline", "--all-features", cwd=PACKAGE, RUSTDOCFLAGS="-D warnings")
-    print(f"  {files} files, {by_hand} lines of code by hand")
+    print(f"  {files} files, {by_hand} lines of code by hand, and {of_files} of what reads files")
 
 
 def one_suite_of_tests():

@@ -45,8 +45,7 @@ def check(folder, *checks):
 
 # Those that take short data, and each stream and each allocation that fails.
 EACH = [
-    *(program.statuses, program.words_alone, program.bitmaps, program.damage, program.conforming),
-    *(program.rows_of_an_open_pipe, program.refused_memory),
+    *(program.each_way, program.words_alone, program.rows_of_an_open_pipe, program.refused_memory),
     *(devices.writes_in_pieces, devices.real_signals, packing.packing_cases, packing.packing_without_memory),
 ]
 

@@ -189,6 +189,7 @@ def versions_agree(version):
     for program in ("faxrows", "faxpack"):
         with open(f"crates/{program}/src/main.rt", encoding="utf-8") as file:
             assert f'const VERSION: &str = "{program} {version}";\n' in file.read(), version
+    assert f'const VERSION: &str = "{version}";\n' in Path("crates/faxconv/src/main.rt").read_text(encoding="utf-8"), version
     for name in sorted(Path("man").iterdir()):
         assert f'"hayro_ccitt {version}"' in name.read_text(encoding="utf-8"), name
     assert f'__version__ = "{version}"\n' in Path("bindings/python/hayro_ccitt/__init__.py").read_text(encoding="utf-8"), version

@@ -24,8 +24,8 @@ ERASED = os.path.abspath("build/hayro-ccitt")
 # What cargo builds for these checks, kept from one run to the next.
 BUILT = os.path.abspath("build/checked/javascript")
 TESTS = f"{package.SOURCES}/test"
-# The size that the module may have, compressed.
-MOST_BYTES = 80_000
+# The sizes that the modules may have, compressed, by the folders of their packages.
+MOST_BYTES = {"c": 71_000, "files": 69_000}
 SEED, COUNT = 84, 20_000
 # The module with overflow checks, whose allocator is that of test/heap.js. Std is that of the other one.
 ASSERTED = [f"profile.release.package.{name}.{it}=true" for name in ("hayro-ccitt", "hayro-ccitt-c") for it in ("overflow-checks", "debug-assertions")]
@@ -51,15 +51,15 @@ def run(*words, **more):
 def made(folder):
     """The folders of the package, unpacked of its tarball, and of that with the other module."""
     run(sys.executable, "release/erased/erase.py", ERASED)
-    module = shutil.copy(package.module_of(ERASED, BUILT), folder)
-    version = package.version()
-    name, data = release.javascript_package(module, version, "made for a check\n", 0)
+    for it in package.MODULES:
+        shutil.copy(package.module_of(ERASED, BUILT, package=it), folder)
+    name, data = release.javascript_package(folder, package.version(), "made for a check\n", 0)
     with open(f"{folder}/{name}", "wb") as file:
         file.write(data)
     run("tar", "xzf", name, cwd=folder)
     released, checked = f"{folder}/package", f"{folder}/checked"
     shutil.copytree(released, checked)
-    shutil.copy(package.module_of(ERASED, BUILT, *CHECKED, linked=["--allow-undefined"]), f"{checked}/{package.MODULE}")
+    shutil.copy(package.module_of(ERASED, BUILT, *CHECKED, linked=["--allow-undefined"]), f"{checked}/{package.MODULES['c']}")
     shutil.copy(f"{TESTS}/heap.js", f"{checked}/module.js")
     return released, checked
 
@@ -190,21 +190,23 @@ def is_as_npm_packs_it(folder):
 
 
 def tests_under_node():
-    """The tests pass over the package as it is released, whose module is small and imports nothing, and over that with overflow checks
+    """The tests pass over the package as it is released, whose modules are small and import nothing, and over that with overflow checks
     and a heap of its own."""
     if lacks("the package for JavaScript"):
         return
     c_library.build()
     with tempfile.TemporaryDirectory() as folder:
         released, checked = made(folder)
-        with open(f"{released}/{package.MODULE}", "rb") as file:
-            size = len(gzip.compress(file.read(), 9))
-        assert size <= MOST_BYTES, size
+        sizes = {}
+        for it, module in package.MODULES.items():
+            with open(f"{released}/{module}", "rb") as file:
+                sizes[module] = len(gzip.compress(file.read(), 9))
+            assert sizes[module] <= MOST_BYTES[it], sizes
         is_as_npm_packs_it(folder)
         write_cases(f"{folder}/cases")
         counts = [tested(released, f"{folder}/cases"), tested(checked, f"{folder}/cases", HEAP="1")]
     assert counts[0] > 20 and counts[1] > counts[0], counts
-    print(f"  {' and '.join(map(str, counts))} tests, {COUNT} cases; the module has {size} bytes, compressed")
+    print(f"  {' and '.join(map(str, counts))} tests, {COUNT} cases; compressed the modules have {' and '.join(map(str, sizes.values()))} bytes")
 
 
 CHECKS = [tests_under_node]

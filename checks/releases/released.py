@@ -21,7 +21,7 @@ sys.path.insert(0, os.path.abspath("release"))
 import assembly  # noqa: E402
 
 # What the kit proves and compiles: it is copied, and not proved again.
-PROVED = ["hayro_ccitt_c/out/libhayro_ccitt_c.a", "faxrows/out/faxrows", "faxpack/out/faxpack"]
+PROVED = ["hayro_ccitt_c/out/libhayro_ccitt_c.a", *(f"{name}/out/{name}" for name in ("faxrows", "faxpack", "faxconv"))]
 TOOLS = ["make", "cc", "objcopy", "objdump", "strip", "dpkg-deb", "tar", "rustfmt", "lintian"]
 # A path without `rt`.
 PATH = "/usr/sbin:/usr/bin:/sbin:/bin"
@@ -36,18 +36,27 @@ IN_PYTHON = (
 # Of each package the command that installs it, which is the README's, and the one that decodes a page.
 TARBALL = ("tar xzf hayro_ccitt-*-linux-x86_64.tar.gz", f"hayro_ccitt-*-linux-x86_64/bin/{DECODE}")
 DEB = ("apt-get install ./hayro-ccitt_*.deb", DECODE)
-SOURCE = ("tar xzf hayro_ccitt-*-src.tar.gz && make -C hayro_ccitt-*-src install PREFIX=$HOME/.local", f"$HOME/.local/bin/{DECODE}")
+SOURCE = ("tar xzf hayro_ccitt-*-src.tar.gz && make -C hayro_ccitt-*-src install PREFIX=$HOME/.local", "hayro_ccitt-*-src/build/strip_to_pbm g4 1240 1754 b < strip > page.pbm")
 WHEEL = ("python3 -m pip install hayro_ccitt-*.whl", IN_PYTHON)
+PYTHON_SOURCE = ("python3 -m pip install hayro_ccitt-?.?.?.tar.gz", IN_PYTHON)
 CRATE = (
     "tar xzf hayro-ccitt-0.5.0.crate",
     "cd hayro-ccitt-0.5.0/ && cargo run -q --offline --release --example strip_to_pbm -- g4 1240 1754 b < ../strip > ../page.pbm",
 )
 PROVED_CRATE = tuple(command.replace("hayro-ccitt-", "hayro-ccitt-proved-") for command in CRATE)
-PACKAGES = {"tarball": TARBALL, "deb": DEB, "source": SOURCE, "wheel": WHEEL, "crate": CRATE, "proved-crate": PROVED_CRATE}
+PACKAGES = {
+    **{"tarball": TARBALL, "deb": DEB, "source": SOURCE},
+    **{"wheel": WHEEL, "python-source": PYTHON_SOURCE, "crate": CRATE, "proved-crate": PROVED_CRATE},
+}
+# Those that cargo builds.
+BY_CARGO = ("crate", "proved-crate", "python-source")
 # Here nothing is installed into the system.
 INSTEAD = {
     "deb": ("dpkg-deb -x hayro-ccitt_*.deb root", f"LD_LIBRARY_PATH=root/usr/lib/x86_64-linux-gnu root/usr/bin/{DECODE}"),
-    "wheel": (f"{WHEEL[0].replace('install', 'install -q --no-index --target site')}", f"PYTHONPATH=site {WHEEL[1]}"),
+    **{
+        name: (installs.replace("install", "install -q --no-index --target site"), f"PYTHONPATH=site {decodes}")
+        for name, (installs, decodes) in {"wheel": WHEEL, "python-source": PYTHON_SOURCE}.items()
+    },
 }
 
 
@@ -251,11 +260,12 @@ def packages_where_the_kit_is_not():
     if toolchain():
         environment["PATH"] += f":{toolchain()}/bin"
     else:
-        del chosen["crate"], chosen["proved-crate"]
-        leave_out("the Cargo packages of a release", "cargo")
+        chosen = {name: commands for name, commands in chosen.items() if name not in BY_CARGO}
+        leave_out("the packages of a release that cargo builds", "cargo")
     if subprocess.run("python3 -m pip --version", shell=True, env=environment, capture_output=True, check=False).returncode != 0:
         del chosen["wheel"]
-        leave_out("the wheel", "pip")
+        chosen.pop("python-source", None)
+        leave_out("the packages for Python", "pip")
     with tempfile.TemporaryDirectory() as folder, ThreadPoolExecutor(4) as pool:
         packages, others = pool.map(made, [f"{folder}/one", f"{folder}/another/folder"])
         are_the_same(packages, others)

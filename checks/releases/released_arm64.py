@@ -23,7 +23,7 @@ import release  # noqa: E402
 WHAT = "the packages for ARM64"
 TARGET = release.TARGETS[arm64.TARGET]
 NAMES = ("tarball", "deb", "wheel")
-INCLUDED = "zlib1g-dev,python3-pip,python3-pytest"
+INCLUDED = "python3-pip,python3-pytest"
 
 
 def root():
@@ -65,11 +65,9 @@ def lacking():
     return missing
 
 
-def environment(kept, folder):
-    """Where the compilers find zlib and Rust's std for ARM64."""
-    os.makedirs(f"{folder}/zlib")
-    shutil.copy(glob.glob(f"{kept}/usr/lib/{TARGET.triplet}/libz.so.1.*")[0], f"{folder}/zlib/libz.so")
-    return {**os.environ, **erased_programs.rust_for(arm64.TARGET), "LDFLAGS": f"-L{folder}/zlib"}
+def environment():
+    """Where cargo finds Rust's std for ARM64."""
+    return {**os.environ, **erased_programs.rust_for(arm64.TARGET)}
 
 
 def is_for_arm64(folder):
@@ -156,7 +154,7 @@ def packages_for_arm64():
         return
     emulated = ["qemu-aarch64", "-L", kept]
     with tempfile.TemporaryDirectory() as folder:
-        packages = released.made(f"{folder}/made", arm64.TARGET, environment(kept, folder))
+        packages = released.made(f"{folder}/made", arm64.TARGET, environment())
         assert len(os.listdir(packages)) == len(NAMES) + 1
         run(["sha256sum", "--quiet", "-c", "SHA256SUMS"], cwd=packages)
         systems.says_what_it_needs(packages, f"{folder}/unpacked", TARGET.machine, NAMES)

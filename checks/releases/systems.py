@@ -15,7 +15,7 @@ from concurrent.futures import ThreadPoolExecutor
 from c import c_library
 from gate.skipped import leave_out
 from releases.installed import first_program
-from releases.released import IN_PYTHON, PACKAGES, filled, is_the_page, made, run, toolchain
+from releases.released import BY_CARGO, IN_PYTHON, PACKAGES, filled, is_the_page, made, run, toolchain
 
 DEBIANS = {"11": "bullseye", "12": "bookworm", "13": "trixie"}
 MIRROR = "http://deb.debian.org/debian"
@@ -69,7 +69,7 @@ def built(compiler, folder):
     os.symlink("libhayro_ccitt.so", f"{folder}/build/{soname}")
     told = run(f"{compiler} first.c -Ic -Lbuild -lhayro_ccitt -Wl,-rpath,$PWD/build -o first && ./first", cwd=folder)
     assert told == "18\n", (compiler, told)
-    run("build/faxconv -m g4 -w 1240 -r 1754 ../strip > page.pbm", cwd=folder)
+    run("build/strip_to_pbm g4 1240 1754 b < ../strip > page.pbm", cwd=folder)
     is_the_page(f"{folder}/page.pbm", compiler)
 
 
@@ -221,11 +221,11 @@ def in_debian(number, packages, folder, needed):
     libc = int(version[1]), int(version[2])
     right, refused = [], []
     for name, (install, decode) in PACKAGES.items():
-        if name.endswith("crate") and not toolchain():
+        if name in BY_CARGO and not toolchain():
             continue
         if name == "deb":
             install = install.replace("install ", "install -y ")
-        if name == "wheel":
+        if "pip install" in install:
             install = f"python3 -m venv /root/env && {install}"
         done = entered(kept, packages, f"{folder}/{name}", f"{install}; ({decode}); cmp page.pbm page")
         if name in COMPILED and needed[COMPILED[name]] > libc:

@@ -31,7 +31,10 @@ QUICK = {
     "apt-get install ./hayro-ccitt_*.deb": "dpkg-deb -x ./hayro-ccitt_*.deb root && root/usr/bin/faxrows --version",
     "tar xzf hayro_ccitt-*-src.tar.gz && make -C hayro_ccitt-*-src install PREFIX=$HOME/.local":
         "tar xzf hayro_ccitt-*-src.tar.gz && make -s -C hayro_ccitt-*-src install PREFIX=$HOME/.local",
-    "python3 -m pip install hayro_ccitt-*.whl": "python3 -m pip install -q --no-index --target site hayro_ccitt-*.whl",
+    **{
+        f"python3 -m pip install {package}": f"python3 -m pip install -q --no-index --upgrade --target site {package}"
+        for package in ("hayro_ccitt-*.whl", "hayro_ccitt-?.?.?.tar.gz")
+    },
 }
 # Commands after which the next ones run elsewhere, or with other variables.
 STAYS = ("cd ", "export ")

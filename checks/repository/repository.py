@@ -1,9 +1,12 @@
 """Checks of the repository's files: what must be there, and what must not."""
+import ast
 import collections
 import os
 import re
 import subprocess
+import sys
 from pathlib import Path
+from types import ModuleType
 
 from gate.edit import edits_in, kit
 from gate.source import Source
@@ -53,7 +56,7 @@ def nothing_is_cited_by_number():
     """The repository is self-contained: it cites no requirement by a number."""
     found = []
     for name in tracked():
-        if name == "HANDLES" or (name.startswith("corpus/") and not name.endswith(".md")):
+        if name == "HANDLES" or name.endswith(".png") or (name.startswith("corpus/") and not name.endswith(".md")):
             continue
         with open(name, encoding="utf-8", errors="ignore") as file:
             for number, line in enumerate(file, 1):
@@ -155,13 +158,14 @@ UNSAFE = {
     "release/erased/c/src/heap.rs": 5,
     "release/erased/c/src/lib.rs": 2,
     "release/erased/c/src/room.rs": 2,
+    "release/erased/files/src/exports.rs": 6,
     "release/erased/programs/src/system.rs": 5,
 }
 
 
 def rust_is_unsafe_in_few_files():
-    """The package of proved machine code calls C from one file; the library for C of the erased sources has three, and their programs
-    one, apart from the safe package. Each says above such a place why it is sound."""
+    """The package of proved machine code calls C from one file; the library for C of the erased sources has three, their programs one,
+    and what reads files one, apart from the safe package. Each says above such a place why it is sound."""
     found = [place for place, line in lines_of_code(".rs", "//") if re.search(r"\bunsafe\s*(\{|extern|fn|impl)", line)]
     others = [place for place in found if not place.startswith(("bench/", "checks/releases/erased/", *(f"{name}:" for name in UNSAFE)))]
     assert not others, others
@@ -380,17 +384,30 @@ def is_in_module(text, start, indent):
 
 def no_name_stands_twice():
     """In one crate no two files of proofs, and no proof and definition, have a name in common."""
-    places = collections.defaultdict(lambda: collections.defaultdict(set))
+    declared = collections.defaultdict(lambda: collections.defaultdict(set))
     for name in tracked():
         crate, _, path = name.removeprefix("crates/").partition("/")
         if path.startswith(("proofs/", "specs/")) and path.endswith(".antt") and not path.endswith("/Proof.antt"):
             with open(name, encoding="utf-8") as file:
                 for lemma in top_level_names(file.read()):
-                    places[crate][lemma].add(path)
+                    declared[crate][lemma].add(path)
     found = [
-        f"{crate}: {lemma}: {sorted(files)}" for crate, names in places.items() for lemma, files in names.items() if len(files) > 1
+        f"{crate}: {lemma}: {sorted(files)}" for crate, names in declared.items() for lemma, files in names.items() if len(files) > 1
     ]
     assert not found, "\n".join(found)
+
+
+def each_name_of_a_module_is_there():
+    """What a file of checks takes of a module is there: the file may be run much later than this."""
+    modules = {name: it for name, it in sys.modules.items() if (getattr(it, "__file__", None) or "").startswith(f"{os.getcwd()}/checks/")}
+    missing = []
+    for name, module in modules.items():
+        for node in ast.walk(ast.parse(Path(module.__file__).read_text(encoding="utf-8"))):
+            if isinstance(node, ast.Attribute) and isinstance(node.value, ast.Name):
+                of = vars(module).get(node.value.id)
+                if isinstance(of, ModuleType) and not hasattr(of, node.attr):
+                    missing.append(f"{name}:{node.lineno}: {node.value.id}.{node.attr}")
+    assert len(modules) > 40 and not missing, missing
 
 
 WIDTH = 130
@@ -466,5 +483,6 @@ CHECKS = [
     each_edit_can_be_applied,
     no_line_is_too_long,
     no_contract_is_too_long,
+    each_name_of_a_module_is_there,
 ]
 COMMANDS = {"--write": places.write}

@@ -2,7 +2,8 @@
 
     python3 release/erased/erase.py FOLDER
 
-FOLDER gets the package, laid out by rustfmt, with the library for C in its folder `c` and the programs in `programs`. Contracts, ghost
+FOLDER gets the package, laid out by rustfmt, with the library for C in its folder `c`, the programs in `programs`,
+and what reads files in `files`. Contracts, ghost
 items and models go, and calls of laws, which do nothing; what is left is kept token by token, except as the lines of REWRITTEN say. The bodies in BY_HAND are replaced. What isn't understood is refused: a word of a contract that is left, an attribute
 that isn't known, a function or a line that isn't there once, a character that Rust doesn't have."""
 import os
@@ -18,7 +19,9 @@ API = "bindings/rust"
 CALLS = "hayro_ccitt_c"
 HANDLE = "handle"
 # The programs, which are a package of their own, beside that of the library.
-PROGRAMS = ["faxrows", "faxpack"]
+PROGRAMS = ["faxrows", "faxpack", "faxconv"]
+# The readers and writers of files, which are a package of their own too.
+FILES = ["fax_decode", "png_write"]
 # The file that a crate begins with.
 ROOTS = ["lib", "main"]
 # Modules that no call needs, or the whole crate.
@@ -43,8 +46,8 @@ LINES_BY_HAND = {
     # so that it isn't tried
     ("fax_lines", "context"): ("by_groups: self.suits_groups", "by_groups: false"),
 }
-# A name, a field, or what a call without arguments returns.
-PLACE = r"\w+(?:\.\w+(?:\(\))?)*"
+# A name, a field, or what a call with a name or without arguments returns.
+PLACE = r"\w+(?:\.\w+(?:\(\w*\))?)*"
 # What is written otherwise, in each file that has it.
 REWRITTEN = [
     (r"\bfmt<W: fmt::Write>", "fmt"),
@@ -61,13 +64,15 @@ REWRITTEN = [
     (rf"(?<=(?:if| =) )({PLACE})\.is_multiple_of\(2\)(?= \{{|;)", r"\1 % 2 == 0"),
     (rf"(?<=(?:if| =) )({PLACE})\.is_multiple_of\(2\)(?= [!=]= )", r"(\1 % 2 == 0)"),
     (rf"\b({PLACE})\.to_vec\(alloc\)", r"Vec::copied(alloc, \1)"),
-    (r"\bvec!\[in alloc; value; count\]", "Vec::filled(alloc, value, count)"),
+    (rf"\b({PLACE}\[[\w.]*\])\.to_vec\(alloc\)", r"Vec::copied(alloc, &\1)"),
+    (rf"\b({PLACE})\.to_vec\(self\.alloc\)", r"Vec::copied(self.alloc, \1)"),
+    (r"\bvec!\[in ([\w.()]+); (\w+); (\w+)\]", r"Vec::filled(\1, \2, \3)"),
 ]
 # What `lists.rs` has in place of Rattle's std.
 FROM_LISTS = ["AllocError", "AllocFailed", "Box", "Global", "Vec"]
-# What `system.rs` has in place of it, in the programs, and what is Rust's own std there.
-FROM_SYSTEM = ["HostRuntime"]
-OF_SYSTEM, OF_STD = r"::(env|process)\b", r"::io\b"
+# What `system.rs` has in place of it, in the programs: all of std, and these of its prelude. Elsewhere only this is Rust's own std.
+FROM_SYSTEM = ["HostRuntime", "String"]
+OF_STD = r"::(io|os|fs|time|process|env)\b"
 # The features of the library for C that calls need.
 FEATURES = {"hayro_ccitt_check": "check"}
 DROPPED_USES = r"use std::(alloc::[^;]*|marker::Model|simd::prelude::\*)"
@@ -186,11 +191,16 @@ def erase(text):
     return "".join(kept), counts
 
 
+def laws_of(crate):
+    """The files with the laws of a crate, and with those of the crates below that it passes on."""
+    found = [f"crates/{it}/src/laws.rt" for it in crates_below(crate)] + [f"crates/{it}/src/laws.rt" for it, below in LEFT_OUT.items() if not below]
+    return [path for path in found if os.path.exists(path)]
+
+
 def without_laws(text, counts):
     """Calls of laws are for their contracts: they go, if what they call does nothing."""
     for crate, law in re.findall(r"^use (\w+)::laws::(\w+);$", text, re.MULTILINE):
-        laws, _ = erase(read(f"crates/{crate}/src/laws.rt"))
-        if not re.search(rf"\bpub fn {law}\(\)\s*\{{\}}", laws):
+        if not any(re.search(rf"\bpub fn {law}\(\)\s*\{{\}}", erase(read(path))[0]) for path in laws_of(crate)):
             raise Refused(f"a law of {crate} that does something: {law}")
         text = once(text, f"use {crate}::laws::{law};\n", "")
         text, calls = re.subn(rf"^ *{law}\(\);\n", "", text, flags=re.MULTILINE)
@@ -210,7 +220,7 @@ def without_unused_labels(text):
     return re.sub(r"('\w+): (?=while|loop|for)", lambda label: label[0] if label[1] in named else "", text)
 
 
-def renamed(text, crate, crates):
+def renamed(text, crate, crates, is_of_programs):
     """The paths of crates as those of modules."""
     kept, at, before = [], 0, ""
     while at < len(text):
@@ -219,7 +229,7 @@ def renamed(text, crate, crates):
         is_front = text.startswith("::", at) and not before.endswith("::")
         if token["comment"]:
             piece = re.sub(r"(?<=\]\()crate::", f"crate::proved::{crate}::", piece)
-        elif is_front and piece == "std" and re.compile(OF_SYSTEM).match(text, at):
+        elif is_front and piece == "std" and is_of_programs:
             piece = "crate::system"
         elif is_front and piece == "std":
             piece = "std" if re.compile(OF_STD).match(text, at) else "core"
@@ -265,15 +275,15 @@ def refuse_leftovers(text):
         raise Refused(f"not erased: {found[0]}")
 
 
-def imports_of(text):
-    """The lines that take what the text names from `lists.rs` and `system.rs`."""
+def imports_of(text, is_of_programs):
+    """The lines that take what the text names from `lists.rs` and, in the programs, from `system.rs`."""
     code = code_of(text)
-    from_lists, from_system = ([name for name in names if re.search(rf"\b{name}\b", code)] for names in (FROM_LISTS, FROM_SYSTEM))
+    from_lists, from_system = ([name for name in names if re.search(rf"\b{name}\b", code)] for names in (FROM_LISTS, FROM_SYSTEM if is_of_programs else []))
     lines = {"lists": from_lists, "system": from_system}
     return "".join(f"use crate::{of}::{{{', '.join(names)}}};\n" for of, names in lines.items() if names)
 
 
-def module(crate, name, crates, used):
+def module(crate, name, crates, used, is_of_programs):
     """A source of a crate as a module of the package."""
     path = f"crates/{crate}/src/{name}.rt"
     text, counts = erase(read(path))
@@ -286,7 +296,7 @@ def module(crate, name, crates, used):
             text, count = re.subn(rf"^(pub )?mod {gone};\n|^(pub )?use {gone}::[^;]*;\n", "", text, flags=re.MULTILINE)
             if not count:
                 raise Refused(f"{path} has no module {gone}")
-    text = renamed(without_unused_labels(text), crate, crates)
+    text = renamed(without_unused_labels(text), crate, crates, is_of_programs)
     text = re.sub(r"\n{3,}", "\n\n", re.sub(r"[ \t]+$", "", text, flags=re.MULTILINE))
     if line := LINES_BY_HAND.get((crate, name)):
         text = once(text, *line)
@@ -301,7 +311,7 @@ def module(crate, name, crates, used):
     front = re.match(r"(\s|//![^\n]*\n)*", text).end()
     erased = ", ".join(f"{count} {what}" for what, count in counts.items() if count) or "nothing"
     said = f"// {path} without contracts. Erased: {erased}." + "".join(f" By hand: {what}." for what in by_hand)
-    return f"{said}\n\n{text[:front].strip()}\n\n{imports_of(text)}{text[front:]}"
+    return f"{said}\n\n{text[:front].strip()}\n\n{imports_of(text, is_of_programs)}{text[front:]}"
 
 
 # A parameter of a call for C: its name and its type. A slice is for C a pointer and a length.
@@ -366,14 +376,14 @@ def modules_of(folder):
     return [name.removesuffix(".rt") for name in found if name.endswith(".rt")]
 
 
-def write_modules(folder, written, crates, used):
+def write_modules(folder, written, crates, used, is_of_programs=False):
     """Writes the modules of some crates, in files that name those of all these crates."""
     for crate in written:
         for name in sorted(modules_of(f"crates/{crate}/src")):
             if name in (LEFT_OUT.get(crate) or []) or (crate, name) == (CALLS, HANDLE):
                 continue
             try:
-                text = module(crate, name, crates, used)
+                text = module(crate, name, crates, used, is_of_programs)
             except Refused as why:
                 sys.exit(f"crates/{crate}/src/{name}.rt: {why}")
             write(f"{folder}/{crate}/{'mod' if name in ROOTS else name}.rs", text)
@@ -385,10 +395,11 @@ def write_modules(folder, written, crates, used):
 def write_proved(folder):
     """Writes the modules of the library, and those of the programs, which take the library's."""
     below, used = crates_below(CALLS), set()
-    crates = crates_below(CALLS, *PROGRAMS)
     write_modules(f"{folder}/src/proved", below, below, used)
     write(f"{folder}/src/proved/{CALLS}/{HANDLE}.rs", said_by_hand(f"{HERE}/src/{HANDLE}.rs"))
-    write_modules(f"{folder}/programs/src/proved", [it for it in crates if it not in below], crates, used)
+    for package, tops in (("programs", PROGRAMS), ("files", FILES)):
+        crates = crates_below(CALLS, *tops)
+        write_modules(f"{folder}/{package}/src/proved", [it for it in crates if it not in below], crates, used, package == "programs")
     if unused := {*BY_HAND, *LINES_BY_HAND} - used:
         sys.exit(f"no such sources: {sorted(unused)}")
 
@@ -435,14 +446,14 @@ def write_package(folder):
     write_proved(folder)
     write_api(folder)
     write_calls(folder)
-    for name in ("Cargo.toml", "README.md", "c/Cargo.toml", "programs/Cargo.toml"):
+    for name in ("Cargo.toml", "README.md", "c/Cargo.toml", "programs/Cargo.toml", "files/Cargo.toml"):
         write(f"{folder}/{name}", read(f"{HERE}/{name}"))
     for name in ("hayro_ccitt.h", "fax_encode.h", "hayro_ccitt_heap.h"):
         write(f"{folder}/c/include/{name}", read(f"c/{name}"))
-    for of in ("c/src", "programs/src"):
+    for of in ("c/src", "programs/src", "files/src"):
         for name in files_in(f"{HERE}/{of}"):
             write(f"{folder}/{of}/{name}", said_by_hand(f"{HERE}/{of}/{name}"))
-    roots = [f"{folder}/{name}.rs" for name in ("src/lib", "c/src/lib", "programs/src/lib", *(f"programs/src/bin/{it}" for it in PROGRAMS))]
+    roots = [f"{folder}/{name}.rs" for name in ("src/lib", "c/src/lib", "files/src/lib", "programs/src/lib", *(f"programs/src/bin/{it}" for it in PROGRAMS))]
     done = subprocess.run(["rustfmt", "--edition", "2024", *roots], capture_output=True, text=True, check=False)
     if done.returncode != 0:
         sys.exit(f"rustfmt: {done.stderr[-3000:]}")
@@ -463,7 +474,7 @@ def main(folder):
                 write(f"{folder}/{name}.part", text)
                 os.replace(f"{folder}/{name}.part", f"{folder}/{name}")
         for name in files_in(folder) - files_in(work):
-            if name.startswith(("src/", "examples/", "tests/", "c/src/", "c/include/", "programs/src/")):
+            if name.startswith(("src/", "examples/", "tests/", "c/src/", "c/include/", "files/src/", "programs/src/")):
                 os.remove(f"{folder}/{name}")
 
 

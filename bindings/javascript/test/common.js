@@ -72,3 +72,24 @@ export function fedInPieces(data, settings, length) {
         feed.close();
     }
 }
+
+/** A TIFF file with a page of one strip for each of these tags, whose values are numbers below 2 ** 32. */
+export function tiffOf(pages, isLittle = true) {
+    const parts = [Buffer.from(isLittle ? "II*\0\0\0\0\0" : "MM\0*\0\0\0\0", "latin1")];
+    const end = () => parts.reduce((sum, it) => sum + it.length, 0);
+    const write = (into, number, at, size) => (isLittle ? into.writeUIntLE(number, at, size) : into.writeUIntBE(number, at, size));
+    let link = [parts[0], 4];
+    for (const { data, tags } of pages) {
+        const all = Object.entries({ ...tags, 273: end(), 279: data.length, 278: tags[257] });
+        parts.push(data, Buffer.alloc(data.length % 2));
+        const directory = Buffer.alloc(6 + 12 * all.length);
+        write(link[0], end(), link[1], 4);
+        write(directory, all.length, 0, 2);
+        all.forEach(([tag, value], index) => {
+            [[tag, 2], [4, 2], [1, 4], [value, 4]].reduce((at, [number, size]) => (write(directory, Number(number), at, size), at + size), 2 + 12 * index);
+        });
+        link = [directory, directory.length - 4];
+        parts.push(directory);
+    }
+    return Buffer.concat(parts);
+}

@@ -19,6 +19,11 @@ prescribe, as this project has formalized them.
 
     >>> with hayro_ccitt.open("scan.tif") as document:  # doctest: +SKIP
     ...     pixels = [page.picture().array() for page in document]
+
+`damage_shown` is a page whose damaged rows are in colour, and `damage_mask` says which rows these are:
+
+    >>> with hayro_ccitt.open("scan.tif") as document:  # doctest: +SKIP
+    ...     hayro_ccitt.damage_shown(document[0]).save("damage.png")
 """
 from ._pages import Page
 from .checking import Rule, Violation, check
@@ -41,6 +46,7 @@ from .errors import (
 )
 from .feeding import RowFeed, RowsFrom, rows_from
 from .guessing import Guess, guess
+from .showing import Mark, damage_mask, damage_shown
 
 __version__ = "0.8.0"
 __all__ = [
@@ -51,6 +57,7 @@ __all__ = [
     "Error",
     "Guess",
     "InvalidCode",
+    "Mark",
     "NoEncoding",
     "NoRows",
     "NotFax",
@@ -66,6 +73,8 @@ __all__ = [
     "UnexpectedEof",
     "Violation",
     "check",
+    "damage_mask",
+    "damage_shown",
     "decode",
     "decode_pdf",
     "encode",

@@ -9,6 +9,8 @@ READABLE, BY_PROCEDURE = range(2)
 END_OF_BLOCK, END_OF_LINE, ALIGNED_ROWS, STRICT, LOW_FIRST, EOLS_END_AT_BYTES, SHORTEST = (1 << bit for bit in range(7))
 # Flags of decoding have numbers of their own, and that of 0 for black has one of each.
 BLACK_IS_0, ENCODED_BLACK_IS_0 = 32, 128
+# What the library of a wheel is called: on Linux, macOS, Windows.
+NAMES = ("libhayro_ccitt.so", "libhayro_ccitt.dylib", "hayro_ccitt.dll")
 # The installed library whose interface this package calls.
 SONAME = "libhayro_ccitt.so.0.8"
 
@@ -76,9 +78,10 @@ def loaded() -> ctypes.CDLL:
     """The library that HAYRO_CCITT_LIBRARY names; or else that of the wheel, in this folder; or else the installed one. It can't be
     loaded where there is none, and on a processor below the level x86-64-v2."""
     named = os.environ.get("HAYRO_CCITT_LIBRARY")
-    beside = os.path.join(os.path.dirname(os.path.abspath(__file__)), "libhayro_ccitt.so")
+    folder = os.path.dirname(os.path.abspath(__file__))
+    beside = [path for path in (os.path.join(folder, name) for name in NAMES) if os.path.exists(path)]
     try:
-        library = ctypes.CDLL(named or (beside if os.path.exists(beside) else SONAME))
+        library = ctypes.CDLL(named or (beside[0] if beside else SONAME))
     except OSError as error:
         raise ImportError(f"the library of hayro_ccitt can't be loaded: {error}") from None
     for name, arguments in CALLS.items():

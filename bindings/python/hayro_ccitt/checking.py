@@ -25,10 +25,10 @@ class Rule(enum.Enum):
     TAG = "a tag is expected", "T.4, 4.2.2"
     PADDING = "zeros up to a whole byte are expected", "T.4, 4.1.3"
     PASS_TO_END = "pass mode to the row's end", "T.4, 4.2.1.3.2"
-    PROCEDURE = "not by the coding procedure", "T.4, 4.1.1 and 4.2.1.3; T.6, 2.2"
-    KIND = "a two-dimensional line too many", "T.4, 4.2.1"
-    FILL = "fill in the wrong place", "T.4, 4.1.3 and 4.1.4"
-    END = "the end is expected", "T.4, 4.1.4; T.6, 2.4.1.1"
+    PROCEDURE = "not what the coding procedure writes", "T.4, 4.1.1 and 4.2.1.3; T.6, 2.2"
+    KIND = "a two-dimensional line where none may be", "T.4, 4.2.1"
+    FILL = "fill where none may be", "T.4, 4.1.3 and 4.1.4"
+    END = "not the end that the coding procedure writes", "T.4, 4.1.4; T.6, 2.4.1.1"
 
     @property
     def section(self) -> str:
@@ -45,7 +45,7 @@ class Violation(NamedTuple):
 
     place: int
     """The offset in bits of the word that breaks the rule, or at which what it asks for is missing; of `Rule.PROCEDURE` that of
-    the line."""
+    the first bit that differs."""
     rule: Rule
     """The rule that is broken there."""
 
@@ -77,7 +77,7 @@ def check(
         >>> print(check(bytes([0x33, 0x0D, 0xC0]), 8, 1, k=-1, end_of_block=False))
         None
         >>> print(check(bytes([0x33, 0x0D, 0xC0]), 8, 1, k=-1, end_of_block=False, grade="procedure"))
-        bit 0: not by the coding procedure (T.4, 4.1.1 and 4.2.1.3; T.6, 2.2)
+        bit 0: not what the coding procedure writes (T.4, 4.1.1 and 4.2.1.3; T.6, 2.2)
         >>> print(check(bytes([0x20, 0x00]), 8, 1, k=-1, end_of_block=False))
         bit 3: a run is expected (T.4, 4.1.1)
 

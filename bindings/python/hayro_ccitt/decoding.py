@@ -5,6 +5,7 @@ import ctypes
 import functools
 import importlib
 import operator
+import struct
 import threading
 from typing import TYPE_CHECKING, Any, Callable, Iterator, NamedTuple, NoReturn, TypeVar, Union
 
@@ -24,6 +25,8 @@ FAULTS = {
     c.OVERFLOW: (Overflow, "arithmetic overflow in position calculation"),
 }
 NEGATIVE = bytes(255 - byte for byte in range(256))
+# The numbers of an outcome, which are read at once, since a call is short.
+NUMBERS = struct.Struct(f"{len(c.Outcome._fields_)}Q")
 # Up to this size a bitmap for all rows that there may be is allocated at once.
 USUAL_BYTES = 1 << 20
 
@@ -45,6 +48,9 @@ class Damage(NamedTuple):
         if not self:
             return "ok"
         return f"{self.damaged_rows} rows repaired, {self.cut_rows} cut, {self.missed_eols} EOLs missed"
+
+
+NO_DAMAGE = Damage(0, 0, 0)
 
 
 class Picture(NamedTuple):
@@ -156,26 +162,34 @@ def decode(
     columns, stride = settings.columns, settings.stride
     width = stride or (columns + 7) // 8
     outcome = c.Outcome()
-    bitmap = room_of(out) if out is not None else room_for(most_bytes(data, settings, width))
+    # Slices of an array of characters are bytes, which its type doesn't say.
+    bitmap: Any = room_of(out) if out is not None else room_for(most_bytes(data, settings, width))
     status = c.LIBRARY.hayro_ccitt_decode_packed(data, len(data), settings, bitmap, len(bitmap), outcome)
     if status == c.REFUSED:
         raise ValueError(f"out has {len(bitmap)} bytes: too few for more than {outcome.rows} rows")
     check(status)
-    size = min(outcome.rows * width, len(bitmap))
-    packed = memoryview(bitmap)[:size]
-    damage = Damage(outcome.damaged_rows, outcome.missed_eols, outcome.cut_rows)
-    result = str(damage) if status == c.OK else FAULTS[status][1]
-    kept = packed.tobytes() if out is None or not size else packed.cast("B")
-    picture = Picture(columns, outcome.rows, kept, outcome.bytes_read, damage, stride, result)
+    rows, _, bytes_read, damaged_rows, fault_start, missed_eols, cut_rows = NUMBERS.unpack(outcome)
+    size = rows * width
+    kept = bitmap[:size] if out is None or not size else memoryview(bitmap)[:size].cast("B")
+    damage, result = NO_DAMAGE, "ok"
+    if damaged_rows or missed_eols or cut_rows:
+        damage = Damage(damaged_rows, missed_eols, cut_rows)
+        result = str(damage)
     if status != c.OK:
-        raise fault_of(status, outcome.fault_start, picture)
+        result = FAULTS[status][1]
+    picture = Picture(columns, rows, kept, bytes_read, damage, stride, result)
+    if status != c.OK:
+        raise fault_of(status, fault_start, picture)
     return picture
 
 
 def most_bytes(data: bytes, settings: c.Settings, width: int) -> int:
     """The bytes that the rows of this width need: as many as there may be, or where that is many, as there are."""
-    most: int = min(settings.rows or len(data) * 8 + 1, len(data) * 8 + 1) * width
-    if most > max(USUAL_BYTES, 64 * len(data)):
+    most = len(data) * 8 + 1
+    if 0 < settings.rows < most:
+        most = settings.rows
+    most *= width
+    if most > USUAL_BYTES and most > 64 * len(data):
         outcome = c.Outcome()
         check(c.LIBRARY.hayro_ccitt_measure(data, len(data), settings, outcome))
         most = outcome.rows * width
@@ -361,7 +375,7 @@ def settings_of(
 
 def room_for(length: int) -> ctypes.Array[ctypes.c_char]:
     try:
-        return ctypes.create_string_buffer(length)
+        return (ctypes.c_char * length)()
     except (OverflowError, ValueError):
         raise MemoryError(f"a picture of {length} bytes") from None
 

@@ -39,7 +39,8 @@ pub enum Rule {
     Padding,
     /// Pass mode is used to the row's end.
     PassToEnd,
-    /// The coding procedure writes the line here with other words of a run, or other modes. The place is the line's start.
+    /// The coding procedure writes the line here with other words of a run, or other modes. The place is the first bit that
+    /// differs.
     Procedure,
     /// A line is two-dimensional where K allows none. The place is that of its tag.
     Kind,
@@ -71,11 +72,17 @@ const RULES: [(Rule, &str); 13] = [
     ),
     (
         Rule::Procedure,
-        "not by the coding procedure (T.4, 4.1.1 and 4.2.1.3; T.6, 2.2)",
+        "not what the coding procedure writes (T.4, 4.1.1 and 4.2.1.3; T.6, 2.2)",
     ),
-    (Rule::Kind, "a two-dimensional line too many (T.4, 4.2.1)"),
-    (Rule::Fill, "fill in the wrong place (T.4, 4.1.3 and 4.1.4)"),
-    (Rule::End, "the end is expected (T.4, 4.1.4; T.6, 2.4.1.1)"),
+    (
+        Rule::Kind,
+        "a two-dimensional line where none may be (T.4, 4.2.1)",
+    ),
+    (Rule::Fill, "fill where none may be (T.4, 4.1.3 and 4.1.4)"),
+    (
+        Rule::End,
+        "not the end that the coding procedure writes (T.4, 4.1.4; T.6, 2.4.1.1)",
+    ),
 ];
 
 impl fmt::Display for Rule {

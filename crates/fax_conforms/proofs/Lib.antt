@@ -1,5 +1,9 @@
+pub mod AfterLines
 pub mod BodyLines
+pub mod Broken
 pub mod ChosenConforms
+pub mod ClosingsDepart
+pub mod EndsLooked
 pub mod EolLines
 pub mod EolsHere
 pub mod FilledLines
@@ -7,14 +11,18 @@ pub mod LinesBefore
 pub mod LinesBegin
 pub mod LinesDone
 pub mod LinesEnd
+pub mod LinesLooked
 pub mod ModesDepart
 pub mod ModesLead
+pub mod OnlyLines
 pub mod Padded
 pub mod PaintedPixels
 pub mod Passed
 pub mod PensDrawn
+pub mod PicturesByProcedure
 pub mod PicturesConform
 pub mod PicturesDepart
+pub mod ProcedureDeparts
 pub mod ProcedureEncoded
 pub mod ProcedureEnds
 pub mod ProcedureLines
@@ -29,3 +37,4 @@ pub mod StandingSteps
 pub mod Stopped
 pub mod TaggedLines
 pub mod TwoWords
+pub mod WordsPaid

@@ -95,13 +95,6 @@ module _ (columns : ℕ) (reference : Row) (at : Spot) (small : columns ≤ 4294
           let pair : ◌≡◌ {A = Mode × Bits} (has.mode, has.after) (mode, after) = cc in
           (goes, subst (λ (p : Mode × Bits). StepsAfter reference row at.from at.color p.0 p.1 rest) pair has.steps)
 
-  pub no_mode : (here : Bits) → ((mode : Mode) (rest : Bits) → read_code mode_codes here ≡ Ok (mode, rest) → ⊥)
-      → Never columns (LineFrom reference at here)
-  no_mode here none row rest row_len (goes, steps) =
-      let has = mode_of_steps reference row at.from at.color here rest (omega (arith, row_len, inside))
-      (omega (arith, row_len, small)) steps in
-      none has.mode has.after has.read
-
   -- ---- Pass.
   pub pass_leads : (here : Bits) (to : ℕ) → b2 reference at.from at.color ≡ to → to < columns
       → Leads columns (ModeFrom reference at Pass here) (LineFrom reference (painted_on at to at.color) here)
@@ -167,14 +160,6 @@ module _ (columns : ℕ) (reference : Row) (at : Spot) (small : columns ≤ 4294
       back (goes, steps) =
           let again = a1_again row at place len start above (omega (arith, row_len, within)) goes in
           (again.goes, (ap pos again.is ∙ sym is, rw again.is steps))
-
-  pub vertical_within : (here : Bits) (k : ℤ) → ((place : ℕ) → pos (b1 reference at.from at.color) +ℤ k ≡ pos place
-      → at.from ≤ place → place ≤ columns → ⊥) → Never columns (ModeFrom reference at (Vertical k) here)
-  vertical_within here k none row rest row_len (goes, (exact, steps)) =
-      let one = a1_next row at.from in
-      let above : at.from ≤ a1 row at.from = one.above (omega (arith, row_len, inside)) in
-      let within : a1 row at.from ≤ length row = one.within in
-      none (a1 row at.from) (sym exact) above (omega (arith, within, row_len))
 
   -- ---- Horizontal.
   -- the runs of a valid horizontal mode

@@ -1,17 +1,15 @@
 -- What a pen has drawn, and where it is.
 use Rattle.hayro_ccitt.proofs.Names.{◌≡◌, ℕ, zero, suc, ◌-◌, ◌<◌, ◌≤◌, Bool, true, false, List, length, replicate}
 use Rattle.hayro_ccitt.proofs.Names.{refl, ap, sym, subst, ◌∙◌, arith, length-replicate, Color, White, Black, Bits}
-use Rattle.hayro_ccitt.proofs.Names.{Row, Mode, mode_codes, read_code, opposite, right_of, b1, b2, right_of_painted, pos}
+use Rattle.hayro_ccitt.proofs.Names.{Row, opposite, right_of, b1, b2, right_of_painted, pos}
 use Rattle.hayro_ccitt.proofs.Names.{◌+ℤ◌, ℤ, Pass}
-use Rattle.hayro_ccitt.proofs.Names.{Vertical, Ok, pixels, AreChanges, cond}
+use Rattle.hayro_ccitt.proofs.Names.{Vertical, pixels, AreChanges, cond}
 use Rattle.hayro_ccitt.proofs.PixelRows.ChangePlaces.{b2_right, b2_above}
 use Rattle.hayro_ccitt.proofs.PixelRows.ChangesAndPixels.{length-pixels}
 use Rattle.fax_conforms.specs.declared.lines.Pen.{Pen}
-use Rattle.fax_conforms.specs.Standing.{Spot, Leads, Never, LineFrom, ModeFrom, spot_of, from_of, IsDrawn, IsAbove, DrawsOn}
+use Rattle.fax_conforms.specs.Standing.{Spot, Leads, LineFrom, ModeFrom, spot_of, from_of, IsDrawn, IsAbove, DrawsOn}
 use Rattle.fax_conforms.specs.Standing.{IsPainted}
-use Rattle.fax_conforms.proofs.ModesLead.{painted_on, pass_leads, pass_within, vertical_leads, vertical_within}
-use Rattle.fax_conforms.proofs.LinesEnd.{leads_never}
-use Rattle.fax_conforms.proofs.ModesLead.{mode_leads, no_mode}
+use Rattle.fax_conforms.proofs.ModesLead.{painted_on, pass_leads, vertical_leads}
 
 -- ---- The position right of a0.
 before_from : (begun : Bool) (painted : ℕ) → (begun ≡ false → painted ≡ 0) → painted ≡ cond begun (suc painted) 0 - 1
@@ -149,10 +147,6 @@ module _ (columns : ℕ) (pen : Pen) (places : List ℕ) (small : columns ≤ 42
             (sym (spot_painted pen next places new to drawn.lawful is))
             (pass_leads columns above_row at small len_above len inside white here to to_is lt)
 
-    pub pass_fails : columns ≤ b2 above_row (from_of pen) pen.color → (here : Bits)
-        → Never columns (ModeFrom above_row at Pass here)
-    pass_fails le here = pass_within columns above_row at small len_above len inside white here le
-
     -- ---- Vertical.
     module _ (k : ℤ) (place : ℕ) (is_at : pos (b1 above_row (from_of pen) pen.color) +ℤ k ≡ pos place) where
       module _ (right : from_of pen ≤ place) (within : place ≤ columns) (next : Pen) (new : List ℕ)
@@ -163,19 +157,3 @@ module _ (columns : ℕ) (pen : Pen) (places : List ℕ) (small : columns ≤ 42
             (LineFrom above_row s here))
             (sym (spot_turned pen next places new place drawn.lawful is))
             (vertical_leads columns above_row at small len_above len inside white here k place is_at right within)
-
-      pub vertical_misses : (from_of pen ≤ place → place ≤ columns → ⊥) → (here : Bits)
-          → Never columns (ModeFrom above_row at (Vertical k) here)
-      vertical_misses none here = vertical_within columns above_row at small len_above len inside white here k
-          (λ other other_is right within. let e : pos place ≡ pos other = sym is_at ∙ other_is in
-          let same : place ≡ other = cc in none (omega (arith, same, right)) (omega (arith, same, within)))
-
-    -- ---- The mode here.
-    pub mode_here_never : (mode : Mode) (here after : Bits) → read_code mode_codes here ≡ Ok (mode, after)
-        → Never columns (ModeFrom above_row at mode after) → Never columns (LineFrom above_row at here)
-    mode_here_never mode here after read none =
-        leads_never columns (mode_leads columns above_row at small len_above len inside white mode here after read) none
-
-    pub no_mode_here : (here : Bits) → ((mode : Mode) (rest : Bits) → read_code mode_codes here ≡ Ok (mode, rest) → ⊥)
-        → Never columns (LineFrom above_row at here)
-    no_mode_here here none = no_mode columns above_row at small len_above len inside white here none

@@ -1,7 +1,6 @@
 -- What conforms by the procedure is what is chosen for its rows.
-use Rattle.hayro_ccitt.proofs.Names.{◌≡◌, ◌≢◌, ℕ, zero, suc, ◌+◌, ◌-◌, ◌%◌, ◌<◌, Bool, true, false, not, ◌&&◌, cond, List, []}
-use Rattle.hayro_ccitt.proofs.Names.{◌∷◌}
-use Rattle.hayro_ccitt.proofs.Names.{◌++◌, Option, Some, None, length, refl, ap, sym, subst, ◌∙◌, append_assoc, arith, Bits, Row}
+use Rattle.hayro_ccitt.proofs.Names.{◌≡◌, ℕ, ◌+◌, ◌-◌, ◌%◌, ◌<◌, Bool, true, false, not, ◌&&◌, cond, []}
+use Rattle.hayro_ccitt.proofs.Names.{◌++◌, Option, Some, length, refl, ap, sym, subst, ◌∙◌, append_assoc, arith, Bits, Row}
 use Rattle.hayro_ccitt.proofs.Names.{DecodeSettings, EncodingMode, Group4, Group3_1D, Group3_2D, eol, padding, tag_of, white_row}
 use Rattle.hayro_ccitt.proofs.Names.{append-nil, length-append, length-replicate, replicate}
 use Rattle.hayro_ccitt.specs.Bits.{AreWholeBytes}
@@ -13,8 +12,8 @@ use Rattle.fax_encode.specs.Settings.{chosen_picture}
 use Rattle.fax_encode.specs.Settings.{is_closed}
 use Rattle.fax_encode.specs.declared.settings.Effort.{Effort}
 use Rattle.fax_encode.specs.declared.settings.Effort.TheVariants.{Procedure}
-use Rattle.fax_conforms.specs.ByProcedure.{ClosingStands, EndStands, EndsHere, LeadStands, LinesByProcedure, PartStands}
-use Rattle.fax_conforms.specs.ByProcedure.{left_after, left_at_first, tagged_eols}
+use Rattle.fax_conforms.specs.ByProcedure.{ClosingStands, EndStands, LeadStands, LinesByProcedure}
+use Rattle.fax_conforms.specs.ByProcedure.{left_at_first, tagged_eols}
 use Rattle.fax_conforms.specs.Encoded.{ClosingHasNoFill, EndHasNoFill, HaveNoFill, KindsAreChosen, LeadHasNoFill}
 use Rattle.fax_conforms.specs.Encoded.{chosen_kind, rows_in}
 use Rattle.fax_conforms.specs.Laws.{ProcedureIsEncoded}

@@ -13,8 +13,9 @@ use Rattle.hayro_ccitt.proofs.Names.{List, Result, Err, AreChanges, pixels}
 use Rattle.hayro_ccitt.proofs.PixelRows.ChangesAndPixels.{length-pixels}
 use Rattle.fax_conforms.specs.Stops.{IsViolated}
 use Rattle.fax_conforms.specs.declared.stops.Stop.{Stop}
-use Rattle.fax_conforms.specs.Checks.{IsOnlyPart, NoPart, PassesPart, ReadsPart, part_of}
-use Rattle.fax_conforms.specs.ByProcedure.{EndStands, EndsHere, HasKind, LeadStands, LinesByProcedure, PartStands, left_after}
+use Rattle.fax_conforms.specs.Checks.{IsOnlyPart, NoPart, PassesPart, ReadsPart}
+use Rattle.fax_conforms.specs.ByProcedure.{EndStands, EndsHere, HasKind, LeadStands, LinesByProcedure, PartStands}
+use Rattle.fax_conforms.specs.ByProcedure.{left_after, part_of}
 use Rattle.hayro_ccitt.specs.Pictures.{Allows}
 use Rattle.fax_conforms.proofs.BodyLines.{line_has_bits}
 use Rattle.fax_conforms.proofs.EolsHere.{one_eol}

@@ -6,7 +6,6 @@ use Rattle.hayro_ccitt.proofs.EncodedPictures.PicturesT4.{eol_stands, line_t4_st
 use Rattle.fax_conforms.specs.ByProcedure.{ClosingStands, ConformsByProcedure, EndStands, EndsHere, LinesByProcedure}
 use Rattle.fax_conforms.specs.ByProcedure.{left_at_first}
 use Rattle.fax_conforms.specs.Checks.{Checks}
-use Rattle.fax_conforms.specs.Stops.{IsViolated}
 use Rattle.fax_conforms.specs.Conforming.{EolStands}
 use Rattle.fax_conforms.specs.declared.stops.Stop.{Stop}
 use Rattle.fax_conforms.proofs.ProcedureLines.{part_is_line}
@@ -74,18 +73,7 @@ module _ (settings : DecodeSettings) (k : Option ℕ) (whole : Bits) (wide : 0 <
           to (some, true, may, lines) = let eol_here = eol_at_start lines in absurd (none eol_here.0 (0, eol_here.1))
           to (some, false, may, lines) = lines
 
-      pub asked_eols_by_procedure : settings.end_of_line ≡ true → ConformsByProcedure settings k whole → ⊥
-      asked_eols_by_procedure asked (some, true, may, lines) =
-          let eol_here = eol_at_start lines in none eol_here.0 (0, eol_here.1)
-      asked_eols_by_procedure asked (some, false, inl four, lines) = three four
-      asked_eols_by_procedure asked (some, false, inr unasked, lines) = let e : true ≡ false = sym asked ∙ unasked in cc
-
 -- ---- What a check answers.
 pub checks_same : (r : Result (Unit {0}) Stop) (P Q : Type 0) → (Q ↔ P) → Checks P r → Checks Q r
 checks_same (Ok done) P Q same is = same.1 is
 checks_same (Err stop) P Q same none = λ broken q. none broken (same.0 q)
-
--- where a rule is broken
-pub checks_none : (r : Result (Unit {0}) Stop) (P : Type 0) → IsViolated r → (P → ⊥) → Checks P r
-checks_none (Ok done) P violated none = absurd violated
-checks_none (Err stop) P violated none = λ broken p. none p

@@ -3,7 +3,7 @@ use Rattle.hayro_ccitt.proofs.Names.{◌≡◌, ℕ, suc, ◌+◌, ◌<◌, ◌�
 use Rattle.hayro_ccitt.proofs.Names.{◌∙◌, arith, inl, inr, cases_lt, Color, Bits, Row, opposite, Horizontal, cond}
 use Rattle.hayro_ccitt.proofs.PixelRows.ReferencePlaces.{opposite_twice}
 use Rattle.fax_conforms.specs.declared.lines.Pen.{Pen}
-use Rattle.fax_conforms.specs.Standing.{Spot, Leads, Never, LineFrom, ModeFrom, RunsFrom, spot_of, from_of, IsDrawn, IsAbove}
+use Rattle.fax_conforms.specs.Standing.{Spot, Leads, LineFrom, ModeFrom, RunsFrom, spot_of, from_of, IsDrawn, IsAbove}
 use Rattle.fax_conforms.specs.Standing.{DrawsOn}
 use Rattle.fax_conforms.specs.Standing.{NextRun, PaintsRun}
 use Rattle.fax_conforms.proofs.ModesLead.{painted_on, horizontal_leads, horizontal_runs}
@@ -70,17 +70,6 @@ module _ (columns : ℕ) (pen : Pen) (places : List ℕ) (small : columns ≤ 42
         },
       )
 
-  -- no run is here that a valid line may have
-  pub run_fails : (here : Bits) → ((run : ℕ) (rest : Bits) → NextRun columns pen here rest run → ⊥)
-      → Never columns (RunsFrom spot here)
-  run_fails here none row rest row_len stands = let next = run_next here row rest row_len stands in none next.0 next.1 next.2
-
-  -- nor a horizontal mode
-  pub horizontal_fails : (here : Bits) → ((run : ℕ) (rest : Bits) → NextRun columns pen here rest run → ⊥) → (reference : Row)
-      → length reference ≡ columns → Never columns (ModeFrom reference spot Horizontal here)
-  horizontal_fails here none reference ref_len row rest row_len stands =
-      let next = horizontal_next here reference ref_len row rest row_len stands in none next.0 next.1 next.2
-
   module _ (next : Pen) (new : List ℕ) (here after : Bits) (paints : PaintsRun columns pen next places new here after) where
     abbrev run : ℕ
     run = paints.run
@@ -119,11 +108,6 @@ module _ (columns : ℕ) (pen : Pen) (places : List ℕ) (small : columns ≤ 42
             some = λ begun lt. has.some (omega (arith, lt, front_len, same.0, paints.painted.painted));
           },
         )
-
-    pub second_fails : ((run : ℕ) (rest : Bits) → NextRun columns next after rest run → ⊥) → (reference : Row)
-        → length reference ≡ columns → Never columns (ModeFrom reference spot Horizontal here)
-    second_fails none reference ref_len row rest row_len stands =
-        let two = second_next reference ref_len row rest row_len stands in none two.0 two.1 two.2
 
     module _ (last : Pen) (final : List ℕ) (end : Bits) (second : PaintsRun columns next last new final after end) where
       abbrev two : ℕ

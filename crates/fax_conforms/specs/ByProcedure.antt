@@ -50,11 +50,16 @@ abbrev pub LeadStands : Bool → ℕ → Bits → Bits → Type 0
 LeadStands false taken here rest = here ≡ rest
 LeadStands true taken here rest = (fill : ℕ) × (taken ≡ 0 → fill ≡ 0) × (here ≡ eol fill ++ rest)
 
+-- the line of a row below another as the procedure writes it, and zeros up to a whole byte if lines are aligned and have no EOLs
+abbrev pub part_of : DecodeSettings → Bool → Bool → Row → Row → Bits
+part_of settings has_eols is_two reference row =
+    part_by_procedure settings.encoding (settings.rows_are_byte_aligned && not has_eols) is_two reference row
+
 -- The line of a row stands here as the procedure writes it, and zeros up to a whole byte if lines are aligned (T.4, 4.1.1 and
 -- 4.2.1.3; T.6, 2.2). With EOLs they aren't.
 abbrev pub PartStands : DecodeSettings → Bool → Option ℕ → Row → Bits → Bool → Row → Bits → Type 0
-PartStands settings has_eols left reference here is_two row rest = MayCome settings.encoding left is_two
-    × (here ≡ part_by_procedure settings.encoding (settings.rows_are_byte_aligned && not has_eols) is_two reference row ++ rest)
+PartStands settings has_eols left reference here is_two row rest =
+    MayCome settings.encoding left is_two × (here ≡ part_of settings has_eols is_two reference row ++ rest)
 
 -- ---- The end
 

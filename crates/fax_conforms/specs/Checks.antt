@@ -1,9 +1,10 @@
 -- What a check answers.
-use Rattle.std.specs.Prelude.{◌≡◌, ◌<◌, ◌++◌, ℕ, Bool, not, ◌&&◌, List, length, Result, Ok, Err}
+use Rattle.std.specs.Prelude.{◌≡◌, ◌<◌, ◌++◌, ◌⊎◌, Bool, List, ℕ, length, Result, Ok, Err}
 use Rattle.hayro_ccitt.specs.Bits.{Bits}
 use Rattle.hayro_ccitt.specs.DecodeSettings.{DecodeSettings}
 use Rattle.hayro_ccitt.specs.Rows.{Row, AreChanges, pixels}
-use Rattle.fax_encode.specs.Procedure.{part_by_procedure}
+use Rattle.fax_conforms.specs.Conforming.{Conforms}
+use Rattle.fax_conforms.specs.Departures.{DepartsFromProcedure}
 use Rattle.fax_conforms.specs.Stops.{IsBroken, IsViolationOf}
 use Rattle.fax_conforms.specs.declared.grades.Grade.{Grade}
 use Rattle.fax_conforms.specs.declared.grades.Grade.TheVariants.{Readable, Procedure}
@@ -15,11 +16,6 @@ use Rattle.fax_conforms.specs.declared.stops.Violation as at
 abbrev pub Checks : Type 0 → Result (Unit {0}) Stop → Type 0
 Checks P (Ok done) = P
 Checks P (Err stop) = IsBroken stop → P → ⊥
-
--- the line of a row below another as the procedure writes it, and zeros up to a whole byte if lines are aligned and have no EOLs
-abbrev pub part_of : DecodeSettings → Bool → Bool → Row → Row → Bits
-part_of settings has_eols is_two reference row =
-    part_by_procedure settings.encoding (settings.rows_are_byte_aligned && not has_eols) is_two reference row
 
 -- these bits are here, and others follow them; if it ends early, and not because an allocation failed, they aren't here
 abbrev pub PassesPart : Bits → Bits → Bits → Result (Unit {0}) Stop → Type 0
@@ -44,10 +40,12 @@ abbrev pub ReadsPart : DecodeSettings → (Bool → Row → Bits → Type 0) →
 ReadsPart settings line changes here rest (Ok is_two) = IsOnlyPart settings line changes here rest is_two
 ReadsPart settings line changes here rest (Err stop) = IsBroken stop → NoPart settings line
 
--- a violation of the readable grade is where the data departs; of one of the other grade nothing is said
+-- A violation of the readable grade is where the data departs from the pictures that its settings allow; one of the other grade
+-- is such a one, where the data isn't readable, and else where it departs from what the procedure writes.
 abbrev pub IsViolationIn : Grade → DecodeSettings → Bits → at.Violation → Type 0
 IsViolationIn Readable settings whole found = IsViolationOf settings whole found
-IsViolationIn (Procedure k) settings whole found = Unit {0}
+IsViolationIn (Procedure k) settings whole found = ((Conforms settings whole → ⊥) × IsViolationOf settings whole found)
+    ⊎ (Conforms settings whole × DepartsFromProcedure settings k whole found)
 
 -- what ends early does so at such a violation, or because an allocation failed
 abbrev pub StopsIn : Grade → DecodeSettings → Bits → Stop → Type 0

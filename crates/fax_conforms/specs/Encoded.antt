@@ -1,16 +1,14 @@
 -- Data that is what `fax_encode` writes for its rows (T.4, 4.1 and 4.2; T.6, 2).
-use Rattle.std.specs.Prelude.{◌≡◌, ℕ, zero, suc, ◌+◌, Bool, true, false, List, [], ◌∷◌, Option, Some}
-use Rattle.hayro_ccitt.specs.Bits.{AreWholeBytes, Bits}
+use Rattle.std.specs.Prelude.{◌≡◌, ℕ, Bool, true, false, List, [], ◌∷◌, Option}
+use Rattle.hayro_ccitt.specs.Bits.{Bits}
 use Rattle.hayro_ccitt.specs.DecodeSettings.{DecodeSettings}
 use Rattle.hayro_ccitt.specs.EncodingMode.{EncodingMode}
 use Rattle.hayro_ccitt.specs.EncodingMode.TheVariants.{Group4, Group3_1D, Group3_2D}
-use Rattle.hayro_ccitt.specs.Rows.{Row, white_row}
-use Rattle.fax_encode.specs.Chosen.{filled_up}
+use Rattle.hayro_ccitt.specs.Rows.{Row}
 use Rattle.fax_encode.specs.Settings as choice
 use Rattle.fax_encode.specs.Settings.{chosen, decode_settings_for, has_eols, is_closed, is_two_dimensional}
-use Rattle.fax_encode.specs.declared.settings.EncodeSettings.{EncodeSettings}
 use Rattle.fax_encode.specs.declared.settings.Effort.TheVariants.{Procedure}
-use Rattle.fax_conforms.specs.ByProcedure.{ClosingStands, EndStands, EndsHere, LeadStands, LinesByProcedure, left_at_first}
+use Rattle.fax_conforms.specs.ByProcedure.{ClosingStands, EndStands, LeadStands, LinesByProcedure}
 
 -- the rows of lines that stand here
 abbrev pub rows_in : {settings : DecodeSettings} {k : Option ℕ} {with_eols : Bool} {taken : ℕ} {left : Option ℕ} {reference : Row}

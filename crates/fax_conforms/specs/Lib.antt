@@ -1,7 +1,9 @@
 pub mod ByProcedure
 pub mod Checks
 pub mod Conforming
+pub mod Departures
 pub mod Encoded
 pub mod Laws
 pub mod Standing
 pub mod Stops
+pub mod Work

@@ -1,12 +1,14 @@
 //! Whether data is an encoding.
 
-ghost use Rattle.std.specs.Prelude.{◌≡◌, ◌<◌, ◌↔◌, None, IsTrue, IfOk, IfSome, OnOk, IfErr, IsOkUnless};
+ghost use Rattle.std.specs.Prelude.{◌≡◌, ◌+◌, ◌*◌, ◌<◌, ◌≤◌, ◌↔◌, None, IsTrue, IfOk, IfSome, OnOk, IfErr, IsOkUnless, length};
 ghost use Rattle.hayro_ccitt.specs.Bits.{Bits, BitsFit, bits_in, here};
 ghost use Rattle.hayro_ccitt.specs.EncodingMode.TheVariants.{Group4};
 ghost use Rattle.fax_conforms.specs.Conforming.{Conforms, EolStands};
 ghost use Rattle.fax_conforms.specs.ByProcedure.{ConformsByProcedure, ConformsIn};
 ghost use Rattle.fax_conforms.specs.Checks.{Checks, IsViolationIn, StopsIn};
+ghost use Rattle.fax_conforms.specs.Departures.{EndsByProcedure};
 ghost use Rattle.fax_conforms.specs.Stops.{EndsInPicture, IsBroken};
+ghost use Rattle.fax_conforms.specs.Work.{most_for_check};
 
 use crate::grades::Grade;
 use crate::pictures::{has_eol, read_body, read_lines};
@@ -14,8 +16,10 @@ use crate::procedure::{Asked, are_by_procedure, with_eols};
 use crate::stops::{Rule, Stop, Violation, broken};
 use crate::words::Words;
 use hayro_ccitt::bit_reader::{BitOrder, BitReader};
+use hayro_ccitt::codes::Ticks;
 use hayro_ccitt::{DecodeError, DecodeSettings, EncodingMode};
 use std::alloc::Global;
+use std::mem;
 
 /// Returns whether the encoding is Group 4.
 fn is_group4(settings: DecodeSettings) -> bool
@@ -37,6 +41,8 @@ fn read_picture(
     ensures stands { OnOk result (Conforms settings (here reader.old)) }
     ensures none { IfErr result (λ e. IsBroken e → Conforms settings (here reader.old) → ⊥) }
     ensures at { IfErr result (EndsInPicture settings reader.old.bits) }
+    ensures counts { words.old.ticks ≤ words.new.ticks }
+    ensures at_most { words.new.ticks ≤ words.old.ticks + 6 * length (here reader.old) + 8 }
 {
     // The range of a number is known once it is read.
     let _columns = settings.columns;
@@ -52,7 +58,7 @@ fn read_picture(
     read_body(words, reader, settings, reference, coding)
 }
 
-/// Reads a picture to its end, if it is what the coding procedure writes, with this K if it is given.
+/// Reads a readable picture to its end, if it is what the coding procedure writes, with this K if it is given.
 fn follow_procedure(
     alloc: Global,
     words: &mut Words,
@@ -60,8 +66,12 @@ fn follow_procedure(
     settings: DecodeSettings,
     k: Option<u32>,
 ) -> Result<(), Stop>
-    requires wide { 0 < settings.columns }
-    ensures { Checks (ConformsByProcedure settings k (here reader.old)) result }
+    requires start { reader.old.place ≡ 0 }
+    requires readable { Conforms settings (here reader.old) }
+    ensures checks { Checks (ConformsByProcedure settings k (here reader.old)) result }
+    ensures at { IfErr result (EndsByProcedure settings k reader.old.bits) }
+    ensures counts { words.old.ticks ≤ words.new.ticks }
+    ensures at_most { words.new.ticks ≤ words.old.ticks + 17 * length (here reader.old) + 20 }
 {
     // The range of a number is known once it is read.
     let _columns = settings.columns;
@@ -77,31 +87,33 @@ fn follow_procedure(
     if has_eol(reader, &mut words.ticks) {
         return are_by_procedure(words, reader, with_eols(asked));
     }
-    if asked.settings.end_of_line {
-        return broken(0, Rule::Eol);
-    }
     are_by_procedure(words, reader, asked)
 }
 
-/// Checks data from the start of some bytes by the coding procedure.
+/// Checks readable data from the start of some bytes by the coding procedure.
 fn check_by_procedure(
     alloc: Global,
     settings: DecodeSettings,
     k: Option<u32>,
     order: BitOrder,
     data: &[u8],
+    ticks: &mut Ticks,
 ) -> Result<(), Stop>
     requires fit { BitsFit «data».now }
-    ensures { Checks (ConformsByProcedure settings k (bits_in order «data».now)) result }
+    requires readable { Conforms settings (bits_in order «data».now) }
+    ensures checks { Checks (ConformsByProcedure settings k (bits_in order «data».now)) result }
+    ensures at { IfErr result (EndsByProcedure settings k (bits_in order «data».now)) }
+    ensures counts { ticks.old ≤ ticks.new }
+    ensures at_most { ticks.new ≤ ticks.old + 17 * length (bits_in order «data».now) + 20 }
 {
-    if settings.columns == 0 {
-        return broken(0, Rule::Columns);
-    }
     let Ok(mut words) = Words::new(alloc) else {
         return Err(Stop::OutOfMemory);
     };
     let mut reader = reader_of(order, data);
-    follow_procedure(alloc, &mut words, &mut reader, settings, k)
+    mem::swap(ticks, &mut words.ticks);
+    let followed = follow_procedure(alloc, &mut words, &mut reader, settings, k);
+    mem::swap(ticks, &mut words.ticks);
+    followed
 }
 
 /// Checks data from the start of some bytes: whether it is readable, and then, if that is asked, whether it is what the coding
@@ -112,18 +124,21 @@ fn check_data(
     grade: Grade,
     order: BitOrder,
     data: &[u8],
+    ticks: &mut Ticks,
 ) -> Result<(), Stop>
     requires fit { BitsFit «data».now }
     ensures checks { Checks (ConformsIn grade settings (bits_in order «data».now)) result }
     ensures at { IfErr result (StopsIn grade settings (bits_in order «data».now)) }
+    ensures counts { ticks.old ≤ ticks.new }
+    ensures at_most { ticks.new ≤ ticks.old + 23 * length (bits_in order «data».now) + 28 }
 {
     // The ranges of numbers are known once they are read.
     let _columns = settings.columns;
     let _rows = settings.rows;
-    read_data(alloc, settings, order, data)?;
+    read_data(alloc, settings, order, data, ticks)?;
     match grade {
         Grade::Readable => Ok(()),
-        Grade::Procedure(k) => check_by_procedure(alloc, settings, k, order, data),
+        Grade::Procedure(k) => check_by_procedure(alloc, settings, k, order, data, ticks),
     }
 }
 
@@ -144,11 +159,14 @@ fn read_data(
     settings: DecodeSettings,
     order: BitOrder,
     data: &[u8],
+    ticks: &mut Ticks,
 ) -> Result<(), Stop>
     requires fit { BitsFit «data».now }
     ensures stands { OnOk result (Conforms settings (bits_in order «data».now)) }
     ensures none { IfErr result (λ e. IsBroken e → Conforms settings (bits_in order «data».now) → ⊥) }
     ensures at { IfErr result (EndsInPicture settings (bits_in order «data».now)) }
+    ensures counts { ticks.old ≤ ticks.new }
+    ensures at_most { ticks.new ≤ ticks.old + 6 * length (bits_in order «data».now) + 8 }
 {
     if settings.columns == 0 {
         return broken(0, Rule::Columns);
@@ -159,13 +177,16 @@ fn read_data(
     let mut reader = reader_of(order, data);
     let mut reference = Vec::new(alloc);
     let mut coding = Vec::new(alloc);
-    read_picture(
+    mem::swap(ticks, &mut words.ticks);
+    let read = read_picture(
         &mut words,
         &mut reader,
         settings,
         &mut reference,
         &mut coding,
-    )
+    );
+    mem::swap(ticks, &mut words.ticks);
+    read
 }
 
 /// Returns `None` if data conforms in a grade, and else a place where it breaks a rule, and which rule. Each byte has its bits in
@@ -188,10 +209,13 @@ fn read_data(
 /// 4.1.3); and EOLs and their tags are only where they belong (T.4, 4.1.2 and 4.2.2). Whether the settings are strict has no
 /// effect.
 ///
-/// In the grade [`Grade::Procedure`] the choices are checked too. A violation is that of the other grade, if there is one. Else it
-/// is where the data departs from what the coding procedure writes: the start of a line ([`Rule::Procedure`]), the tag of a line that K
-/// doesn't allow ([`Rule::Kind`]), fill ([`Rule::Fill`]), or the end ([`Rule::End`]). In this grade the place and the rule are
-/// tested, and not proved.
+/// In the grade [`Grade::Procedure`] the choices are checked too. A violation is that of the other grade, if there is one. Else the
+/// data begins with lines as the coding procedure writes them, and after them it departs (`DepartsFromProcedure`): at the first bit
+/// of a line that differs ([`Rule::Procedure`]), the tag of a line that K doesn't allow ([`Rule::Kind`]), fill ([`Rule::Fill`]), or
+/// the end ([`Rule::End`]).
+///
+/// `ticks` counts the work: each word that is looked for, each bit that is looked at for an EOL, a tag or padding, and each change of
+/// a reference row that is examined. There are at most 128 ticks for each bit, and 256 more.
 ///
 /// # Errors
 ///
@@ -209,13 +233,16 @@ pub fn first_violation(
     grade: Grade,
     order: BitOrder,
     data: &[u8],
+    ticks: &mut Ticks,
 ) -> hayro_ccitt::Result<Option<Violation>>
     requires fit { BitsFit «data».now }
     ensures none { IfOk result (λ found. (found ≡ None) ↔ ConformsIn grade settings (bits_in order «data».now)) }
     ensures place { IfOk result (λ found. IfSome found (IsViolationIn grade settings (bits_in order «data».now))) }
     ensures only_memory { IsOkUnless result DecodeError.OutOfMemory }
+    ensures counts { ticks.old ≤ ticks.new }
+    ensures work { ticks.new ≤ ticks.old + most_for_check (length (bits_in order «data».now)) }
 {
-    match check_data(alloc, settings, grade, order, data) {
+    match check_data(alloc, settings, grade, order, data, ticks) {
         Ok(()) => Ok(None),
         Err(Stop::Violation(violation)) => Ok(Some(violation)),
         Err(Stop::OutOfMemory) => Err(DecodeError::OutOfMemory),
@@ -231,6 +258,8 @@ pub fn first_violation(
 /// K - 1 lines after a one-dimensional one are two-dimensional, if K is given (T.4, 4.2.1). Fill is only between a line and its
 /// EOL, and before RTC (T.4, 4.1.3). An end of the block must be there if the settings look for one, and in Group 3 lines have
 /// EOLs; else there are as many rows as the row limit. Fewer than eight zeros may follow, and nothing else.
+///
+/// `ticks` counts the work as [`first_violation`] does.
 ///
 /// # Errors
 ///
@@ -248,10 +277,13 @@ pub fn conforms(
     grade: Grade,
     order: BitOrder,
     data: &[u8],
+    ticks: &mut Ticks,
 ) -> hayro_ccitt::Result<bool>
     requires fit { BitsFit «data».now }
     ensures conforms { IfOk result (λ conforms. IsTrue conforms ↔ ConformsIn grade settings (bits_in order «data».now)) }
     ensures only_memory { IsOkUnless result DecodeError.OutOfMemory }
+    ensures counts { ticks.old ≤ ticks.new }
+    ensures work { ticks.new ≤ ticks.old + most_for_check (length (bits_in order «data».now)) }
 {
-    Ok(first_violation(alloc, settings, grade, order, data)?.is_none())
+    Ok(first_violation(alloc, settings, grade, order, data, ticks)?.is_none())
 }

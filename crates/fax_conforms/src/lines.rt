@@ -1,14 +1,17 @@
 //! Lines of encodings: the modes and runs of a row, each of them valid.
 
-ghost use Rattle.std.specs.Prelude.{◌≡◌, ◌+◌, ◌<◌, ◌≤◌, false, true, IfOk, OnOk, IfErr, length, drop, ℕ, List, pos, ◌<ℤ◌, ◌≤ℤ◌};
+ghost use Rattle.std.specs.Prelude.{◌≡◌, ◌+◌, ◌-◌, ◌*◌, ◌<◌, ◌≤◌, false, true, IfOk, OnOk, IfErr, [], length, drop, ℕ, List, pos};
+ghost use Rattle.std.specs.Prelude.{◌<ℤ◌, ◌≤ℤ◌};
 ghost use Rattle.hayro_ccitt.specs.Bits.{Bits, here};
+ghost use Rattle.hayro_ccitt.specs.ContextSteps.{PassesChanges};
 ghost use Rattle.hayro_ccitt.specs.EncodingMode.TheVariants.{Group4, Group3_1D};
 ghost use Rattle.hayro_ccitt.specs.Mode.TheVariants.{Pass, Horizontal, Vertical};
 ghost use Rattle.hayro_ccitt.specs.Rows.{Row, AreChanges, pixels, b1, b2, is_black, opposite};
-ghost use Rattle.fax_conforms.specs.Standing.{LineStands, Leads, Never, Passes, IsOnly, LineFrom, ModeFrom};
+ghost use Rattle.fax_conforms.specs.Standing.{LineStands, Leads, Passes, IsOnly, LineFrom, ModeFrom};
 ghost use Rattle.fax_conforms.specs.Standing.{RunsFrom, spot_of, from_of, IsDrawn, IsAbove, IsPainted, DrawsOn};
 ghost use Rattle.fax_conforms.specs.Standing.{NextRun, PaintsRun};
 ghost use Rattle.fax_conforms.specs.Stops.{EndsAt, RunEndsAt, IsBroken, ModeIsHere, ReadsLine};
+ghost use Rattle.fax_conforms.specs.Work.{IsPaid, fund};
 
 use crate::stops::{Rule, Stop, broken};
 use crate::words::Words;
@@ -92,6 +95,7 @@ fn find_above(columns: u32, reference: &[u32], pen: Pen, ticks: &mut Ticks) -> A
     ensures b1 { b1 (pixels columns reference.now) (from_of pen) pen.color ≡ result.b1 }
     ensures b2 { b2 (pixels columns reference.now) (from_of pen) pen.color ≡ result.b2 }
     ensures above { IsAbove columns (record pen { passed = result.passed }) reference.now }
+    ensures passes { PassesChanges reference.now pen.painted pen.passed result.passed ticks.old ticks.new }
 {
     let mut passed = pen.passed;
     let index = b1_index(
@@ -115,6 +119,7 @@ fn paint_to(coding: &mut Vec<u32>, pen: Pen, place: u32) -> Result<Pen, Stop>
     requires right { pen.painted ≤ place }
     ensures painted { IfOk result (λ next. IsPainted pen next coding.old.items coding.new.items place) }
     ensures only_memory { IfErr result (λ e. IsBroken e → ⊥) }
+    ensures few { length coding.new.items ≤ length coding.old.items + 1 }
 {
     match append_pixels(coding, pen.painted, pen.color, place - pen.painted) {
         Ok(()) => Ok(Pen {
@@ -143,10 +148,11 @@ fn draw_pass(
         (ModeFrom (pixels columns reference.now) (spot_of pen coding.old.items) Pass here)
         (LineFrom (pixels columns reference.now) (spot_of next coding.new.items) here)) }
     ensures on { IfOk result (λ next. DrawsOn columns reference.now pen next coding.new.items) }
-    ensures none { IfErr result (λ e. IsBroken e → (here : Bits) → Never columns
-        (ModeFrom (pixels columns reference.now) (spot_of pen coding.old.items) Pass here)) }
     ensures at { IfErr result (λ e. (bits : Bits) → pen.word ≤ length bits → ModeIsHere Pass (drop pen.word bits)
         → EndsAt columns (LineFrom (pixels columns reference.now) (spot_of pen coding.old.items)) bits (drop pen.word bits) e) }
+    ensures pays { IsPaid result words.old.ticks words.new.ticks
+        (fund (length reference.now - pen.passed) coding.old.items [] + 3)
+        (λ next. fund (length reference.now - next.passed) coding.new.items []) }
 {
     let above = find_above(columns, reference, pen, &mut words.ticks);
     if above.b2 >= columns {
@@ -183,10 +189,11 @@ fn draw_vertical(
         (ModeFrom (pixels columns reference.now) (spot_of pen coding.old.items) (Vertical offset) here)
         (LineFrom (pixels columns reference.now) (spot_of next coding.new.items) here)) }
     ensures on { IfOk result (λ next. DrawsOn columns reference.now pen next coding.new.items) }
-    ensures none { IfErr result (λ e. IsBroken e → (here : Bits) → Never columns
-        (ModeFrom (pixels columns reference.now) (spot_of pen coding.old.items) (Vertical offset) here)) }
     ensures at { IfErr result (λ e. (bits : Bits) → pen.word ≤ length bits → ModeIsHere (Vertical offset) (drop pen.word bits)
         → EndsAt columns (LineFrom (pixels columns reference.now) (spot_of pen coding.old.items)) bits (drop pen.word bits) e) }
+    ensures pays { IsPaid result words.old.ticks words.new.ticks
+        (fund (length reference.now - pen.passed) coding.old.items [] + 3)
+        (λ next. fund (length reference.now - next.passed) coding.new.items []) }
 {
     let above = find_above(columns, reference, pen, &mut words.ticks);
     let Some(place) = above.b1.checked_add_signed(i32::from(offset)) else {
@@ -220,9 +227,10 @@ fn run_end(
     requires within { pen.painted ≤ columns }
     ensures run { IfOk result (λ place. (run : ℕ) × NextRun columns pen (here reader.old) (here reader.new) run
         × (place ≡ pen.painted + run)) }
-    ensures none { IfErr result (λ e. IsBroken e → (run : ℕ) (rest : Bits) → NextRun columns pen (here reader.old) rest run → ⊥) }
     ensures at { IfErr result (RunEndsAt columns pen reader.old.bits (here reader.old)) }
     ensures same_bits { reader.new.bits ≡ reader.old.bits }
+    ensures pays { IsPaid result words.old.ticks words.new.ticks
+        (4 * length (here reader.old)) (λ place. 4 * length (here reader.new) + 2) }
 {
     let word = reader.bit_pos();
     let Some(run) = words.run(reader, pen.color) else {
@@ -249,9 +257,10 @@ fn paint_run(
     requires lawful { AreChanges pen.painted coding.old.items }
     ensures run { IfOk result (λ next. PaintsRun columns pen next coding.old.items coding.new.items (here reader.old)
         (here reader.new)) }
-    ensures none { IfErr result (λ e. IsBroken e → (run : ℕ) (rest : Bits) → NextRun columns pen (here reader.old) rest run → ⊥) }
     ensures at { IfErr result (RunEndsAt columns pen reader.old.bits (here reader.old)) }
     ensures same_bits { reader.new.bits ≡ reader.old.bits }
+    ensures pays { IsPaid result words.old.ticks words.new.ticks
+        (fund 0 coding.old.items (here reader.old)) (λ next. fund 0 coding.new.items (here reader.new)) }
 {
     let place = run_end(words, reader, columns, pen)?;
     let next = paint_to(coding, pen, place)?;
@@ -273,11 +282,12 @@ fn draw_horizontal(
         (LineFrom reference (spot_of next coding.new.items)) (here reader.old) (here reader.new)) }
     ensures on { IfOk result (λ next. (reference : List ℕ) → IsAbove columns pen reference
         → DrawsOn columns reference pen next coding.new.items) }
-    ensures none { IfErr result (λ e. IsBroken e → (reference : Row) → length reference ≡ columns → Never columns
-        (ModeFrom reference (spot_of pen coding.old.items) Horizontal (here reader.old))) }
     ensures at { IfErr result (λ e. (reference : Row) → length reference ≡ columns → EndsAt columns
         (ModeFrom reference (spot_of pen coding.old.items) Horizontal) reader.old.bits (here reader.old) e) }
     ensures same_bits { reader.new.bits ≡ reader.old.bits }
+    ensures passed { IfOk result (λ next. next.passed ≡ pen.passed) }
+    ensures pays { IsPaid result words.old.ticks words.new.ticks
+        (fund 0 coding.old.items (here reader.old)) (λ next. fund 0 coding.new.items (here reader.new)) }
 {
     let between = paint_run(words, reader, columns, coding, pen)?;
     let next = paint_run(words, reader, columns, coding, between)?;
@@ -300,11 +310,12 @@ fn draw_mode(
         (LineFrom (pixels columns reference.now) (spot_of pen coding.old.items))
         (LineFrom (pixels columns reference.now) (spot_of next coding.new.items)) (here reader.old) (here reader.new)) }
     ensures on { IfOk result (λ next. DrawsOn columns reference.now pen next coding.new.items) }
-    ensures none { IfErr result (λ e. IsBroken e → Never columns
-        (LineFrom (pixels columns reference.now) (spot_of pen coding.old.items) (here reader.old))) }
     ensures at { IfErr result (EndsAt columns (LineFrom (pixels columns reference.now) (spot_of pen coding.old.items))
         reader.old.bits (here reader.old)) }
     ensures same_bits { reader.new.bits ≡ reader.old.bits }
+    ensures pays { IsPaid result words.old.ticks words.new.ticks
+        (fund (length reference.now - pen.passed) coding.old.items (here reader.old))
+        (λ next. fund (length reference.now - next.passed) coding.new.items (here reader.new)) }
 {
     let mut pen = pen;
     pen.word = reader.bit_pos();
@@ -332,6 +343,8 @@ pub fn draw_line_2d(
         (λ here row rest. LineStands Group4 (pixels columns reference.now) row here rest)
         coding.new.items (here reader.old) (here reader.new) reader.old.bits result }
     ensures same_bits { reader.new.bits ≡ reader.old.bits }
+    ensures pays { IsPaid result words.old.ticks words.new.ticks
+        (fund (length reference.now) [] (here reader.old)) (λ done. fund 0 coding.new.items (here reader.new)) }
 {
     coding.clear();
     let mut pen = at_start();
@@ -356,9 +369,10 @@ fn draw_run(
         (RunsFrom (spot_of next coding.new.items)) (here reader.old) (here reader.new)) }
     ensures drawn { IfOk result (λ next. IsDrawn columns next coding.new.items) }
     ensures onward { IfOk result (λ next. from_of pen < from_of next) }
-    ensures none { IfErr result (λ e. IsBroken e → Never columns (RunsFrom (spot_of pen coding.old.items) (here reader.old))) }
     ensures at { IfErr result (EndsAt columns (RunsFrom (spot_of pen coding.old.items)) reader.old.bits (here reader.old)) }
     ensures same_bits { reader.new.bits ≡ reader.old.bits }
+    ensures pays { IsPaid result words.old.ticks words.new.ticks
+        (fund 0 coding.old.items (here reader.old)) (λ next. fund 0 coding.new.items (here reader.new)) }
 {
     let next = paint_run(words, reader, columns, coding, pen)?;
     Ok(next)
@@ -375,11 +389,11 @@ pub fn draw_line_1d(
     ensures row { OnOk result ((reference : Row) → Passes columns (λ here row rest. LineStands Group3_1D reference row here rest)
         (IsOnly (pixels columns coding.new.items)) (here reader.old) (here reader.new)) }
     ensures lawful { OnOk result (AreChanges columns coding.new.items) }
-    ensures none { IfErr result (λ e. IsBroken e → (reference : Row)
-        → Never columns (λ row rest. LineStands Group3_1D reference row (here reader.old) rest)) }
     ensures at { IfErr result (λ e. (reference : Row) → EndsAt columns
         (λ here row rest. LineStands Group3_1D reference row here rest) reader.old.bits (here reader.old) e) }
     ensures same_bits { reader.new.bits ≡ reader.old.bits }
+    ensures pays { IsPaid result words.old.ticks words.new.ticks
+        (fund 0 [] (here reader.old)) (λ done. fund 0 coding.new.items (here reader.new)) }
 {
     coding.clear();
     let mut pen = at_start();

@@ -1,17 +1,20 @@
 //! Pictures: lines in order, and how they end.
 
-ghost use Rattle.std.specs.Prelude.{◌≡◌, ◌+◌, ◌<◌, ◌≤◌, ◌%◌, ◌++◌, ◌∷◌, ◌^◌, ◌↔◌, false, true, OnOk, IfErr, IfSome, IfNone};
-ghost use Rattle.std.specs.Prelude.{IsTrue, length};
+ghost use Rattle.std.specs.Prelude.{◌≡◌, ◌+◌, ◌*◌, ◌<◌, ◌≤◌, ◌%◌, ◌++◌, ◌∷◌, ◌^◌, ◌↔◌, false, true, OnOk, IfErr, IfSome, IfNone};
+ghost use Rattle.std.specs.Prelude.{IsTrue, None, [], length};
 ghost use Rattle.hayro_ccitt.specs.Bits.{Bits, here};
 ghost use Rattle.hayro_ccitt.specs.EncodingMode.TheVariants.{Group3_2D};
 ghost use Rattle.hayro_ccitt.specs.Encodings.{eol, padding, tag_of};
+ghost use Rattle.hayro_ccitt.specs.EndOfLine.{after_eol};
 ghost use Rattle.hayro_ccitt.specs.Pictures.{Allows};
 ghost use Rattle.hayro_ccitt.specs.Rows.{AreChanges, pixels, white_row};
+ghost use Rattle.hayro_ccitt.specs.Ticks.{looked};
 ghost use Rattle.fax_conforms.specs.Conforming.{EofbStands, SeeksEofb, TwoEolsStand, BodyStands, FilledStands, fill_at};
 ghost use Rattle.fax_conforms.specs.Conforming.{EolStands, TaggedEolStands, EolsStand, RtcStands};
 ghost use Rattle.fax_conforms.specs.Conforming.{EolLineStands, LinesStand};
 ghost use Rattle.fax_conforms.specs.Standing.{LineStands};
 ghost use Rattle.fax_conforms.specs.Stops.{EndsInLine, IsBroken, LineOfPicture, ReadsLine};
+ghost use Rattle.fax_conforms.specs.Work.{IsPaid, fund};
 
 use crate::lines::{draw_line_1d, draw_line_2d};
 use crate::stops::{Rule, Stop, broken};
@@ -35,8 +38,11 @@ fn draw_tagged_line(
         (λ here row rest. LineStands Group3_2D (pixels columns reference.now) row here rest)
         coding.new.items (here reader.old) (here reader.new) reader.old.bits result }
     ensures same_bits { reader.new.bits ≡ reader.old.bits }
+    ensures pays { IsPaid result words.old.ticks words.new.ticks
+        (fund (length reference.now) [] (here reader.old)) (λ done. fund 0 coding.new.items (here reader.new)) }
 {
     let place = reader.bit_pos();
+    words.ticks.tick();
     match reader.read_bit() {
         Ok(0) => draw_line_2d(words, reader, columns, reference, coding),
         Ok(_) => draw_line_1d(words, reader, columns, coding),
@@ -58,6 +64,8 @@ pub fn draw_line(
         (λ here row rest. LineStands settings.encoding (pixels settings.columns reference.now) row here rest)
         coding.new.items (here reader.old) (here reader.new) reader.old.bits result }
     ensures same_bits { reader.new.bits ≡ reader.old.bits }
+    ensures pays { IsPaid result words.old.ticks words.new.ticks
+        (fund (length reference.now) [] (here reader.old)) (λ done. fund 0 coding.new.items (here reader.new)) }
 {
     let columns = settings.columns;
     match settings.encoding {
@@ -81,6 +89,7 @@ pub fn after_plain_eol<'a>(reader: &BitReader<'a>, ticks: &mut Ticks) -> Option<
     ensures found { IfSome result (λ after. here reader.now ≡ eol 0 ++ here after) }
     ensures none { IfNone result ((rest : Bits) → here reader.now ≡ eol 0 ++ rest → ⊥) }
     ensures same_bits { IfSome result (λ after. after.bits ≡ reader.now.bits) }
+    ensures ticks { ticks.new ≡ ticks.old + looked (here reader.now) }
 {
     let (zeros, after) = reader.zero_run(ticks);
     if zeros == 11 {
@@ -91,7 +100,10 @@ pub fn after_plain_eol<'a>(reader: &BitReader<'a>, ticks: &mut Ticks) -> Option<
 
 /// Returns whether two EOLs without fill are here (T.6, 2.4.1.1).
 fn has_two_eols(reader: &BitReader<'_>, ticks: &mut Ticks) -> bool
-    ensures { IsTrue result ↔ TwoEolsStand (here reader.now) }
+    ensures stands { IsTrue result ↔ TwoEolsStand (here reader.now) }
+    ensures counts { ticks.old ≤ ticks.new }
+    ensures work { after_eol 0 (here reader.now) ≡ None → ticks.new ≤ ticks.old + looked (here reader.now) }
+    ensures at_most { ticks.new ≤ ticks.old + length (here reader.now) }
 {
     match after_plain_eol(reader, ticks) {
         Some(after) => after_plain_eol(&after, ticks).is_some(),
@@ -108,7 +120,10 @@ fn seeks_eofb(settings: DecodeSettings) -> bool
 
 /// Returns whether EOFB is here, and the settings look for it (T.6, 2.4.1.1).
 fn is_eofb(settings: DecodeSettings, reader: &BitReader<'_>, ticks: &mut Ticks) -> bool
-    ensures { IsTrue result ↔ EofbStands settings (here reader.now) }
+    ensures stands { IsTrue result ↔ EofbStands settings (here reader.now) }
+    ensures counts { ticks.old ≤ ticks.new }
+    ensures work { after_eol 0 (here reader.now) ≡ None → ticks.new ≤ ticks.old + looked (here reader.now) }
+    ensures at_most { ticks.new ≤ ticks.old + length (here reader.now) }
 {
     seeks_eofb(settings) && has_two_eols(reader, ticks)
 }
@@ -127,15 +142,18 @@ fn pass_zero(reader: &mut BitReader<'_>) -> bool
 }
 
 /// Consumes zeros up to a whole byte, and returns whether there are as many (T.4, 4.1.3).
-fn pass_padding(reader: &mut BitReader<'_>) -> bool
+fn pass_padding(reader: &mut BitReader<'_>, ticks: &mut Ticks) -> bool
     ensures padding { result ≡ true → (rest : Bits) → (here reader.old ≡ padding reader.old.place ++ rest) ↔
         (here reader.new ≡ rest) }
     ensures whole { result ≡ true → reader.new.place % 8 ≡ 0 }
     ensures none { result ≡ false → (rest : Bits) → here reader.old ≡ padding reader.old.place ++ rest → ⊥ }
     ensures same_bits { reader.new.bits ≡ reader.old.bits }
+    ensures counts { ticks.old ≤ ticks.new }
+    ensures at_most { ticks.new ≤ ticks.old + length (padding reader.old.place) }
 {
     let mut left = (8 - reader.bit_pos() % 8) % 8;
     'zeros: while left > 0 {
+        ticks.tick();
         if !pass_zero(reader) {
             return false;
         }
@@ -145,15 +163,18 @@ fn pass_padding(reader: &mut BitReader<'_>) -> bool
 }
 
 /// Consumes the padding after a line where lines are aligned, and returns whether it is there (T.4, 4.1.3).
-fn pass_fill(aligned: bool, reader: &mut BitReader<'_>) -> bool
+fn pass_fill(aligned: bool, reader: &mut BitReader<'_>, ticks: &mut Ticks) -> bool
     ensures fill { result ≡ true → (rest : Bits) → (here reader.old ≡ fill_at aligned reader.old.place ++ rest) ↔
         (here reader.new ≡ rest) }
     ensures whole { result ≡ true → aligned ≡ true → reader.new.place % 8 ≡ 0 }
     ensures none { result ≡ false → (rest : Bits) → here reader.old ≡ fill_at aligned reader.old.place ++ rest → ⊥ }
     ensures same_bits { reader.new.bits ≡ reader.old.bits }
+    ensures counts { ticks.old ≤ ticks.new }
+    ensures at_most { ticks.new ≤ ticks.old + length (fill_at aligned reader.old.place) }
+    ensures few { ticks.new ≤ ticks.old + 7 }
 {
     if aligned {
-        return pass_padding(reader);
+        return pass_padding(reader, ticks);
     }
     true
 }
@@ -174,15 +195,16 @@ fn draw_filled_line(
         coding.new.items (here reader.old) (here reader.new) reader.old.bits result }
     ensures whole { OnOk result (settings.rows_are_byte_aligned ≡ true → reader.new.place % 8 ≡ 0) }
     ensures shorter { OnOk result (length (here reader.new) < length (here reader.old)) }
-    ensures fit { length reader.old.bits + 64 < 2 ^ 64 }
     ensures same_bits { reader.new.bits ≡ reader.old.bits }
+    ensures pays { IsPaid result words.old.ticks words.new.ticks
+        (fund (length reference.now) [] (here reader.old)) (λ done. fund 0 coding.new.items (here reader.new)) }
 {
     // The range of a number is known once it is read.
     let _columns = settings.columns;
     let _start = reader.bit_pos();
     draw_line(words, reader, settings, reference, coding)?;
     let place = reader.bit_pos();
-    if !pass_fill(settings.rows_are_byte_aligned, reader) {
+    if !pass_fill(settings.rows_are_byte_aligned, reader, &mut words.ticks) {
         return broken(place, Rule::Padding);
     }
     Ok(())
@@ -201,7 +223,11 @@ pub fn read_body(
     ensures stands { OnOk result (BodyStands settings 0 (white_row settings.columns) (here reader.old)) }
     ensures none { IfErr result (λ e. IsBroken e → BodyStands settings 0 (white_row settings.columns) (here reader.old) → ⊥) }
     ensures at { IfErr result (EndsInLine settings false reader.old.bits (here reader.old)) }
+    ensures counts { words.old.ticks ≤ words.new.ticks }
+    ensures at_most { words.new.ticks ≤ words.old.ticks + 5 * length (here reader.old) + 7 }
 {
+    // The range of a number is known once it is read.
+    let _start = reader.bit_pos();
     reference.clear();
     let mut taken = 0;
     'rows: loop {
@@ -219,6 +245,7 @@ fn following_eol<'a>(reader: &BitReader<'a>, ticks: &mut Ticks) -> Option<BitRea
     ensures found { IfSome result (λ after. EolStands (here reader.now) (here after)) }
     ensures none { IfNone result ((rest : Bits) → EolStands (here reader.now) rest → ⊥) }
     ensures same_bits { IfSome result (λ after. after.bits ≡ reader.now.bits) }
+    ensures ticks { ticks.new ≡ ticks.old + looked (here reader.now) }
 {
     let (zeros, after) = reader.zero_run(ticks);
     if zeros < 11 {
@@ -228,15 +255,24 @@ fn following_eol<'a>(reader: &BitReader<'a>, ticks: &mut Ticks) -> Option<BitRea
 }
 
 /// Returns whether a tag of 1 is here, or needn't be, and consumes it (T.4, 4.2.4).
-pub fn pass_closing_tag(encoding: EncodingMode, reader: &mut BitReader<'_>) -> bool
+pub fn pass_closing_tag(
+    encoding: EncodingMode,
+    reader: &mut BitReader<'_>,
+    ticks: &mut Ticks,
+) -> bool
     ensures tag { result ≡ true → here reader.old ≡ tag_of encoding ++ here reader.new }
     ensures none { result ≡ false → (rest : Bits) → here reader.old ≡ tag_of encoding ++ rest → ⊥ }
+    ensures same_bits { reader.new.bits ≡ reader.old.bits }
+    ensures ticks { ticks.new ≡ ticks.old + length (tag_of encoding) }
 {
     match encoding {
-        EncodingMode::Group3_2D => match reader.read_bit() {
-            Ok(bit) => bit == 1,
-            Err(_) => false,
-        },
+        EncodingMode::Group3_2D => {
+            ticks.tick();
+            match reader.read_bit() {
+                Ok(bit) => bit == 1,
+                Err(_) => false,
+            }
+        }
         EncodingMode::Group3_1D | EncodingMode::Group4 => true,
     }
 }
@@ -249,10 +285,14 @@ pub fn after_tagged_eol<'a>(
 ) -> Option<BitReader<'a>>
     ensures found { IfSome result (λ after. TaggedEolStands encoding (here reader.now) (here after)) }
     ensures none { IfNone result ((rest : Bits) → TaggedEolStands encoding (here reader.now) rest → ⊥) }
+    ensures same_bits { IfSome result (λ after. after.bits ≡ reader.now.bits) }
+    ensures counts { ticks.old ≤ ticks.new }
+    ensures at_most { ticks.new ≤ ticks.old + looked (here reader.now) + length (tag_of encoding) }
+    ensures no_eol { after_eol 0 (here reader.now) ≡ None → ticks.new ≤ ticks.old + looked (here reader.now) }
 {
     match following_eol(reader, ticks) {
         Some(mut after) => {
-            if pass_closing_tag(encoding, &mut after) {
+            if pass_closing_tag(encoding, &mut after, ticks) {
                 Some(after)
             } else {
                 None
@@ -264,7 +304,13 @@ pub fn after_tagged_eol<'a>(
 
 /// Returns whether six EOLs are here, each with its tag (T.4, 4.1.4 and 4.2.4).
 fn has_six_eols(encoding: EncodingMode, reader: &BitReader<'_>, ticks: &mut Ticks) -> bool
-    ensures { IsTrue result ↔ EolsStand encoding 6 (here reader.now) }
+    ensures stands { IsTrue result ↔ EolsStand encoding 6 (here reader.now) }
+    ensures counts { ticks.old ≤ ticks.new }
+    ensures none { ((rest : Bits) → TaggedEolStands encoding (here reader.now) rest → ⊥)
+        → ticks.new ≤ ticks.old + looked (here reader.now) + length (tag_of encoding) }
+    ensures one { (rest : Bits) → TaggedEolStands encoding (here reader.now) rest → after_eol 0 rest ≡ None
+        → ticks.new ≤ ticks.old + looked (here reader.now) + length (tag_of encoding) + looked rest }
+    ensures at_most { ticks.new ≤ ticks.old + length (here reader.now) + 1 }
 {
     let Some(mut next) = after_tagged_eol(encoding, reader, ticks) else {
         return false;
@@ -282,7 +328,13 @@ fn has_six_eols(encoding: EncodingMode, reader: &BitReader<'_>, ticks: &mut Tick
 
 /// Returns whether RTC is here after some row, and the settings look for it (T.4, 4.1.4).
 fn is_rtc(settings: DecodeSettings, taken: u64, reader: &BitReader<'_>, ticks: &mut Ticks) -> bool
-    ensures { IsTrue result ↔ RtcStands settings taken (here reader.now) }
+    ensures stands { IsTrue result ↔ RtcStands settings taken (here reader.now) }
+    ensures counts { ticks.old ≤ ticks.new }
+    ensures none { ((rest : Bits) → TaggedEolStands settings.encoding (here reader.now) rest → ⊥)
+        → ticks.new ≤ ticks.old + looked (here reader.now) + length (tag_of settings.encoding) }
+    ensures one { (rest : Bits) → TaggedEolStands settings.encoding (here reader.now) rest → after_eol 0 rest ≡ None
+        → ticks.new ≤ ticks.old + looked (here reader.now) + length (tag_of settings.encoding) + looked rest }
+    ensures at_most { ticks.new ≤ ticks.old + length (here reader.now) + 1 }
 {
     settings.end_of_block && taken > 0 && has_six_eols(settings.encoding, reader, ticks)
 }
@@ -292,6 +344,7 @@ pub fn pass_eol(reader: &mut BitReader<'_>, ticks: &mut Ticks) -> bool
     ensures found { result ≡ true → EolStands (here reader.old) (here reader.new) }
     ensures none { result ≡ false → (rest : Bits) → EolStands (here reader.old) rest → ⊥ }
     ensures same_bits { reader.new.bits ≡ reader.old.bits }
+    ensures ticks { ticks.new ≡ ticks.old + looked (here reader.old) }
 {
     match following_eol(reader, ticks) {
         Some(after) => {
@@ -316,8 +369,9 @@ fn draw_line_following_eol(
         (LineOfPicture settings true (pixels settings.columns reference.now))
         coding.new.items (here reader.old) (here reader.new) reader.old.bits result }
     ensures shorter { OnOk result (length (here reader.new) < length (here reader.old)) }
-    ensures fit { length reader.old.bits + 64 < 2 ^ 64 }
     ensures same_bits { reader.new.bits ≡ reader.old.bits }
+    ensures pays { IsPaid result words.old.ticks words.new.ticks
+        (fund (length reference.now) [] (here reader.old)) (λ done. fund 0 coding.new.items (here reader.new)) }
 {
     // The range of a number is known once it is read.
     let _columns = settings.columns;
@@ -340,7 +394,11 @@ pub fn read_lines(
     ensures stands { OnOk result (LinesStand settings 0 (white_row settings.columns) (here reader.old)) }
     ensures none { IfErr result (λ e. IsBroken e → LinesStand settings 0 (white_row settings.columns) (here reader.old) → ⊥) }
     ensures at { IfErr result (EndsInLine settings true reader.old.bits (here reader.old)) }
+    ensures counts { words.old.ticks ≤ words.new.ticks }
+    ensures at_most { words.new.ticks ≤ words.old.ticks + 5 * length (here reader.old) + 8 }
 {
+    // The range of a number is known once it is read.
+    let _start = reader.bit_pos();
     reference.clear();
     let mut taken = 0;
     'rows: loop {
@@ -357,6 +415,7 @@ pub fn read_lines(
 pub fn has_eol(reader: &BitReader<'_>, ticks: &mut Ticks) -> bool
     ensures found { result ≡ true → (rest : Bits) × EolStands (here reader.now) rest }
     ensures none { result ≡ false → (rest : Bits) → EolStands (here reader.now) rest → ⊥ }
+    ensures ticks { ticks.new ≡ ticks.old + looked (here reader.now) }
 {
     following_eol(reader, ticks).is_some()
 }

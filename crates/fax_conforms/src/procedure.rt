@@ -1,17 +1,26 @@
 //! Pictures by the coding procedure: lines in order, and how they end.
 
-ghost use Rattle.std.specs.Prelude.{◌≡◌, ◌≢◌, ◌+◌, ◌<◌, ◌↔◌, ◌++◌, ◌^◌, Bool, true, false, Some, length, IsTrue};
+ghost use Rattle.std.specs.Prelude.{◌≡◌, ◌≢◌, ◌+◌, ◌*◌, ◌<◌, ◌≤◌, ◌↔◌, ◌++◌, ◌^◌, Bool, true, false, Some, None, length, IsTrue};
 ghost use Rattle.std.specs.Prelude.{IfErr, IfNone, IfSome, OnOk, not, ◌&&◌};
 ghost use Rattle.hayro_ccitt.specs.Bits.{Bits, here};
+ghost use Rattle.hayro_ccitt.specs.EncodingMode.TheVariants.{Group4};
 ghost use Rattle.hayro_ccitt.specs.Encodings.{eol, tag_of};
 ghost use Rattle.hayro_ccitt.specs.Pictures.{Allows};
 ghost use Rattle.hayro_ccitt.specs.Rows.{AreChanges, Row, pixels, white_row};
+ghost use Rattle.hayro_ccitt.specs.EndOfLine.{after_eol};
+ghost use Rattle.hayro_ccitt.specs.Ticks.{looked};
 ghost use Rattle.fax_encode.specs.Procedure.{part_by_procedure};
 ghost use Rattle.fax_encode.specs.Settings.{is_closed};
 ghost use Rattle.fax_conforms.specs.ByProcedure.{ClosingStands, EndStands, EndsHere, FewZerosStand, HasKind, LeadStands};
 ghost use Rattle.fax_conforms.specs.ByProcedure.{LinesByProcedure, PartStands, PlainRtcStands, left_after, left_at_first};
-ghost use Rattle.fax_conforms.specs.Checks.{Checks, PassesPart, ReadsPart, part_of};
+ghost use Rattle.fax_conforms.specs.ByProcedure.{part_of};
+ghost use Rattle.fax_conforms.specs.Checks.{Checks, PassesPart, ReadsPart};
+ghost use Rattle.fax_conforms.specs.Conforming.{EolsStand};
+ghost use Rattle.fax_conforms.specs.Departures.{ClosesOr, ClosingDeparts, EndsAfterLines, EndsAtLimit, FillInRtc};
+ghost use Rattle.fax_conforms.specs.Departures.{FilledEolStands, IsAt, LeadEndsAt, LineEndsAt, NoClosing, PartEndsAt};
+ghost use Rattle.fax_conforms.specs.Departures.{ReadableFrom, TagSays};
 ghost use Rattle.fax_conforms.specs.Stops.{IsBroken};
+ghost use Rattle.fax_conforms.specs.Work.{IsPaid, LooksForEnd};
 
 use crate::pictures::{
     after_plain_eol, after_tagged_eol, draw_line, has_eol, limit_met, pass_closing_tag, pass_eol,
@@ -65,8 +74,11 @@ fn may_come(left: Option<u32>, is_two: bool) -> bool
 /// Returns whether the line that is next is two-dimensional: in two-dimensional Group 3, whether its tag is 0 (T.4, 4.2.2).
 fn next_is_two(encoding: EncodingMode, reader: &BitReader<'_>, ticks: &mut Ticks) -> bool
     ensures kind { HasKind encoding result }
+    ensures tag { TagSays encoding (here reader.now) result }
     ensures only { (fills is_two : Bool) (reference row : Row) (rest : Bits) → HasKind encoding is_two
         → here reader.now ≡ part_by_procedure encoding fills is_two reference row ++ rest → is_two ≡ result }
+    ensures counts { ticks.old ≤ ticks.new }
+    ensures at_most { ticks.new ≤ ticks.old + looked (here reader.now) }
 {
     match encoding {
         EncodingMode::Group4 => true,
@@ -88,7 +100,9 @@ fn pass_lead(
 ) -> Result<(), Stop>
     ensures found { OnOk result (LeadStands has_eols taken (here reader.old) (here reader.new)) }
     ensures none { IfErr result (λ e. IsBroken e → (rest : Bits) → LeadStands has_eols taken (here reader.old) rest → ⊥) }
+    ensures at { IfErr result (LeadEndsAt has_eols taken reader.old) }
     ensures same_bits { reader.new.bits ≡ reader.old.bits }
+    ensures pays { IsPaid result ticks.old ticks.new (length (here reader.old)) (λ done. length (here reader.new)) }
 {
     let place = reader.bit_pos();
     if !has_eols {
@@ -122,28 +136,29 @@ fn pass_line(
     asked: Asked,
     is_two: bool,
     rows: RowBelow<'_>,
+    ticks: &mut Ticks,
 ) -> Result<(), Stop>
     requires reference { AreChanges asked.settings.columns rows.reference.now }
     requires changes { AreChanges asked.settings.columns rows.changes.now }
     ensures passes { PassesPart (part_of asked.settings asked.has_eols is_two (pixels asked.settings.columns rows.entry.reference.now)
         (pixels asked.settings.columns rows.entry.changes.now)) (here reader.old) (here reader.new) result }
+    ensures at { IfErr result (PartEndsAt (part_of asked.settings asked.has_eols is_two
+        (pixels asked.settings.columns rows.entry.reference.now) (pixels asked.settings.columns rows.entry.changes.now)) reader.old) }
     ensures same_bits { reader.new.bits ≡ reader.old.bits }
+    ensures pays { IsPaid result ticks.old ticks.new (length rows.entry.reference.now + 2 * length (here reader.old) + 3)
+        (λ done. 2 * length (here reader.new)) }
 {
-    let start = reader.bit_pos();
     let kind = LineKind {
         encoding: asked.settings.encoding,
         is_two_dimensional: is_two,
         is_filled: is_filled(asked),
     };
-    match pass_line_by_procedure(asked.alloc, reader, asked.settings.columns, kind, rows) {
-        Ok(is_here) => {
-            if is_here {
-                return Ok(());
-            }
-            broken(start, Rule::Procedure)
-        }
-        Err(_) => Err(Stop::OutOfMemory),
+    if pass_line_by_procedure(reader, asked.settings.columns, kind, rows, ticks) {
+        // The range of a place is known once it is read.
+        let _end = reader.bit_pos();
+        return Ok(());
     }
+    broken(reader.bit_pos(), Rule::Procedure)
 }
 
 /// Reads the next line, if it is one that the coding procedure writes and that may come next, and leaves the changes of its row.
@@ -158,10 +173,15 @@ fn draw_part(
 ) -> Result<bool, Stop>
     requires wide { 0 < asked.settings.columns }
     requires reference { AreChanges asked.settings.columns reference.now }
+    requires unlimited { asked.settings.encoding ≡ Group4 → left ≡ None }
     ensures reads { ReadsPart asked.settings (PartStands asked.settings asked.has_eols left (pixels asked.settings.columns reference.now)
         (here reader.old)) coding.new.items (here reader.old) (here reader.new) result }
+    ensures at { IfErr result (LineEndsAt asked.settings asked.has_eols left (pixels asked.settings.columns reference.now)
+        reader.old) }
     ensures fit { length reader.old.bits + 64 < 2 ^ 64 }
     ensures same_bits { reader.new.bits ≡ reader.old.bits }
+    ensures pays { IsPaid result words.old.ticks words.new.ticks (2 * length reference.now + 10 * length (here reader.old) + 3)
+        (λ is_two. 2 * length coding.new.items + 10 * length (here reader.new) + 3) }
 {
     // The range of a number is known once it is read.
     let _columns = asked.settings.columns;
@@ -176,7 +196,7 @@ fn draw_part(
         reference,
         changes: coding.as_slice(),
     };
-    match pass_line(reader, asked, is_two, rows) {
+    match pass_line(reader, asked, is_two, rows, &mut words.ticks) {
         Ok(()) => Ok(is_two),
         Err(stop) => Err(stop),
     }
@@ -190,10 +210,14 @@ fn after_plain_tagged_eol<'a>(
 ) -> Option<BitReader<'a>>
     ensures found { IfSome result (λ after. here reader.now ≡ eol 0 ++ (tag_of encoding ++ here after)) }
     ensures none { IfNone result ((rest : Bits) → here reader.now ≡ eol 0 ++ (tag_of encoding ++ rest) → ⊥) }
+    ensures same_bits { IfSome result (λ after. after.bits ≡ reader.now.bits) }
+    ensures counts { ticks.old ≤ ticks.new }
+    ensures at_most { ticks.new ≤ ticks.old + looked (here reader.now) + length (tag_of encoding) }
+    ensures no_eol { after_eol 0 (here reader.now) ≡ None → ticks.new ≤ ticks.old + looked (here reader.now) }
 {
     match after_plain_eol(reader, ticks) {
         Some(mut after) => {
-            if pass_closing_tag(encoding, &mut after) {
+            if pass_closing_tag(encoding, &mut after, ticks) {
                 Some(after)
             } else {
                 None
@@ -211,6 +235,9 @@ fn after_plain_rtc<'a>(
 ) -> Option<BitReader<'a>>
     ensures found { IfSome result (λ after. (rest : Bits) → PlainRtcStands encoding (here reader.now) rest ↔ (here after ≡ rest)) }
     ensures none { IfNone result ((rest : Bits) → PlainRtcStands encoding (here reader.now) rest → ⊥) }
+    ensures same_bits { IfSome result (λ after. after.bits ≡ reader.now.bits) }
+    ensures looks { LooksForEnd encoding (here reader.now) ticks.old ticks.new }
+    ensures pays { IfSome result (λ after. ticks.new + length (here after) ≤ ticks.old + length (here reader.now)) }
 {
     let Some(mut next) = after_tagged_eol(encoding, reader, ticks) else {
         return None;
@@ -236,6 +263,9 @@ fn after_closing<'a>(
 ) -> Option<BitReader<'a>>
     ensures found { IfSome result (λ after. (rest : Bits) → ClosingStands encoding taken (here reader.now) rest ↔ (here after ≡ rest)) }
     ensures none { IfNone result ((rest : Bits) → ClosingStands encoding taken (here reader.now) rest → ⊥) }
+    ensures same_bits { IfSome result (λ after. after.bits ≡ reader.now.bits) }
+    ensures looks { LooksForEnd encoding (here reader.now) ticks.old ticks.new }
+    ensures pays { IfSome result (λ after. ticks.new + length (here after) ≤ ticks.old + length (here reader.now)) }
 {
     match encoding {
         EncodingMode::Group4 => match after_plain_eol(reader, ticks) {
@@ -253,7 +283,8 @@ fn after_closing<'a>(
 
 /// Returns whether fewer than eight zeros are all that is left.
 fn has_few_zeros(reader: &BitReader<'_>, ticks: &mut Ticks) -> bool
-    ensures { IsTrue result ↔ FewZerosStand (here reader.now) }
+    ensures stands { IsTrue result ↔ FewZerosStand (here reader.now) }
+    ensures ticks { ticks.new ≡ ticks.old + looked (here reader.now) }
 {
     let (zeros, after) = reader.zero_run(ticks);
     zeros < 8 && after.is_none()
@@ -280,7 +311,8 @@ fn is_allowed(settings: DecodeSettings, taken: u64) -> bool
 
 /// Returns whether the end of the block is here after this number of rows, and then the end of the data.
 fn closes_here(asked: Asked, taken: u64, reader: &BitReader<'_>, ticks: &mut Ticks) -> bool
-    ensures { IsTrue result ↔ ((rest : Bits) × EndStands true asked.settings taken (here reader.now) rest × FewZerosStand rest) }
+    ensures stands { IsTrue result ↔ ((rest : Bits) × EndStands true asked.settings taken (here reader.now) rest × FewZerosStand rest) }
+    ensures looks { LooksForEnd asked.settings.encoding (here reader.now) ticks.old ticks.new }
 {
     if !is_allowed(asked.settings, taken) {
         return false;
@@ -293,7 +325,8 @@ fn closes_here(asked: Asked, taken: u64, reader: &BitReader<'_>, ticks: &mut Tic
 
 /// Returns whether the picture ends here after this number of rows, and then the data.
 fn ends_here(asked: Asked, taken: u64, reader: &BitReader<'_>, ticks: &mut Ticks) -> bool
-    ensures { IsTrue result ↔ EndsHere asked.settings asked.has_eols taken (here reader.now) }
+    ensures stands { IsTrue result ↔ EndsHere asked.settings asked.has_eols taken (here reader.now) }
+    ensures looks { LooksForEnd asked.settings.encoding (here reader.now) ticks.old ticks.new }
 {
     if is_closed(asked) {
         return closes_here(asked, taken, reader, ticks);
@@ -302,9 +335,17 @@ fn ends_here(asked: Asked, taken: u64, reader: &BitReader<'_>, ticks: &mut Ticks
 }
 
 /// Returns where the EOL that is here with fill begins, if one is.
-fn filled_eol(reader: &BitReader<'_>, ticks: &mut Ticks) -> Option<Violation> {
+fn filled_eol(reader: &BitReader<'_>, ticks: &mut Ticks) -> Option<Violation>
+    ensures found { IfSome result (λ found. IsAt Rule.Fill reader.now found × FilledEolStands (here reader.now)) }
+    ensures none { IfNone result (FilledEolStands (here reader.now) → ⊥) }
+    ensures counts { ticks.old ≤ ticks.new }
+    ensures at_most { ticks.new ≤ ticks.old + 2 * length (here reader.now) }
+{
     let place = reader.bit_pos();
-    if after_plain_eol(reader, ticks).is_some() || !has_eol(reader, ticks) {
+    if after_plain_eol(reader, ticks).is_some() {
+        return None;
+    }
+    if !has_eol(reader, ticks) {
         return None;
     }
     Some(Violation {
@@ -318,7 +359,12 @@ fn fill_in_rtc(
     encoding: EncodingMode,
     reader: &BitReader<'_>,
     ticks: &mut Ticks,
-) -> Option<Violation> {
+) -> Option<Violation>
+    ensures found { IfSome result (FillInRtc encoding reader.now) }
+    ensures none { IfNone result (EolsStand encoding 6 (here reader.now) → (rest : Bits) × PlainRtcStands encoding (here reader.now) rest) }
+    ensures counts { ticks.old ≤ ticks.new }
+    ensures at_most { ticks.new ≤ ticks.old + 3 * length (here reader.now) + 1 }
+{
     let Some(mut next) = after_tagged_eol(encoding, reader, ticks) else {
         return None;
     };
@@ -340,7 +386,12 @@ fn wrong_closing(
     taken: u64,
     reader: &BitReader<'_>,
     ticks: &mut Ticks,
-) -> Option<Violation> {
+) -> Option<Violation>
+    ensures found { IfSome result (ClosingDeparts asked.settings asked.has_eols taken reader.now) }
+    ensures none { IfNone result (NoClosing asked.settings asked.has_eols taken (here reader.now)) }
+    ensures counts { ticks.old ≤ ticks.new }
+    ensures at_most { ticks.new ≤ ticks.old + 4 * length (here reader.now) + 2 }
+{
     if !is_closed(asked) {
         return None;
     }
@@ -367,7 +418,10 @@ fn stop_here(
     ticks: &mut Ticks,
     stop: Stop,
 ) -> Stop
-    ensures { IsBroken result → IsBroken stop }
+    ensures broken { IsBroken result → IsBroken stop }
+    ensures at { ClosesOr asked.settings asked.has_eols taken reader.now stop result }
+    ensures counts { ticks.old ≤ ticks.new }
+    ensures at_most { ticks.new ≤ ticks.old + 4 * length (here reader.now) + 2 }
 {
     match stop {
         Stop::OutOfMemory => Stop::OutOfMemory,
@@ -379,7 +433,11 @@ fn stop_here(
 }
 
 /// Returns the stop where a picture ends after as many rows as the row limit, and its end is wrong.
-fn stop_at_limit(asked: Asked, taken: u64, reader: &BitReader<'_>, ticks: &mut Ticks) -> Stop {
+fn stop_at_limit(asked: Asked, taken: u64, reader: &BitReader<'_>, ticks: &mut Ticks) -> Stop
+    ensures at { EndsAtLimit asked.settings asked.has_eols taken reader.now result }
+    ensures counts { ticks.old ≤ ticks.new }
+    ensures at_most { ticks.new ≤ ticks.old + 4 * length (here reader.now) + 2 }
+{
     let place = reader.bit_pos();
     match wrong_closing(asked, taken, reader, ticks) {
         Some(found) => Stop::Violation(found),
@@ -409,9 +467,17 @@ pub fn are_by_procedure(
     asked: Asked,
 ) -> Result<(), Stop>
     requires wide { 0 < asked.settings.columns }
-    ensures { Checks (LinesByProcedure asked.settings asked.k asked.has_eols 0 (left_at_first asked.settings.encoding)
+    requires start { reader.old.place ≡ 0 }
+    requires eols { asked.has_eols ≡ true → asked.settings.encoding ≢ Group4 }
+    requires readable { ReadableFrom asked.settings asked.has_eols 0 (white_row asked.settings.columns) (here reader.old) }
+    ensures at { IfErr result (EndsAfterLines asked.settings asked.k asked.has_eols reader.old.bits) }
+    ensures checks { Checks (LinesByProcedure asked.settings asked.k asked.has_eols 0 (left_at_first asked.settings.encoding)
         (white_row asked.settings.columns) (here reader.old)) result }
+    ensures counts { words.old.ticks ≤ words.new.ticks }
+    ensures at_most { words.new.ticks ≤ words.old.ticks + 16 * length (here reader.old) + 20 }
 {
+    // The range of a number is known once it is read.
+    let _columns = asked.settings.columns;
     let mut reference = Vec::new(asked.alloc);
     let mut coding = Vec::new(asked.alloc);
     let mut taken = 0;

@@ -27,11 +27,11 @@ pub enum Rule {
     /// Pass mode where no pass mode is expected: b2 is the row's end, so that it isn't left of a1 (T.4, 4.2.1.3.2).
     PassToEnd,
     /// The coding procedure writes the row of the line here with other words of a run or other modes (T.4, 4.1.1 and 4.2.1.3; T.6,
-    /// 2.2).
+    /// 2.2): the place is the first bit that differs.
     Procedure,
     /// A two-dimensional line where K allows none (T.4, 4.2.1): the place is its tag's.
     Kind,
-    /// Fill before the first EOL, or before another EOL of RTC than its first (T.4, 4.1.3 and 4.1.4).
+    /// Fill before the first EOL, or before another EOL of RTC than its first (T.4, 4.1.3 and 4.1.4): the place is the fill's.
     Fill,
     /// The end isn't as the coding procedure writes it: RTC or EOFB isn't here, though due (T.4, 4.1.4; T.6, 2.4.1.1), or more
     /// than zeros up to a whole byte are here after the end.
@@ -41,7 +41,7 @@ pub enum Rule {
 /// Where data breaks a rule: the offset in bits of the word that breaks it.
 #[derive(Debug, Clone, Copy, PartialEq, Eq)]
 pub struct Violation {
-    /// The number of bits before that word.
+    /// The number of bits before that word, or, with [`Rule::Procedure`], before the first bit that differs.
     pub place: usize,
     /// The rule that it breaks.
     pub rule: Rule,

@@ -1,6 +1,6 @@
 //! Words of modes and runs.
 
-ghost use Rattle.std.specs.Prelude.{◌≡◌, ℕ, Ok, IfSome, IfNone};
+ghost use Rattle.std.specs.Prelude.{◌≡◌, ◌+◌, ◌<◌, ◌≤◌, ℕ, Ok, IfOk, IfSome, IfNone, length};
 ghost use Rattle.hayro_ccitt.specs.Bits.{Bits, here};
 ghost use Rattle.hayro_ccitt.specs.CodeLists.{mode_codes};
 ghost use Rattle.hayro_ccitt.specs.CodeReading.{read_code};
@@ -22,7 +22,9 @@ pub struct Words {
 
 impl Words {
     /// Creates the tables.
-    pub fn new(alloc: Global) -> Result<Words> {
+    pub fn new(alloc: Global) -> Result<Words>
+        ensures ticks { IfOk result (λ words. words.ticks ≡ 0) }
+    {
         Ok(Words {
             tables: Tables::new(alloc)?,
             ticks: Ticks::new(),
@@ -35,6 +37,8 @@ impl Words {
         ensures none { IfNone result ((mode : Mode) (rest : Bits) → read_code mode_codes (here reader.old) ≡ Ok (mode, rest)
             → ⊥) }
         ensures same_bits { reader.new.bits ≡ reader.old.bits }
+        ensures ticks { self.new.ticks ≡ self.old.ticks + 1 }
+        ensures shorter { IfSome result (λ mode. length (here reader.new) < length (here reader.old)) }
     {
         match reader.decode_mode(&mut self.ticks) {
             Ok(mode) => Some(mode),
@@ -47,6 +51,10 @@ impl Words {
         ensures found { IfSome result (λ run. read_run color (here reader.old) ≡ Ok (run, here reader.new)) }
         ensures none { IfNone result ((run : ℕ) (rest : Bits) → read_run color (here reader.old) ≡ Ok (run, rest) → ⊥) }
         ensures same_bits { reader.new.bits ≡ reader.old.bits }
+        ensures counts { self.old.ticks ≤ self.new.ticks }
+        ensures work { IfSome result (λ run. self.new.ticks + length (here reader.new) ≤ self.old.ticks + length (here reader.old)) }
+        ensures shorter { IfSome result (λ run. length (here reader.new) < length (here reader.old)) }
+        ensures at_most { self.new.ticks ≤ self.old.ticks + length (here reader.old) + 1 }
     {
         match reader.decode_run(color, &self.tables, &mut self.ticks) {
             Ok(run) => Some(run),

@@ -1,2 +1,3 @@
+mod LaidParts
 mod PartReadings
 mod StrictReadings

@@ -20,13 +20,15 @@ pub reads : {M : Type 0} (settings : DecodeSettings) (bits : Bits) (step : M →
     → (part : PartRows) → part.end ≡ answer → part.rows ≡ held.taken
     → (after.meaning ≡ meaning_after step before.meaning (plain settings bits).rows
     → HaveWidth settings.columns (plain settings bits).rows → bits_of part.bytes.items ≡ packed (plain settings bits).rows)
-    → OnAnswer answer (HasReading (plain settings bits) part)
+    → OnAnswer answer (HasReading settings.columns (plain settings bits) part)
 reads settings bits step before after held ticks (Ok n) left part end rows packs = record {
+  widths = left.widths;
   bitmap = packs left.whole left.widths;
   rows = rows ∙ left.reading.all;
   end = end ∙ sym left.reading.ok;
 }
 reads settings bits step before after held ticks (Err error) left part end rows packs = λ fault. record {
+  widths = left.widths;
   bitmap = packs (left.whole fault) left.widths;
   rows = rows ∙ left.reading.all fault;
   end = end ∙ sym (left.reading.fault fault);

@@ -61,15 +61,20 @@ pub struct DecodedPart {
 }
 
 /// Reads the rows of a part by its settings, with each byte's bits in this order.
-fn read_rows(alloc: Global, data: &[u8], order: BitOrder, settings: DecodeSettings) -> PartRows
+pub(crate) fn read_rows(
+    alloc: Global,
+    data: &[u8],
+    order: BitOrder,
+    settings: DecodeSettings,
+) -> PartRows
     requires fit { BitsFit «data».now }
-    ensures reading { OnAnswer result.end (HasReading (plain settings (bits_in order «data».now)) result) }
+    ensures reading { OnAnswer result.end (HasReading settings.columns (plain settings (bits_in order «data».now)) result) }
 {
     rows_are_packed();
     let mut sink = BitmapSink::new(alloc, settings.columns);
     let mut ctx = match DecoderContext::new(alloc, settings) {
         Ok(ctx) => ctx,
-        Err(error) => return without_rows(alloc, error),
+        Err(error) => return without_rows(alloc, Err(error)),
     };
     let end = decode_in(order, data, &mut sink, &mut ctx);
     PartRows {
@@ -85,14 +90,14 @@ fn read_rows(alloc: Global, data: &[u8], order: BitOrder, settings: DecodeSettin
     }
 }
 
-/// Returns no rows, where no memory was left for any.
-fn without_rows(alloc: Global, error: DecodeError) -> PartRows
-    ensures { result.end ≡ Err error }
+/// Returns no rows, whose reading ended so.
+pub(crate) fn without_rows(alloc: Global, end: hayro_ccitt::Result<usize>) -> PartRows
+    ensures { result.end ≡ end }
 {
     PartRows {
         bytes: Vec::new(alloc),
         rows: 0,
-        end: Err(error),
+        end,
         fault_start: None,
         damage: Counts {
             repaired: 0,
@@ -103,7 +108,7 @@ fn without_rows(alloc: Global, error: DecodeError) -> PartRows
 }
 
 /// Returns where a reading failed, `None` if it ended without a fault or for want of memory.
-fn fault_of(rows: &PartRows) -> Option<Fault>
+pub(crate) fn fault_of(rows: &PartRows) -> Option<Fault>
     ensures none { IsNone result → OnAnswer rows.now.end (IsOk rows.now.end) }
     ensures some { IfSome result (λ fault. FailsAs rows.now fault) }
 {
@@ -127,7 +132,7 @@ pub fn decode_part(
 ) -> DecodedPart
     requires fit { BitsFit «data».now }
     requires lenient { settings.strict ≡ false }
-    ensures rows { OnAnswer result.rows.end (HasReading (plain settings (bits_in order «data».now)) result.rows) }
+    ensures rows { OnAnswer result.rows.end (HasReading settings.columns (plain settings (bits_in order «data».now)) result.rows) }
     ensures fault { IfSome result.fault (λ fault. FailsStrictly settings (bits_in order «data».now) fault) }
     ensures no_fault { OnAnswer result.rows.end (IsNone result.fault
         → IsOk (plain (strictly settings) (bits_in order «data».now)).outcome) }

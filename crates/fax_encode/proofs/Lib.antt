@@ -6,6 +6,7 @@ pub mod ChosenBySettings
 pub mod ChosenLines
 pub mod ChosenWords
 pub mod ClosedPictures
+pub mod ComparedBits
 pub mod CutBits
 pub mod DamageReachesKRows
 pub mod Elements
@@ -23,7 +24,6 @@ pub mod RoundTrip
 pub mod RowLists
 pub mod RunLengths
 pub mod RunsWritten
-pub mod SameBits
 pub mod ScannedRows
 pub mod ScannedWords
 pub mod ShortestBySettings

@@ -1,5 +1,6 @@
 pub mod Chosen
 pub mod Coding
+pub mod Comparing
 pub mod Laws
 pub mod Packed
 pub mod Painting

@@ -1,5 +1,5 @@
 -- A line as the coding procedure writes it, of a kind that is given (T.4, 4.1 and 4.2; T.6, 2.2).
-use Rattle.std.specs.Prelude.{Bool, not, [], ◌∷◌, ◌++◌, length, if◌then◌else◌}
+use Rattle.std.specs.Prelude.{◌≡◌, ◌≢◌, ℕ, ◌<◌, Bool, not, [], ◌∷◌, ◌++◌, length, slice_get, take, if◌then◌else◌}
 use Rattle.hayro_ccitt.specs.EncodingMode.{EncodingMode}
 use Rattle.hayro_ccitt.specs.EncodingMode.TheVariants.{Group4, Group3_1D, Group3_2D}
 use Rattle.hayro_ccitt.specs.Bits.{Bits}
@@ -22,3 +22,9 @@ line_by_procedure encoding is_two reference row =
 abbrev pub part_by_procedure : EncodingMode → Bool → Bool → Row → Row → Bits
 part_by_procedure encoding fills is_two reference row = line_by_procedure encoding is_two reference row
     ++ (if fills then padding (length (line_by_procedure encoding is_two reference row)) else [])
+
+-- the first n bits of a part stand here, fewer than all, and the bit after them doesn't
+pub record StandsUpTo (part here : Bits) (n : ℕ) : Type 0 where
+  pub fewer : n < length part
+  pub first : take n here ≡ take n part
+  pub differs : slice_get here n ≢ slice_get part n

@@ -1,5 +1,5 @@
 -- Raw fax data as a page.
-use Rattle.std.specs.Prelude.{ℕ, ◌≡◌, true, false, ◌&&◌, List, [], ◌∷◌, ◌++◌, length, nat_eq, nat_le, if◌then◌else◌, codes}
+use Rattle.std.specs.Prelude.{ℕ, ◌≡◌, false, ◌&&◌, List, [], ◌∷◌, ◌++◌, length, nat_eq, nat_le, if◌then◌else◌, codes}
 use Rattle.std.specs.List.{starts_with}
 use Rattle.fax_pages.specs.Pages.{bytes_of}
 use Rattle.fax_pages.specs.declared.page.Page.{Page}

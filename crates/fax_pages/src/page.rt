@@ -5,7 +5,7 @@ ghost use Rattle.fax_pages.specs.Pages.{bytes_of};
 
 use hayro_ccitt::DecodeSettings;
 use hayro_ccitt::bit_reader::BitOrder;
-use tiff_read::{Ratio, ResolutionUnit};
+use tiff_read::{Ratio, ResolutionUnit, Texts};
 
 /// What the parts of a page are.
 #[derive(Clone, Copy, Debug, PartialEq, Eq)]
@@ -96,6 +96,8 @@ pub struct Page<'a> {
     pub rows_are_words: bool,
     /// How large the pixels are.
     pub resolution: Resolution,
+    /// What is said of it in words.
+    pub texts: Texts<'a>,
 }
 
 impl Page<'_> {

@@ -7,7 +7,7 @@ use crate::page::{Page, PageBytes, Part, PartKind, Resolution};
 use hayro_ccitt::DecodeSettings;
 use hayro_ccitt::bit_reader::BitOrder;
 use std::alloc::{AllocError, Global};
-use tiff_read::ResolutionUnit;
+use tiff_read::{NO_TEXTS, ResolutionUnit};
 
 /// How raw data is described.
 #[derive(Clone, Copy, Debug)]
@@ -64,6 +64,7 @@ pub fn raw_page<'a>(alloc: Global, file: &'a [u8], form: &RawForm) -> Result<Pag
             down: None,
             unit: ResolutionUnit::None,
         },
+        texts: NO_TEXTS,
     })
 }
 

@@ -9,12 +9,14 @@ pub enum Refusal {
     NotFax(u64),
     /// It has more than one bit a pixel.
     SeveralBits,
-    /// It has no columns or no rows, or 2^32 of them or more.
+    /// It has no columns or no rows, or 2^32 of them or more, or of a PDF image nothing says how many.
     NoSize,
     /// It has no strips or tiles.
     NoParts,
     /// The width of its tiles isn't whole bytes.
     TileSize,
+    /// A filter before the fax data isn't known, or its data is damaged from the first byte on, or one follows CCITTFaxDecode.
+    Filter,
 }
 
 /// A page that isn't decoded.

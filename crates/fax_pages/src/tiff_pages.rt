@@ -1,8 +1,7 @@
 //! The pages of a TIFF file.
 
-ghost use Rattle.std.specs.Prelude.{◌≡◌, ◌+◌, ◌*◌, ◌<◌, ◌≤◌, true, length, All, IfOk, IfSome, OnOk, IsNone};
-ghost use Rattle.paid_cursor.specs.Places.{IsSamePlace};
-ghost use Rattle.tiff_read.specs.Payments.{Costs, room_for};
+ghost use Rattle.std.specs.Prelude.{◌≡◌, ◌+◌, ◌*◌, ◌<◌, ◌≤◌, ◌↔◌, true, length, All, IfOk, IfSome, OnOk, IsNone};
+ghost use Rattle.tiff_read.specs.Payments.{IsSameFile, IsSameReading, Opens, room_for};
 ghost use Rattle.fax_pages.specs.Tags.{is_fax_compression, settings_of_tags};
 ghost use Rattle.fax_pages.specs.TiffPages.{HasSizes, IsTiffPage, LiesIn, cost_of};
 
@@ -22,9 +21,9 @@ pub struct TiffPages<'a> {
 }
 
 impl<'a> Model for TiffPages<'a> {
-    ghost use Rattle.paid_cursor.specs.Places.{Place};
+    ghost use Rattle.tiff_read.specs.Payments.{Reading};
 
-    ghost Value = { Place };
+    ghost Value = { Reading };
 
     ghost view = { λ p. p.tiff };
 }
@@ -48,7 +47,7 @@ impl<'a> TiffPages<'a> {
     ///
     /// `NotTiff`, `Outside` if the file ends within its header, `Spent` or `OutOfMemory`.
     pub fn open(alloc: Global, source: Cursor<'a>) -> Result<TiffPages<'a>, TiffError>
-        ensures paid { IfOk result (λ pages. Costs (room_for (length source.entry.bytes)) source.entry pages) }
+        ensures paid { IfOk result (λ pages. Opens (room_for (length source.entry.bytes)) source.entry pages) }
     {
         Ok(TiffPages {
             tiff: Tiff::open(alloc, source)?,
@@ -63,16 +62,18 @@ impl<'a> TiffPages<'a> {
         self.tiff.left()
     }
 
-    /// Returns the next page; `None` after the last one. It pays for the directory, for 18 numbers and for two of each part.
+    /// Returns the next page; `None` after the last one. It pays for the directory, for 18 numbers, for seven texts and their bytes,
+    /// and for two numbers of each part, or four where the directory doesn't say how many bytes the parts have.
     ///
     /// # Errors
     ///
     /// `Outside` or `Loop` if the next directory isn't in the file, or is an earlier one: no page follows. `Spent` or `OutOfMemory`.
     pub fn next_page(&mut self, alloc: Global) -> Result<Option<Found<'a>>, TiffError>
         ensures page { IfOk result (λ found. IfSome found (IsTiffPage self.old.bytes)) }
+        ensures end { IfOk result (λ found. IsNone found ↔ (self.old.next ≡ 0)) }
         ensures paid { IfOk result (λ found. self.new.left + cost_of found ≤ self.old.left) }
         ensures least { self.new.left ≤ self.old.left }
-        ensures same { IsSamePlace self.old self.new }
+        ensures same { IsSameFile self.old self.new }
     {
         let Some(directory) = self.tiff.next_directory()? else {
             return Ok(None);
@@ -87,7 +88,7 @@ impl<'a> TiffPages<'a> {
         ensures page { IfOk result (IsTiffPage self.old.bytes) }
         ensures paid { IfOk result (λ found. self.new.left + cost_of (Some found) ≤ self.old.left + 1) }
         ensures least { self.new.left ≤ self.old.left }
-        ensures same { IsSamePlace self.old self.new }
+        ensures same { IsSameReading self.old self.new }
     {
         let picture = self.tiff.picture(directory)?;
         if let Some(why) = why_refused(&picture) {
@@ -100,6 +101,7 @@ impl<'a> TiffPages<'a> {
             return Ok(self.refused(Refusal::TileSize));
         };
         let is_dark_first = picture.photometric == Some(3) && self.is_dark_first(directory)?;
+        let texts = self.tiff.texts(directory)?;
         let parts = self.parts(alloc, &picture, &layout, sizes)?;
         Ok(Found::Page(Page {
             number: self.pages,
@@ -123,6 +125,7 @@ impl<'a> TiffPages<'a> {
                 down: picture.down,
                 unit: picture.unit,
             },
+            texts,
         }))
     }
 
@@ -141,7 +144,7 @@ impl<'a> TiffPages<'a> {
     /// Returns whether the first colour of a palette is darker than the second one.
     fn is_dark_first(&mut self, directory: &Directory) -> Result<bool, TiffError>
         ensures least { self.new.left ≤ self.old.left }
-        ensures same { IsSamePlace self.old self.new }
+        ensures same { IsSameReading self.old self.new }
     {
         let first = self.brightness(directory, 0)?;
         let second = self.brightness(directory, 1)?;
@@ -152,7 +155,7 @@ impl<'a> TiffPages<'a> {
     fn brightness(&mut self, directory: &Directory, colour: u64) -> Result<u64, TiffError>
         requires { colour < 2 }
         ensures least { self.new.left ≤ self.old.left }
-        ensures same { IsSamePlace self.old self.new }
+        ensures same { IsSameReading self.old self.new }
     {
         let red = self.tiff.number(directory, COLOR_MAP, colour)?;
         let green = self.tiff.number(directory, COLOR_MAP, colour + 2)?;
@@ -176,10 +179,12 @@ impl<'a> TiffPages<'a> {
         ensures parts { IfOk result (λ parts. All (LiesIn picture.now sizes (length self.old.bytes)) parts.items) }
         ensures paid { IfOk result (λ parts. self.new.left + 2 * length parts.items ≤ self.old.left) }
         ensures least { self.new.left ≤ self.old.left }
-        ensures same { IsSamePlace self.old self.new }
+        ensures same { IsSameReading self.old self.new }
     {
         let mut parts = Vec::new(alloc);
         let count = layout.count.min(layout.offsets.count);
+        let starts = self.starts(alloc, layout, count)?;
+        let size = self.tiff.bytes().len();
         let mut index = 0;
         let mut left: u32 = 0;
         let mut top: u32 = 0;
@@ -190,7 +195,11 @@ impl<'a> TiffPages<'a> {
             let rows = sizes.part_rows.min(sizes.rows - top);
             let part = Part {
                 start: found.start,
-                end: found.end,
+                end: if starts.is_empty() {
+                    found.end
+                } else {
+                    end_before_next(starts.as_slice(), found.start, size)
+                },
                 is_cut: found.is_cut,
                 left,
                 top,
@@ -207,6 +216,46 @@ impl<'a> TiffPages<'a> {
             }
         }
         Ok(parts)
+    }
+
+    /// Returns where the first `count` strips or tiles begin, in ascending order, if the directory doesn't say how many bytes they have, or says
+    /// of each that it has none; else nothing.
+    fn starts(
+        &mut self,
+        alloc: Global,
+        layout: &Layout,
+        count: u64,
+    ) -> Result<Vec<usize>, TiffError>
+        ensures least { self.new.left ≤ self.old.left }
+        ensures same { IsSameReading self.old self.new }
+    {
+        let mut starts = Vec::new(alloc);
+        let mut index = 0;
+        'starts: while index < count {
+            let Some(part) = self.tiff.part(layout, index)? else {
+                break;
+            };
+            if layout.byte_counts.is_some() && part.start < part.end {
+                return Ok(Vec::new(alloc));
+            }
+            if starts.push(part.start).is_err() {
+                return Err(TiffError::OutOfMemory);
+            }
+            index += 1;
+        }
+        starts.sort_unstable();
+        Ok(starts)
+    }
+}
+
+/// Returns the first of some offsets, which ascend, after the offset of a part; or a file's size, if there is none.
+fn end_before_next(starts: &[usize], start: usize, size: usize) -> usize
+    requires { start ≤ size }
+    ensures { (start ≤ result) × (result ≤ size) }
+{
+    match starts.get(starts.partition_point(|it| *it <= start)) {
+        Some(next) => (*next).max(start).min(size),
+        None => size,
     }
 }
 

@@ -1,3 +1,4 @@
+mod ClearedRows
 mod DrawnRows
 mod LaidLists
 mod LaidRows

@@ -126,26 +126,43 @@ impl Bitmap {
     }
 
     /// Lays bytes, of eight pixels each, over a row from a column on, as far as the row reaches.
-    pub(crate) fn lay_over_row(
-        &mut self,
-        alloc: Global,
-        left: u32,
-        index: u32,
-        part: &[u8],
-    ) -> Result<(), AllocError>
+    pub(crate) fn lay_over_row(&mut self, left: u32, index: u32, part: &[u8])
         requires within { index < length self.old.rows }
         requires whole { left % 8 ≡ 0 }
-        ensures laid { OnOk result (self.new ≡ record self.old {
+        ensures { self.new ≡ record self.old {
           rows = with_row_at index (laid_over left (bits_of part.now) (get_or self.old.rows index [])) self.old.rows;
-        }) }
-        ensures kept { OnErr result (self.new ≡ self.old) }
+        } }
     {
-        let mut line = self.row_bytes(index).to_vec(alloc)?;
-        lay_over(&mut line, left as usize / 8, part);
-        let changes = changes_of_bits(alloc, self.columns, line.as_slice())?;
-        self.paint_row(index, changes.as_slice());
-        Ok(())
+        let columns = self.columns;
+        let row_start = index as usize * (columns as usize).div_ceil(8);
+        lay_at(&mut self.bytes, row_start, columns, left as usize / 8, part);
     }
+}
+
+/// Lays bytes over the row that begins at an index, from a byte of it on.
+fn lay_at(bytes: &mut [u8], start: usize, columns: u32, left: usize, part: &[u8])
+    requires some { 0 < columns }
+    requires within { start + bytes_of_row columns ≤ length bytes.old }
+    ensures laid { bits_of bytes.new ≡ bits_of (take start bytes.old)
+        ++ (filled_up (take columns (bits_of (laid_over left part.now (take (bytes_of_row columns) (drop start bytes.old)))))
+        ++ bits_of (drop (start + bytes_of_row columns) bytes.old)) }
+    ensures length { length bytes.new ≡ length bytes.old }
+{
+    let end = start + (columns as usize).div_ceil(8);
+    lay_in_row(&mut bytes[start..end], columns, left, part);
+}
+
+/// Lays bytes over those of a row, from one on, and makes the bits after its last pixel zeros.
+fn lay_in_row(line: &mut [u8], columns: u32, left: usize, part: &[u8])
+    requires some { 0 < columns }
+    requires size { length line.old ≡ bytes_of_row columns }
+    ensures laid { bits_of line.new ≡ filled_up (take columns (bits_of (laid_over left part.now line.old))) }
+    ensures length { length line.new ≡ length line.old }
+{
+    lay_over(line, left, part);
+    let after = (8 - columns % 8) % 8;
+    let last = line.len() - 1;
+    line[last] = line[last] >> after << after;
 }
 
 /// Lays bytes over others from an index on, as far as those reach.

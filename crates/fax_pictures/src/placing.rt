@@ -10,21 +10,10 @@ use std::alloc::{AllocError, Global};
 
 impl Bitmap {
     /// Lays rows, each of so many bytes of eight pixels, over the picture from a column and a row on, as far as it reaches.
-    ///
-    /// # Errors
-    ///
-    /// An allocation for a row: those before it are laid.
-    pub fn lay_over(
-        &mut self,
-        alloc: Global,
-        left: u32,
-        top: u32,
-        width: usize,
-        part: &[u8],
-    ) -> Result<(), AllocError>
+    pub fn lay_over(&mut self, left: u32, top: u32, width: usize, part: &[u8])
         requires whole { left % 8 ≡ 0 }
         requires some { 0 < width }
-        ensures laid { OnOk result (LieOver left top (shown (8 * width) part.now) self.old self.new) }
+        ensures laid { LieOver left top (shown (8 * width) part.now) self.old self.new }
         ensures columns { self.new.columns ≡ self.old.columns }
         ensures rows { length self.new.rows ≡ length self.old.rows }
     {
@@ -32,11 +21,10 @@ impl Bitmap {
         let mut index = top;
         while rest.len() >= width && index < self.rows() {
             let (row, below) = rest.split_at(width);
-            self.lay_over_row(alloc, left, index, row)?;
+            self.lay_over_row(left, index, row);
             rest = below;
             index += 1;
         }
-        Ok(())
     }
 
     /// Exchanges black and white.

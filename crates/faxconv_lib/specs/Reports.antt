@@ -1,6 +1,6 @@
 -- How whole a page is.
 use Rattle.std.specs.Prelude.{ℕ, nat_lt, Option, is_some, if◌then◌else◌}
-use Rattle.faxconv_lib.specs.declared.damage.Damage.{Damage}
+use Rattle.fax_decode.specs.declared.damage.Damage.{Damage}
 use Rattle.faxconv_lib.specs.declared.status.Status.{Status}
 use Rattle.faxconv_lib.specs.declared.status.Status.TheVariants.{Whole, Damaged, Missing}
 

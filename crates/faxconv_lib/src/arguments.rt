@@ -41,6 +41,8 @@ pub enum ArgumentError<'a> {
     NoFormat(&'a str),
     /// Two options exclude each other.
     Excluded(&'static str, &'static str),
+    /// An option is there without another one that it needs.
+    Needs(&'static str, &'static str),
     /// An allocation failed.
     OutOfMemory,
 }
@@ -50,7 +52,10 @@ impl ArgumentError<'_> {
     pub fn is_of_usage(&self) -> bool {
         !matches!(
             self,
-            ArgumentError::OutOfMemory | ArgumentError::NoFormat(_) | ArgumentError::Excluded(_, _)
+            ArgumentError::OutOfMemory
+                | ArgumentError::NoFormat(_)
+                | ArgumentError::Excluded(_, _)
+                | ArgumentError::Needs(_, _)
         )
     }
 }
@@ -75,6 +80,7 @@ impl fmt::Display for ArgumentError<'_> {
                 f,
                 "{one} and {other} exclude each other"
             ),
+            ArgumentError::Needs(one, other) => write!(f, "{one} needs {other}"),
             ArgumentError::OutOfMemory => write!(f, "out of memory"),
         }
     }
@@ -284,6 +290,7 @@ impl<'a> Reading<'a> {
         match known {
             Known::Copy => self.options.is_copy = true,
             Known::Check => self.options.action = Action::Check,
+            Known::Standard => self.options.is_standard = true,
             Known::Info => self.options.action = Action::Info,
             Known::Json => self.options.is_json = true,
             Known::Overwrite => self.options.may_overwrite = true,
@@ -351,6 +358,9 @@ impl<'a> Reading<'a> {
         }
         if options.is_copy && options.encoding.is_some() {
             return Err(ArgumentError::Excluded("--copy", "--encode"));
+        }
+        if options.is_standard && !matches!(options.action, Action::Check) {
+            return Err(ArgumentError::Needs("--standard", "--check"));
         }
         if has_limit && options.raw.has_height {
             return Err(ArgumentError::Excluded("--rows", "--height"));

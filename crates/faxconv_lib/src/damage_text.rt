@@ -1,6 +1,6 @@
 //! The damage of a page in one line.
 
-use crate::damage::{Damage, RowRanges};
+use fax_decode::damage::{Damage, RowRanges};
 use std::alloc::AllocError;
 
 /// Puts what is damaged: the rows that are missing, repaired, cut, and that no EOL follows; and the first place at which a strict reading

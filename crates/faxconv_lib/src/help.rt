@@ -19,6 +19,7 @@ from their contents.
       --rotate DEGREES    turn pages clockwise by 90, 180 or 270
       --rows-per-strip ROWS   TIFF: the rows of each strip of pages that are encoded (default: one strip a page)
       --check             write no pictures, but a line for each page that says whether it can be read strictly
+      --standard          with --check: also where data breaks a rule by which every decoder must read it as the same picture
       --info              write no pictures, but a line for each page: its size, resolution and encoding; nothing is decoded
       --json              lines of --check and --info as JSON
   -q, --quiet             don't report damage and what is left out; the exit status says it

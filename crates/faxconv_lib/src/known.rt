@@ -17,6 +17,8 @@ pub enum Known {
     Copy,
     /// `--check`
     Check,
+    /// `--standard`
+    Standard,
     /// `--info`
     Info,
     /// `--json`
@@ -55,6 +57,7 @@ impl Known {
         match self {
             Known::Copy
             | Known::Check
+            | Known::Standard
             | Known::Info
             | Known::Json
             | Known::Overwrite
@@ -96,6 +99,7 @@ impl Known {
             "encode" => Known::Encode,
             "copy" => Known::Copy,
             "check" => Known::Check,
+            "standard" => Known::Standard,
             "info" => Known::Info,
             "json" => Known::Json,
             "overwrite" => Known::Overwrite,

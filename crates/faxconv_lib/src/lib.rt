@@ -3,10 +3,10 @@
 #![tactic(auto)]
 
 pub mod arguments;
-pub mod damage;
 pub mod damage_text;
 pub mod folder;
 pub mod help;
+pub mod info;
 pub mod json;
 pub mod kinds;
 mod known;
@@ -16,6 +16,7 @@ pub mod options;
 pub mod pages;
 pub mod raw_reading;
 pub mod report;
+pub mod standard;
 pub mod status;
 pub mod streams;
 pub mod tell;

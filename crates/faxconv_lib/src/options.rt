@@ -1,14 +1,17 @@
 //! What the program is asked to do.
 
-ghost use Rattle.std.specs.Prelude.{◌≡◌, OnSome, IfNone, is_some, codes};
+ghost use Rattle.std.specs.Prelude.{◌≡◌, OnSome, IfNone, is_some, codes, true};
+ghost use Rattle.fax_encode.specs.Settings.{names_encoding};
 ghost use Rattle.fax_program.specs.Arguments.{are_flags};
 ghost use Rattle.faxconv_lib.specs.RawData.{with_flags};
 
 use crate::pages::PageList;
+use fax_encode::{Effort, EncodeSettings};
+use fax_pages::{Page, RawForm, raw_page};
 use fax_program::arguments::{are_flags, has_flag, order_with};
 use hayro_ccitt::bit_reader::BitOrder;
 use hayro_ccitt::{DecodeSettings, EncodingMode};
-use std::alloc::Global;
+use std::alloc::{AllocError, Global};
 
 /// The name by which the program is called.
 #[derive(Clone, Copy)]
@@ -54,6 +57,31 @@ pub enum Encoding {
     TwoDimensions,
     /// Group 4 in the fewest bits that encode the lines
     Shortest,
+}
+
+impl Encoding {
+    /// Returns the settings of the encoder: Group 4 is closed by EOFB, the lines of Group 3 have EOLs and no RTC, and K is 4.
+    pub fn settings(self) -> EncodeSettings
+        ensures { names_encoding result ≡ true }
+    {
+        let (encoding, effort) = match self {
+            Encoding::Group4 => (EncodingMode::Group4, Effort::Procedure),
+            Encoding::OneDimension => (EncodingMode::Group3_1D, Effort::Procedure),
+            Encoding::TwoDimensions => (EncodingMode::Group3_2D, Effort::Procedure),
+            Encoding::Shortest => (EncodingMode::Group4, Effort::Shortest),
+        };
+        let is_group4 = matches!(encoding, EncodingMode::Group4);
+        EncodeSettings {
+            encoding,
+            k: 4,
+            end_of_line: !is_group4,
+            eols_end_at_bytes: false,
+            rows_are_byte_aligned: false,
+            end_of_block: is_group4,
+            order: BitOrder::HighestFirst,
+            effort,
+        }
+    }
 }
 
 /// How far pages are turned clockwise.
@@ -108,6 +136,8 @@ pub struct Options<'a> {
     pub encoding: Option<Encoding>,
     /// Whether pages are copied without reading them, where they can be.
     pub is_copy: bool,
+    /// Whether a check also says where data breaks a rule by which every decoder must read it as the same picture.
+    pub is_standard: bool,
     /// Whether lines of `--info` and `--check` are JSON.
     pub is_json: bool,
     /// Whether files that exist are overwritten.
@@ -137,6 +167,7 @@ impl<'a> Options<'a> {
             pages: PageList::all(alloc),
             encoding: None,
             is_copy: false,
+            is_standard: false,
             is_json: false,
             may_overwrite: false,
             is_quiet: false,
@@ -166,6 +197,41 @@ impl RawOptions {
             order: BitOrder::HighestFirst,
             has_height: false,
         }
+    }
+
+    /// Returns the height of the picture, if it is known.
+    pub fn height(&self) -> Option<u64> {
+        if self.has_height {
+            Some(u64::from(self.settings.rows))
+        } else {
+            None
+        }
+    }
+
+    /// Returns data as a page, of so many rows if it is known how many it has.
+    ///
+    /// # Errors
+    ///
+    /// If an allocation fails.
+    pub fn page<'a>(
+        &self,
+        alloc: Global,
+        bytes: &'a [u8],
+        rows: Option<u64>,
+    ) -> Result<Page<'a>, AllocError> {
+        let (rows, has_height) = match rows {
+            Some(rows) => (u32::try_from(rows).unwrap_or(u32::MAX), true),
+            None => (self.settings.rows, self.has_height),
+        };
+        let form = RawForm {
+            settings: DecodeSettings {
+                rows,
+                ..self.settings
+            },
+            order: self.order,
+            has_height,
+        };
+        raw_page(alloc, bytes, &form)
     }
 
     /// Sets what the letters of `--flags` mean. Returns `None` if they are no flags.

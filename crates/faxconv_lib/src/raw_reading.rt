@@ -1,7 +1,7 @@
 //! Raw fax data that is read as it comes.
 
-use crate::damage::{Damage, Fault};
 use crate::options::RawOptions;
+use fax_decode::damage::{Damage, PageFault};
 use fax_encode::BitmapSink;
 use hayro_ccitt::{DecodeError, DecodeSettings, Decoder, Fed, RowFeed};
 use std::alloc::{AllocError, Global};
@@ -201,6 +201,9 @@ impl RawReading {
         if strict.feed.rows_read() < wanted {
             damage.fault = Some(fault_of(&strict, bytes));
         }
+        if matches!(strict.end, Some(Ok(()))) {
+            damage.unread = bytes.saturating_sub(strict.feed.bytes_read() as u64);
+        }
         Ok(RawEnd {
             rows,
             fault: lenient.fault(),
@@ -210,13 +213,13 @@ impl RawReading {
 }
 
 /// Returns where a strict reading of so many bytes ended.
-fn fault_of(strict: &Reading, bytes: u64) -> Fault {
+fn fault_of(strict: &Reading, bytes: u64) -> PageFault {
     let why = strict.fault();
     let bit = match why {
         None => bytes.saturating_mul(8),
         Some(_) => strict.feed.line_start() as u64,
     };
-    Fault {
+    PageFault {
         row: strict.feed.rows_read(),
         bit,
         part: 0,

@@ -3,10 +3,11 @@
 ghost use Rattle.std.specs.Prelude.{◌≡◌};
 ghost use Rattle.faxconv_lib.specs.Reports.{status_of_damage};
 
-use crate::damage::Damage;
 use crate::damage_text::put_damage;
 use crate::json::put_json_text;
 use crate::status::Status;
+use fax_decode::damage::Damage;
+use hayro_ccitt::DecodeSettings;
 use std::alloc::AllocError;
 
 /// Where a page is in its file.
@@ -46,6 +47,8 @@ pub struct PageReport<'a> {
     pub note: Option<Note<'a>>,
     /// How many rows its picture has.
     pub rows: u64,
+    /// Where its data breaks a rule by which every decoder must read it as the same picture, if that was sought.
+    pub violation: Option<&'a str>,
 }
 
 /// Returns how whole a page with this damage is.
@@ -62,11 +65,15 @@ fn status_of_damage(damage: &Damage) -> Status
 }
 
 impl PageReport<'_> {
-    /// Returns how whole the page is: the worse of its damage and of what else there is to say.
+    /// Returns how whole the page is: the worst of its damage, of what else there is to say, and of a rule that its data breaks.
     pub fn status(&self) -> Status {
         let status = match self.refused {
             Some(_) => Status::Missing,
             None => status_of_damage(self.damage),
+        };
+        let status = match self.violation {
+            Some(_) => status.worse(Status::Damaged),
+            None => status,
         };
         match self.note {
             Some(note) => status.worse(note.status),
@@ -96,12 +103,19 @@ impl PageReport<'_> {
         let is_wrong = self.put_wrong(text)?;
         if !is_wrong {
             write!(text, "ok, {} rows", self.rows)?;
+            if self.damage.unread > 0 {
+                write!(text, "; {} bytes after them", self.damage.unread)?;
+            }
+        }
+        if let Some(violation) = self.violation {
+            text.push_str("; ")?;
+            text.push_str(violation)?;
         }
         Ok(is_wrong)
     }
 
-    /// Puts the page as an object of JSON: its file, its number, the exit status of a run that reads it alone, its rows, and what is
-    /// wrong.
+    /// Puts the page as an object of JSON: its file, its number, the exit status of a run that reads it alone, its rows, what is wrong, and
+    /// how many bytes follow the rows, if some do.
     pub fn put_json(&self, file: &str, text: &mut String) -> Result<(), AllocError> {
         let mut wrong = String::new(text.allocator().clone()?);
         self.put_wrong(&mut wrong)?;
@@ -120,12 +134,36 @@ impl PageReport<'_> {
         } else {
             put_json_text(wrong.as_str(), text)?;
         }
+        if self.damage.unread > 0 {
+            write!(text, ", \"unread\": {}", self.damage.unread)?;
+        }
+        if let Some(violation) = self.violation {
+            text.push_str(", \"violation\": ")?;
+            put_json_text(violation, text)?;
+        }
         text.push('}')
     }
 }
 
+/// Returns that an image of a PDF file is read by these keys, which aren't those of the file.
+pub fn note_of_keys(settings: &DecodeSettings) -> Note<'static> {
+    let text = match (settings.end_of_line, settings.rows_are_byte_aligned) {
+        (false, false) =>
+            "read by other keys than the file's: EndOfLine false, EncodedByteAlign false",
+        (false, true) =>
+            "read by other keys than the file's: EndOfLine false, EncodedByteAlign true",
+        (true, false) =>
+            "read by other keys than the file's: EndOfLine true, EncodedByteAlign false",
+        (true, true) => "read by other keys than the file's: EndOfLine true, EncodedByteAlign true",
+    };
+    Note {
+        text,
+        status: Status::Whole,
+    }
+}
+
 /// Puts where a page is, before what is said of it.
-fn put_place(place: Place, text: &mut String) -> Result<(), AllocError> {
+pub(crate) fn put_place(place: Place, text: &mut String) -> Result<(), AllocError> {
     match place {
         Place::File => Ok(()),
         Place::Page(page) => write!(text, "page {page}: "),
@@ -135,7 +173,7 @@ fn put_place(place: Place, text: &mut String) -> Result<(), AllocError> {
 }
 
 /// Puts where a page is as members of an object.
-fn put_json_place(place: Place, text: &mut String) -> Result<(), AllocError> {
+pub(crate) fn put_json_place(place: Place, text: &mut String) -> Result<(), AllocError> {
     match place {
         Place::File => Ok(()),
         Place::Page(page) => write!(text, ", \"page\": {page}"),

@@ -24,10 +24,10 @@ text_of_rule Eol = codes "an EOL is expected (T.4, 4.1.2)"
 text_of_rule Tag = codes "a tag is expected (T.4, 4.2.2)"
 text_of_rule Padding = codes "zeros up to a whole byte are expected (T.4, 4.1.3)"
 text_of_rule PassToEnd = codes "pass mode to the row's end (T.4, 4.2.1.3.2)"
-text_of_rule Procedure = codes "not what the procedure writes (T.4, 4.1.1 and 4.2.1.3)"
+text_of_rule Procedure = codes "not what the coding procedure writes (T.4, 4.1.1 and 4.2.1.3; T.6, 2.2)"
 text_of_rule Kind = codes "a two-dimensional line where none may be (T.4, 4.2.1)"
 text_of_rule Fill = codes "fill where none may be (T.4, 4.1.3 and 4.1.4)"
-text_of_rule End = codes "not the end that the procedure writes (T.4, 4.1.4; T.6, 2.4.1.1)"
+text_of_rule End = codes "not the end that the coding procedure writes (T.4, 4.1.4; T.6, 2.4.1.1)"
 
 -- a rule, up to the line's end
 abbrev pub end_with_rule : Rule → List ℕ

@@ -14,6 +14,7 @@ use crate::output::{flush, put};
 use crate::program::Done;
 use fax_conforms::{Grade, Rule, Violation, first_violation};
 use fax_program::{Device, RunFault};
+use hayro_ccitt::codes::Ticks;
 use std::alloc::Global;
 use std::io::{Read, Write};
 
@@ -69,8 +70,15 @@ fn check_input<R: Read, W: Write>(
 {
     let (arguments, input) = read_input(alloc, args, reader)?;
     let order = arguments.order;
-    let Ok(found) = first_violation(alloc, arguments.settings, grade, order, input.as_slice())
-    else {
+    let mut ticks = Ticks::new();
+    let Ok(found) = first_violation(
+        alloc,
+        arguments.settings,
+        grade,
+        order,
+        input.as_slice(),
+        &mut ticks,
+    ) else {
         return Err(RunFault::Memory);
     };
     write_found(alloc, found, writer)
@@ -132,9 +140,10 @@ fn rule_and_end(rule: Rule) -> &'static [u8]
         Rule::Tag => b"a tag is expected (T.4, 4.2.2)\n",
         Rule::Padding => b"zeros up to a whole byte are expected (T.4, 4.1.3)\n",
         Rule::PassToEnd => b"pass mode to the row's end (T.4, 4.2.1.3.2)\n",
-        Rule::Procedure => b"not what the procedure writes (T.4, 4.1.1 and 4.2.1.3)\n",
+        Rule::Procedure =>
+            b"not what the coding procedure writes (T.4, 4.1.1 and 4.2.1.3; T.6, 2.2)\n",
         Rule::Kind => b"a two-dimensional line where none may be (T.4, 4.2.1)\n",
         Rule::Fill => b"fill where none may be (T.4, 4.1.3 and 4.1.4)\n",
-        Rule::End => b"not the end that the procedure writes (T.4, 4.1.4; T.6, 2.4.1.1)\n",
+        Rule::End => b"not the end that the coding procedure writes (T.4, 4.1.4; T.6, 2.4.1.1)\n",
     }
 }

@@ -11,6 +11,7 @@ ghost use Rattle.hayro_ccitt_c.specs.declared.status.TheConstants.{OK, OUT_OF_ME
 use crate::settings::{Settings, order_of, settings_for};
 use crate::status;
 use fax_conforms::{Grade, Rule, Violation, first_violation};
+use hayro_ccitt::codes::Ticks;
 use std::alloc::Global;
 
 /// What a check fills in for C.
@@ -111,7 +112,8 @@ pub extern "C" fn hayro_ccitt_check(
     let Some(asked) = grade_of(grade, k) else {
         return status::NOT_TAKEN;
     };
-    match first_violation(alloc, meant, asked, order_of(settings), data) {
+    let mut ticks = Ticks::new();
+    match first_violation(alloc, meant, asked, order_of(settings), data, &mut ticks) {
         Ok(None) => status::OK,
         Ok(Some(found)) => {
             *violation = outcome_of_violation(found);

@@ -4,12 +4,10 @@ ghost use Rattle.std.specs.Prelude.{◌≡◌, ◌+◌, ◌<◌, ◌≤◌, leng
 ghost use Rattle.pdf_read.specs.Payments.{Held, Spends, Uses};
 
 use crate::error::PdfError;
-use crate::items::Item;
-use crate::names::Texts;
 use crate::pdf::Pdf;
 use crate::streams::{Filter, undo};
-use crate::tokens::Span;
 use paid_cursor::{Cursor, Stop};
+use pdf_values::{Item, Span, Texts};
 
 impl<'a> Pdf<'a> {
     /// Returns whether a colour space shows sample 0 lighter than sample 1: one of inks does, and a palette whose first colour is the lighter.

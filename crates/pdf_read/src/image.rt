@@ -1,12 +1,12 @@
 //! A fax image, and what its dictionary says of it.
 
 ghost use Rattle.std.specs.Prelude.{◌≡◌, ◌+◌, ◌<◌, ◌≤◌, length, vec_len, IfOk, OnOk, OnErr};
-ghost use Rattle.pdf_read.specs.Payments.{Held, Spends};
+ghost use Rattle.pdf_read.specs.Payments.{Held, Spends, IsPaidData};
 
 use crate::error::PdfError;
-use crate::items::Item;
 use crate::pdf::{Pdf, number_or};
-use crate::tokens::Span;
+use pdf_values::{Item, Span, Texts};
+use std::mem;
 
 /// What the dictionary of CCITTFaxDecode says of the data (ISO 32000-1, table 11); of what it doesn't say, the default.
 #[derive(Clone, Copy, Debug, PartialEq, Eq)]
@@ -52,6 +52,15 @@ pub struct FaxImage {
     pub(crate) data: Span,
     /// The index of its dictionary among the items.
     pub(crate) dictionary: usize,
+}
+
+/// The bytes of a fax image before CCITTFaxDecode.
+#[derive(Drop)]
+pub enum FaxData {
+    /// Bytes of the file.
+    InFile(Span),
+    /// What the filters before it were undone to.
+    Own(Vec<u8>),
 }
 
 impl<'a> Pdf<'a> {
@@ -201,5 +210,38 @@ impl<'a> Pdf<'a> {
             return Err(PdfError::BadFilter);
         }
         self.decode(image.dictionary, image.data)
+    }
+
+    /// Returns the bytes of a fax image before CCITTFaxDecode, as [`Pdf::data_of`] does; those that aren't in the file as bytes of their own,
+    /// for a step each.
+    ///
+    /// # Errors
+    ///
+    /// Those of [`Pdf::data_of`].
+    pub fn own_data_of(&mut self, image: &FaxImage) -> Result<FaxData, PdfError>
+        ensures data { IfOk result (IsPaidData (length self.new.file) self.old.left self.new.left) }
+        ensures least { self.new.left ≤ self.old.left }
+    {
+        let span = self.data_of(image)?;
+        if span.start <= span.end && span.end <= self.source.bytes().len() {
+            return Ok(FaxData::InFile(span));
+        }
+        let texts = Texts {
+            file: self.source.bytes(),
+            decoded: self.decoded.as_slice(),
+        };
+        let mut own: Vec<u8> = Vec::new(self.alloc);
+        self.source.put_all(&mut own, texts.bytes(span))?;
+        Ok(FaxData::Own(own))
+    }
+
+    /// Hands the fax images to the caller, in the order of [`Pdf::images`]; none are left here.
+    pub fn take_images(&mut self) -> Vec<FaxImage>
+        ensures images { result.items ≡ self.old.images }
+        ensures same { (self.new.left ≡ self.old.left) × (self.new.file ≡ self.old.file) }
+    {
+        let mut images: Vec<FaxImage> = Vec::new(self.alloc);
+        mem::swap(&mut self.images, &mut images);
+        images
     }
 }

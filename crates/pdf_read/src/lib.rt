@@ -2,20 +2,15 @@
 #![tactic(auto)]
 
 mod colours;
-mod content;
 mod error;
 mod image;
-mod items;
-mod names;
 mod open;
 mod pdf;
 mod scan;
 mod streams;
-mod tokens;
 mod walk;
 
 pub use error::PdfError;
-pub use image::{FaxImage, FaxParameters};
-pub use items::Item;
+pub use image::{FaxData, FaxImage, FaxParameters};
 pub use pdf::Pdf;
-pub use tokens::Span;
+pub use pdf_values::{Item, Span};

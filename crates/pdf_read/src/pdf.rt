@@ -4,11 +4,9 @@ ghost use Rattle.std.specs.Prelude.{◌≡◌, ◌+◌, ◌<◌, ◌≤◌, leng
 ghost use Rattle.pdf_read.specs.Payments.{Held, Spends};
 
 use crate::image::FaxImage;
-use crate::items::{Item, after_value, push_item};
-use crate::names::{Texts, find_key, is_same_name};
-use crate::tokens::Span;
 use crate::walk::Task;
 use paid_cursor::{Cursor, Stop};
+use pdf_values::{Item, Span, Texts, after_value, find_key, is_same_name, push_item};
 use std::alloc::Global;
 use std::marker::Model;
 
@@ -57,6 +55,8 @@ impl<'a> Model for Pdf<'a> {
     ghost view = { λ p. record {
       left = p.source.left;
       kept = vec_len p.items + vec_len p.objects + vec_len p.decoded + vec_len p.tasks + vec_len p.images;
+      images = p.images.items;
+      file = p.source.bytes;
     } };
 }
 
@@ -70,8 +70,17 @@ impl<'a> Pdf<'a> {
 
     /// Returns the fax images, in the order in which pages show them: by their contents, forms and patterns there, and the images that lie
     /// in the contents; after those of a page's contents the ones that the page only names, and at last those that no page names.
-    pub fn images(&self) -> &[FaxImage] {
+    pub fn images(&self) -> &[FaxImage]
+        ensures { result.now ≡ self.now.images }
+    {
         self.images.as_slice()
+    }
+
+    /// Returns the bytes of the file.
+    pub fn file(&self) -> &'a [u8]
+        ensures { result.now ≡ self.now.file }
+    {
+        self.source.bytes()
     }
 
     /// Returns how many images that are no fax images pages show or name.

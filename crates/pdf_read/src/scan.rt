@@ -3,10 +3,11 @@
 ghost use Rattle.std.specs.Prelude.{◌≡◌, ◌+◌, ◌<◌, ◌≤◌, length, vec_len, IfOk, OnOk, OnErr};
 ghost use Rattle.pdf_read.specs.Payments.{Held, Spends};
 
-use crate::items::{Item, after_value, read_value};
 use crate::pdf::{Key, Pdf, number_or};
-use crate::tokens::{Span, Token, is_regular, pass_regular, pass_space, read_token};
 use paid_cursor::Stop;
+use pdf_values::{
+    Item, Span, Token, after_value, is_regular, pass_regular, pass_space, read_token, read_value,
+};
 
 impl<'a> Pdf<'a> {
     /// Reads the objects of the file that aren't in streams, and passes over the streams.

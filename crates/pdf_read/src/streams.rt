@@ -1,19 +1,18 @@
 //! The filters of streams (ISO 32000-1, 7.4), those of pictures excepted.
 
 ghost use Rattle.std.specs.Prelude.{◌≡◌, ◌+◌, ◌*◌, ◌<◌, ◌≤◌, length, vec_len, IfOk, IfSome, OnOk, OnErr};
-ghost use Rattle.pdf_read.specs.Payments.{Held, Spends, Pays};
+ghost use Rattle.pdf_read.specs.Payments.{Held, Spends};
+ghost use Rattle.pdf_values.specs.Payments.{Pays};
 
 use crate::error::PdfError;
-use crate::items::Item;
-use crate::names::Texts;
 use crate::pdf::Pdf;
-use crate::tokens::Span;
 use filters::{
     EarlyChange, FilterError, RowShape, decode_ascii_hex, decode_ascii85, decode_lzw,
     decode_run_length, undo_png_predictor, undo_tiff_predictor,
 };
 use inflate::{InflateError, inflate_zlib};
 use paid_cursor::{Cursor, Stop};
+use pdf_values::{Item, Span, Texts};
 
 /// What is to be undone.
 #[derive(Clone, Copy)]
@@ -34,7 +33,8 @@ pub(crate) enum Filter {
 /// How many filters a stream has at most.
 const MOST_FILTERS: usize = 8;
 
-/// Undoes a filter in some bytes. Data that is damaged gives what comes before the damage.
+/// Undoes a filter in some bytes. Data that is damaged gives what comes before the damage, and no data, though said to be deflated, gives
+/// none.
 pub(crate) fn undo(
     source: &mut Cursor<'_>,
     bytes: &[u8],
@@ -51,6 +51,8 @@ pub(crate) fn undo(
         Filter::RunLength => outcome(decode_run_length(&mut lent, out)),
         Filter::PngPredictor(shape) => outcome(undo_png_predictor(&mut lent, out, shape)),
         Filter::TiffPredictor(shape) => outcome(undo_tiff_predictor(&mut lent, out, shape)),
+        // Empty contents are written so.
+        Filter::Flate if bytes.is_empty() => Ok(()),
         Filter::Flate => match inflate_zlib(&mut lent, out) {
             Err(InflateError::Spent) => Err(PdfError::Spent),
             Err(InflateError::OutOfMemory) => Err(PdfError::OutOfMemory),

@@ -7,6 +7,7 @@ use fax_conforms::{Grade, Rule, Violation, conforms, first_violation};
 use hayro_ccitt::DecodeError::{OutOfMemory, Refused};
 use hayro_ccitt::bit_reader::BitOrder;
 use hayro_ccitt::bit_reader::BitOrder::{HighestFirst, LowestFirst};
+use hayro_ccitt::codes::Ticks;
 use hayro_ccitt::{DecodeError, DecodeSettings, EncodingMode, Result, bits_fit};
 use std::alloc::{AllocGlobal, Global};
 use std::process::Abort;
@@ -56,9 +57,10 @@ fn case_of(rt: &(impl Abort + AllocGlobal), case: &str) -> (DecodeSettings, BitO
 fn written(rt: &(impl Abort + AllocGlobal), case: &str) -> String {
     let (settings, order, data) = case_of(rt, case);
     assert!(rt; bits_fit(&data), "too long");
-    let holds = conforms(rt.alloc(), settings, Grade::Readable, order, &data).expect(rt, case);
+    let mut ticks = Ticks::new();
     let grade = Grade::Readable;
-    match first_violation(rt.alloc(), settings, grade, order, &data).expect(rt, case) {
+    let holds = conforms(rt.alloc(), settings, grade, order, &data, &mut ticks).expect(rt, case);
+    match first_violation(rt.alloc(), settings, grade, order, &data, &mut ticks).expect(rt, case) {
         None if holds => format!(in rt.alloc(); "conforms").expect(rt, case),
         None => format!(in rt.alloc(); "no violation").expect(rt, case),
         Some(found) => {
@@ -132,10 +134,21 @@ fn each_rule_is_found_broken(rt: HostRuntime) {
 fn grades(rt: &(impl Abort + AllocGlobal), k: Option<u32>, case: &str) -> String {
     let (settings, order, data) = case_of(rt, case);
     assert!(rt; bits_fit(&data), "too long");
-    let readable = conforms(rt.alloc(), settings, Grade::Readable, order, &data).expect(rt, case);
+    let mut ticks = Ticks::new();
+    let readable = conforms(
+        rt.alloc(),
+        settings,
+        Grade::Readable,
+        order,
+        &data,
+        &mut ticks,
+    )
+    .expect(rt, case);
     let grade = Grade::Procedure(k);
-    let by_procedure = conforms(rt.alloc(), settings, grade, order, &data).expect(rt, case);
-    match first_violation(rt.alloc(), settings, grade, order, &data).expect(rt, case) {
+    let by_procedure = conforms(rt.alloc(), settings, grade, order, &data, &mut ticks).expect(
+        rt, case,
+    );
+    match first_violation(rt.alloc(), settings, grade, order, &data, &mut ticks).expect(rt, case) {
         None => format!(in rt.alloc(); "{readable} {by_procedure}").expect(rt, case),
         Some(found) => format!(in rt.alloc();
             "{readable} {by_procedure} at {}: {:?}",
@@ -160,7 +173,7 @@ fn each_choice_of_the_procedure_is_checked(rt: HostRuntime) {
         &rt,
         None,
         "1d 128 1 - 91A8: true true
-        1d 128 1 - DECD40: true false at 0: Procedure
+        1d 128 1 - DECD40: true false at 1: Procedure
         g4 8 1 - 80: true true
         g4 8 1 - 330DC0: true false at 0: Procedure
         2d 8 1 - CC: true true
@@ -190,8 +203,11 @@ fn found(
     data: &[u8],
 ) -> Option<(usize, Rule)> {
     assert!(rt; bits_fit(data), "too long");
+    let mut ticks = Ticks::new();
     let grade = Grade::Readable;
-    let found = first_violation(rt.alloc(), settings, grade, order, data).expect(rt, "memory");
+    let found = first_violation(rt.alloc(), settings, grade, order, data, &mut ticks).expect(
+        rt, "memory",
+    );
     found.map(|violation| (violation.place, violation.rule))
 }
 
@@ -252,8 +268,10 @@ fn both(
     if !bits_fit(data) {
         return Err(Refused);
     }
-    let found = first_violation(alloc, settings, grade, order, data)?;
-    Ok((found, conforms(alloc, settings, grade, order, data)?))
+    let mut ticks = Ticks::new();
+    let found = first_violation(alloc, settings, grade, order, data, &mut ticks)?;
+    let holds = conforms(alloc, settings, grade, order, data, &mut ticks)?;
+    Ok((found, holds))
 }
 
 /// Checks data with each allocation refused in turn, and compares what is found in the end.

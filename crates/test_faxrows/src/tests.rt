@@ -257,9 +257,9 @@ fn checks_by_the_procedure(rt: HostRuntime) {
         g4 8 0 b: 31C0040040: Ok(Good) "ok\n"
         // What every decoder must read breaks a rule first.
         g4 8 2 -: 330DC0: Ok(Faulty) "violation 18 a mode is expected (T.4, 4.2.1.3)\n"
-        g4 8 1 -: 330DC0: Ok(Faulty) "violation 0 not what the procedure writes (T.4, 4.1.1 and 4.2.1.3)\n"
+        g4 8 1 -: 330DC0: Ok(Faulty) "violation 0 not what the coding procedure writes (T.4, 4.1.1 and 4.2.1.3; T.6, 2.2)\n"
         1d 8 0 b: 000330001000100010001000100010: Ok(Faulty) "violation 0 fill where none may be (T.4, 4.1.3 and 4.1.4)\n"
-        g4 8 1 -: 31C0FF: Ok(Faulty) "violation 10 not the end that the procedure writes (T.4, 4.1.4; T.6, 2.4.1.1)\n"
+        g4 8 1 -: 31C0FF: Ok(Faulty) "violation 10 not the end that the coding procedure writes (T.4, 4.1.4; T.6, 2.4.1.1)\n"
         // Two lines after a one-dimensional one are two-dimensional.
         2d 8 3 -: CD40: Ok(Good) "ok\n"
         2d 8 3 - 3: CD40: Ok(Good) "ok\n"

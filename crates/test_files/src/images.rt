@@ -36,7 +36,8 @@ pub(crate) fn put_images<W: Write>(
     put_numbers(b'o', &[pdf.left() as u64], out)
 }
 
-fn error_letter(error: PdfError) -> u8 {
+/// Returns the letter of an error.
+pub(crate) fn error_letter(error: PdfError) -> u8 {
     match error {
         PdfError::NotPdf => b'n',
         PdfError::Encrypted => b'x',

@@ -3,17 +3,20 @@
 //! A record is a number of bytes and an allowance, each of four bytes with the lowest first, and the bytes of a file. The answer is what
 //! `put_directory` writes for each directory, and at the end a letter (`o`, or for an error: `n` no TIFF file, `e` the end of the file,
 //! `l` a loop, `s` spent, `m` out of memory) and how many steps are left. Its numbers have eight bytes. With the argument `pages` the
-//! answer is that of `pages::put_pages`, and with `images` that of `images::put_images`.
+//! answer is that of `pages::put_pages`, with `pdf_pages` of `pages::put_pdf_pages`, with `images` of `images::put_images`, and with `pictures` that
+//! of `pictures::put_pictures`.
 #![tactic(auto)]
 
 ghost use Rattle.std.specs.Prelude.{◌+◌, ◌≤◌, IfSome, length};
 
 mod images;
 mod pages;
+mod pictures;
 
 use images::put_images;
-use pages::put_pages;
+use pages::{put_pages, put_pdf_pages};
 use paid_cursor::Cursor;
+use pictures::put_pictures;
 use std::alloc::Global;
 use std::io::{BufWriter, Read, Write};
 use std::{env, io};
@@ -39,6 +42,8 @@ fn main(rt: HostRuntime) -> io::Result<()> {
         rest = &rest[HEAD_BYTES + record.bytes.len()..];
         match word {
             "pages" => put_pages(rt.alloc(), record.bytes, record.allowance, &mut out)?,
+            "pdf_pages" => put_pdf_pages(rt.alloc(), record.bytes, record.allowance, &mut out)?,
+            "pictures" => put_pictures(record.bytes, record.allowance, &mut out)?,
             "images" => put_images(rt.alloc(), record.bytes, record.allowance, &mut out)?,
             _ => put_file(rt.alloc(), &record, &mut out)?,
         }

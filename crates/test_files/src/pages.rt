@@ -1,8 +1,9 @@
 //! The pages of a file, decoded.
 
+use crate::images::error_letter as pdf_error_letter;
 use crate::{Halt, error_letter, put_numbers};
 use fax_decode::{DecodedPart, decode_part};
-use fax_pages::{Found, Page, Part, TiffPages};
+use fax_pages::{Found, Page, Part, PdfPages, TiffPages};
 use hayro_ccitt::{EncodingMode, bits_fit};
 use paid_cursor::Cursor;
 use std::alloc::Global;
@@ -30,19 +31,56 @@ pub(crate) fn put_pages<W: Write>(
 
 fn put_all<W: Write>(alloc: Global, pages: &mut TiffPages<'_>, out: &mut W) -> Result<(), Halt> {
     for _ in 0..u64::MAX {
-        match pages.next_page(alloc)? {
-            None => break,
-            Some(Found::Page(page)) => put_page(alloc, &page, out)?,
-            Some(Found::Unread(unread)) => put_numbers(b'R', &[u64::from(unread.number)], out)?,
-        }
+        let Some(found) = pages.next_page(alloc)? else {
+            break;
+        };
+        put_found(alloc, &found, out)?;
     }
     Ok(())
+}
+
+/// Writes the answer to a PDF file: its fax images as pages, a letter as for `images::put_images`, and how many steps are left.
+pub(crate) fn put_pdf_pages<W: Write>(
+    alloc: Global,
+    bytes: &[u8],
+    allowance: usize,
+    out: &mut W,
+) -> io::Result<()> {
+    let mut pages = match PdfPages::open(alloc, Cursor::new(bytes, allowance)) {
+        Ok(pages) => pages,
+        Err(error) => return put_numbers(pdf_error_letter(error), &[0], out),
+    };
+    let mut letter = b'o';
+    for _ in 0..u64::MAX {
+        match pages.next_page(alloc) {
+            Ok(None) => break,
+            Ok(Some(found)) => put_found(alloc, &found, out)?,
+            Err(error) => {
+                letter = pdf_error_letter(error);
+                break;
+            }
+        }
+    }
+    put_numbers(letter, &[pages.left() as u64], out)
+}
+
+/// Writes a page, or `R` and the numbers of one that isn't decoded.
+fn put_found<W: Write>(alloc: Global, found: &Found<'_>, out: &mut W) -> io::Result<()> {
+    match found {
+        Found::Page(page) => put_page(alloc, page, out),
+        Found::Unread(unread) => {
+            let numbers = [u64::from(unread.number), u64::from(unread.image)];
+            put_numbers(b'R', &numbers, out)
+        }
+    }
 }
 
 /// Writes `G` and what a page is, and its parts.
 fn put_page<W: Write>(alloc: Global, page: &Page<'_>, out: &mut W) -> io::Result<()> {
     let numbers = [
         u64::from(page.number),
+        u64::from(page.image),
+        u64::from(page.has_height),
         u64::from(page.columns),
         u64::from(page.rows),
         u64::from(page.orientation),
@@ -73,9 +111,14 @@ fn put_part<W: Write>(alloc: Global, page: &Page<'_>, part: &Part, out: &mut W) 
         u64::from(settings.columns),
         u64::from(settings.rows),
         encoding,
+        u64::from(settings.end_of_line),
+        u64::from(settings.rows_are_byte_aligned),
+        u64::from(settings.end_of_block),
     ];
     put_numbers(b'S', &numbers, out)?;
     let data = page.data(part);
+    put_numbers(b'B', &[data.len() as u64], out)?;
+    out.write_all(data)?;
     if settings.strict || !bits_fit(data) {
         return put_numbers(b'N', &[], out);
     }

@@ -1,18 +1,38 @@
-//! Writes a picture from standard input as a PNG file to standard output, for the checks that have other programs read it.
+//! Writes a picture from standard input as a PNG file to standard output, for the checks that have other programs read it; with the
+//! argument `tiff` or `pdf`, pages as a TIFF or a PDF file, as `documents::write_tiff` says.
 //!
-//! The input is four numbers of four bytes with the lowest first, and the rows of a picture: how many columns and rows it has, and how many
+//! The input of a picture is four numbers of four bytes with the lowest first, and its rows: how many columns and rows it has, and how many
 //! pixels a metre has across and down, 0 if that isn't said. The status is 1 where it isn't written, and 2 where the input has no numbers.
 #![tactic(auto)]
 
 ghost use Rattle.std.specs.Prelude.{◌+◌, ◌≤◌, length};
 
+mod documents;
+
+use documents::{Unwritten, write_pdf, write_tiff};
 use png_write::{Density, Pixels, write_png};
+use std::env;
 use std::io::Read;
 use std::process::ExitCode;
 
 fn main(rt: HostRuntime) -> ExitCode {
+    let word = match env::args(&rt) {
+        Ok(words) => words.skip(1).next(),
+        Err(_) => None,
+    };
+    let is_tiff = matches!(&word, Some(word) if word.as_str() == "tiff");
+    let is_pdf = matches!(&word, Some(word) if word.as_str() == "pdf");
     let mut input: Vec<u8> = Vec::new(rt.alloc());
-    if rt.stdin().read_to_end(&mut input).is_err() || input.len() < HEAD_BYTES {
+    if rt.stdin().read_to_end(&mut input).is_err() {
+        return ExitCode::from(2);
+    }
+    if is_tiff {
+        return status_of(write_tiff(rt.alloc(), input.as_slice(), &mut rt.stdout()));
+    }
+    if is_pdf {
+        return status_of(write_pdf(rt.alloc(), input.as_slice(), &mut rt.stdout()));
+    }
+    if input.len() < HEAD_BYTES {
         return ExitCode::from(2);
     }
     let (head, bytes) = input.split_at(HEAD_BYTES);
@@ -24,6 +44,15 @@ fn main(rt: HostRuntime) -> ExitCode {
     match write_png(rt.alloc(), &mut rt.stdout(), &pixels, density(&head[8..])) {
         Ok(()) => ExitCode::from(0),
         Err(_) => ExitCode::from(1),
+    }
+}
+
+/// Returns the status of a document.
+fn status_of(written: Result<(), Unwritten>) -> ExitCode {
+    match written {
+        Ok(()) => ExitCode::from(0),
+        Err(Unwritten::Page(_)) => ExitCode::from(1),
+        Err(Unwritten::Input) => ExitCode::from(2),
     }
 }
 

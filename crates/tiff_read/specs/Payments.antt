@@ -1,11 +1,34 @@
 -- What reading a file costs.
-use Rattle.std.specs.Prelude.{ℕ, ◌+◌, ◌/◌, ◌≡◌, Option, None, Some}
-use Rattle.paid_cursor.specs.Places.{Place, IsSamePlace}
+use Rattle.std.specs.Prelude.{ℕ, ◌+◌, ◌/◌, ◌≡◌, List, Option, None, Some}
+use Rattle.paid_cursor.specs.Places.{Place}
 use Rattle.tiff_read.specs.declared.directory.Directory.{Directory}
 
--- From the first place to the second so many steps were paid, and nothing else changed.
-abbrev pub Costs : ℕ → Place → Place → Type 0
-Costs count old new = IsSamePlace old new × (new.left + count ≡ old.left)
+-- A file's bytes, a place among them, how many steps are left, and where the next directory is: 0 if none follows.
+pub record Reading : Type 0 where
+  pub bytes : List ℕ
+  pub place : ℕ
+  pub left : ℕ
+  pub next : ℕ
+
+-- The steps that are left may differ, and where the next directory is.
+abbrev pub IsSameFile : Reading → Reading → Type 0
+IsSameFile old new = (new.bytes ≡ old.bytes) × (new.place ≡ old.place)
+
+-- The steps that are left may differ.
+abbrev pub IsSameReading : Reading → Reading → Type 0
+IsSameReading old new = IsSameFile old new × (new.next ≡ old.next)
+
+-- From the first to the second so many steps were paid, and nothing else changed.
+abbrev pub Costs : ℕ → Reading → Reading → Type 0
+Costs count old new = IsSameReading old new × (new.left + count ≡ old.left)
+
+-- So many steps were paid, and the way to the next directory may have been passed.
+abbrev pub Moves : ℕ → Reading → Reading → Type 0
+Moves count old new = IsSameFile old new × (new.left + count ≡ old.left)
+
+-- A file is opened where a cursor was, for so many steps.
+abbrev pub Opens : ℕ → Place → Reading → Type 0
+Opens count source new = (new.bytes ≡ source.bytes) × (new.place ≡ source.place) × (new.left + count ≡ source.left)
 
 -- The steps for a list of a bit for each byte of a file.
 abbrev pub room_for : ℕ → ℕ

@@ -1,8 +1,7 @@
 //! A TIFF file, and the way to its next directory.
 
-ghost use Rattle.std.specs.Prelude.{◌≡◌, ◌+◌, ◌-◌, ◌*◌, ◌/◌, ◌<◌, ◌≤◌, length, IfOk, IfSome, OnOk, OnErr};
-ghost use Rattle.paid_cursor.specs.Places.{Place, IsSamePlace};
-ghost use Rattle.tiff_read.specs.Payments.{Costs, entries_of, room_for};
+ghost use Rattle.std.specs.Prelude.{◌≡◌, ◌+◌, ◌-◌, ◌*◌, ◌/◌, ◌<◌, ◌≤◌, ◌↔◌, length, IfOk, IfSome, IsNone, OnOk, OnErr};
+ghost use Rattle.tiff_read.specs.Payments.{Costs, IsSameFile, Moves, Opens, Reading, entries_of, room_for};
 
 use crate::directory::{Directory, Values};
 use crate::error::TiffError;
@@ -24,11 +23,11 @@ pub struct Tiff<'a> {
 }
 
 impl<'a> Model for Tiff<'a> {
-    ghost use Rattle.paid_cursor.specs.Places.{Place};
+    ghost use Rattle.tiff_read.specs.Payments.{Reading};
 
-    ghost Value = { Place };
+    ghost Value = { Reading };
 
-    ghost view = { λ t. t.source };
+    ghost view = { λ t. record { bytes = t.source.bytes; place = t.source.place; left = t.source.left; next = t.next } };
 }
 
 /// Where the entries of a directory are.
@@ -54,7 +53,7 @@ impl<'a> Tiff<'a> {
     ///
     /// `NotTiff`, `Outside` if the file ends within its header, `Spent` or `OutOfMemory`.
     pub fn open(alloc: Global, mut source: Cursor<'a>) -> Result<Tiff<'a>, TiffError>
-        ensures paid { IfOk result (λ tiff. Costs (room_for (length source.entry.bytes)) source.entry tiff) }
+        ensures paid { IfOk result (λ tiff. Opens (room_for (length source.entry.bytes)) source.entry tiff) }
     {
         let bytes = source.bytes();
         let Some(form) = bytes.get(..4).and_then(Form::of_head) else {
@@ -108,9 +107,10 @@ impl<'a> Tiff<'a> {
     ///
     /// `Outside` or `Loop`, after which no directory follows; `Spent`.
     pub fn next_directory(&mut self) -> Result<Option<Directory>, TiffError>
-        ensures paid { IfOk result (λ found. Costs (1 + entries_of found) self.old self.new) }
+        ensures paid { IfOk result (λ found. Moves (1 + entries_of found) self.old self.new) }
+        ensures end { IfOk result (λ found. IsNone found ↔ (self.old.next ≡ 0)) }
         ensures least { OnErr result (self.new.left ≤ self.old.left) }
-        ensures same { IsSamePlace self.old self.new }
+        ensures same { IsSameFile self.old self.new }
     {
         self.pay(1)?;
         let at = self.next;

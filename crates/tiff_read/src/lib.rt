@@ -10,6 +10,7 @@ mod file;
 mod form;
 mod layout;
 mod picture;
+mod texts;
 mod values;
 
 pub use directory::{Directory, Values};
@@ -17,4 +18,5 @@ pub use error::TiffError;
 pub use file::Tiff;
 pub use layout::{Layout, Part};
 pub use picture::{Picture, ResolutionUnit};
+pub use texts::{NO_TEXTS, Texts};
 pub use values::Ratio;

@@ -1,8 +1,7 @@
 //! The values of a tag: whole numbers, ratios and texts.
 
 ghost use Rattle.std.specs.Prelude.{◌≡◌, ◌+◌, ◌<◌, ◌≤◌, length, IfOk, IfSome, OnOk, OnErr, Ok, None};
-ghost use Rattle.paid_cursor.specs.Places.{IsSamePlace};
-ghost use Rattle.tiff_read.specs.Payments.{Costs};
+ghost use Rattle.tiff_read.specs.Payments.{Costs, IsSameReading};
 
 use crate::directory::{Directory, Values};
 use crate::error::TiffError;
@@ -65,8 +64,8 @@ impl<'a> Tiff<'a> {
     pub fn text(&mut self, directory: &Directory, tag: u16) -> Result<Option<&'a [u8]>, TiffError>
         ensures paid { IfOk result (λ found. IfSome found (λ text. Costs (1 + length text.now) self.old self.new)) }
         ensures none { (result ≡ Ok None) → Costs 1 self.old self.new }
-        ensures least { OnErr result (self.new.left ≤ self.old.left) }
-        ensures same { IsSamePlace self.old self.new }
+        ensures least { self.new.left ≤ self.old.left }
+        ensures same { IsSameReading self.old self.new }
     {
         self.pay(1)?;
         let Some(bytes) = self.text_of_tag(directory, tag) else {

@@ -23,6 +23,13 @@ impl<T> Vec<T> {
         Self(vec::Vec::new())
     }
 
+    /// Creates a list with room for as many items.
+    pub fn with_capacity(alloc: Global, count: usize) -> Result<Self, AllocError> {
+        let mut items = Self::new(alloc);
+        items.reserve_exact(count)?;
+        Ok(items)
+    }
+
     #[inline(always)]
     pub fn allocator(&self) -> &Global {
         &Global
@@ -89,6 +96,30 @@ impl<T: Copy> Vec<T> {
         self.reserve(length.saturating_sub(self.0.len()))?;
         self.0.resize(length, item);
         Ok(())
+    }
+}
+
+impl<T: Ord> Vec<T> {
+    /// Sorts the items, of which equal ones are alike.
+    pub fn sort(&mut self) -> Result<(), AllocError> {
+        self.0.sort_unstable();
+        Ok(())
+    }
+}
+
+impl<'a, T> IntoIterator for &'a Vec<T> {
+    type Item = &'a T;
+    type IntoIter = core::slice::Iter<'a, T>;
+
+    fn into_iter(self) -> Self::IntoIter {
+        self.0.iter()
+    }
+}
+
+#[cfg(feature = "std")]
+impl From<AllocError> for std::io::Error {
+    fn from(_: AllocError) -> Self {
+        Self::from(std::io::ErrorKind::OutOfMemory)
     }
 }
 

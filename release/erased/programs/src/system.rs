@@ -1,11 +1,14 @@
-//! What the programs take of Rattle's std: the arguments, and the standard streams, of which each read and write is one call of the
-//! system's.
+//! What the programs take of Rattle's std: texts that report where an allocation fails, files, the arguments, and the standard streams, of
+//! which each read and write is one call of the system's.
 
-use crate::lists::{Global, Vec};
+use crate::lists::{AllocError, Global, Vec};
 use core::ffi::{CStr, c_char, c_int};
+use core::fmt::Write as _;
 use core::mem::ManuallyDrop;
-use std::fs::File;
+use core::ops::Deref;
 use std::os::fd::FromRawFd;
+
+pub use core::{cmp, fmt, iter, mem, num, ops, option, result, slice, str};
 
 /// Declares the program's first function. It is C's, since Rust's own start opens closed streams. As in the programs that the kit links,
 /// SIGPIPE is ignored, so that a write that nobody reads fails.
@@ -20,22 +23,109 @@ macro_rules! begin_with {
             $crate::system::ignore_broken_pipes();
             // SAFETY: the C library passes the arguments.
             let rt = unsafe { $crate::system::HostRuntime::new(count, words) };
-            $main(rt).into()
+            $main(rt).0.into()
         }
     };
 }
 
-macro_rules! println {
+macro_rules! print {
     ($rt:expr; $($text:tt)+) => { $crate::system::print_to($rt.stdout(), format_args!($($text)+)) };
 }
 
-macro_rules! eprintln {
-    ($rt:expr; $($text:tt)+) => { $crate::system::print_to($rt.stderr(), format_args!($($text)+)) };
+macro_rules! println {
+    ($rt:expr; $($text:tt)+) => { $crate::system::print_to($rt.stdout(), format_args!("{}\n", format_args!($($text)+))) };
 }
 
-/// Writes a text and a newline.
-pub fn print_to(mut stream: impl std::io::Write, text: core::fmt::Arguments) -> std::io::Result<()> {
-    writeln!(stream, "{text}")
+macro_rules! eprintln {
+    ($rt:expr; $($text:tt)+) => { $crate::system::print_to($rt.stderr(), format_args!("{}\n", format_args!($($text)+))) };
+}
+
+macro_rules! format {
+    (in $alloc:expr; $($text:tt)+) => { $crate::system::formatted($alloc, format_args!($($text)+)) };
+}
+
+/// Writes a text.
+pub fn print_to(mut stream: impl std::io::Write, text: fmt::Arguments) -> std::io::Result<()> {
+    stream.write_fmt(text)
+}
+
+/// Returns a text.
+pub fn formatted(alloc: Global, text: fmt::Arguments) -> Result<String, AllocError> {
+    let mut made = String::new(alloc);
+    made.write_fmt(text)?;
+    Ok(made)
+}
+
+/// A text, of which a call that allocates reports a failure.
+#[derive(PartialEq, Eq, PartialOrd, Ord)]
+pub struct String(std::string::String);
+
+/// Where a text is in memory.
+pub struct Allocator;
+
+impl Allocator {
+    #[allow(clippy::should_implement_trait, reason = "it is so named in Rattle")]
+    pub fn clone(&self) -> Result<Global, AllocError> {
+        Ok(Global)
+    }
+}
+
+impl String {
+    pub fn new(_alloc: Global) -> Self {
+        Self(std::string::String::new())
+    }
+
+    #[allow(clippy::should_implement_trait, reason = "it is so named in Rattle")]
+    pub fn from_str(alloc: Global, text: &str) -> Result<Self, AllocError> {
+        let mut made = Self::new(alloc);
+        made.push_str(text)?;
+        Ok(made)
+    }
+
+    pub fn allocator(&self) -> &Allocator {
+        &Allocator
+    }
+
+    pub fn as_str(&self) -> &str {
+        &self.0
+    }
+
+    pub fn push(&mut self, letter: char) -> Result<(), AllocError> {
+        self.push_str(letter.encode_utf8(&mut [0; 4]))
+    }
+
+    pub fn push_str(&mut self, text: &str) -> Result<(), AllocError> {
+        self.0.try_reserve(text.len()).map_err(|_| AllocError)?;
+        self.0.push_str(text);
+        Ok(())
+    }
+
+    pub fn write_fmt(&mut self, text: fmt::Arguments) -> Result<(), AllocError> {
+        Growing(self).write_fmt(text).map_err(|_| AllocError)
+    }
+}
+
+/// A text that is written to.
+struct Growing<'a>(&'a mut String);
+
+impl fmt::Write for Growing<'_> {
+    fn write_str(&mut self, text: &str) -> fmt::Result {
+        self.0.push_str(text).map_err(|_| fmt::Error)
+    }
+}
+
+impl Deref for String {
+    type Target = str;
+
+    fn deref(&self) -> &str {
+        &self.0
+    }
+}
+
+impl fmt::Display for String {
+    fn fmt(&self, out: &mut fmt::Formatter<'_>) -> fmt::Result {
+        out.write_str(&self.0)
+    }
 }
 
 const SIGPIPE: c_int = 13;
@@ -54,7 +144,7 @@ pub fn ignore_broken_pipes() {
 /// What a program is started with: its words, and the standard streams, which stay open.
 pub struct HostRuntime {
     words: &'static [*const c_char],
-    streams: [ManuallyDrop<File>; 3],
+    streams: [ManuallyDrop<std::fs::File>; 3],
 }
 
 impl HostRuntime {
@@ -66,7 +156,7 @@ impl HostRuntime {
         // SAFETY: of the caller.
         let words = unsafe { core::slice::from_raw_parts(words, count) };
         // SAFETY: the files are never closed. Where one isn't open, its calls fail.
-        let streams = [0, 1, 2].map(|number| ManuallyDrop::new(unsafe { File::from_raw_fd(number) }));
+        let streams = [0, 1, 2].map(|number| ManuallyDrop::new(unsafe { std::fs::File::from_raw_fd(number) }));
         Self { words, streams }
     }
 
@@ -74,15 +164,17 @@ impl HostRuntime {
         Global
     }
 
-    pub fn stdin(&self) -> &File {
+    pub fn process(&self) {}
+
+    pub fn stdin(&self) -> &std::fs::File {
         &self.streams[0]
     }
 
-    pub fn stdout(&self) -> &File {
+    pub fn stdout(&self) -> &std::fs::File {
         &self.streams[1]
     }
 
-    pub fn stderr(&self) -> &File {
+    pub fn stderr(&self) -> &std::fs::File {
         &self.streams[2]
     }
 }
@@ -112,9 +204,7 @@ impl Args {
         for word in self.0 {
             // SAFETY: it is a string that ends with a zero, and nothing writes to it.
             let text = unsafe { CStr::from_ptr(*word) }.to_str().map_err(|_| Unfetched)?;
-            let mut copy = String::new();
-            copy.try_reserve_exact(text.len()).map_err(|_| Unfetched)?;
-            copy.push_str(text);
+            let copy = String::from_str(alloc, text).map_err(|_| Unfetched)?;
             words.push(copy).map_err(|_| Unfetched)?;
         }
         Ok(words)
@@ -123,5 +213,161 @@ impl Args {
 
 pub mod process {
     /// The status that a program ends with.
-    pub type ExitCode = u8;
+    pub struct ExitCode(pub u8);
+
+    impl From<u8> for ExitCode {
+        fn from(code: u8) -> Self {
+            Self(code)
+        }
+    }
+
+    pub fn id(_: ()) -> u32 {
+        std::process::id()
+    }
+}
+
+pub mod time {
+    use super::HostRuntime;
+    pub use std::time::Duration;
+
+    #[derive(Clone, Copy, PartialEq, Eq, PartialOrd, Ord)]
+    pub struct Instant(std::time::Instant);
+
+    impl Instant {
+        pub fn now(_: &HostRuntime) -> std::io::Result<Self> {
+            Ok(Self(std::time::Instant::now()))
+        }
+
+        pub fn checked_add(&self, more: Duration) -> Option<Self> {
+            self.0.checked_add(more).map(Self)
+        }
+    }
+}
+
+pub use std::os;
+
+pub mod io {
+    pub use std::io::{Error, ErrorKind, IsTerminal, Read, Result, Write};
+}
+
+pub mod fs {
+    use super::{HostRuntime, String};
+    use crate::lists::Global;
+    use std::io::{Error, ErrorKind, Read, Result};
+
+    pub use std::fs::Metadata;
+
+    pub struct File(std::fs::File);
+
+    pub struct OpenOptions(std::fs::OpenOptions);
+
+    impl File {
+        pub fn open(_: &HostRuntime, name: &str) -> Result<File> {
+            std::fs::File::open(name).map(File)
+        }
+
+        pub fn create_new(_: &HostRuntime, name: &str) -> Result<File> {
+            std::fs::File::create_new(name).map(File)
+        }
+
+        pub fn options() -> OpenOptions {
+            OpenOptions(std::fs::File::options())
+        }
+
+        pub fn metadata(&self) -> Result<Metadata> {
+            self.0.metadata()
+        }
+    }
+
+    impl OpenOptions {
+        pub fn write(mut self, is: bool) -> Self {
+            self.0.write(is);
+            self
+        }
+
+        pub fn open(self, _: &HostRuntime, name: &str) -> Result<File> {
+            self.0.open(name).map(File)
+        }
+    }
+
+    impl std::os::fd::AsRawFd for File {
+        fn as_raw_fd(&self) -> std::os::fd::RawFd {
+            self.0.as_raw_fd()
+        }
+    }
+
+    impl Read for File {
+        fn read(&mut self, to: &mut [u8]) -> Result<usize> {
+            self.0.read(to)
+        }
+    }
+
+    impl std::io::Write for File {
+        fn write(&mut self, from: &[u8]) -> Result<usize> {
+            self.0.write(from)
+        }
+
+        fn flush(&mut self) -> Result<()> {
+            self.0.flush()
+        }
+    }
+
+    pub fn metadata(_: &HostRuntime, name: &str) -> Result<Metadata> {
+        std::fs::metadata(name)
+    }
+
+    pub fn rename(_: &HostRuntime, from: &str, to: &str) -> Result<()> {
+        std::fs::rename(from, to)
+    }
+
+    pub fn remove_file(_: &HostRuntime, name: &str) -> Result<()> {
+        std::fs::remove_file(name)
+    }
+
+    pub fn hard_link(_: &HostRuntime, from: &str, to: &str) -> Result<()> {
+        std::fs::hard_link(from, to)
+    }
+
+    pub fn exists(_: &HostRuntime, name: &str) -> Result<bool> {
+        std::fs::exists(name)
+    }
+
+    /// A path that is UTF-8.
+    pub struct PathBuf(String);
+
+    impl PathBuf {
+        pub fn as_path(&self) -> &PathBuf {
+            self
+        }
+
+        pub fn as_str(&self) -> &str {
+            self.0.as_str()
+        }
+    }
+
+    fn of_path(path: &std::path::Path) -> Result<PathBuf> {
+        let text = path.to_str().ok_or(Error::from(ErrorKind::InvalidInput))?;
+        Ok(PathBuf(String::from_str(Global, text)?))
+    }
+
+    pub fn canonicalize(_: &HostRuntime, name: &str) -> Result<PathBuf> {
+        of_path(&std::fs::canonicalize(name)?)
+    }
+
+    pub struct DirEntry(PathBuf);
+
+    impl DirEntry {
+        pub fn path(&self) -> &PathBuf {
+            &self.0
+        }
+
+        pub fn file_name(&self) -> &str {
+            let path = self.0.as_str();
+            path.rsplit_once('/').map_or(path, |(_, name)| name)
+        }
+    }
+
+    pub fn read_dir(_: &HostRuntime, name: &str) -> Result<impl Iterator<Item = Result<DirEntry>>> {
+        Ok(std::fs::read_dir(name)?.map(|entry| Ok(DirEntry(of_path(&entry?.path())?))))
+    }
 }

@@ -14,4 +14,5 @@ pub returns-in_err-read_data-clause-at : goal.returns-in_err-read_data-clause-at
 returns-in_err-read_data-clause-at c =
     let p = err_from_is_err_and c.from_residual.result c.from_residual.ensures.1 in
     rw (p.1, p.2)
-    (stops_in_grade c.args.grade c.args.settings (bits_in c.args.order c.args.«data».now) _ c.in_err-read_data.ensures.at)
+    (stops_in_grade c.args.grade c.args.settings (bits_in c.args.order c.args.«data».now) _ c.in_err-read_data.ensures.none
+    c.in_err-read_data.ensures.at)

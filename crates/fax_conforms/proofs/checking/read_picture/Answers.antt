@@ -1,3 +1,4 @@
+use Rattle.hayro_ccitt.proofs.Work.EolsPassed.{looked_most}
 use Rattle.hayro_ccitt.proofs.Names.{◌≢◌, ◌∙◌, sym, arith, false≢true, here, Group4, IfErr-weaker, Bits, subst, inl, inr, true}
 use Rattle.hayro_ccitt.proofs.Names.{false}
 use Rattle.fax_conforms.specs.Conforming.{EolStands}
@@ -81,3 +82,14 @@ returns-clause-at c =
       λ rest stands. c.has_eol.ensures.none c.if-has_eol.false rest (subst (λ (b : Bits). EolStands b rest)
           (sym (whole_is c.args.reader.now c.requires.start)) stands),
     )) ends) c.read_body-2.ensures.at
+
+pub returns-then-has_eol-clause-at_most : goal.returns-then-has_eol-clause-at_most
+returns-then-has_eol-clause-at_most c =
+    omega (arith, c.has_eol.ensures.ticks, looked_most (here c.args.reader.now), c.read_lines.ensures.at_most)
+
+pub returns-then-settings-clause-at_most : goal.returns-then-settings-clause-at_most
+returns-then-settings-clause-at_most c = omega (arith, c.has_eol.ensures.ticks, looked_most (here c.args.reader.now))
+
+pub returns-clause-at_most : goal.returns-clause-at_most
+returns-clause-at_most c =
+    omega (arith, c.has_eol.ensures.ticks, looked_most (here c.args.reader.now), c.read_body-2.ensures.at_most)

@@ -1,41 +1,14 @@
+use Rattle.fax_conforms.proofs.WordsPaid.{paid_after, unpaid}
 use Rattle.hayro_ccitt.proofs.Names.{◌∙◌, ap, sym, arith, Ok, w8, to_z, of_z, to_z-of_z, SFits, rules, Mode, Pass}
-use Rattle.hayro_ccitt.proofs.Names.{Horizontal, Vertical, here, pixels, ℕ, subst, drop, Mode, IfErr-weaker}
+use Rattle.hayro_ccitt.proofs.Names.{Horizontal, Vertical, here, pixels, ℕ, ◌*◌, length, subst, drop, Mode, IfErr-weaker}
 use Rattle.fax_conforms.specs.Standing.{LineFrom, spot_of}
 use Rattle.fax_conforms.specs.Stops.{ModeIsHere, EndsAt}
 use Rattle.fax_conforms.specs.declared.stops.Rule.TheVariants as rule
 use Rattle.fax_conforms.proofs.ModesDepart.{begins_here, mode_passes, no_mode_departs}
 use Rattle.fax_conforms.proofs.Passed.{passes_on, passes_all, ends_here, ends_after, ends_in}
 use Rattle.hayro_ccitt.proofs.PixelRows.ChangesAndPixels.{length-pixels}
-use Rattle.fax_conforms.proofs.PensDrawn.{mode_here_never, no_mode_here}
-use Rattle.fax_conforms.proofs.Stopped.{if_err, if_ok, if_broken}
+use Rattle.fax_conforms.proofs.Stopped.{if_ok, if_two}
 use Rattle.fax_conforms.proofs.lines.draw_mode.Goals as goal
-
-pub returns-in_default-clause-none : goal.returns-in_default-clause-none
-returns-in_default-clause-none c = if_err c.broken.result _
-    (no_mode_here c.args.columns c.args.pen c.args.coding.now.items (omega (arith, c.ranges.columns.fits)) c.requires.drawn
-    c.requires.open_end c.args.reference.now c.requires.above _ c.in_default.ensures.none)
-
-pub returns-in-Pass-clause-none : goal.returns-in-Pass-clause-none
-returns-in-Pass-clause-none c = if_broken c.draw_pass.result _ _ c.draw_pass.ensures.none (λ none.
-    mode_here_never c.args.columns c.args.pen c.args.coding.now.items (omega (arith, c.ranges.columns.fits)) c.requires.drawn
-    c.requires.open_end c.args.reference.now c.requires.above Pass _ _
-    (c.in-Some.ensures.found ∙ ap (λ (m : Mode). Ok (m, here c.mode.new.reader)) c.in-Pass.is) (none (here c.mode.new.reader)))
-
-pub returns-in-Vertical-clause-none : goal.returns-in-Vertical-clause-none
-returns-in-Vertical-clause-none c = if_broken c.draw_vertical.result _ _ c.draw_vertical.ensures.none (λ none.
-    mode_here_never c.args.columns c.args.pen c.args.coding.now.items (omega (arith, c.ranges.columns.fits)) c.requires.drawn
-    c.requires.open_end c.args.reference.now c.requires.above (Vertical (to_z w8 (of_z w8 c.in-Vertical.offset))) _ _
-    (c.in-Some.ensures.found ∙ ap (λ (m : Mode). Ok (m, here c.mode.new.reader))
-    (c.in-Vertical.is ∙ ap Vertical (sym (to_z-of_z (let narrow : SFits w8 c.in-Vertical.offset = search rules in narrow)))))
-    (none (here c.mode.new.reader)))
-
-pub returns-in-Horizontal-clause-none : goal.returns-in-Horizontal-clause-none
-returns-in-Horizontal-clause-none c = if_broken c.draw_horizontal.result _ _ c.draw_horizontal.ensures.none (λ none.
-    mode_here_never c.args.columns c.args.pen c.args.coding.now.items (omega (arith, c.ranges.columns.fits)) c.requires.drawn
-    c.requires.open_end c.args.reference.now c.requires.above Horizontal _ _
-    (c.in-Some.ensures.found ∙ ap (λ (m : Mode). Ok (m, here c.mode.new.reader)) c.in-Horizontal.is)
-    (none (pixels c.args.columns c.args.reference.now) (length-pixels c.args.columns c.args.reference.now
-    c.requires.above.lawful)))
 
 -- ---- What is passed.
 pub returns-in-Pass-clause-leads : goal.returns-in-Pass-clause-leads
@@ -116,3 +89,28 @@ returns-in-Horizontal-clause-at c = ends_after c.args.columns c.args.reader.now.
     c.mode.ensures.same_bits (IfErr-weaker c.draw_horizontal.result _ _ (λ e ends.
     ends (pixels c.args.columns c.args.reference.now) (length-pixels c.args.columns c.args.reference.now c.requires.above.lawful))
     c.draw_horizontal.ensures.at))
+
+-- ---- What is counted.
+pub returns-in_default-clause-pays : goal.returns-in_default-clause-pays
+returns-in_default-clause-pays c = unpaid c.broken.result _ _ _ _ _ c.broken.ensures.exact (omega (arith, c.mode.ensures.ticks))
+    (omega (arith, c.mode.ensures.ticks))
+
+pub returns-in-Pass-clause-pays : goal.returns-in-Pass-clause-pays
+returns-in-Pass-clause-pays c = paid_after c.draw_pass.result _ _ _ _ _ (4 * length (here c.mode.new.reader)) _ _
+    c.draw_pass.ensures.pays (omega (arith, c.mode.ensures.ticks))
+    (omega (arith, c.mode.ensures.ticks, c.in-Some.ensures.shorter)) (λ next. omega arith)
+
+pub returns-in-Vertical-clause-pays : goal.returns-in-Vertical-clause-pays
+returns-in-Vertical-clause-pays c = paid_after c.draw_vertical.result _ _ _ _ _ (4 * length (here c.mode.new.reader)) _ _
+    c.draw_vertical.ensures.pays (omega (arith, c.mode.ensures.ticks))
+    (omega (arith, c.mode.ensures.ticks, c.in-Some.ensures.shorter)) (λ next. omega arith)
+
+pub returns-in-Horizontal-clause-pays : goal.returns-in-Horizontal-clause-pays
+returns-in-Horizontal-clause-pays c =
+    let drawn = c.draw_horizontal.ensures in
+    record {
+      counts = omega (arith, drawn.pays.counts, c.mode.ensures.ticks);
+      paid = if_two c.draw_horizontal.result _ _ _ drawn.pays.paid drawn.passed (λ next paid passed.
+          omega (arith, paid, passed, c.mode.ensures.ticks, c.in-Some.ensures.shorter));
+      at_most = omega (arith, drawn.pays.at_most, c.mode.ensures.ticks, c.in-Some.ensures.shorter);
+    }

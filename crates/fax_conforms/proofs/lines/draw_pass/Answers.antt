@@ -1,21 +1,13 @@
+use Rattle.hayro_ccitt.proofs.Names.{ap, err_from_is_err_and}
 use Rattle.hayro_ccitt.proofs.Names.{sym, subst, arith, pixels, Pass, drop}
 use Rattle.fax_conforms.specs.declared.lines.Pen.{Pen}
 use Rattle.fax_conforms.specs.Standing.{Leads, LineFrom, ModeFrom, spot_of, DrawsOn}
-use Rattle.fax_conforms.proofs.PensDrawn.{pass_on, pass_drawn, pass_fails, pass_right}
-use Rattle.fax_conforms.proofs.Stopped.{if_err}
+use Rattle.fax_conforms.proofs.PensDrawn.{pass_on, pass_drawn, pass_right}
+use Rattle.fax_conforms.proofs.WordsPaid.{unpaid}
 use Rattle.fax_conforms.proofs.Passed.{departs_at}
 use Rattle.fax_conforms.proofs.ModesDepart.{begins_here, pass_departs}
 use Rattle.fax_conforms.specs.declared.stops.Rule.TheVariants.{PassToEnd}
 use Rattle.fax_conforms.proofs.lines.draw_pass.Goals as goal
-
-pub returns-then-above-columns-clause-none : goal.returns-then-above-columns-clause-none
-returns-then-above-columns-clause-none c = if_err c.broken.result _
-    (pass_fails c.args.columns c.args.pen c.args.coding.now.items (omega (arith, c.ranges.columns.fits)) c.requires.drawn
-    c.requires.open_end c.args.reference.now c.requires.above (omega (
-      arith,
-      c.if-above-columns.true,
-      c.find_above-above.ensures.b2,
-    )))
 
 pub paint_to-requires-clause-right : goal.paint_to-requires-clause-right
 paint_to-requires-clause-right c =
@@ -48,3 +40,35 @@ returns-then-above-columns-clause-at c = rw c.broken.ensures.exact (λ bits with
     pass_departs c.args.columns c.args.pen c.args.coding.now.items (omega (arith, c.ranges.columns.fits)) c.requires.drawn
     c.requires.open_end c.args.reference.now c.requires.above c.args.pen.word (drop c.args.pen.word bits) row more rest row_len
     stands (omega (arith, c.if-above-columns.true, c.find_above-above.ensures.b2)) is))
+
+pub returns-then-above-columns-clause-pays : goal.returns-then-above-columns-clause-pays
+returns-then-above-columns-clause-pays c =
+    let passes = c.find_above-above.ensures.passes in
+    unpaid c.broken.result _ _ _ _ _ c.broken.ensures.exact (omega (arith, passes.forward, passes.work))
+    (omega (arith, passes.forward, passes.work, passes.passed.within))
+
+pub returns-in_err-next-clause-pays : goal.returns-in_err-next-clause-pays
+returns-in_err-next-clause-pays c =
+    let p = err_from_is_err_and c.from_residual.result c.from_residual.ensures.1 in
+    let passes = c.find_above-above.ensures.passes in
+    rw (p.1, p.2) (record {
+      counts = omega (arith, passes.forward, passes.work);
+      paid = tt;
+      at_most = omega (arith, passes.forward, passes.work, passes.passed.within);
+    })
+
+pub returns-clause-pays : goal.returns-clause-pays
+returns-clause-pays c =
+    let passes = c.find_above-above.ensures.passes in
+    record {
+      counts = omega (arith, passes.forward, passes.work);
+      paid = omega (
+        arith,
+        passes.forward,
+        passes.work,
+        passes.passed.within,
+        c.paint_to.ensures.few,
+        ap (λ (p : Pen). p.passed) c.with_passed.ensures,
+      );
+      at_most = omega (arith, passes.forward, passes.work, passes.passed.within);
+    }

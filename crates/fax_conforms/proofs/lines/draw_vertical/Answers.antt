@@ -1,11 +1,11 @@
 use Rattle.hayro_ccitt.proofs.Names.{◌≡◌, ◌∙◌, ap, sym, subst, arith, pixels, Vertical, pos, ◌+ℤ◌, w8, w32, SFits, to_z}
 use Rattle.hayro_ccitt.proofs.Names.{of_z, drop, ◌≤◌}
-use Rattle.hayro_ccitt.proofs.Names.{to_z-of_z, rules, opposite, b1}
+use Rattle.hayro_ccitt.proofs.Names.{to_z-of_z, rules, opposite, b1, err_from_is_err_and}
 use Rattle.hayro_ccitt.proofs.DrawingLines.DrawnLines.{place_of}
 use Rattle.fax_conforms.specs.declared.lines.Pen.{Pen}
 use Rattle.fax_conforms.specs.Standing.{Leads, LineFrom, ModeFrom, spot_of, from_of}
-use Rattle.fax_conforms.proofs.PensDrawn.{vertical_drawn, vertical_misses}
-use Rattle.fax_conforms.proofs.Stopped.{if_err}
+use Rattle.fax_conforms.proofs.PensDrawn.{vertical_drawn}
+use Rattle.fax_conforms.proofs.WordsPaid.{unpaid}
 use Rattle.fax_conforms.proofs.Passed.{departs_at}
 use Rattle.fax_conforms.proofs.ModesDepart.{begins_here, near_departs, far_departs, outside_left, outside_right}
 use Rattle.fax_conforms.specs.declared.stops.Rule.TheVariants.{NoPixels, RowEnd}
@@ -25,20 +25,6 @@ named c =
     let at = place_of (pos c.find_above-above.result.b1 +ℤ to_z w32 (of_z w32 c.from.result)) c.checked_add_signed.result
     c.in-Some.place c.checked_add_signed.ensures c.in-Some.is in
     rw (← offset, c.find_above-above.ensures.b1) at.0
-
-pub returns-then-from-from_of-clause-none : goal.returns-then-from-from_of-clause-none
-returns-then-from-from_of-clause-none c = if_err c.broken-then-from-from_of.result _
-    (vertical_misses c.args.columns c.args.pen c.args.coding.now.items (omega (arith, c.ranges.columns.fits)) c.requires.drawn
-    c.requires.open_end c.args.reference.now c.requires.above c.args.offset c.in-Some.place
-    (named (goal.at.returns-then-from-from_of-clause-none c).After-from_of)
-    (λ right within. omega (arith, right, c.if-from-from_of.true, c.from-2.ensures, c.from_of.ensures)))
-
-pub returns-then-place-columns-clause-none : goal.returns-then-place-columns-clause-none
-returns-then-place-columns-clause-none c = if_err c.broken-then-place-columns.result _
-    (vertical_misses c.args.columns c.args.pen c.args.coding.now.items (omega (arith, c.ranges.columns.fits)) c.requires.drawn
-    c.requires.open_end c.args.reference.now c.requires.above c.args.offset c.in-Some.place
-    (named (goal.at.returns-then-place-columns-clause-none c).After-from_of)
-    (λ right within. omega (arith, within, c.if-place-columns.true)))
 
 pub returns-clause-leads : goal.returns-clause-leads
 returns-clause-leads c = λ here. subst (λ (p : Pen). Leads c.args.columns
@@ -103,3 +89,48 @@ returns-in_default-clause-at c =
     far_departs c.args.columns c.args.pen c.args.coding.now.items (omega (arith, c.ranges.columns.fits)) c.requires.drawn
     c.requires.open_end c.args.reference.now c.requires.above c.args.pen.word (drop c.args.pen.word bits) row more rest row_len
     stands c.args.offset (outside_right _ _ c.args.offset (omega (arith, c.ranges.columns.fits)) (outside c) right) is)))
+
+pub returns-in_default-clause-pays : goal.returns-in_default-clause-pays
+returns-in_default-clause-pays c =
+    let passes = c.find_above-above.ensures.passes in
+    unpaid c.broken.result _ _ _ _ _ c.broken.ensures.exact (omega (arith, passes.forward, passes.work))
+    (omega (arith, passes.forward, passes.work, passes.passed.within))
+
+pub returns-then-from-from_of-clause-pays : goal.returns-then-from-from_of-clause-pays
+returns-then-from-from_of-clause-pays c =
+    let passes = c.find_above-above.ensures.passes in
+    unpaid c.broken-then-from-from_of.result _ _ _ _ _ c.broken-then-from-from_of.ensures.exact
+    (omega (arith, passes.forward, passes.work)) (omega (arith, passes.forward, passes.work, passes.passed.within))
+
+pub returns-then-place-columns-clause-pays : goal.returns-then-place-columns-clause-pays
+returns-then-place-columns-clause-pays c =
+    let passes = c.find_above-above.ensures.passes in
+    unpaid c.broken-then-place-columns.result _ _ _ _ _ c.broken-then-place-columns.ensures.exact
+    (omega (arith, passes.forward, passes.work)) (omega (arith, passes.forward, passes.work, passes.passed.within))
+
+pub returns-in_err-next-clause-pays : goal.returns-in_err-next-clause-pays
+returns-in_err-next-clause-pays c =
+    let p = err_from_is_err_and c.from_residual.result c.from_residual.ensures.1 in
+    let passes = c.find_above-above.ensures.passes in
+    rw (p.1, p.2) (record {
+      counts = omega (arith, passes.forward, passes.work);
+      paid = tt;
+      at_most = omega (arith, passes.forward, passes.work, passes.passed.within);
+    })
+
+pub returns-clause-pays : goal.returns-clause-pays
+returns-clause-pays c =
+    let passes = c.find_above-above.ensures.passes in
+    record {
+      counts = omega (arith, passes.forward, passes.work);
+      paid = omega (
+        arith,
+        passes.forward,
+        passes.work,
+        passes.passed.within,
+        c.paint_to.ensures.few,
+        ap (λ (p : Pen). p.passed) c.with_passed.ensures,
+        ap (λ (p : Pen). p.passed) c.turned.ensures,
+      );
+      at_most = omega (arith, passes.forward, passes.work, passes.passed.within);
+    }

@@ -2,6 +2,7 @@ use Rattle.hayro_ccitt.proofs.Names.{subst, arith, ℕ, here}
 use Rattle.fax_conforms.specs.Stops.{RunIsHere}
 use Rattle.fax_conforms.specs.declared.stops.Rule.TheVariants.{Run, RowEnd, NoPixels}
 use Rattle.fax_conforms.proofs.RunsDepart.{wrong_here}
+use Rattle.fax_conforms.proofs.WordsPaid.{unpaid}
 use Rattle.fax_conforms.proofs.lines.run_end.Goals as goal
 
 pub returns-in_default-clause-at : goal.returns-in_default-clause-at
@@ -28,3 +29,25 @@ returns-then-is_empty_run-clause-at c =
       empty.0,
       empty.1,
     )
+
+pub returns-in_default-clause-pays : goal.returns-in_default-clause-pays
+returns-in_default-clause-pays c =
+    unpaid c.broken.result _ _ _ _ _ c.broken.ensures.exact c.run.ensures.counts
+    (omega (arith, c.run.ensures.at_most))
+
+pub returns-then-run-columns-clause-pays : goal.returns-then-run-columns-clause-pays
+returns-then-run-columns-clause-pays c =
+    unpaid c.broken-then-run-columns.result _ _ _ _ _ c.broken-then-run-columns.ensures.exact c.run.ensures.counts
+    (omega (arith, c.run.ensures.at_most))
+
+pub returns-then-is_empty_run-clause-pays : goal.returns-then-is_empty_run-clause-pays
+returns-then-is_empty_run-clause-pays c =
+    unpaid c.broken-then-is_empty_run.result _ _ _ _ _ c.broken-then-is_empty_run.ensures.exact c.run.ensures.counts
+    (omega (arith, c.run.ensures.at_most))
+
+pub returns-clause-pays : goal.returns-clause-pays
+returns-clause-pays c = record {
+  counts = c.run.ensures.counts;
+  paid = omega (arith, c.in-Some.ensures.work, c.in-Some.ensures.shorter);
+  at_most = omega (arith, c.run.ensures.at_most);
+}

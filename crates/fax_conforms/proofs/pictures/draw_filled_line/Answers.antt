@@ -1,7 +1,10 @@
+use Rattle.fax_conforms.specs.Conforming.{fill_at}
+use Rattle.hayro_ccitt.proofs.Names.{length-append, Bits}
 use Rattle.hayro_ccitt.proofs.Names.{ap, arith, err_from_is_err_and, here, length, pixels, refl}
 use Rattle.fax_conforms.proofs.FilledLines.{fill_is, filled_passes, unfilled, unfilled_departs, no_filled_line, line_departs}
 use Rattle.fax_conforms.proofs.Passed.{passes_now}
 use Rattle.fax_conforms.proofs.Stopped.{if_err}
+use Rattle.fax_conforms.proofs.WordsPaid.{unpaid}
 use Rattle.fax_conforms.proofs.BodyLines.{filled_shorter}
 use Rattle.fax_conforms.specs.Conforming.{FilledStands}
 use Rattle.fax_conforms.specs.Standing.{Passes, IsOnly}
@@ -79,4 +82,29 @@ returns-then-not-pass_fill-clause-reads c =
           (omega (arith, c.bit_pos-place.ensures.place, c.bit_pos-place.ensures.within)) c.requires.whole line.passed line.is)
           c.args.reader.now.bits c.bit_pos-place.result c.draw_line.ensures.same_bits c.bit_pos-place.ensures.place
           (omega (arith, c.bit_pos-place.ensures.within, ap length c.draw_line.ensures.same_bits)) no_fill);
+    }
+
+pub returns-then-not-pass_fill-clause-pays : goal.returns-then-not-pass_fill-clause-pays
+returns-then-not-pass_fill-clause-pays c = unpaid c.broken.result _ _ _ _ _ c.broken.ensures.exact
+    (omega (arith, c.draw_line.ensures.pays.counts, c.pass_fill.ensures.counts))
+    (omega (arith, c.in_ok-draw_line.ensures.pays.paid, c.pass_fill.ensures.few))
+
+pub returns-in_err-draw_line-clause-pays : goal.returns-in_err-draw_line-clause-pays
+returns-in_err-draw_line-clause-pays c =
+    let p = err_from_is_err_and c.from_residual.result c.from_residual.ensures.1 in
+    rw (p.1, p.2) c.in_err-draw_line.ensures.pays
+
+pub returns-clause-pays : goal.returns-clause-pays
+returns-clause-pays c =
+    let fill : Bits = fill_at c.args.settings.rows_are_byte_aligned c.draw_line.new.reader.place in
+    record {
+      counts = omega (arith, c.draw_line.ensures.pays.counts, c.pass_fill.ensures.counts);
+      paid = omega (
+        arith,
+        c.in_ok-draw_line.ensures.pays.paid,
+        c.pass_fill.ensures.at_most,
+        ap length ((c.pass_fill.ensures.fill c.if-not-pass_fill.false (here c.pass_fill.new.reader)).1 refl),
+        length-append fill (here c.pass_fill.new.reader),
+      );
+      at_most = omega (arith, c.in_ok-draw_line.ensures.pays.paid, c.pass_fill.ensures.few);
     }

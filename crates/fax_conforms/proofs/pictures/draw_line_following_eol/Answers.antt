@@ -1,3 +1,5 @@
+use Rattle.fax_conforms.proofs.WordsPaid.{eol_is_paid, paid_after, unpaid}
+use Rattle.hayro_ccitt.proofs.Work.EolsPassed.{looked_most}
 use Rattle.hayro_ccitt.proofs.Names.{◌++◌, ap, arith, here, pixels, Bits, Row, eol}
 use Rattle.hayro_ccitt.proofs.PixelRows.ChangesAndPixels.{length-pixels}
 use Rattle.fax_conforms.proofs.EolLines.{passes_eol, no_eol_line, eol_line_shorter}
@@ -53,3 +55,14 @@ returns-clause-shorter c =
     (pixels c.args.settings.columns c.draw_line.new.coding.items) (here c.args.reader.now) (here c.draw_line.new.reader)
     c.requires.wide (omega arith) (length-pixels c.args.settings.columns c.draw_line.new.coding.items lawful)
     (passes_now columns _ _ (passes_on columns _ _ _ after on)))
+
+pub returns-then-not-pass_eol-clause-pays : goal.returns-then-not-pass_eol-clause-pays
+returns-then-not-pass_eol-clause-pays c = unpaid c.broken.result _ _ _ _ _ c.broken.ensures.exact
+    (omega (arith, c.pass_eol.ensures.ticks)) (omega (arith, c.pass_eol.ensures.ticks, looked_most (here c.args.reader.now)))
+
+pub returns-clause-pays : goal.returns-clause-pays
+returns-clause-pays c =
+    let eol = eol_is_paid (here c.args.reader.now) (here c.pass_eol.new.reader)
+    (c.pass_eol.ensures.found c.if-not-pass_eol.false) in
+    paid_after c.draw_line.result _ _ _ _ _ 0 _ _ c.draw_line.ensures.pays (omega (arith, c.pass_eol.ensures.ticks))
+    (omega (arith, c.pass_eol.ensures.ticks, eol)) (λ done. omega arith)

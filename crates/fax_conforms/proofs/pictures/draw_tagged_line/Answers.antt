@@ -4,7 +4,9 @@ use Rattle.hayro_ccitt.proofs.PixelRows.ChangesAndPixels.{length-pixels}
 use Rattle.fax_conforms.proofs.LinesBegin.{line_exists_here}
 use Rattle.fax_conforms.proofs.LinesEnd.{leads_never}
 use Rattle.fax_conforms.proofs.Passed.{passes_now, passes_on, ends_here, ends_in, ends_after}
+use Rattle.fax_conforms.proofs.Broken.{broken_never}
 use Rattle.fax_conforms.proofs.Stopped.{if_done, if_broken, if_err}
+use Rattle.fax_conforms.proofs.WordsPaid.{paid_after, unpaid}
 use Rattle.fax_conforms.proofs.TaggedLines.{passes_tag_1d, passes_tag_2d, untagged}
 use Rattle.fax_conforms.specs.declared.stops.Rule.TheVariants.{Tag}
 use Rattle.std.proofs.Common.{drop_of_length-le, refl}
@@ -46,8 +48,8 @@ returns-in-Ok-clause-reads c =
           (λ on. passes_now columns _ _ (passes_on columns _ _ _ tagged (on reference)));
       passes = if_done c.draw_line_1d.result _ _ drawn.row (λ on. passes_on columns _ _ _ tagged (on reference));
       lawful = drawn.lawful;
-      none = if_broken c.draw_line_1d.result _ _ drawn.none
-          (λ none. leads_never columns (passes_now columns _ _ tagged) (none reference));
+      none = IfErr-weaker c.draw_line_1d.result _ _ (λ e ends broken. leads_never columns (passes_now columns _ _ tagged)
+          (broken_never _ columns _ _ e (ends reference) broken)) drawn.at;
       at = ends_after columns c.args.reader.now.bits (here c.args.reader.now) (here c.read_bit.new.self) tagged
           c.draw_line_1d.result (ends_in _ c.draw_line_1d.result columns c.args.reader.now.bits c.read_bit.new.self.bits
           (here c.read_bit.new.self) (ap (λ (r : BitsAt). r.bits) c.in-Ok.ensures.next)
@@ -72,3 +74,15 @@ returns-in-Err-clause-reads c =
           (length-pixels c.args.columns c.args.reference.now c.requires.reference))
           (λ row more rest len stands. (none, λ e. untagged c.args.columns reference more e row rest len stands));
     }
+
+pub returns-in-Ok-eq0-clause-pays : goal.returns-in-Ok-eq0-clause-pays
+returns-in-Ok-eq0-clause-pays c = paid_after c.draw_line_2d.result _ _ _ _ _ 0 _ _ c.draw_line_2d.ensures.pays
+    (omega (arith, c.tick.ensures)) (omega (arith, c.tick.ensures, ap length (zero c))) (λ done. omega arith)
+
+pub returns-in-Ok-clause-pays : goal.returns-in-Ok-clause-pays
+returns-in-Ok-clause-pays c = paid_after c.draw_line_1d.result _ _ _ _ _ 0 _ _ c.draw_line_1d.ensures.pays
+    (omega (arith, c.tick.ensures)) (omega (arith, c.tick.ensures, ap length (one c))) (λ done. omega arith)
+
+pub returns-in-Err-clause-pays : goal.returns-in-Err-clause-pays
+returns-in-Err-clause-pays c = unpaid c.broken.result _ _ _ _ _ c.broken.ensures.exact (omega (arith, c.tick.ensures))
+    (omega (arith, c.tick.ensures))

@@ -8,6 +8,7 @@ invariant-zeros l = record {
   few : l.left ≤ (8 - l.fn.reader.place % 8) % 8;
   place : l.reader.place + l.left ≡ l.fn.reader.place + (8 - l.fn.reader.place % 8) % 8;
   same_bits : l.reader.bits ≡ l.fn.reader.bits;
+  ticks : l.ticks + l.left ≡ l.fn.ticks + (8 - l.fn.reader.place % 8) % 8;
 }
 
 abbrev pub decreases-zeros : goal.decreases-zeros

@@ -1,4 +1,5 @@
-use Rattle.hayro_ccitt.proofs.Names.{◌≡◌, ◌+◌, ◌≤◌, ◌%◌, ◌↔◌, true, length, here, pixels, white_row, AreChanges, Allows, false}
+use Rattle.hayro_ccitt.proofs.Names.{◌≡◌, ◌+◌, ◌*◌, ◌≤◌, ◌%◌, ◌↔◌, true, length, here, pixels, white_row, AreChanges, Allows}
+use Rattle.hayro_ccitt.proofs.Names.{false}
 use Rattle.fax_conforms.specs.Conforming.{BodyStands}
 use Rattle.fax_conforms.proofs.LinesBefore.{LinesBefore}
 use Rattle.fax_conforms.proofs.pictures.read_body.Given as goal
@@ -13,6 +14,9 @@ invariant-rows l = record {
   whole : l.settings.rows_are_byte_aligned ≡ true → l.reader.place % 8 ≡ 0;
   same_bits : l.reader.bits ≡ l.fn.reader.bits;
   few : l.taken + length (here l.reader) ≤ length l.reader.bits;
+  counts : l.fn.words.ticks ≤ l.words.ticks;
+  work : l.words.ticks + length l.reference.items + 5 * length (here l.reader)
+      ≤ l.fn.words.ticks + 5 * length (here l.fn.reader);
 }
 
 abbrev pub decreases-rows : goal.decreases-rows

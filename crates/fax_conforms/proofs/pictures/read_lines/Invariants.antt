@@ -1,4 +1,5 @@
-use Rattle.hayro_ccitt.proofs.Names.{◌≡◌, ◌+◌, ◌≤◌, ◌↔◌, length, here, pixels, white_row, AreChanges, Allows, true}
+use Rattle.hayro_ccitt.proofs.Names.{◌≡◌, ◌+◌, ◌*◌, ◌≤◌, ◌↔◌, length, here, pixels, white_row, AreChanges, Allows}
+use Rattle.hayro_ccitt.proofs.Names.{true}
 use Rattle.fax_conforms.specs.Conforming.{LinesStand}
 use Rattle.fax_conforms.proofs.LinesBefore.{LinesBefore}
 use Rattle.fax_conforms.proofs.pictures.read_lines.Given as goal
@@ -12,6 +13,9 @@ invariant-rows l = record {
   allows : Allows l.settings l.taken;
   same_bits : l.reader.bits ≡ l.fn.reader.bits;
   few : l.taken + length (here l.reader) ≤ length l.reader.bits;
+  counts : l.fn.words.ticks ≤ l.words.ticks;
+  work : l.words.ticks + length l.reference.items + 5 * length (here l.reader)
+      ≤ l.fn.words.ticks + 5 * length (here l.fn.reader);
 }
 
 abbrev pub decreases-rows : goal.decreases-rows

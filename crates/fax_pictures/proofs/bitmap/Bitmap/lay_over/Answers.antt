@@ -28,7 +28,7 @@ loop-rest-preserved c =
           (one_more_lies c.args.left c.args.top c.loop-rest.index k part (bits_of c.split_at.result.0.now) c.args.self.now
           c.loop-rest.self c.lay_over_row.new.self at (omega (arith, ap length there, length-drop k part)) row
           (omega (arith, c.if-index-rows.true, c.rows.ensures, c.loop-rest.invariant.laid.size.1)) c.loop-rest.invariant.laid
-          c.in_ok-lay_over_row.ensures.laid);
+          c.lay_over_row.ensures);
     }
 
 pub returns-after-loop-rest-clause-laid : goal.returns-after-loop-rest-clause-laid

@@ -1,0 +1,103 @@
+"""Damage to look at: which rows of a page were repaired, and the page with these rows in colour."""
+from __future__ import annotations
+
+import enum
+from typing import Any
+
+from ._pages import Page, Part, most_rows
+from .decoding import optional, rows
+from .errors import DecodeError
+
+
+class Mark(enum.IntEnum):
+    """What a row of a page is; and the value of its pixels in `damage_mask`."""
+
+    SOUND = 0
+    REPAIRED = 1
+    """Its line was damaged, and repaired."""
+    CUT = 2
+    """A run was cut at the row's end."""
+    MISSED_EOL = 3
+    """The EOL after it was missed: bits were skipped up to another one, or none was left."""
+    MISSING = 4
+    """The data has no such row."""
+
+
+MARKS = {
+    Mark.SOUND: ("sound", (255, 255, 255)),
+    Mark.REPAIRED: ("repaired", (255, 120, 90)),
+    Mark.CUT: ("with a run that was cut", (255, 190, 60)),
+    Mark.MISSED_EOL: ("after which an EOL is missing", (220, 110, 240)),
+    Mark.MISSING: ("missing", (120, 120, 255)),
+}
+# The method of Pillow's `transpose` for each of TIFF's orientations that turns or mirrors.
+TURNS = {2: 0, 3: 3, 4: 1, 5: 5, 6: 4, 7: 6, 8: 2}
+# The legend is as large as its font for so many columns.
+LEGEND_COLUMNS = 600
+
+
+def damage_mask(page: Page) -> Any:
+    """An image of Pillow, of mode P, of the size of `page.picture()`: each pixel is the `Mark` of its row in its strip or tile, and
+    its colour is that of `damage_shown`.
+
+    Raises:
+        NotFax, MemoryError: as `Page.picture`.
+        NotInstalled: Pillow isn't there.
+    """
+    images, picture = optional("PIL.Image", "Pillow"), page.picture()
+    turned = page.orientation in (5, 6, 7, 8)
+    mask = images.new("P", (picture.rows, picture.columns) if turned else (picture.columns, picture.rows))
+    mask.putpalette([part for _, color in MARKS.values() for part in color])
+    for part in page.parts:
+        for row, mark in enumerate(marks_of(part), part.top):
+            if mark and row < mask.height:
+                mask.paste(int(mark), (part.left, row, part.left + part.arguments["columns"], row + 1))
+    return mask.transpose(TURNS[page.orientation]) if page.orientation in TURNS else mask
+
+
+def damage_shown(page: Page) -> Any:
+    """An image of Pillow, of mode RGB: the page with each row that isn't sound on a ground in colour, above a legend that says which
+    colour is what, and of how many rows. If all rows are sound, it is the page alone.
+
+    Raises:
+        NotFax, MemoryError, NotInstalled: as `damage_mask`.
+    """
+    mask = damage_mask(page)
+    images, chops, draws = (optional(f"PIL.{name}", "Pillow") for name in ("Image", "ImageChops", "ImageDraw"))
+    shown = chops.multiply(page.picture().image().convert("RGB"), mask.convert("RGB"))
+    marks = [mark for part in page.parts for mark in marks_of(part)]
+    found = [mark for mark in MARKS if mark and mark in marks]
+    if not found:
+        return shown
+    size = max(shown.width // LEGEND_COLUMNS, 1)
+    legend = images.new("RGB", (max(shown.width // size, LEGEND_COLUMNS // 2), 16 * len(found)), "white")
+    for line, mark in enumerate(found):
+        text, color = MARKS[mark]
+        draws.Draw(legend).rectangle((2, 16 * line + 2, 13, 16 * line + 13), color, "black")
+        draws.Draw(legend).text((20, 16 * line + 2), f"{marks.count(mark)} rows {text}", "black")
+    legend = legend.resize((legend.width * size, legend.height * size), 0)
+    whole = images.new("RGB", (max(shown.width, legend.width), shown.height + legend.height), "white")
+    whole.paste(shown, (0, 0))
+    whole.paste(legend, (0, shown.height))
+    return whole
+
+
+def marks_of(part: Part) -> list[Mark]:
+    """The mark of each row of a strip or tile, and of those that are missing, as far as the data could have them."""
+    marks: list[Mark] = []
+    reader, missed = rows(part.data, **part.arguments), 0
+
+    def note_missed_eol() -> None:
+        nonlocal missed
+        if reader.damage.missed_eols > missed and marks:
+            missed = reader.damage.missed_eols
+            marks[-1] = marks[-1] or Mark.MISSED_EOL
+
+    try:
+        for _ in reader:
+            note_missed_eol()
+            marks.append(Mark.REPAIRED if reader.fault else Mark.CUT if reader.is_cut else Mark.SOUND)
+    except DecodeError:
+        pass
+    note_missed_eol()
+    return marks + [Mark.MISSING] * (most_rows(part) - len(marks) if part.arguments["rows"] else 0)

@@ -1,0 +1,5 @@
+pub mod Codings
+pub mod Errors
+pub mod Pages
+pub mod Resolutions
+pub mod Tiff

@@ -1,0 +1,20 @@
+//! Writes pages of fax data as TIFF files (TIFF 6.0, and BigTIFF) and as PDF files (ISO 32000-1), a page at a time.
+//!
+//! Of a TIFF file nothing is kept but where the next page begins, of a PDF file 8 bytes for each object.
+#![tactic(auto)]
+
+mod coding;
+mod directory;
+mod error;
+mod output;
+mod page;
+mod pdf;
+mod resolution;
+mod tiff;
+
+pub use coding::{Coding, FaxKeys, coding_of, fax_keys_of};
+pub use error::DocumentError;
+pub use page::Page;
+pub use pdf::PdfWriter;
+pub use resolution::{Resolution, pixels_of_metre, points_of};
+pub use tiff::TiffWriter;

@@ -1,0 +1,208 @@
+//! A document that is being written: the pages of all files in one.
+
+use crate::picture::Unwritten;
+use fax_documents::{DocumentError, PdfWriter, TiffWriter};
+use fax_strips::{StripPage, Target};
+use faxconv_lib::NewFile;
+use std::alloc::{AllocError, Global};
+use std::io;
+use std::io::Write;
+
+/// Where a document is written.
+#[derive(Drop)]
+enum Place {
+    /// A file, which gets its name once it is whole.
+    File(NewFile),
+    /// Standard output.
+    Standard,
+}
+
+/// What writes its pages.
+#[derive(Drop)]
+enum Writer {
+    Tiff(TiffWriter),
+    Pdf(PdfWriter),
+}
+
+/// A document that is being written.
+#[derive(Drop)]
+pub(crate) struct Document<'a> {
+    rt: &'a HostRuntime,
+    place: Place,
+    writer: Writer,
+    /// The last page of a TIFF file so far, which isn't written before it is known whether another one follows.
+    waiting: Option<StripPage>,
+}
+
+impl From<AllocError> for Unwritten {
+    fn from(_error: AllocError) -> Unwritten {
+        Unwritten::OutOfMemory
+    }
+}
+
+impl<'a> Document<'a> {
+    /// Begins a document in a file, or if there is none on standard output; a TIFF file as BigTIFF if `is_big`.
+    pub(crate) fn begin(
+        rt: &'a HostRuntime,
+        file: Option<NewFile>,
+        target: Target,
+        is_big: bool,
+    ) -> Result<Document<'a>, Unwritten> {
+        match file {
+            None => {
+                let writer = begun(rt.alloc(), &mut rt.stdout(), target, is_big)?;
+                Ok(Document {
+                    rt,
+                    place: Place::Standard,
+                    writer,
+                    waiting: None,
+                })
+            }
+            Some(mut file) => match begun(rt.alloc(), &mut file, target, is_big) {
+                Ok(writer) => Ok(Document {
+                    rt,
+                    place: Place::File(file),
+                    writer,
+                    waiting: None,
+                }),
+                Err(why) => {
+                    file.discard(rt);
+                    Err(why)
+                }
+            },
+        }
+    }
+
+    /// Adds a page.
+    pub(crate) fn add(&mut self, page: StripPage) -> Result<(), Unwritten> {
+        let ready = match &self.writer {
+            Writer::Tiff(_) => self.waiting.replace(page),
+            Writer::Pdf(_) => Some(page),
+        };
+        match ready {
+            Some(page) => self.put(&page, false),
+            None => Ok(()),
+        }
+    }
+
+    /// Writes a page.
+    fn put(&mut self, page: &StripPage, is_last: bool) -> Result<(), Unwritten> {
+        let alloc = self.rt.alloc();
+        match &mut self.place {
+            Place::File(file) => put_page(alloc, &mut self.writer, file, page, is_last),
+            Place::Standard => {
+                let mut out = self.rt.stdout();
+                put_page(alloc, &mut self.writer, &mut out, page, is_last)
+            }
+        }
+    }
+
+    /// Writes what is left, and gives the file its name.
+    pub(crate) fn finish(mut self) -> Result<io::Result<()>, Unwritten> {
+        let written = match self.waiting.take() {
+            Some(page) => self.put(&page, true),
+            None => Ok(()),
+        };
+        let Document {
+            rt,
+            place,
+            writer,
+            waiting: _,
+        } = self;
+        match place {
+            Place::Standard => {
+                written?;
+                ended(writer, &mut rt.stdout())?;
+                Ok(Ok(()))
+            }
+            Place::File(mut file) => {
+                let ended = match written {
+                    Ok(()) => ended(writer, &mut file),
+                    Err(why) => Err(why),
+                };
+                match ended {
+                    Ok(()) => Ok(file.finish(rt)),
+                    Err(why) => {
+                        file.discard(rt);
+                        Err(why)
+                    }
+                }
+            }
+        }
+    }
+
+    /// Removes the file, of which not all is written.
+    pub(crate) fn discard(self) {
+        let Document {
+            rt,
+            place,
+            writer: _,
+            waiting: _,
+        } = self;
+        if let Place::File(file) = place {
+            file.discard(rt);
+        }
+    }
+}
+
+/// Begins a document.
+fn begun<W: Write>(
+    alloc: Global,
+    out: &mut W,
+    target: Target,
+    is_big: bool,
+) -> Result<Writer, Unwritten> {
+    match target {
+        Target::Tiff => match TiffWriter::begin(out, is_big) {
+            Ok(writer) => Ok(Writer::Tiff(writer)),
+            Err(error) => Err(why_unwritten(error)),
+        },
+        Target::Pdf => match PdfWriter::begin(alloc, out) {
+            Ok(writer) => Ok(Writer::Pdf(writer)),
+            Err(error) => Err(why_unwritten(error)),
+        },
+    }
+}
+
+/// Writes a page.
+fn put_page<W: Write>(
+    alloc: Global,
+    writer: &mut Writer,
+    out: &mut W,
+    page: &StripPage,
+    is_last: bool,
+) -> Result<(), Unwritten> {
+    let slices = page.slices(alloc)?;
+    let page = page.page(slices.as_slice());
+    let written = match writer {
+        Writer::Tiff(tiff) => tiff.put_page(alloc, out, &page, is_last),
+        Writer::Pdf(pdf) => pdf.put_page(out, &page),
+    };
+    match written {
+        Ok(()) => Ok(()),
+        Err(error) => Err(why_unwritten(error)),
+    }
+}
+
+/// Ends a document.
+fn ended<W: Write>(writer: Writer, out: &mut W) -> Result<(), Unwritten> {
+    if let Writer::Pdf(pdf) = writer {
+        if let Err(error) = pdf.finish(out) {
+            return Err(why_unwritten(error));
+        }
+    }
+    match out.flush() {
+        Ok(()) => Ok(()),
+        Err(_) => Err(Unwritten::Write),
+    }
+}
+
+/// Returns why something isn't written.
+fn why_unwritten(error: DocumentError) -> Unwritten {
+    match error {
+        DocumentError::Encoding | DocumentError::Size => Unwritten::Size,
+        DocumentError::TooLong => Unwritten::TooLong,
+        DocumentError::OutOfMemory => Unwritten::OutOfMemory,
+        DocumentError::Write => Unwritten::Write,
+    }
+}

@@ -1,0 +1,14 @@
+//! What a run has written.
+
+use crate::document::Document;
+
+/// What a run has written.
+#[derive(Drop)]
+pub(crate) enum Written<'a> {
+    /// So many pictures.
+    Pictures(u64),
+    /// Pages of a document that isn't finished.
+    Document(Document<'a>),
+    /// A document that can't be written.
+    Failed,
+}

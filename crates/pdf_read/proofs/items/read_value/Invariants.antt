@@ -1,9 +1,0 @@
-use Rattle.std.proofs.Common.{vec_len}
-use Rattle.pdf_read.specs.Payments.{Adds}
-use Rattle.pdf_read.proofs.items.read_value.Given as goal
-
-abbrev pub invariant-value : goal.invariant-value
-invariant-value l = Adds l.fn.source (vec_len l.fn.items) l.source (vec_len l.items)
-
-abbrev pub decreases-value : goal.decreases-value
-decreases-value l = l.source.left

@@ -1,8 +1,0 @@
-use Rattle.pdf_read.specs.Payments.{Pays}
-use Rattle.pdf_read.proofs.names.find_key.Given as goal
-
-abbrev pub invariant-keys : goal.invariant-keys
-invariant-keys l = Pays l.fn.source l.source
-
-abbrev pub decreases-keys : goal.decreases-keys
-decreases-keys l = l.source.left

@@ -1,8 +1,0 @@
-use Rattle.pdf_read.specs.Payments.{Passes}
-use Rattle.pdf_read.proofs.tokens.pass_text.Given as goal
-
-abbrev pub invariant-text : goal.invariant-text
-invariant-text l = Passes l.fn.source l.source
-
-abbrev pub decreases-text : goal.decreases-text
-decreases-text l = l.source.left
