@@ -1,7 +1,9 @@
 """The calls of the shared library: the structures and statuses of hayro_ccitt.h and fax_encode.h."""
 import ctypes
+import functools
 import os
 from ctypes import POINTER, c_size_t, c_uint8, c_uint32, c_uint64, c_void_p
+from typing import Any
 
 OK, UNEXPECTED_EOF, INVALID_CODE, OVERFLOW, OUT_OF_MEMORY, REFUSED, NOT_TAKEN, NO_ROW, NEEDS_MORE, VIOLATION = range(10)
 GROUP_4, GROUP_3_1D, GROUP_3_2D = range(3)
@@ -54,23 +56,37 @@ class EncodeOutcome(ctypes.Structure):
     _fields_ = [(name, c_uint64) for name in ("rows", "bytes")]
 
 
+class Size:
+    """A size_t. Making one of a number takes longer than finding the one of an earlier call."""
+
+    from_param = functools.lru_cache(1 << 10)(c_size_t)
+
+
+class Room:
+    """An array of ctypes, or None. It is passed as it is, which is a pointer to its memory."""
+
+    @staticmethod
+    def from_param(room: Any) -> Any:
+        return room
+
+
 # Data is passed as bytes, whose memory ctypes passes without a copy.
-DATA = [ctypes.c_char_p, c_size_t]
+DATA = [ctypes.c_char_p, Size]
 CALLS = {
     "hayro_ccitt_measure": [*DATA, POINTER(Settings), POINTER(Outcome)],
-    "hayro_ccitt_decode_packed": [*DATA, POINTER(Settings), c_void_p, c_size_t, POINTER(Outcome)],
+    "hayro_ccitt_decode_packed": [*DATA, POINTER(Settings), Room, Size, POINTER(Outcome)],
     "hayro_ccitt_open": [*DATA, POINTER(Settings), POINTER(Reader)],
-    "hayro_ccitt_next_packed": [*DATA, POINTER(Reader), c_void_p, c_size_t, POINTER(Row)],
+    "hayro_ccitt_next_packed": [*DATA, POINTER(Reader), Room, Size, POINTER(Row)],
     "hayro_ccitt_close": [POINTER(Reader)],
     "hayro_ccitt_feed_open": [POINTER(Settings), POINTER(Reader)],
     "hayro_ccitt_feed": [POINTER(Reader), *DATA],
     "hayro_ccitt_feed_finish": [POINTER(Reader)],
-    "hayro_ccitt_feed_next_packed": [POINTER(Reader), c_void_p, c_size_t, POINTER(Row)],
-    "hayro_ccitt_feed_rows_packed": [POINTER(Reader), c_void_p, c_size_t, POINTER(c_size_t), POINTER(Row)],
-    "hayro_ccitt_feed_unused": [POINTER(Reader), c_void_p, c_size_t, POINTER(c_size_t)],
+    "hayro_ccitt_feed_next_packed": [POINTER(Reader), Room, Size, POINTER(Row)],
+    "hayro_ccitt_feed_rows_packed": [POINTER(Reader), Room, Size, POINTER(c_size_t), POINTER(Row)],
+    "hayro_ccitt_feed_unused": [POINTER(Reader), Room, Size, POINTER(c_size_t)],
     "hayro_ccitt_feed_close": [POINTER(Reader)],
     "hayro_ccitt_check": [*DATA, POINTER(Settings), c_uint32, c_uint32, POINTER(Violation)],
-    "fax_encode_bitmap": [*DATA, POINTER(EncodeSettings), c_void_p, c_size_t, POINTER(EncodeOutcome)],
+    "fax_encode_bitmap": [*DATA, POINTER(EncodeSettings), Room, Size, POINTER(EncodeOutcome)],
 }
 
 

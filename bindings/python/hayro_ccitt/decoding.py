@@ -4,9 +4,10 @@ from __future__ import annotations
 import ctypes
 import functools
 import importlib
-import operator
 import struct
 import threading
+from ctypes import c_char
+from operator import index
 from typing import TYPE_CHECKING, Any, Callable, Iterator, NamedTuple, NoReturn, TypeVar, Union
 
 from . import _library as c
@@ -24,11 +25,13 @@ FAULTS = {
     c.INVALID_CODE: (InvalidCode, "invalid CCITT code sequence"),
     c.OVERFLOW: (Overflow, "arithmetic overflow in position calculation"),
 }
+DECODE_PACKED = c.LIBRARY.hayro_ccitt_decode_packed
 NEGATIVE = bytes(255 - byte for byte in range(256))
 # The numbers of an outcome, which are read at once, since a call is short.
 NUMBERS = struct.Struct(f"{len(c.Outcome._fields_)}Q")
 # Up to this size a bitmap for all rows that there may be is allocated at once.
 USUAL_BYTES = 1 << 20
+NO_LIMIT = 1 << 64
 
 
 class Damage(NamedTuple):
@@ -157,43 +160,50 @@ def decode(
         ValueError: `columns`, `rows` or `stride` isn't in its range, or `out` has too few bytes: those for fewer rows are written.
         MemoryError: an allocation failed, or the picture is too large.
     """
-    data = bytes_of(data)
-    settings = settings_of(columns, rows, k, end_of_line, encoded_byte_align, end_of_block, black_is_1, low_first, strict, stride)
-    columns, stride = settings.columns, settings.stride
-    width = stride or (columns + 7) // 8
-    outcome = c.Outcome()
+    if type(data) is not bytes:
+        data = bytes_of(data)
+    columns, stride = index(columns), index(stride)
+    settings, width, most = plan_of(
+        columns, index(rows), index(k), end_of_line, encoded_byte_align, end_of_block, black_is_1, low_first, strict, stride
+    )
     # Slices of an array of characters are bytes, which its type doesn't say.
-    bitmap: Any = room_of(out) if out is not None else room_for(most_bytes(data, settings, width))
-    status = c.LIBRARY.hayro_ccitt_decode_packed(data, len(data), settings, bitmap, len(bitmap), outcome)
-    if status == c.REFUSED:
-        raise ValueError(f"out has {len(bitmap)} bytes: too few for more than {outcome.rows} rows")
-    check(status)
+    bitmap: Any
+    length = len(data)
+    if out is None:
+        room = width * (most if most <= 8 * length else 8 * length + 1)
+        if room > USUAL_BYTES and room > 64 * length:
+            room = width * measured(data, settings).rows
+        bitmap = room_for(room)
+    else:
+        bitmap = room_of(out)
+        room = len(bitmap)
+    outcome = c.Outcome()
+    status = DECODE_PACKED(data, length, settings, bitmap, room, outcome)
     rows, _, bytes_read, damaged_rows, fault_start, missed_eols, cut_rows = NUMBERS.unpack(outcome)
+    if status:
+        if status == c.REFUSED:
+            raise ValueError(f"out has {room} bytes: too few for more than {rows} rows")
+        check(status)
     size = rows * width
     kept = bitmap[:size] if out is None or not size else memoryview(bitmap)[:size].cast("B")
     damage, result = NO_DAMAGE, "ok"
     if damaged_rows or missed_eols or cut_rows:
         damage = Damage(damaged_rows, missed_eols, cut_rows)
         result = str(damage)
-    if status != c.OK:
+    if status:
         result = FAULTS[status][1]
-    picture = Picture(columns, rows, kept, bytes_read, damage, stride, result)
-    if status != c.OK:
+    # The constructor of a named tuple takes longer.
+    picture = tuple.__new__(Picture, (columns, rows, kept, bytes_read, damage, stride, result))
+    if status:
         raise fault_of(status, fault_start, picture)
     return picture
 
 
-def most_bytes(data: bytes, settings: c.Settings, width: int) -> int:
-    """The bytes that the rows of this width need: as many as there may be, or where that is many, as there are."""
-    most = len(data) * 8 + 1
-    if 0 < settings.rows < most:
-        most = settings.rows
-    most *= width
-    if most > USUAL_BYTES and most > 64 * len(data):
-        outcome = c.Outcome()
-        check(c.LIBRARY.hayro_ccitt_measure(data, len(data), settings, outcome))
-        most = outcome.rows * width
-    return most
+def measured(data: bytes, settings: c.Settings) -> c.Outcome:
+    """What decoding would return, without a bitmap."""
+    outcome = c.Outcome()
+    check(c.LIBRARY.hayro_ccitt_measure(data, len(data), settings, outcome))
+    return outcome
 
 
 def rows(
@@ -329,14 +339,14 @@ def bytes_of(data: Data) -> bytes:
 
 def number(name: str, value: int) -> int:
     """The value, as an `int`, if it is in its range."""
-    value = operator.index(value)
+    value = index(value)
     if not 0 <= value < 1 << 32:
         raise ValueError(f"{name} is {value}: it must be at least 0 and below 2 ** 32")
     return value
 
 
 def encoding_of(k: int) -> int:
-    k = operator.index(k)
+    k = index(k)
     return c.GROUP_4 if k < 0 else c.GROUP_3_1D if k == 0 else c.GROUP_3_2D
 
 
@@ -344,8 +354,6 @@ def sum_of(*flags: tuple[bool, int]) -> int:
     return sum(flag for is_set, flag in flags if is_set)
 
 
-# Most calls have the settings of one before. They are `typed` since 8.0 is equal to 8, but no number of columns.
-@functools.lru_cache(typed=True)
 def settings_of(
     columns: int,
     rows: int,
@@ -373,16 +381,35 @@ def settings_of(
     return c.Settings(columns, number("rows", rows), encoding_of(k), flags, stride)
 
 
-def room_for(length: int) -> ctypes.Array[ctypes.c_char]:
+# Most calls have the settings of one before. The numbers must be ints: 8.0 is equal to 8, but no number of columns.
+@functools.lru_cache
+def plan_of(
+    columns: int,
+    rows: int,
+    k: int,
+    end_of_line: bool,
+    encoded_byte_align: bool,
+    end_of_block: bool,
+    black_is_1: bool,
+    low_first: bool,
+    strict: bool,
+    stride: int,
+) -> tuple[c.Settings, int, int]:
+    """The settings, the bytes from a row to the next one, and the number of rows that there may be."""
+    settings = settings_of(columns, rows, k, end_of_line, encoded_byte_align, end_of_block, black_is_1, low_first, strict, stride)
+    return settings, stride or (columns + 7) // 8, rows or NO_LIMIT
+
+
+def room_for(length: int) -> ctypes.Array[c_char]:
     try:
-        return (ctypes.c_char * length)()
+        return (c_char * length)()
     except (OverflowError, ValueError):
         raise MemoryError(f"a picture of {length} bytes") from None
 
 
-def room_of(out: Room) -> ctypes.Array[ctypes.c_char]:
+def room_of(out: Room) -> ctypes.Array[c_char]:
     """The bytes of a writable buffer."""
-    return (ctypes.c_char * memoryview(out).nbytes).from_buffer(out)
+    return (c_char * memoryview(out).nbytes).from_buffer(out)
 
 
 def optional(module: str, title: str) -> Any:

@@ -1,5 +1,8 @@
 """Decoding: the corpus, the answers of C, and the arguments."""
+import ctypes
+import os
 import threading
+import timeit
 import zlib
 
 import pytest
@@ -106,6 +109,23 @@ def test_data_may_be_any_bytes():
     expected = hayro_ccitt.decode(b"\x31\xc0", 8, 1, k=-1)
     for data in (bytearray(b"\x31\xc0"), memoryview(b"\x31\xc0"), memoryview(b"\x31-\xc0-")[::2]):
         assert hayro_ccitt.decode(data, 8, 1, k=-1) == expected
+
+
+def test_a_short_call_takes_little_more_than_that_of_ctypes():
+    """For two bytes at most 2.4 times as long. Of many runs in turn the shortest count."""
+    call = ctypes.CDLL(os.environ["HAYRO_CCITT_LIBRARY"]).hayro_ccitt_decode_packed
+    settings, outcome, bitmap = (ctypes.c_uint32 * 5)(8, 1, 0, 33, 0), (ctypes.c_uint64 * 7)(), (ctypes.c_char * 1)()
+    call.argtypes = [ctypes.c_char_p, ctypes.c_size_t, ctypes.c_void_p, ctypes.c_void_p, ctypes.c_size_t, ctypes.c_void_p]
+    assert call(b"\x31\xc0", 2, settings, bitmap, 1, outcome) == 0 and bitmap.raw == b"\xe7"
+
+    def alone():
+        call(b"\x31\xc0", 2, settings, bitmap, 1, outcome)
+
+    def whole():
+        hayro_ccitt.decode(b"\x31\xc0", 8, 1, k=-1)
+
+    of_ctypes, of_decode = map(min, zip(*([timeit.timeit(it, number=50) for it in (alone, whole)] for _ in range(1000))))
+    assert of_decode < 2.4 * of_ctypes, (of_ctypes, of_decode)
 
 
 def test_wrong_types_are_type_errors():
