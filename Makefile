@@ -75,7 +75,8 @@ OBJECTS = $(BUILD)/proved.o $(BUILD)/calls.o $(BUILD)/heap.o
 
 # Ends with a line that names the programs that are missing.
 missing = $(strip $(foreach program,$(1),$(if $(shell command -v $(program)),,$(program))))
-need = $(if $(call missing,$(1)),$(error missing: $(call missing,$(1)); README.md says where each is from))
+need = $(if $(call missing,$(1)),$(error missing: $(call missing,$(1)); $(or $(2),README.md says where each is from)))
+OF_RUST = Debian 13 has them in cargo and rustfmt; Debian 12, whose cargo is too old, in cargo-web and rustfmt-web
 # the Debian packages of the tools without which some checks are left out
 TESTED_WITH = cargo chromium cmake gcc-aarch64-linux-gnu gcc-i686-linux-gnu gcc-s390x-linux-gnu ghostscript img2pdf \
 	libc6-dev-arm64-cross libc6-dev-i386-cross libc6-dev-s390x-cross libjbig2dec0-dev libjs-pdf libmupdf-dev \
@@ -110,7 +111,7 @@ prove-programs:
 	cd crates/faxconv && $(RT) run $(RT_JOBS) -- --version > /dev/null
 else
 prove-programs:
-	@$(call need,python3 cargo rustfmt)
+	@$(call need,python3 cargo rustfmt,$(OF_RUST))
 	python3 release/erased/erase.py $(ERASED)
 	cd $(ERASED)/programs && RUSTFLAGS=--remap-path-prefix=$(abspath $(ERASED))= $(CARGO_LINKER)=$(CC) \
 		cargo build -q --profile programs --offline --target $(TARGET) --target-dir $(abspath $(BUILD))/cargo
@@ -218,6 +219,7 @@ dist:
 
 # The Cargo package, and the library for C and the programs in its folders.
 erased:
+	@$(call need,python3 cargo rustfmt,$(OF_RUST))
 	python3 release/erased/erase.py $(ERASED)
 	cd $(ERASED) && cargo build -q --release --offline --all-features
 	cd $(ERASED)/c && cargo build -q --release --offline
@@ -225,6 +227,7 @@ erased:
 
 # The package for JavaScript: the library for C of the Cargo package, and what reads files, as modules of WebAssembly, and what calls them.
 javascript:
+	@$(call need,python3 cargo rustfmt,$(OF_RUST))
 	python3 release/erased/erase.py $(ERASED)
 	python3 release/javascript.py $(ERASED) $(BUILD)/javascript
 
