@@ -75,7 +75,7 @@ OBJECTS = $(BUILD)/proved.o $(BUILD)/calls.o $(BUILD)/heap.o
 
 # Ends with a line that names the programs that are missing.
 missing = $(strip $(foreach program,$(1),$(if $(shell command -v $(program)),,$(program))))
-need = $(if $(call missing,$(1)),$(error missing: $(call missing,$(1)); $(or $(2),README.md says where each is from)))
+need = $(if $(call missing,$(1)),$(error missing: $(call missing,$(1)); $(or $(2),README.md says where each is from$(if $(filter rt,$(call missing,$(1))),; `make erased` needs no rt))))
 OF_RUST = Debian 13 has them in cargo and rustfmt; Debian 12, whose cargo is too old, in cargo-web and rustfmt-web
 # the Debian packages of the tools without which some checks are left out
 TESTED_WITH = cargo chromium cmake gcc-aarch64-linux-gnu gcc-i686-linux-gnu gcc-s390x-linux-gnu ghostscript img2pdf \

@@ -92,6 +92,16 @@ def readme_names_the_kit():
     assert version in Path("README.md").read_text(encoding="utf-8"), f"the README doesn't name {version}"
 
 
+def pages_are_short_and_say_for_whom():
+    """README has at most 1,500 words and the pages of docs/ 12,000 together, with their code. Below its title each page says whom it is
+    for; README is for all."""
+    words = {name: len(Path(name).read_text(encoding="utf-8").split()) for name in tracked() if re.fullmatch(r"README\.md|docs/\w+\.md", name)}
+    assert words["README.md"] <= 1500 and sum(words.values()) - words["README.md"] <= 12000, words
+    pages = [name for name in tracked() if re.fullmatch(r"(docs/|checks/|corpus/|bench/)?\w+\.md", name) and name != "README.md"]
+    silent = [name for name in pages if not re.match(r"# .*\n\nFor ", Path(name).read_text(encoding="utf-8"))]
+    assert len(pages) >= 16 and not silent, silent
+
+
 def lines_of_code(ending, comment):
     """The lines of the files with this ending, without comments and texts."""
     for name in tracked():
@@ -471,6 +481,7 @@ CHECKS = [
     nothing_is_cited_by_number,
     links_lead_somewhere,
     readme_names_the_kit,
+    pages_are_short_and_say_for_whom,
     no_proof_has_a_hole,
     no_work_is_thrown_away,
     *places.CHECKS,

@@ -17,12 +17,12 @@ prescribe, as this project has formalized them.
 
 `open` has the pages of a TIFF or PDF file. `Picture.image` is an image of Pillow, and `Picture.array` an array of NumPy:
 
-    >>> with hayro_ccitt.open("scan.tif") as document:  # doctest: +SKIP
+    >>> with hayro_ccitt.open("scan.tif") as document:
     ...     pixels = [page.picture().array() for page in document]
 
 `damage_shown` is a page whose damaged rows are in colour, and `damage_mask` says which rows these are:
 
-    >>> with hayro_ccitt.open("scan.tif") as document:  # doctest: +SKIP
+    >>> with hayro_ccitt.open("scan.tif") as document:
     ...     hayro_ccitt.damage_shown(document[0]).save("damage.png")
 """
 from ._pages import Page
