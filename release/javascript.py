@@ -19,6 +19,8 @@ SOURCES = "bindings/javascript"
 TARGET = "wasm32-unknown-unknown"
 # The modules, by the folders of their packages.
 MODULES = {"c": "hayro_ccitt.wasm", "files": "hayro_ccitt_files.wasm"}
+# The proved bodies with vectors are compiled: all browsers have the instructions since 2023, and Node since version 16.
+VECTORS = "--cfg vectors -Ctarget-feature=+simd128"
 WORKSPACE = """[workspace]
 members = ["hayro-ccitt/c", "hayro-ccitt/files"]
 resolver = "3"
@@ -31,7 +33,7 @@ strip = true
 
 # What reads files is asked once a page, and decoding for each row.
 [profile.release.package.hayro-ccitt-files]
-opt-level = "s"
+opt-level = "z"
 """
 
 
@@ -80,7 +82,7 @@ def module_of(erased, folder, *words, package="c", linked=()):
         "RUSTC": os.path.abspath(rustc_of_debian(folder)),
         "RUSTC_BOOTSTRAP": "1",
         # No places in sources are kept, and no texts of panics: these end the module at once.
-        "RUSTFLAGS": "-Zlocation-detail=none -Zunstable-options -Cpanic=immediate-abort",
+        "RUSTFLAGS": f"-Zlocation-detail=none -Zunstable-options -Cpanic=immediate-abort {VECTORS}",
         "CARGO_TARGET_DIR": os.path.abspath(folder),
         "CARGO_TARGET_WASM32_UNKNOWN_UNKNOWN_LINKER": "wasm-ld",
     }

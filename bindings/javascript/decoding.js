@@ -2,21 +2,23 @@
 
 import { bytesOf } from "./bytes.js";
 import { DecodeError } from "./errors.js";
-import { RowFeed } from "./feeding.js";
+import { RowFeed, rowsInPlace } from "./feeding.js";
 import { Picture } from "./picture.js";
 
 // How many bytes of the data are fed at once, so that the module's memory doesn't grow with them.
 const PIECE = 1 << 16;
+// How many bytes of rows there is room for before they are read, if as many rows are meant.
+const MOST_MEANT = 1 << 26;
 
 export function decode(data, settings = {}) {
     const bytes = bytesOf(data);
-    const { columns = 1728 } = settings;
+    const { columns = 1728, rows = 0 } = settings;
     const feed = new RowFeed(settings);
-    const found = [];
-    const picture = (bytesRead) => new Picture(columns, feed.rowsRead, joined(found), bytesRead, feed.damage);
+    const packed = new Bytes(Math.min(Math.ceil(columns / 8) * rows, MOST_MEANT));
+    const picture = (bytesRead) => new Picture(columns, feed.rowsRead, packed.whole(), bytesRead, feed.damage);
     const readKnown = () => {
-        for (let rows; (rows = feed.readRows(2 ** 32 - 1)).length > 0; ) {
-            found.push(rows);
+        for (let known; (known = rowsInPlace(feed, 2 ** 32 - 1)).length > 0; ) {
+            packed.add(known);
         }
     };
     try {
@@ -37,16 +39,27 @@ export function decode(data, settings = {}) {
     }
 }
 
-/** One array of the bytes of several. */
-function joined(parts) {
-    if (parts.length === 1) {
-        return parts[0];
+/** Bytes that come in parts, for some of which there is room from the start. */
+class Bytes {
+    #room;
+    #length = 0;
+
+    constructor(length) {
+        this.#room = new Uint8Array(length);
     }
-    const whole = new Uint8Array(parts.reduce((sum, part) => sum + part.length, 0));
-    let at = 0;
-    for (const part of parts) {
-        whole.set(part, at);
-        at += part.length;
+
+    add(part) {
+        const length = this.#length + part.length;
+        if (length > this.#room.length) {
+            const more = new Uint8Array(Math.max(length, 2 * this.#length));
+            more.set(this.#room.subarray(0, this.#length));
+            this.#room = more;
+        }
+        this.#room.set(part, this.#length);
+        this.#length = length;
     }
-    return whole;
+
+    whole() {
+        return this.#length === this.#room.length ? this.#room : this.#room.slice(0, this.#length);
+    }
 }

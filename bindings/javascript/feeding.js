@@ -36,7 +36,7 @@ const [ROW, COUNT, SETTINGS, HELD] = [16, 96, 104, 128];
 // The fields of hayro_ccitt_row, of 64 bits each.
 const [ROWS, , LINE_START, BYTES_READ, DAMAGED_ROWS, DAMAGE, MISSED_EOLS, CUT_ROWS, IS_CUT] = Array(10).keys();
 // How many bytes of packed rows are read at once, unless one row has more.
-const USUAL_BYTES = 1 << 20;
+const USUAL_BYTES = 1 << 17;
 
 const forgotten = new FinalizationRegistry(close);
 
@@ -92,7 +92,14 @@ export class Damage {
     }
 }
 
+/** The rows that `readRows` has copies of, in the module's memory, for as long as nothing is called there. */
+export let rowsInPlace;
+
 export class RowFeed {
+    static {
+        rowsInPlace = (feed, most) => feed.#rowsInPlace(most);
+    }
+
     #held;
     #width;
     // hayro_ccitt_row, after the last call that read.
@@ -129,12 +136,7 @@ export class RowFeed {
     }
 
     readRows(most) {
-        number("most", most, 1);
-        if (this.#held.at === 0) {
-            return new Uint8Array();
-        }
-        const count = this.#readRows(most);
-        return bytesAt(this.#held.room, count * this.#width).slice();
+        return this.#rowsInPlace(number("most", most, 1)).slice();
     }
 
     async *over(stream, { signal } = {}) {
@@ -241,6 +243,15 @@ export class RowFeed {
         this.#note(status);
         check(status, this);
         return status === OK;
+    }
+
+    /** Reads rows into the room, at most as many. */
+    #rowsInPlace(most) {
+        if (this.#held.at === 0) {
+            return new Uint8Array();
+        }
+        const count = this.#readRows(most);
+        return bytesAt(this.#held.room, count * this.#width);
     }
 
     /** Reads rows into the room, at most as many. Returns how many. */

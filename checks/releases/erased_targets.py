@@ -10,7 +10,7 @@ from gate.skipped import leave_out
 from releases import erased
 
 sys.path.insert(0, os.path.abspath("release"))
-from javascript import VENDORED, rustc_of_debian, with_sources_of_std  # noqa: E402
+from javascript import VECTORS, VENDORED, rustc_of_debian, with_sources_of_std  # noqa: E402
 
 MODULE = f'[lib]\ncrate-type = ["cdylib"]\npath = "{erased.SOURCES}/wasm.rs"\n'
 # Each target, the linker, and what runs its programs.
@@ -63,6 +63,9 @@ def made_for(target, folder, *features):
     """Where cargo puts what it makes of a package for a target, by the profile `checked`, with std made of Debian's sources."""
     linker = f"CARGO_TARGET_{target.replace('-', '_').upper()}_LINKER"
     named = {linker: TARGETS[target][0], "RUSTC": rustc_of_debian(erased.BUILT), "RUSTC_BOOTSTRAP": "1", "STRIPS": erased.list_of_strips()}
+    if target.startswith("wasm"):
+        # As the package for JavaScript is.
+        named["RUSTFLAGS"] = VECTORS
     command = with_sources_of_std("build", "--target", target, "--profile", "checked", *features)
     erased.run(*command, cwd=folder, CARGO_TARGET_DIR=f"{erased.BUILT}/targets", **named, **CHECKED)
     return f"{erased.BUILT}/targets/{target}/checked"
@@ -110,8 +113,8 @@ def edges_of_32_bits():
 
 
 def on_other_targets():
-    """On 32 bits, on ARM64, on a big-endian machine, in WebAssembly and on Windows the sum of random cases is that on x86-64, with overflow
-    checks, and a program on the crate reads the corpus as its pictures are."""
+    """On 32 bits, on ARM64, on a big-endian machine, in WebAssembly, there with vectors, and on Windows the sum of random cases is that on
+    x86-64, with overflow checks, and a program on the crate reads the corpus as its pictures are."""
     if erased.lacks_tools("the erased package on other targets"):
         return
     if lacks_sources_of_std("the erased package on other targets"):

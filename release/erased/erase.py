@@ -34,17 +34,23 @@ LEFT_OUT = {
 # The files of the API that are by hand here: the others are those of bindings/rust.
 API_BY_HAND = ["calls.rs", "pushed.rs"]
 
-# The functions whose bodies are by hand, by their files, since Rust has no stable form of them, or another one that is faster.
-BY_HAND = {
+# The functions whose bodies are by hand, by their files, since Rust has no stable form of them: with `--cfg vectors`, which takes a
+# compiler with vectors that aren't stable, the bodies are those that are proved.
+WITHOUT_VECTORS = {
     # vectors of 16 bytes
     ("fax_bits", "bit_reader", "bytes_turned"): "word.swap_bytes().reverse_bits()",
     # vectors of four numbers: no place is found at once, which the contract allows
     ("fax_lines", "regular_places", "regular_places"): "([u32::MAX; 4], 0)",
 }
+# Those whose bodies are by hand since a list takes several items at once faster.
+BY_HAND = {
+    ("fax_feeds", "row_feed", "append_reserved"): "data.extend_reserved(bytes);",
+    ("fax_lines", "vertical_groups", "push_places"): "row.extend_reserved(&places);",
+}
 # Other lines by hand: each is there once.
 LINES_BY_HAND = {
-    # so that it isn't tried
-    ("fax_lines", "context"): ("by_groups: self.suits_groups", "by_groups: false"),
+    # so that it isn't tried without vectors
+    ("fax_lines", "context"): ("by_groups: self.suits_groups", "by_groups: cfg!(vectors) && self.suits_groups"),
 }
 # A name, a field, or what a call with a name or without arguments returns.
 PLACE = r"\w+(?:\.\w+(?:\(\w*\))?)*"
@@ -67,15 +73,19 @@ REWRITTEN = [
     (rf"\b({PLACE}\[[\w.]*\])\.to_vec\(alloc\)", r"Vec::copied(alloc, &\1)"),
     (rf"\b({PLACE})\.to_vec\(self\.alloc\)", r"Vec::copied(self.alloc, \1)"),
     (r"\bvec!\[in ([\w.()]+); (\w+); (\w+)\]", r"Vec::filled(\1, \2, \3)"),
+    # vectors, and bytes that are turned by these
+    (r"\buse std::simd::prelude::\*;", "#[cfg(vectors)]\nuse core::simd::{ToBytes, prelude::*};"),
+    (r"\b(\w+)\.shuffle::<4>\(", r"simd_swizzle!(\1, "),
+    (rf"(?<=\.copy_from_slice\(&)({PLACE})\.to_be_bytes\(\)", r"be_bytes(\1)"),
 ]
 # What `lists.rs` has in place of Rattle's std.
-FROM_LISTS = ["AllocError", "AllocFailed", "Box", "Global", "Vec"]
+FROM_LISTS = ["AllocError", "AllocFailed", "Box", "Global", "Vec", "be_bytes"]
 # What `system.rs` has in place of it, in the programs: all of std, and these of its prelude. Elsewhere only this is Rust's own std.
 FROM_SYSTEM = ["HostRuntime", "String"]
 OF_STD = r"::(io|os|fs|time|process|env)\b"
 # The features of the library for C that calls need.
 FEATURES = {"hayro_ccitt_check": "check"}
-DROPPED_USES = r"use std::(alloc::[^;]*|marker::Model|simd::prelude::\*)"
+DROPPED_USES = r"use std::(alloc::[^;]*|marker::Model)"
 KEPT_ATTRIBUTES = r"#!?\[(inline(\((always|never)\))?|cold|derive\([\w, ]*\)|repr\(C\)|rattlefmt::skip)\]"
 DROPPED_ATTRIBUTES = r"#!?\[(tactic\(.*\)|unsafe\(no_mangle\))\]"
 REFUSED_WORDS = {"ghost", "requires", "ensures", "invariant", "tactic", "rattlefmt", "Rattle", "Model", "Drop", "unsafe"}
@@ -243,21 +253,29 @@ def renamed(text, crate, crates, is_of_programs):
 
 
 def with_body(text, name, body):
-    """The text with this body of the function of this name, once."""
+    """The text with this body of the function of this name, once: it is made of the body that is there, in its braces."""
     found = list(re.finditer(rf"\bfn {name}\b[^{{]*", text))
     if len(found) != 1:
         raise Refused(f"{len(found)} functions {name}")
-    end = after_braces(text, found[0].end())
-    return f"{text[: found[0].end()]}{{ {body} }}{text[end:]}"
+    start, end = found[0].end(), after_braces(text, found[0].end())
+    return text[:start] + body(text[start:end]) + text[end:]
 
 
-def without_constants_of(text, body):
-    """The text without private constants that nothing names but a body that was replaced."""
-    for name in set(re.findall(r"\b[A-Z][A-Z_]+\b", body)):
-        declared = re.search(rf"(///[^\n]*\n)*const {name}\b[^;]*;[^;]*;\n", text)
-        if declared and len(re.findall(rf"\b{name}\b", text)) == 1:
-            text = text[: declared.start()] + text[declared.end() :]
-    return text
+def with_bodies(text, crate, name, used):
+    """The text of a module with the bodies by hand, and what these are; and the text without those that have vectors."""
+    here = [(function, body, of is WITHOUT_VECTORS) for of in (BY_HAND, WITHOUT_VECTORS) for (*file, function), body in of.items() if file == [crate, name]]
+    plain, said = text, []
+    for function, body, has_vectors in here:
+        plain = with_body(plain, function, lambda _, body=body: f"{{ {body} }}")
+        text = with_body(text, function, lambda proved, body=body, has_vectors=has_vectors: by_vectors(proved, body) if has_vectors else f"{{ {body} }}")
+        said.append(f"the body of `{function}`{' without vectors' if has_vectors else ''}")
+        used.add((crate, name, function))
+    return text, said, plain
+
+
+def by_vectors(proved, body):
+    """A body that has vectors, and another one where there are none."""
+    return f"{{\n#[cfg(vectors)]\n{proved}\n#[cfg(not(vectors))]\n{{ {body} }}\n}}"
 
 
 def code_of(text):
@@ -301,13 +319,9 @@ def module(crate, name, crates, used, is_of_programs):
     if line := LINES_BY_HAND.get((crate, name)):
         text = once(text, *line)
         used.add((crate, name))
-    by_hand = [function for of, file, function in BY_HAND if (of, file) == (crate, name)]
-    for function in by_hand:
-        before = text
-        text = without_constants_of(with_body(text, function, BY_HAND[crate, name, function]), before)
-        used.add((crate, name, function))
-    refuse_leftovers(text)
-    by_hand = [f"the body of `{function}`" for function in by_hand] + ([f"`{line[1]}`"] if line else [])
+    text, by_hand, plain = with_bodies(text, crate, name, used)
+    refuse_leftovers(plain)
+    by_hand += [f"`{line[1]}`"] if line else []
     front = re.match(r"(\s|//![^\n]*\n)*", text).end()
     erased = ", ".join(f"{count} {what}" for what, count in counts.items() if count) or "nothing"
     said = f"// {path} without contracts. Erased: {erased}." + "".join(f" By hand: {what}." for what in by_hand)
@@ -400,7 +414,7 @@ def write_proved(folder):
     for package, tops in (("programs", PROGRAMS), ("files", FILES)):
         crates = crates_below(CALLS, *tops)
         write_modules(f"{folder}/{package}/src/proved", [it for it in crates if it not in below], crates, used, package == "programs")
-    if unused := {*BY_HAND, *LINES_BY_HAND} - used:
+    if unused := {*BY_HAND, *WITHOUT_VECTORS, *LINES_BY_HAND} - used:
         sys.exit(f"no such sources: {sorted(unused)}")
 
 
@@ -422,7 +436,7 @@ def write_api(folder):
             continue
         text = read(f"{API}/src/{name}")
         if name == "lib.rs":
-            text = once(text, "#![deny(unsafe_op_in_unsafe_fn)]", "#![forbid(unsafe_code)]")
+            text = once(text, "#![deny(unsafe_op_in_unsafe_fn)]", "#![forbid(unsafe_code)]\n#![cfg_attr(vectors, feature(portable_simd))]")
             text = once(text, "mod calls;\n", "#[doc(hidden)]\npub mod calls;\n")
             text = once(text, "mod encoding;\n", "mod encoding;\n#[doc(hidden)]\npub mod lists;\n")
             text = once(text, "mod pushed;\n", "#[doc(hidden)]\npub mod proved;\nmod pushed;\n")

@@ -1,4 +1,5 @@
-//! What Rattle's std has and Rust's hasn't, in safe Rust: lists and boxes that report where an allocation fails.
+//! What Rattle's std has and Rust's hasn't, in safe Rust: lists and boxes that report where an allocation fails. And what Rust compiles to
+//! more than it has to.
 
 use alloc::{boxed, vec};
 use core::ops::{Deref, DerefMut};
@@ -72,6 +73,13 @@ impl<T> Vec<T> {
 }
 
 impl<T: Copy> Vec<T> {
+    /// Adds items. It is proved of each call that there is room for them, so that this allocates nothing.
+    #[inline(always)]
+    pub fn extend_reserved(&mut self, items: &[T]) {
+        assert!(self.0.capacity() - self.0.len() >= items.len(), "no room for items");
+        self.0.extend_from_slice(items);
+    }
+
     /// Creates a list of as many copies of an item.
     pub fn filled(alloc: Global, item: T, count: usize) -> Result<Self, AllocError> {
         let mut items = Self::new(alloc);
@@ -169,4 +177,15 @@ impl<T> DerefMut for Box<T> {
     fn deref_mut(&mut self) -> &mut T {
         &mut self.0[0]
     }
+}
+
+/// Returns the bytes of a word, the highest first, by a vector where there are any: WebAssembly has no other instruction that turns them.
+#[inline(always)]
+pub fn be_bytes(word: u64) -> [u8; 8] {
+    #[cfg(vectors)]
+    use core::simd::{ToBytes, prelude::*};
+    #[cfg(vectors)]
+    return simd_swizzle!(u64x2::splat(word).to_le_bytes(), [7, 6, 5, 4, 3, 2, 1, 0]).to_array();
+    #[cfg(not(vectors))]
+    word.to_be_bytes()
 }
