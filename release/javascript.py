@@ -33,7 +33,7 @@ strip = true
 
 # What reads files is asked once a page, and decoding for each row.
 [profile.release.package.hayro-ccitt-files]
-opt-level = "z"
+opt-level = "s"
 """
 
 

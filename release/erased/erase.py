@@ -76,10 +76,11 @@ REWRITTEN = [
     # vectors, and bytes that are turned by these
     (r"\buse std::simd::prelude::\*;", "#[cfg(vectors)]\nuse core::simd::{ToBytes, prelude::*};"),
     (r"\b(\w+)\.shuffle::<4>\(", r"simd_swizzle!(\1, "),
-    (rf"(?<=\.copy_from_slice\(&)({PLACE})\.to_be_bytes\(\)", r"be_bytes(\1)"),
+    (rf"(?<=_from_slice\(&)({PLACE})\.to_be_bytes\(\)", r"be_bytes(\1)"),
+    (r"\bu64::from_be_bytes\(", "be_word("),
 ]
 # What `lists.rs` has in place of Rattle's std.
-FROM_LISTS = ["AllocError", "AllocFailed", "Box", "Global", "Vec", "be_bytes"]
+FROM_LISTS = ["AllocError", "AllocFailed", "Box", "Global", "Vec", "be_bytes", "be_word"]
 # What `system.rs` has in place of it, in the programs: all of std, and these of its prelude. Elsewhere only this is Rust's own std.
 FROM_SYSTEM = ["HostRuntime", "String"]
 OF_STD = r"::(io|os|fs|time|process|env)\b"

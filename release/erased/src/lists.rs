@@ -52,10 +52,7 @@ impl<T> Vec<T> {
     /// Removes the last item. It is proved of each call that there is one.
     #[inline(always)]
     pub fn take_last(&mut self) -> T {
-        match self.0.pop() {
-            Some(last) => last,
-            None => unreachable!("the last item of no items"),
-        }
+        self.0.pop().expect("there is an item")
     }
 
     pub fn reserve(&mut self, more: usize) -> Result<(), AllocError> {
@@ -158,10 +155,7 @@ impl<T> Box<T> {
             return Err(AllocFailed(value));
         }
         items.push(value);
-        match items.try_into() {
-            Ok(one) => Ok(Self(one)),
-            Err(_) => unreachable!("one value"),
-        }
+        items.try_into().map(Self).map_err(|_| unreachable!("one value"))
     }
 }
 
@@ -188,4 +182,10 @@ pub fn be_bytes(word: u64) -> [u8; 8] {
     return simd_swizzle!(u64x2::splat(word).to_le_bytes(), [7, 6, 5, 4, 3, 2, 1, 0]).to_array();
     #[cfg(not(vectors))]
     word.to_be_bytes()
+}
+
+/// Returns the word whose bytes these are, the highest first, as `be_bytes` does.
+#[inline(always)]
+pub fn be_word(bytes: [u8; 8]) -> u64 {
+    u64::from_le_bytes(be_bytes(u64::from_le_bytes(bytes)))
 }
