@@ -92,6 +92,17 @@ def test_the_program_writes_a_table(tmp_path):
         assert picture.tobytes() == images.frombytes("1", (33, NARROW.rows), NARROW.bits, "raw", "1;I").tobytes()
 
 
+def test_the_table_is_parquet_where_pyarrow_is(tmp_path, monkeypatch):
+    parquet = pytest.importorskip("pyarrow.parquet")
+    monkeypatch.syspath_prepend(EXAMPLE.parent)
+    import many_machines
+
+    numbers = {name: number for number, name in enumerate(many_machines.COLUMNS)}
+    rows = [{**numbers, "file": "a.tif", "result": "ok"}, {**dict.fromkeys(numbers), "file": "b.tif", "result": "neither TIFF nor PDF"}]
+    name = many_machines.write_table(rows, str(tmp_path))
+    assert name == f"{tmp_path}/damage.parquet" and parquet.read_table(name).to_pylist() == rows
+
+
 def table_of(folder):
     """The rows of the table, as texts."""
     if (folder / "damage.parquet").exists():
