@@ -224,6 +224,7 @@ erased:
 	cd $(ERASED) && cargo build -q --release --offline --all-features
 	cd $(ERASED)/c && cargo build -q --release --offline
 	cd $(ERASED)/programs && cargo build -q --profile programs --offline
+	@echo "in $(ERASED): the package, the library for C in c/target/release, and the programs in target/programs"
 
 # The package for JavaScript: the library for C of the Cargo package, and what reads files, as modules of WebAssembly, and what calls them.
 javascript:

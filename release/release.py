@@ -353,8 +353,7 @@ def python_sources(version, erased, told, epoch):
     files = {
         **python_modules(),
         **{f"rust/{name}": data for name, data in erased.items()},
-        "build_backend.py": read("bindings/python/build_backend.py"),
-        "pyproject.toml": b'[build-system]\nrequires = []\nbuild-backend = "build_backend"\nbackend-path = ["."]\n',
+        **{name: read(f"bindings/python/{name}") for name in ("build_backend.py", "pyproject.toml")},
         "PKG-INFO": build_backend.metadata(version).encode(),
         "PROVENANCE": told.encode(),
     }

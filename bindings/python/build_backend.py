@@ -1,15 +1,19 @@
-"""Builds the wheel of the source package: pip calls it (PEP 517), and it calls cargo. The wheels of a release are packed by it too."""
+"""Builds the wheel of the source package, or of a clone of the repository: pip calls it (PEP 517), and it calls cargo. The wheels of a
+release are packed by it too."""
 import base64
-import email
 import hashlib
 import io
+import re
+import shutil
 import subprocess
+import sys
 import sysconfig
 import tempfile
 import zipfile
 from pathlib import Path
 
 HERE = Path(__file__).resolve().parent
+ERASE = HERE / "../../release/erased/erase.py"
 # What cargo calls the shared library: on Linux, macOS, Windows.
 LIBRARIES = ("libhayro_ccitt.so", "libhayro_ccitt.dylib", "hayro_ccitt.dll")
 
@@ -39,22 +43,34 @@ def packed_wheel(version, platform, files):
     return f"hayro_ccitt-{version}-{tag}.whl", packed.getvalue()
 
 
-def built_library(target):
+def rust_sources(work):
+    """The proved sources without their contracts: those of the source package, or in a clone those that are written to a folder."""
+    if (HERE / "rust").is_dir():
+        return HERE / "rust"
+    need("rustfmt")
+    subprocess.run([sys.executable, str(ERASE), work], check=True)
+    return work
+
+
+def need(tool):
+    if not shutil.which(tool):
+        raise SystemExit(f"hayro_ccitt is built by {tool}, which isn't installed: https://rustup.rs, or your system's package")
+
+
+def built_library(sources, target):
     """The path of the shared library that cargo builds in a folder."""
-    words = ["cargo", "build", "--release", "--offline", "--manifest-path", str(HERE / "rust/c/Cargo.toml"), "--target-dir", target]
-    try:
-        subprocess.run(words, check=True)
-    except FileNotFoundError:
-        raise SystemExit("hayro_ccitt is built by cargo, which isn't installed: https://rustup.rs, or your system's package") from None
+    words = ["cargo", "build", "--release", "--offline", "--manifest-path", f"{sources}/c/Cargo.toml", "--target-dir", target]
+    subprocess.run(words, check=True)
     return next(path for name in LIBRARIES if (path := Path(target, "release", name)).is_file())
 
 
 def build_wheel(wheel_directory, config_settings=None, metadata_directory=None):
     """Makes the wheel for this machine, with the library that cargo builds of the proved sources, and returns its name."""
-    version = email.message_from_string((HERE / "PKG-INFO").read_text())["Version"]
+    need("cargo")
+    version = re.search('^__version__ = "(.*)"$', (HERE / "hayro_ccitt/__init__.py").read_text(), re.MULTILINE)[1]
     files = {f"hayro_ccitt/{path.name}": path.read_bytes() for path in sorted((HERE / "hayro_ccitt").iterdir()) if path.is_file()}
-    with tempfile.TemporaryDirectory() as target:
-        library = built_library(target)
+    with tempfile.TemporaryDirectory() as work:
+        library = built_library(rust_sources(f"{work}/rust"), f"{work}/target")
         files[f"hayro_ccitt/{library.name}"] = library.read_bytes()
     platform = sysconfig.get_platform().replace("-", "_").replace(".", "_")
     name, packed = packed_wheel(version, platform, files)

@@ -2,6 +2,7 @@
 erased is refused; the package is clean, and has one behaviour with the proved library; each refused allocation is reported; and the
 checks of the library for C pass over the one that it makes."""
 import functools
+import importlib.util
 import os
 import re
 import shutil
@@ -89,6 +90,8 @@ def what_is_not_understood_is_refused():
         "fn f() { unsafe { g() } }": "words of contracts are left",
         "fn f() { if (a + b).is_multiple_of(2) {} }": "not erased",
         "fn f() { if a + b.is_multiple_of(2) {} }": "not erased",
+        "fn f() { if let Some(a) = b && let Some(c) = d {} }": "not erased",
+        "fn f() { if let Some(a) = b\n        && c < d\n        && e {} }": "not erased",
         "use fax_encode::laws::no_law;\nfn f() {\n    no_law();\n}": "a law of fax_encode that does something",
     }.items():
         assert why in refused(text), (text, refused(text))
@@ -254,4 +257,19 @@ def calls_for_c():
         refusals.each_request_of_a_check()
 
 
-CHECKS = [what_is_not_understood_is_refused, the_package_is_clean, one_suite_of_tests, random_cases_beside_the_proved_library, calls_for_c]
+def pip_installs_the_repository():
+    """`pip install ./bindings/python` makes the sources and builds them, without the kit and a network; the package decodes a strip."""
+    missing = [*lacks_tools("the Python package of the repository"), *([] if importlib.util.find_spec("pip") else ["pip"])]
+    if missing:
+        return
+    with tempfile.TemporaryDirectory() as folder:
+        words = "-m", "pip", "install", "-q", "--no-index", "--root-user-action=ignore", "--target", folder, "./bindings/python"
+        run(sys.executable, *words)
+        here = {"HAYRO_CCITT_LIBRARY": "", "PYTHONPATH": folder}
+        code = "import hayro_ccitt as it; print(it.__file__, it.decode(bytes.fromhex('31c0'), 8, 1, k=-1).packed.hex())"
+        told = run(sys.executable, "-c", code, **here)
+    assert told == f"{folder}/hayro_ccitt/__init__.py e7\n", told
+    assert not any(os.path.exists(f"bindings/python/{it}") for it in ("build", "hayro_ccitt.egg-info")), "pip leaves files"
+
+
+CHECKS = [what_is_not_understood_is_refused, pip_installs_the_repository, the_package_is_clean, one_suite_of_tests, random_cases_beside_the_proved_library, calls_for_c]

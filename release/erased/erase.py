@@ -69,6 +69,7 @@ REWRITTEN = [
     # what Rust 1.85 doesn't have
     (rf"(?<=(?:if| =) )({PLACE})\.is_multiple_of\(2\)(?= \{{|;)", r"\1 % 2 == 0"),
     (rf"(?<=(?:if| =) )({PLACE})\.is_multiple_of\(2\)(?= [!=]= )", r"(\1 % 2 == 0)"),
+    (rf"\bif let Some\((\w+)\) = ({PLACE})\s+&& ((?!let )[\w.() <=>!]+?)\s+\{{", r"if let Some(\1) = \2.filter(|_| \3) {"),
     (rf"\b({PLACE})\.to_vec\(alloc\)", r"Vec::copied(alloc, \1)"),
     (rf"\b({PLACE}\[[\w.]*\])\.to_vec\(alloc\)", r"Vec::copied(alloc, &\1)"),
     (rf"\b({PLACE})\.to_vec\(self\.alloc\)", r"Vec::copied(self.alloc, \1)"),
@@ -290,7 +291,7 @@ def refuse_leftovers(text):
         raise Refused(f"words of contracts are left: {sorted(left)}")
     if other := [mark for mark in code if not mark.isascii()]:
         raise Refused(f"characters of contracts are left: {other[:9]}")
-    if found := re.search(rf"\bstd(?!{OF_STD})::|\bvec!|\bu\d+x\d+\b|\bdyn\b|\bextern\b|\bis_multiple_of\b|/\*", code):
+    if found := re.search(rf"\bstd(?!{OF_STD})::|\bvec!|\bu\d+x\d+\b|\bdyn\b|\bextern\b|\bis_multiple_of\b|\b(?:if|while) let [^{{;]*&& |/\*", code):
         raise Refused(f"not erased: {found[0]}")
 
 
