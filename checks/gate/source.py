@@ -21,10 +21,19 @@ class Item:
         return self.name.rpartition("::")[2]
 
 
+# A type that another crate may name if its module is public, or if it is passed on: its methods too, whichever module they stand in.
+TYPE = re.compile(r"^pub (?:struct|enum|trait|type) (\w+)", re.MULTILINE)
+
+
+def module_of(path):
+    """The module of a file; nothing for the root."""
+    module = path[len("src/") : -len(".rt")].replace("/", "::")
+    return "" if module in ("lib", "main") else module
+
+
 def items_of(path, text):
     """The functions and constants of a file that `rt fmt` has laid out: each ends at a line with its own indent."""
-    module = path[len("src/") : -len(".rt")].replace("/", "::")
-    above = "" if module in ("lib", "main") else f"{module}::"
+    above = f"{module_of(path)}::".removeprefix("::")
     starts = [(found.start(), found[0]) for found in re.finditer(r"^(?:impl|trait|pub trait|mod)\b.*$", text, re.MULTILINE)]
     made = []
     for found in ITEM.finditer(text):
@@ -88,11 +97,13 @@ class Source:
         """The functions that another crate can name, and the sinks' `push_row`."""
         root = self.texts.get("src/lib.rt") or self.texts.get("src/main.rt", "")
         modules = set(re.findall(r"^pub mod (\w+);", root, re.MULTILINE))
-        for path, names in re.findall(r"^pub use (\w+)::(\{[^}]*\}|\w+);", root, re.MULTILINE):
-            modules |= {f"{path}::{name}" for name in re.findall(r"\w+", names)}
+        uses = re.findall(r"^pub use (\w+)::(\{[^}]*\}|\w+);", root, re.MULTILINE)
+        passed = {(path, name) for path, names in uses for name in re.findall(r"\w+", names)}
+        declared = {(module_of(path), name) for path, text in self.texts.items() for name in TYPE.findall(text)}
+        types = {name for module, name in declared if module in {*modules, ""} or (module, name) in passed}
         for item in self.items:
             above = item.name.split("::")
-            is_named = len(above) == 1 or above[0] in modules or "::".join(above[:2]) in modules
+            is_named = len(above) == 1 or above[0] in modules or tuple(above[:2]) in passed or above[-2] in types
             if item.kind == "fn" and (item.is_public and is_named or item.last == "push_row") and "/tests" not in item.path:
                 yield item
 

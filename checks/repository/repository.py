@@ -259,9 +259,12 @@ def only_what_users_call_is_passed_on():
 
 
 def is_for_users(crate, item):
-    """Whether a function is more than a part of the library: of the crates below the decoder only what is passed on is."""
-    above = item.name.split("::")
-    return crate not in PASSED_ON or bool(PASSED_ON[crate] & {"::".join(above[:length]) for length in range(1, len(above) + 1)})
+    """Whether a function is more than a part of the library: of the crates below the decoder only what is passed on is, with each method
+    of a type that is."""
+    if crate not in PASSED_ON:
+        return True
+    above, types = item.name.split("::"), {name.rpartition("::")[2] for name in PASSED_ON[crate]}
+    return bool(types & set(above[-2:-1]) or PASSED_ON[crate] & {"::".join(above[:length]) for length in range(1, len(above) + 1)})
 
 
 def each_public_function_has_an_edit():
