@@ -1,7 +1,5 @@
 //! What is written: pictures to their files or to standard output, and the pages of all files to one document.
 
-use crate::document::Document;
-use crate::picture::{Unwritten, exchanged, put_picture, resolution_of_dots};
 use crate::run::Run;
 use crate::texts::too_large;
 use crate::written::Written;
@@ -15,6 +13,7 @@ use faxconv_lib::folder::files_in;
 use faxconv_lib::names::name_of_picture;
 use faxconv_lib::options::{Encoding, Rotation};
 use faxconv_lib::{Action, Format, NewFile, Status};
+use faxconv_out::{Document, Unwritten, exchanged, put_picture, resolution_of_dots};
 use std::alloc::AllocError;
 use std::io::ErrorKind;
 use std::{fs, io, mem};

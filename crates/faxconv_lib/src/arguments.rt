@@ -292,6 +292,7 @@ impl<'a> Reading<'a> {
             Known::Check => self.options.action = Action::Check,
             Known::Standard => self.options.is_standard = true,
             Known::Info => self.options.action = Action::Info,
+            Known::Guess => self.options.action = Action::Guess,
             Known::Json => self.options.is_json = true,
             Known::Overwrite => self.options.may_overwrite = true,
             Known::NoOverwrite => self.options.may_overwrite = false,
@@ -325,7 +326,10 @@ impl<'a> Reading<'a> {
                 raw.settings.encoding = mode_of(value)?;
                 raw.is_wanted = true;
             }
-            Known::Width => raw.settings.columns = above_zero(value)?,
+            Known::Width => {
+                raw.settings.columns = above_zero(value)?;
+                raw.has_width = true;
+            }
             Known::Rows => {
                 raw.settings.rows = number_of(value)?;
                 self.has_limit = true;

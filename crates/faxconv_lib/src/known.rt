@@ -21,6 +21,8 @@ pub enum Known {
     Standard,
     /// `--info`
     Info,
+    /// `--guess`
+    Guess,
     /// `--json`
     Json,
     /// `--overwrite`
@@ -59,6 +61,7 @@ impl Known {
             | Known::Check
             | Known::Standard
             | Known::Info
+            | Known::Guess
             | Known::Json
             | Known::Overwrite
             | Known::NoOverwrite
@@ -101,6 +104,7 @@ impl Known {
             "check" => Known::Check,
             "standard" => Known::Standard,
             "info" => Known::Info,
+            "guess" => Known::Guess,
             "json" => Known::Json,
             "overwrite" => Known::Overwrite,
             "no-overwrite" => Known::NoOverwrite,

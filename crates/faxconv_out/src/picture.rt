@@ -11,7 +11,7 @@ use tiff_read::{Ratio, ResolutionUnit};
 
 /// Why a picture or a page isn't written.
 #[derive(Clone, Copy)]
-pub(crate) enum Unwritten {
+pub enum Unwritten {
     /// An allocation failed.
     OutOfMemory,
     /// It has no size that a file of its format has.
@@ -23,7 +23,7 @@ pub(crate) enum Unwritten {
 }
 
 /// Writes a picture as PNG, or as PBM.
-pub(crate) fn put_picture<W: Write>(
+pub fn put_picture<W: Write>(
     alloc: Global,
     out: &mut W,
     picture: &Bitmap,
@@ -72,7 +72,7 @@ fn put_pbm<W: Write>(alloc: Global, out: &mut W, picture: &Bitmap) -> Result<(),
 }
 
 /// Writes what comes before the rows of a PBM picture.
-pub(crate) fn put_pbm_head<W: Write>(
+pub fn put_pbm_head<W: Write>(
     alloc: Global,
     out: &mut W,
     columns: u32,
@@ -97,7 +97,7 @@ fn density_of(resolution: Option<Resolution>) -> Option<Density> {
 }
 
 /// Returns a resolution in pixels an inch.
-pub(crate) fn resolution_of_dots(dots: DotsPerInch) -> Resolution {
+pub fn resolution_of_dots(dots: DotsPerInch) -> Resolution {
     let ratio = |above: u32| Ratio {
         above: u64::from(above),
         below: 1,
@@ -110,7 +110,7 @@ pub(crate) fn resolution_of_dots(dots: DotsPerInch) -> Resolution {
 }
 
 /// Returns a resolution with rows and columns exchanged.
-pub(crate) fn exchanged(resolution: Resolution) -> Resolution {
+pub fn exchanged(resolution: Resolution) -> Resolution {
     Resolution {
         across: resolution.down,
         down: resolution.across,
