@@ -22,8 +22,10 @@ const LEAST_ROWS: u64 = 8;
 /// A damaged reading is a guess if at most one of so many rows is damaged.
 const ROWS_OF_A_DAMAGED: u64 = 5;
 
-/// What all readings together may take, in bits of the data: whatever its length, and for each of its bits.
+/// What all readings together may take, in bits, whatever the length of the data.
 const LEAST_BITS: u64 = 1 << 28;
+
+/// What they may take more for each bit of the data.
 const BITS_OF_A_BIT: u64 = 64;
 
 /// What a reading takes besides the bits that it reads.
@@ -40,11 +42,7 @@ const BITS_OF_A_READING: u64 = 64;
 /// # Errors
 ///
 /// If an allocation fails.
-pub fn guesses(
-    alloc: Global,
-    data: &[u8],
-    columns: Option<u32>,
-) -> Result<Vec<Guess>, AllocError>
+pub fn guesses(alloc: Global, data: &[u8], columns: Option<u32>) -> Result<Vec<Guess>, AllocError>
     ensures most { IfOk result (λ found. length found.items ≤ 10) }
     ensures read { IfOk result (λ found. All (IsReadSo «data».now) found.items) }
 {

@@ -17,8 +17,7 @@ impl Guess {
         write!(
             text,
             "{} x {}, {encoding}",
-            self.settings.columns,
-            self.rows
+            self.settings.columns, self.rows
         )?;
         if self.settings.rows_are_byte_aligned {
             text.push_str(", rows end at whole bytes")?;
@@ -58,18 +57,16 @@ impl Guess {
         write!(
             text,
             "-m {mode} -w {} -r {}",
-            self.settings.columns,
-            self.rows
+            self.settings.columns, self.rows
         )?;
-        text.push_str(match (
-            self.settings.rows_are_byte_aligned,
-            self.is_low_first(),
-        ) {
-            (false, false) => "",
-            (false, true) => " -F br",
-            (true, false) => " -F ba",
-            (true, true) => " -F bar",
-        })
+        text.push_str(
+            match (self.settings.rows_are_byte_aligned, self.is_low_first()) {
+                (false, false) => "",
+                (false, true) => " -F br",
+                (true, false) => " -F ba",
+                (true, true) => " -F bar",
+            },
+        )
     }
 
     /// Puts the guess as members of an object of JSON: its size, whether all data is read strictly, how many rows are damaged, whether its

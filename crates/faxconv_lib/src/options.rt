@@ -209,11 +209,10 @@ impl RawOptions {
         ensures settings { result.settings ≡ settings }
         ensures order { result.order ≡ order }
     {
-        RawOptions {
-            settings,
-            order,
-            ..RawOptions::new()
-        }
+        let mut raw = RawOptions::new();
+        raw.settings = settings;
+        raw.order = order;
+        raw
     }
 
     /// Returns the height of the picture, if it is known.
