@@ -1,5 +1,5 @@
 -- How many rows decoding leaves is the number of those of the reading.
-use Rattle.std.proofs.Common.{◌≡◌, List, ℕ, length, Ok, Err}
+use Rattle.std.proofs.Common.{◌≡◌, ◌∙◌, List, ℕ, length, Ok, Err}
 use Rattle.std.specs.Prelude.{Result}
 use Rattle.hayro_ccitt.specs.DecodeError.{DecodeError}
 use Rattle.hayro_ccitt.specs.DecodeSettings.{DecodeSettings}
@@ -11,8 +11,8 @@ use Rattle.hayro_ccitt.specs.Decoding.{SinkState}
 use Rattle.hayro_ccitt.specs.PlainReading.{plain}
 
 -- the rows that were taken, of an answer
-pub taken_rows : {M : Type 0} (settings : DecodeSettings) (bits : Bits) (step : M → List ℕ → M) (before after : SinkState M)
+pub rows_taken : {M : Type 0} (settings : DecodeSettings) (bits : Bits) (step : M → List ℕ → M) (before after : SinkState M)
     (held : Held) (ticks : ℕ) (answer : Result ℕ DecodeError) → Decodes settings bits step before after held ticks answer
-    → OnAnswer answer (held.taken ≡ length (plain settings bits).rows)
-taken_rows settings bits step before after held ticks (Ok n) left = left.reading.all
-taken_rows settings bits step before after held ticks (Err error) left = λ fault. left.reading.all fault
+    → (rows : ℕ) → rows ≡ held.taken → OnAnswer answer (rows ≡ length (plain settings bits).rows)
+rows_taken settings bits step before after held ticks (Ok n) left rows taken = taken ∙ left.reading.all
+rows_taken settings bits step before after held ticks (Err error) left rows taken = λ fault. taken ∙ left.reading.all fault

@@ -1,6 +1,7 @@
 //! A reading of data in one way.
 
-ghost use Rattle.std.specs.Prelude.{◌≡◌, length, IfOk};
+ghost use Rattle.std.specs.Prelude.{◌≡◌, length, IfErr, IfOk};
+ghost use Rattle.hayro_ccitt.specs.Answers.{IsFault, OnAnswer};
 ghost use Rattle.hayro_ccitt.specs.Bits.{BitsFit, bits_in};
 ghost use Rattle.hayro_ccitt.specs.PlainReading.{plain};
 
@@ -14,12 +15,24 @@ use std::alloc::{AllocError, Global};
 pub(crate) struct Outcome {
     /// How many rows it has.
     pub(crate) rows: u64,
-    /// How many bits were read, up to a whole byte where the reading ended without a fault.
-    pub(crate) bits: usize,
+    /// How many bytes were read, or why the reading ended.
+    pub(crate) end: hayro_ccitt::Result<usize>,
+    /// Where the line begins that can't be read, or where an EOL is missing, in bits; 0 if there is none.
+    pub(crate) fault_start: usize,
     /// How many rows are damaged.
     pub(crate) damaged: u64,
     /// How many pixels are black.
     pub(crate) black: u64,
+}
+
+impl Outcome {
+    /// Returns how many bits were read, up to a whole byte where the reading ended without a fault.
+    pub(crate) fn bits(&self) -> usize {
+        match self.end {
+            Ok(bytes) => bytes.saturating_mul(8),
+            Err(_) => self.fault_start,
+        }
+    }
 }
 
 /// Reads data by settings.
@@ -36,25 +49,55 @@ pub(crate) fn read(
     requires fit { BitsFit «data».now }
     ensures rows { IfOk result (λ outcome. outcome.rows ≡ length (plain settings (bits_in order «data».now)).rows) }
 {
+    with_all_rows(outcome_of(alloc, data, order, settings))
+}
+
+/// Returns what a reading comes to, if no allocation failed.
+fn with_all_rows(outcome: Outcome) -> Result<Outcome, AllocError>
+    ensures same { IfOk result (λ kept. kept ≡ outcome) }
+    ensures fault { IfOk result (λ kept. IfErr kept.end IsFault) }
+{
+    match outcome.end {
+        Err(DecodeError::OutOfMemory | DecodeError::Refused) => Err(AllocError),
+        _ => Ok(outcome),
+    }
+}
+
+/// Returns what a reading of data by settings comes to.
+fn outcome_of(alloc: Global, data: &[u8], order: BitOrder, settings: DecodeSettings) -> Outcome
+    requires fit { BitsFit «data».now }
+    ensures rows { OnAnswer result.end (result.rows ≡ length (plain settings (bits_in order «data».now)).rows) }
+{
     let mut sink = PixelCount {
         columns: settings.columns,
         black: 0,
     };
-    let Ok(mut ctx) = DecoderContext::new(alloc, settings) else {
-        return Err(AllocError);
+    let mut ctx = match DecoderContext::new(alloc, settings) {
+        Ok(ctx) => ctx,
+        Err(error) => return without_rows(Err(error)),
     };
-    let bits = match decode_in(order, data, &mut sink, &mut ctx) {
-        Ok(bytes) => bytes.saturating_mul(8),
-        Err(DecodeError::OutOfMemory | DecodeError::Refused) => return Err(AllocError),
-        Err(_) => ctx.fault_start().unwrap_or(0),
-    };
+    let end = decode_in(order, data, &mut sink, &mut ctx);
     let damaged = ctx.damaged_rows().saturating_add(ctx.cut_rows());
-    Ok(Outcome {
+    Outcome {
         rows: ctx.decoded_rows(),
-        bits,
+        fault_start: ctx.fault_start().unwrap_or(0),
         damaged: damaged.saturating_add(ctx.missed_eols()),
         black: sink.black,
-    })
+        end,
+    }
+}
+
+/// Returns a reading without rows that ended so.
+fn without_rows(end: hayro_ccitt::Result<usize>) -> Outcome
+    ensures { result.end ≡ end }
+{
+    Outcome {
+        rows: 0,
+        end,
+        fault_start: 0,
+        damaged: 0,
+        black: 0,
+    }
 }
 
 /// Returns whether data has only zeros from an offset in bits on.

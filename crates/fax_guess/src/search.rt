@@ -79,7 +79,7 @@ fn forms_of(alloc: Global, data: &[u8]) -> Result<Vec<Form>, AllocError> {
     Ok(forms)
 }
 
-/// A search among the readings of data.
+/// A search among the readings of bytes.
 #[derive(Drop)]
 pub(crate) struct Search {
     alloc: Global,
@@ -93,10 +93,10 @@ pub(crate) struct Search {
 
 impl Search {
     /// Begins a search in which nothing was tried.
-    fn new(alloc: Global, data: &[u8]) -> Search
-        ensures { IsSearchOf «data».now result }
+    fn new(alloc: Global, bytes: &[u8]) -> Search
+        ensures { IsSearchOf bytes.now result }
     {
-        let bits = (data.len() as u64).saturating_mul(8);
+        let bits = (bytes.len() as u64).saturating_mul(8);
         Search {
             alloc,
             left: LEAST_BITS.saturating_add(BITS_OF_A_BIT.saturating_mul(bits)),
@@ -106,37 +106,57 @@ impl Search {
     }
 
     /// Tries each usual width, and others if no reading takes all data.
-    fn try_widths(&mut self, data: &[u8], forms: &[Form]) -> Result<(), AllocError>
-        requires fit { BitsFit «data».now }
-        requires found { IsSearchOf «data».now self.old }
-        ensures found { IsSearchOf «data».now self.new }
+    fn try_widths(&mut self, bytes: &[u8], forms: &[Form]) -> Result<(), AllocError>
+        requires fit { BitsFit bytes.now }
+        requires found { IsSearchOf bytes.now self.old }
+        ensures found { IsSearchOf bytes.now self.new }
     {
-        for form in forms {
-            for columns in USUAL.iter() {
-                self.try_form(data, *form, *columns, 1)?;
-            }
+        'usual: for form in forms {
+            self.try_usual(bytes, *form)?;
         }
         if !self.best.is_empty() {
             return Ok(());
         }
-        for form in forms {
-            for columns in 1..MOST_COLUMNS + 1 {
-                if !is_usual(columns) {
-                    self.try_form(data, *form, columns, LEAST_ROWS)?;
-                }
+        'others: for form in forms {
+            self.try_others(bytes, *form)?;
+        }
+        Ok(())
+    }
+
+    /// Tries each usual width in a form.
+    fn try_usual(&mut self, bytes: &[u8], form: Form) -> Result<(), AllocError>
+        requires fit { BitsFit bytes.now }
+        requires found { IsSearchOf bytes.now self.old }
+        ensures found { IsSearchOf bytes.now self.new }
+    {
+        'widths: for columns in USUAL.iter() {
+            self.try_form(bytes, form, *columns, 1)?;
+        }
+        Ok(())
+    }
+
+    /// Tries the widths that aren't usual in a form.
+    fn try_others(&mut self, bytes: &[u8], form: Form) -> Result<(), AllocError>
+        requires fit { BitsFit bytes.now }
+        requires found { IsSearchOf bytes.now self.old }
+        ensures found { IsSearchOf bytes.now self.new }
+    {
+        'widths: for columns in 1..MOST_COLUMNS + 1 {
+            if !is_usual(columns) {
+                self.try_form(bytes, form, columns, LEAST_ROWS)?;
             }
         }
         Ok(())
     }
 
     /// Tries a width that is known.
-    fn try_width(&mut self, data: &[u8], forms: &[Form], columns: u32) -> Result<(), AllocError>
-        requires fit { BitsFit «data».now }
-        requires found { IsSearchOf «data».now self.old }
-        ensures found { IsSearchOf «data».now self.new }
+    fn try_width(&mut self, bytes: &[u8], forms: &[Form], columns: u32) -> Result<(), AllocError>
+        requires fit { BitsFit bytes.now }
+        requires found { IsSearchOf bytes.now self.old }
+        ensures found { IsSearchOf bytes.now self.new }
     {
-        for form in forms {
-            self.try_form(data, *form, columns, 1)?;
+        'forms: for form in forms {
+            self.try_form(bytes, *form, columns, 1)?;
         }
         Ok(())
     }
@@ -144,25 +164,25 @@ impl Search {
     /// Reads data strictly in a form. That is a guess if it takes all data, and has so many rows.
     fn try_form(
         &mut self,
-        data: &[u8],
+        bytes: &[u8],
         form: Form,
         columns: u32,
         least: u64,
     ) -> Result<(), AllocError>
-        requires fit { BitsFit «data».now }
+        requires fit { BitsFit bytes.now }
         requires some { 0 < least }
-        requires found { IsSearchOf «data».now self.old }
-        ensures found { IsSearchOf «data».now self.new }
+        requires found { IsSearchOf bytes.now self.old }
+        ensures found { IsSearchOf bytes.now self.new }
     {
         if self.left == 0 {
             return Ok(());
         }
         let settings = form.settings(columns, true);
-        let outcome = read(self.alloc, data, form.order, settings)?;
-        self.pay(outcome.bits);
-        if only_zeros(data, outcome.bits, form.order) {
+        let outcome = read(self.alloc, bytes, form.order, settings)?;
+        self.pay(outcome.bits());
+        if only_zeros(bytes, outcome.bits(), form.order) {
             if outcome.rows >= least {
-                self.place(data, guess_of(settings, form.order, &outcome))?;
+                self.place(bytes, guess_of(settings, form.order, &outcome))?;
             }
         } else if outcome.rows >= LEAST_ROWS {
             self.partial.push((form, columns))?;
@@ -180,46 +200,46 @@ impl Search {
 
     /// Reads data leniently in the forms whose strict readings failed. That is a guess if it takes half of the data, and has few damaged
     /// rows.
-    fn repair(&mut self, data: &[u8]) -> Result<(), AllocError>
-        requires fit { BitsFit «data».now }
-        requires found { IsSearchOf «data».now self.old }
-        ensures found { IsSearchOf «data».now self.new }
+    fn repair(&mut self, bytes: &[u8]) -> Result<(), AllocError>
+        requires fit { BitsFit bytes.now }
+        requires found { IsSearchOf bytes.now self.old }
+        ensures found { IsSearchOf bytes.now self.new }
     {
         let none = Vec::new(self.alloc);
         let partial = mem::replace(&mut self.partial, none);
-        for (form, columns) in partial.iter() {
-            self.repair_form(data, *form, *columns)?;
+        'forms: for (form, columns) in partial.iter() {
+            self.repair_form(bytes, *form, *columns)?;
         }
         Ok(())
     }
 
     /// Reads data leniently in a form.
-    fn repair_form(&mut self, data: &[u8], form: Form, columns: u32) -> Result<(), AllocError>
-        requires fit { BitsFit «data».now }
-        requires found { IsSearchOf «data».now self.old }
-        ensures found { IsSearchOf «data».now self.new }
+    fn repair_form(&mut self, bytes: &[u8], form: Form, columns: u32) -> Result<(), AllocError>
+        requires fit { BitsFit bytes.now }
+        requires found { IsSearchOf bytes.now self.old }
+        ensures found { IsSearchOf bytes.now self.new }
     {
         if self.left == 0 {
             return Ok(());
         }
         let settings = form.settings(columns, false);
-        let outcome = read(self.alloc, data, form.order, settings)?;
-        self.pay(outcome.bits);
+        let outcome = read(self.alloc, bytes, form.order, settings)?;
+        self.pay(outcome.bits());
         let is_sound = outcome.damaged <= outcome.rows / ROWS_OF_A_DAMAGED;
-        let is_most = outcome.bits / 8 >= data.len().div_ceil(2);
+        let is_most = outcome.bits() / 8 >= bytes.len().div_ceil(2);
         if outcome.rows > 0 && is_sound && is_most {
-            self.place(data, guess_of(settings, form.order, &outcome))?;
+            self.place(bytes, guess_of(settings, form.order, &outcome))?;
         }
         Ok(())
     }
 
     /// Places a guess among the best, behind those that are as good.
-    fn place(&mut self, data: &[u8], guess: Guess) -> Result<(), AllocError>
-        requires read { IsReadSo «data».now guess }
-        requires found { IsSearchOf «data».now self.old }
-        ensures found { IsSearchOf «data».now self.new }
+    fn place(&mut self, bytes: &[u8], guess: Guess) -> Result<(), AllocError>
+        requires read { IsReadSo bytes.now guess }
+        requires found { IsSearchOf bytes.now self.old }
+        ensures found { IsSearchOf bytes.now self.new }
     {
-        self.best = with_guess(self.alloc, data, self.best.as_slice(), guess)?;
+        self.best = with_guess(self.alloc, bytes, self.best.as_slice(), guess)?;
         Ok(())
     }
 }
@@ -227,14 +247,14 @@ impl Search {
 /// Returns guesses with another one behind those that are as good: the first ten of them.
 fn with_guess(
     alloc: Global,
-    data: &[u8],
+    bytes: &[u8],
     best: &[Guess],
     guess: Guess,
 ) -> Result<Vec<Guess>, AllocError>
-    requires read { IsReadSo «data».now guess }
-    requires found { All (IsReadSo «data».now) best.now }
+    requires read { IsReadSo bytes.now guess }
+    requires found { All (IsReadSo bytes.now) best.now }
     ensures most { IfOk result (λ made. length made.items ≤ 10) }
-    ensures read { IfOk result (λ made. All (IsReadSo «data».now) made.items) }
+    ensures read { IfOk result (λ made. All (IsReadSo bytes.now) made.items) }
 {
     let mut made = Vec::new(alloc);
     let mut is_placed = false;
@@ -242,25 +262,25 @@ fn with_guess(
     while index < best.len() {
         let other = best[index];
         if !is_placed && guess.is_before(&other) {
-            put_guess(&mut made, data, guess)?;
+            put_guess(&mut made, bytes, guess)?;
             is_placed = true;
         }
-        put_guess(&mut made, data, other)?;
+        put_guess(&mut made, bytes, other)?;
         index += 1;
     }
     if !is_placed {
-        put_guess(&mut made, data, guess)?;
+        put_guess(&mut made, bytes, guess)?;
     }
     Ok(made)
 }
 
 /// Adds a guess, if there are fewer than ten.
-fn put_guess(made: &mut Vec<Guess>, _data: &[u8], guess: Guess) -> Result<(), AllocError>
-    requires read { IsReadSo _data.now guess }
+fn put_guess(made: &mut Vec<Guess>, _bytes: &[u8], guess: Guess) -> Result<(), AllocError>
+    requires read { IsReadSo _bytes.now guess }
     requires most { length made.old.items ≤ 10 }
-    requires found { All (IsReadSo _data.now) made.old.items }
+    requires found { All (IsReadSo _bytes.now) made.old.items }
     ensures most { length made.new.items ≤ 10 }
-    ensures found { All (IsReadSo _data.now) made.new.items }
+    ensures found { All (IsReadSo _bytes.now) made.new.items }
 {
     if made.len() < MOST_GUESSES {
         made.push(guess)?;

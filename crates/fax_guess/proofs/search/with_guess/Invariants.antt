@@ -5,7 +5,7 @@ use Rattle.fax_guess.proofs.search.with_guess.Given as goal
 abbrev pub invariant-loop-index : goal.invariant-loop-index
 invariant-loop-index l = record {
   most : length l.made.items ≤ 10;
-  read : All (IsReadSo l.fn.«data») l.made.items;
+  read : All (IsReadSo l.bytes) l.made.items;
 }
 
 abbrev pub decreases-loop-index : goal.decreases-loop-index
