@@ -8,6 +8,7 @@ mod pdf;
 mod piped;
 mod raw;
 mod run;
+mod shown;
 mod source;
 mod texts;
 mod tiff;

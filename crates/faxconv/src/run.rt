@@ -548,7 +548,11 @@ impl<'a, 'b, 'c> Run<'a, 'b, 'c> {
                 return Ok(status.worse(added));
             }
         }
-        self.write_if_wanted(status, picture, output)
+        if !self.is_converting(status) {
+            return Ok(status);
+        }
+        let written = self.write_page(&whole, picture, output)?;
+        Ok(status.worse(written))
     }
 
     /// Tells what is wrong with raw data.

@@ -305,6 +305,15 @@ impl<'a> Reading<'a> {
     fn put_value(&mut self, known: Known, value: &'a str) -> Option<()> {
         match known {
             Known::Output if value.is_empty() => return None,
+            Known::ShowDamage => {
+                if !matches!(format_of_name(value), Some(Format::Png)) {
+                    return None;
+                }
+                self.options.output = Some(value);
+                self.options.format = Format::Png;
+                self.options.is_damage_shown = true;
+                self.has_format = true;
+            }
             Known::Output => self.options.output = Some(value),
             Known::Format => {
                 self.options.format = format_of(value)?;

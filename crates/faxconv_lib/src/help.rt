@@ -23,6 +23,7 @@ from their contents.
       --info              write no pictures, but a line for each page: its size, resolution and encoding; nothing is decoded
       --guess             write no pictures, but a line for each way to read raw data of which nobody knows the encoding, the
                           likeliest first: what speaks for it, and the options that read it so; with -w by this width alone
+      --show-damage NAME.png  write pictures in which damaged rows are in colour, above a legend
       --json              lines of --check, --info and --guess as JSON
   -q, --quiet             don't report damage and what is left out; the exit status says it
       --help, --version

@@ -23,6 +23,8 @@ pub enum Known {
     Info,
     /// `--guess`
     Guess,
+    /// `--show-damage NAME`
+    ShowDamage,
     /// `--json`
     Json,
     /// `--overwrite`
@@ -105,6 +107,7 @@ impl Known {
             "standard" => Known::Standard,
             "info" => Known::Info,
             "guess" => Known::Guess,
+            "show-damage" => Known::ShowDamage,
             "json" => Known::Json,
             "overwrite" => Known::Overwrite,
             "no-overwrite" => Known::NoOverwrite,

@@ -144,6 +144,8 @@ pub struct Options<'a> {
     pub is_standard: bool,
     /// Whether lines of `--info`, `--check` and `--guess` are JSON.
     pub is_json: bool,
+    /// Whether damaged rows are shown in colour, above a legend.
+    pub is_damage_shown: bool,
     /// Whether files that exist are overwritten.
     pub may_overwrite: bool,
     /// Whether damage and what is left out isn't reported.
@@ -173,6 +175,7 @@ impl<'a> Options<'a> {
             is_copy: false,
             is_standard: false,
             is_json: false,
+            is_damage_shown: false,
             may_overwrite: false,
             is_quiet: false,
             resolution: None,

@@ -5,4 +5,4 @@ mod document;
 mod picture;
 
 pub use document::Document;
-pub use picture::{Unwritten, exchanged, put_pbm_head, put_picture, resolution_of_dots};
+pub use picture::{Drawing, Unwritten, exchanged, put_pbm_head, put_picture, resolution_of_dots};
