@@ -44,12 +44,7 @@ impl Legend {
     ) -> Result<(), AllocError> {
         let top = line.saturating_mul(LINE);
         self.paint(canvas, (2, top.saturating_add(2)), (12, 12), BLACK);
-        self.paint(
-            canvas,
-            (3, top.saturating_add(3)),
-            (10, 10),
-            color_of(mark),
-        );
+        self.paint(canvas, (3, top.saturating_add(3)), (10, 10), color_of(mark));
         let text = format!(in alloc; "{count} rows {}", text_of(mark))?;
         self.write(canvas, text.as_str(), top.saturating_add(4));
         Ok(())

@@ -131,11 +131,7 @@ impl Marks {
         for _ in 0..u64::MAX {
             let is_row = read_row(&mut rows)?;
             let read = rows.rows_read();
-            let before = if is_row {
-                read.saturating_sub(1)
-            } else {
-                read
-            };
+            let before = if is_row { read.saturating_sub(1) } else { read };
             if rows.missed_eols() > missed && is_sound {
                 self.add(part, before.saturating_sub(1), 1, Mark::MissedEol)?;
             }
