@@ -11,7 +11,7 @@ _faxconv()
         -p|--pages|--resolution|--rows-per-strip|-w|--width|-r|--rows|-H|--height|-F|--flags) ;;
         *)
             if [[ $word == -* ]]; then
-                COMPREPLY=($(compgen -W '--output --format --pages --encode --copy --overwrite --no-overwrite --resolution --rotate --rows-per-strip --check --standard --info --json --quiet --mode --width --rows --height --flags --help --version' -- "$word"))
+                COMPREPLY=($(compgen -W '--output --format --pages --encode --copy --overwrite --no-overwrite --resolution --rotate --rows-per-strip --check --standard --info --guess --show-damage --json --quiet --mode --width --rows --height --flags --help --version' -- "$word"))
             else
                 compopt -o filenames
                 mapfile -t COMPREPLY < <(compgen -f -- "$word")

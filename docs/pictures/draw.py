@@ -56,7 +56,7 @@ def layers():
 
     below = found["hayro_ccitt"][1]
     shown = [it for it, (_, uses) in found.items() if it in (*below, "hayro_ccitt") or "hayro_ccitt" in uses and not it.startswith("test_")]
-    rows = [[it for it in shown if height(it) == level] for level in range(max(map(height, shown)) + 1)]
+    rows = [[it for it in shown if height(it) == level] for level in sorted(set(map(height, shown)))]
     parts, wide, tall = [], 900, 44
     for level, names in enumerate(rows):
         y = 16 + (len(rows) - 1 - level) * (tall + 8)

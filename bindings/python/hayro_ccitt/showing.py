@@ -32,8 +32,41 @@ MARKS = {
 }
 # The method of Pillow's `transpose` for each of TIFF's orientations that turns or mirrors.
 TURNS = {2: 0, 3: 3, 4: 1, 5: 5, 6: 4, 7: 6, 8: 2}
-# The legend is as large as its font for so many columns.
+# The legend is as large as its letters for so many columns.
 LEGEND_COLUMNS = 600
+# The rows of each letter, from the top, two digits each: five pixels, the leftmost in the highest bit.
+LETTERS = {
+    "0": "0e11131519110e0000",
+    "1": "040c040404040e0000",
+    "2": "0e11010204081f0000",
+    "3": "0e11010601110e0000",
+    "4": "02060a121f02020000",
+    "5": "1f101e0101110e0000",
+    "6": "0e10101e11110e0000",
+    "7": "1f0102040404040000",
+    "8": "0e11110e11110e0000",
+    "9": "0e11110f01010e0000",
+    "E": "1f10101e10101f0000",
+    "L": "1010101010101f0000",
+    "O": "0e11111111110e0000",
+    "a": "00000e010f110f0000",
+    "c": "00000e1010100e0000",
+    "d": "01010f1111110f0000",
+    "e": "00000e111f100e0000",
+    "f": "06081c080808080000",
+    "g": "00000f1111110f010e",
+    "h": "10101e111111110000",
+    "i": "04000c0404040e0000",
+    "m": "00001a151515150000",
+    "n": "00001e111111110000",
+    "o": "00000e1111110e0000",
+    "p": "00001e1111111e1010",
+    "r": "000016181010100000",
+    "s": "00000f100e011e0000",
+    "t": "08081c080808060000",
+    "u": "0000111111110f0000",
+    "w": "0000111115150a0000",
+}
 
 
 def damage_mask(page: Page) -> Any:
@@ -74,12 +107,19 @@ def damage_shown(page: Page) -> Any:
     for line, mark in enumerate(found):
         text, color = MARKS[mark]
         draws.Draw(legend).rectangle((2, 16 * line + 2, 13, 16 * line + 13), color, "black")
-        draws.Draw(legend).text((20, 16 * line + 2), f"{marks.count(mark)} rows {text}", "black")
+        for place, letter in enumerate(f"{marks.count(mark)} rows {text}"):
+            draws.Draw(legend).point(pixels_of(letter, 20 + 6 * place, 16 * line + 4), "black")
     legend = legend.resize((legend.width * size, legend.height * size), 0)
     whole = images.new("RGB", (max(shown.width, legend.width), shown.height + legend.height), "white")
     whole.paste(shown, (0, 0))
     whole.paste(legend, (0, shown.height))
     return whole
+
+
+def pixels_of(letter: str, left: int, top: int) -> list[tuple[int, int]]:
+    """The black pixels of a letter, from a column and a row on."""
+    rows = bytes.fromhex(LETTERS.get(letter, ""))
+    return [(left + column, top + row) for row, bits in enumerate(rows) for column in range(5) if bits >> (4 - column) & 1]
 
 
 def marks_of(part: Part) -> list[Mark]:

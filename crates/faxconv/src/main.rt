@@ -1,14 +1,14 @@
 //! `faxconv`: reads fax pages of TIFF and PDF files and raw fax data, and writes them as pictures or documents: see `faxconv --help`.
 #![tactic(auto)]
 
-mod document;
+mod guess;
 mod output;
 mod pbm;
 mod pdf;
-mod picture;
 mod piped;
 mod raw;
 mod run;
+mod shown;
 mod source;
 mod texts;
 mod tiff;

@@ -1,7 +1,5 @@
 //! What is written: pictures to their files or to standard output, and the pages of all files to one document.
 
-use crate::document::Document;
-use crate::picture::{Unwritten, exchanged, put_picture, resolution_of_dots};
 use crate::run::Run;
 use crate::texts::too_large;
 use crate::written::Written;
@@ -15,6 +13,7 @@ use faxconv_lib::folder::files_in;
 use faxconv_lib::names::name_of_picture;
 use faxconv_lib::options::{Encoding, Rotation};
 use faxconv_lib::{Action, Format, NewFile, Status};
+use faxconv_out::{Document, Drawing, Unwritten, exchanged, put_picture, resolution_of_dots};
 use std::alloc::AllocError;
 use std::io::ErrorKind;
 use std::{fs, io, mem};
@@ -61,13 +60,14 @@ impl<'a, 'b, 'c> Run<'a, 'b, 'c> {
         output: Output,
     ) -> Result<Status, AllocError> {
         match shown_picture(self.rt.alloc(), page, picture) {
+            Ok(shown) if self.options.is_damage_shown => self.write_shown(page, shown, output),
             Ok(shown) => self.write_turned(shown, output, &page.texts),
             Err(error) => self.cannot_turn(error, page.columns, page.rows),
         }
     }
 
     /// Tells why a picture isn't turned.
-    fn cannot_turn(
+    pub(crate) fn cannot_turn(
         &mut self,
         error: PictureError,
         columns: u32,
@@ -90,14 +90,10 @@ impl<'a, 'b, 'c> Run<'a, 'b, 'c> {
         output: Output,
         texts: &Texts<'_>,
     ) -> Result<Status, AllocError> {
-        let orientation = match self.options.rotation {
-            Rotation::None => {
-                return self.write(&picture, self.with_resolution(output, false), texts);
-            }
-            Rotation::Quarter => 6,
-            Rotation::Half => 3,
-            Rotation::ThreeQuarters => 8,
-        };
+        let orientation = self.orientation();
+        if orientation == 1 {
+            return self.write(&picture, self.with_resolution(output, false), texts);
+        }
         match picture.turned(self.rt.alloc(), orientation) {
             Ok(turned) => {
                 let output = self.with_resolution(output, orientation != 3);
@@ -107,9 +103,19 @@ impl<'a, 'b, 'c> Run<'a, 'b, 'c> {
         }
     }
 
+    /// Returns the orientation that turns a picture as the options say.
+    pub(crate) fn orientation(&self) -> u8 {
+        match self.options.rotation {
+            Rotation::None => 1,
+            Rotation::Quarter => 6,
+            Rotation::Half => 3,
+            Rotation::ThreeQuarters => 8,
+        }
+    }
+
     /// Returns a picture with the resolution of the options, if they have one; else its own, with rows and columns exchanged if it was
     /// turned so.
-    fn with_resolution(&self, output: Output, is_across: bool) -> Output {
+    pub(crate) fn with_resolution(&self, output: Output, is_across: bool) -> Output {
         let resolution = match (self.options.resolution, output.resolution) {
             (Some(dots), _) => Some(resolution_of_dots(dots)),
             (None, Some(own)) if is_across => Some(exchanged(own)),
@@ -135,7 +141,7 @@ impl<'a, 'b, 'c> Run<'a, 'b, 'c> {
         let number = self.told(output.number);
         let name = name_of_picture(alloc, self.options, number, output.is_only)?;
         match name {
-            Some(name) => self.write_file(name.as_str(), picture, output),
+            Some(name) => self.write_file(name.as_str(), Drawing::Plain(picture), output),
             None => self.write_to_output(picture, output),
         }
     }
@@ -273,7 +279,7 @@ impl<'a, 'b, 'c> Run<'a, 'b, 'c> {
         match put_picture(
             self.rt.alloc(),
             &mut out,
-            picture,
+            Drawing::Plain(picture),
             format,
             output.resolution,
         ) {
@@ -283,10 +289,10 @@ impl<'a, 'b, 'c> Run<'a, 'b, 'c> {
     }
 
     /// Writes a picture to a file, which gets its name once it is whole.
-    fn write_file(
+    pub(crate) fn write_file(
         &mut self,
         name: &str,
-        picture: &Bitmap,
+        drawing: Drawing<'_>,
         output: Output,
     ) -> Result<Status, AllocError> {
         let mut file = match NewFile::create(self.rt, name, self.options.may_overwrite) {
@@ -297,7 +303,7 @@ impl<'a, 'b, 'c> Run<'a, 'b, 'c> {
         if let Err(why) = put_picture(
             self.rt.alloc(),
             &mut file,
-            picture,
+            drawing,
             format,
             output.resolution,
         ) {

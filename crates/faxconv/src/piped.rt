@@ -1,7 +1,6 @@
 //! Raw data whose rows are written as it comes.
 
 use crate::output::{Output, STANDARD_OUTPUT};
-use crate::picture::{Unwritten, put_pbm_head};
 use crate::raw::{MOST_BYTES, RawPage, page_of, piece_of, written_page};
 use crate::run::Run;
 use fax_program::Uninterrupted;
@@ -10,6 +9,7 @@ use faxconv_lib::names::name_of_picture;
 use faxconv_lib::options::RawOptions;
 use faxconv_lib::raw_reading::RawReading;
 use faxconv_lib::{NewFile, Status};
+use faxconv_out::{Unwritten, put_pbm_head};
 use std::alloc::{AllocError, Global};
 use std::io;
 use std::io::{Read, Write};

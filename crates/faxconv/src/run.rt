@@ -165,6 +165,10 @@ impl<'a, 'b, 'c> Run<'a, 'b, 'c> {
 
     /// Reads the bytes of a file.
     fn do_bytes(&mut self, name: &str, file: &[u8]) -> Result<Status, AllocError> {
+        if matches!(self.options.action, Action::Guess) {
+            self.teller.show_progress(name, 1);
+            return self.do_guess(name, behind_digifax(file));
+        }
         match kind_of(file, self.options.raw.is_wanted) {
             Some(Kind::Tiff) => self.do_tiff(name, file),
             Some(Kind::Raw) => self.do_raw(name, behind_digifax(file)),
@@ -444,7 +448,7 @@ impl<'a, 'b, 'c> Run<'a, 'b, 'c> {
     }
 
     /// Prints what is known of a page.
-    fn print_contents(
+    pub(crate) fn print_contents(
         &mut self,
         name: &str,
         place: Place,
@@ -544,7 +548,11 @@ impl<'a, 'b, 'c> Run<'a, 'b, 'c> {
                 return Ok(status.worse(added));
             }
         }
-        self.write_if_wanted(status, picture, output)
+        if !self.is_converting(status) {
+            return Ok(status);
+        }
+        let written = self.write_page(&whole, picture, output)?;
+        Ok(status.worse(written))
     }
 
     /// Tells what is wrong with raw data.
@@ -651,7 +659,7 @@ fn note_in(note: &Option<(String, Status)>) -> Option<Note<'_>> {
 }
 
 /// Returns a text, if there is one.
-fn text_in(text: &Option<String>) -> Option<&str> {
+pub(crate) fn text_in(text: &Option<String>) -> Option<&str> {
     match text {
         None => None,
         Some(text) => Some(text.as_str()),

@@ -1,6 +1,6 @@
 //! What a run has written.
 
-use crate::document::Document;
+use faxconv_out::Document;
 
 /// What a run has written.
 #[derive(Drop)]

@@ -292,6 +292,7 @@ impl<'a> Reading<'a> {
             Known::Check => self.options.action = Action::Check,
             Known::Standard => self.options.is_standard = true,
             Known::Info => self.options.action = Action::Info,
+            Known::Guess => self.options.action = Action::Guess,
             Known::Json => self.options.is_json = true,
             Known::Overwrite => self.options.may_overwrite = true,
             Known::NoOverwrite => self.options.may_overwrite = false,
@@ -304,6 +305,15 @@ impl<'a> Reading<'a> {
     fn put_value(&mut self, known: Known, value: &'a str) -> Option<()> {
         match known {
             Known::Output if value.is_empty() => return None,
+            Known::ShowDamage => {
+                if !matches!(format_of_name(value), Some(Format::Png)) {
+                    return None;
+                }
+                self.options.output = Some(value);
+                self.options.format = Format::Png;
+                self.options.is_damage_shown = true;
+                self.has_format = true;
+            }
             Known::Output => self.options.output = Some(value),
             Known::Format => {
                 self.options.format = format_of(value)?;
@@ -325,7 +335,10 @@ impl<'a> Reading<'a> {
                 raw.settings.encoding = mode_of(value)?;
                 raw.is_wanted = true;
             }
-            Known::Width => raw.settings.columns = above_zero(value)?,
+            Known::Width => {
+                raw.settings.columns = above_zero(value)?;
+                raw.has_width = true;
+            }
             Known::Rows => {
                 raw.settings.rows = number_of(value)?;
                 self.has_limit = true;

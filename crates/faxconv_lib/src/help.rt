@@ -21,7 +21,10 @@ from their contents.
       --check             write no pictures, but a line for each page that says whether it can be read strictly
       --standard          with --check: also where data breaks a rule by which every decoder must read it as the same picture
       --info              write no pictures, but a line for each page: its size, resolution and encoding; nothing is decoded
-      --json              lines of --check and --info as JSON
+      --guess             write no pictures, but a line for each way to read raw data of which nobody knows the encoding, the
+                          likeliest first: what speaks for it, and the options that read it so; with -w by this width alone
+      --show-damage NAME.png  write pictures in which damaged rows are in colour, above a legend
+      --json              lines of --check, --info and --guess as JSON
   -q, --quiet             don't report damage and what is left out; the exit status says it
       --help, --version
 
@@ -36,6 +39,7 @@ Raw data is described by these options alone:
 
 The exit status is 0 if every page is whole, 3 if a page has all its rows but is damaged, 1 if rows or pages are missing, and
 2 after a usage error, an error in reading or writing, or if out of memory. Damage is reported on standard error, one line a page.
+With --guess a file whose likeliest reading is damaged gives 3, and one that is not fax data gives 1.
 ";
 
 /// What `fax2pbm --help` prints.

@@ -21,6 +21,10 @@ pub enum Known {
     Standard,
     /// `--info`
     Info,
+    /// `--guess`
+    Guess,
+    /// `--show-damage NAME`
+    ShowDamage,
     /// `--json`
     Json,
     /// `--overwrite`
@@ -59,6 +63,7 @@ impl Known {
             | Known::Check
             | Known::Standard
             | Known::Info
+            | Known::Guess
             | Known::Json
             | Known::Overwrite
             | Known::NoOverwrite
@@ -101,6 +106,8 @@ impl Known {
             "check" => Known::Check,
             "standard" => Known::Standard,
             "info" => Known::Info,
+            "guess" => Known::Guess,
+            "show-damage" => Known::ShowDamage,
             "json" => Known::Json,
             "overwrite" => Known::Overwrite,
             "no-overwrite" => Known::NoOverwrite,

@@ -5,6 +5,7 @@
 pub mod arguments;
 pub mod damage_text;
 pub mod folder;
+pub mod guess_text;
 pub mod help;
 pub mod info;
 pub mod json;

@@ -31,6 +31,8 @@ pub enum Action {
     Check,
     /// A line for each page says its size, its resolution and how it is encoded. It isn't decoded.
     Info,
+    /// A line for each way in which raw fax data may be encoded says what speaks for it.
+    Guess,
 }
 
 /// The format that is written.
@@ -117,6 +119,8 @@ pub struct RawOptions {
     pub order: BitOrder,
     /// Whether the settings' rows are the height of the picture. Else they are the most rows that there can be, and 0 is no limit.
     pub has_height: bool,
+    /// Whether an option has named the width.
+    pub has_width: bool,
 }
 
 /// What is read and written, and how.
@@ -138,8 +142,10 @@ pub struct Options<'a> {
     pub is_copy: bool,
     /// Whether a check also says where data breaks a rule by which every decoder must read it as the same picture.
     pub is_standard: bool,
-    /// Whether lines of `--info` and `--check` are JSON.
+    /// Whether lines of `--info`, `--check` and `--guess` are JSON.
     pub is_json: bool,
+    /// Whether damaged rows are shown in colour, above a legend.
+    pub is_damage_shown: bool,
     /// Whether files that exist are overwritten.
     pub may_overwrite: bool,
     /// Whether damage and what is left out isn't reported.
@@ -169,6 +175,7 @@ impl<'a> Options<'a> {
             is_copy: false,
             is_standard: false,
             is_json: false,
+            is_damage_shown: false,
             may_overwrite: false,
             is_quiet: false,
             resolution: None,
@@ -196,7 +203,19 @@ impl RawOptions {
             },
             order: BitOrder::HighestFirst,
             has_height: false,
+            has_width: false,
         }
+    }
+
+    /// Creates the options of data that is read by these settings.
+    pub fn of_guess(settings: DecodeSettings, order: BitOrder) -> RawOptions
+        ensures settings { result.settings ≡ settings }
+        ensures order { result.order ≡ order }
+    {
+        let mut raw = RawOptions::new();
+        raw.settings = settings;
+        raw.order = order;
+        raw
     }
 
     /// Returns the height of the picture, if it is known.

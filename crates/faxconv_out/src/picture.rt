@@ -2,16 +2,17 @@
 
 use fax_documents::{Resolution, pixels_of_metre};
 use fax_pictures::Bitmap;
+use fax_shown::{COLORS, Canvas};
 use faxconv_lib::Format;
 use faxconv_lib::options::DotsPerInch;
-use png_write::{Density, Pixels, PngError, write_png};
+use png_write::{ColorPixels, Density, Pixels, PngError, write_color_png, write_png};
 use std::alloc::Global;
 use std::io::Write;
 use tiff_read::{Ratio, ResolutionUnit};
 
 /// Why a picture or a page isn't written.
 #[derive(Clone, Copy)]
-pub(crate) enum Unwritten {
+pub enum Unwritten {
     /// An allocation failed.
     OutOfMemory,
     /// It has no size that a file of its format has.
@@ -22,17 +23,27 @@ pub(crate) enum Unwritten {
     Write,
 }
 
-/// Writes a picture as PNG, or as PBM.
-pub(crate) fn put_picture<W: Write>(
+/// A picture that is written.
+#[derive(Clone, Copy)]
+pub enum Drawing<'a> {
+    /// In black and white.
+    Plain(&'a Bitmap),
+    /// With its damage in colour.
+    Colored(&'a Canvas),
+}
+
+/// Writes a picture as PNG, or one in black and white also as PBM.
+pub fn put_picture<W: Write>(
     alloc: Global,
     out: &mut W,
-    picture: &Bitmap,
+    drawing: Drawing<'_>,
     format: Format,
     resolution: Option<Resolution>,
 ) -> Result<(), Unwritten> {
-    let written = match format {
-        Format::Png => put_png(alloc, out, picture, resolution),
-        _ => put_pbm(alloc, out, picture),
+    let written = match (drawing, format) {
+        (Drawing::Plain(picture), Format::Png) => put_png(alloc, out, picture, resolution),
+        (Drawing::Plain(picture), _) => put_pbm(alloc, out, picture),
+        (Drawing::Colored(canvas), _) => put_colors(alloc, out, canvas, resolution),
     };
     written?;
     match out.flush() {
@@ -55,9 +66,35 @@ fn put_png<W: Write>(
     };
     match write_png(alloc, out, &pixels, density_of(resolution)) {
         Ok(()) => Ok(()),
-        Err(PngError::Size) => Err(Unwritten::Size),
-        Err(PngError::OutOfMemory) => Err(Unwritten::OutOfMemory),
-        Err(PngError::Write) => Err(Unwritten::Write),
+        Err(error) => Err(why_no_png(error)),
+    }
+}
+
+/// Writes a picture in colours as PNG.
+fn put_colors<W: Write>(
+    alloc: Global,
+    out: &mut W,
+    canvas: &Canvas,
+    resolution: Option<Resolution>,
+) -> Result<(), Unwritten> {
+    let pixels = ColorPixels {
+        columns: canvas.columns(),
+        rows: canvas.rows(),
+        palette: &COLORS,
+        bytes: canvas.bytes(),
+    };
+    match write_color_png(alloc, out, &pixels, density_of(resolution)) {
+        Ok(()) => Ok(()),
+        Err(error) => Err(why_no_png(error)),
+    }
+}
+
+/// Returns why a picture isn't written as PNG.
+fn why_no_png(error: PngError) -> Unwritten {
+    match error {
+        PngError::Size => Unwritten::Size,
+        PngError::OutOfMemory => Unwritten::OutOfMemory,
+        PngError::Write => Unwritten::Write,
     }
 }
 
@@ -72,7 +109,7 @@ fn put_pbm<W: Write>(alloc: Global, out: &mut W, picture: &Bitmap) -> Result<(),
 }
 
 /// Writes what comes before the rows of a PBM picture.
-pub(crate) fn put_pbm_head<W: Write>(
+pub fn put_pbm_head<W: Write>(
     alloc: Global,
     out: &mut W,
     columns: u32,
@@ -97,7 +134,7 @@ fn density_of(resolution: Option<Resolution>) -> Option<Density> {
 }
 
 /// Returns a resolution in pixels an inch.
-pub(crate) fn resolution_of_dots(dots: DotsPerInch) -> Resolution {
+pub fn resolution_of_dots(dots: DotsPerInch) -> Resolution {
     let ratio = |above: u32| Ratio {
         above: u64::from(above),
         below: 1,
@@ -110,7 +147,7 @@ pub(crate) fn resolution_of_dots(dots: DotsPerInch) -> Resolution {
 }
 
 /// Returns a resolution with rows and columns exchanged.
-pub(crate) fn exchanged(resolution: Resolution) -> Resolution {
+pub fn exchanged(resolution: Resolution) -> Resolution {
     Resolution {
         across: resolution.down,
         down: resolution.across,

@@ -26,7 +26,7 @@ enum Writer {
 
 /// A document that is being written.
 #[derive(Drop)]
-pub(crate) struct Document<'a> {
+pub struct Document<'a> {
     rt: &'a HostRuntime,
     place: Place,
     writer: Writer,
@@ -42,7 +42,7 @@ impl From<AllocError> for Unwritten {
 
 impl<'a> Document<'a> {
     /// Begins a document in a file, or if there is none on standard output; a TIFF file as BigTIFF if `is_big`.
-    pub(crate) fn begin(
+    pub fn begin(
         rt: &'a HostRuntime,
         file: Option<NewFile>,
         target: Target,
@@ -74,7 +74,7 @@ impl<'a> Document<'a> {
     }
 
     /// Adds a page.
-    pub(crate) fn add(&mut self, page: StripPage) -> Result<(), Unwritten> {
+    pub fn add(&mut self, page: StripPage) -> Result<(), Unwritten> {
         let ready = match &self.writer {
             Writer::Tiff(_) => self.waiting.replace(page),
             Writer::Pdf(_) => Some(page),
@@ -98,7 +98,7 @@ impl<'a> Document<'a> {
     }
 
     /// Writes what is left, and gives the file its name.
-    pub(crate) fn finish(mut self) -> Result<io::Result<()>, Unwritten> {
+    pub fn finish(mut self) -> Result<io::Result<()>, Unwritten> {
         let written = match self.waiting.take() {
             Some(page) => self.put(&page, true),
             None => Ok(()),
@@ -132,7 +132,7 @@ impl<'a> Document<'a> {
     }
 
     /// Removes the file, of which not all is written.
-    pub(crate) fn discard(self) {
+    pub fn discard(self) {
         let Document {
             rt,
             place,
