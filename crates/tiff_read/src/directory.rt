@@ -1,6 +1,7 @@
 //! What a directory says of each tag.
 
 ghost use Rattle.std.specs.Prelude.{◌≡◌, ◌<◌, ◌≤◌, length, IfSome};
+ghost use Rattle.tiff_read.specs.Texts.{slot_of, values_of};
 
 /// The values of a tag: of which type, how many, and where in the file. There are none if the file lacks a part of them, or the type is unknown.
 #[derive(Clone, Copy, Debug, PartialEq, Eq)]
@@ -57,14 +58,17 @@ impl Directory {
     }
 
     /// Returns the values of a tag; `None` if the directory has no such entry, or the tag isn't one that is kept: from 254 to 328, and 33432.
-    pub fn find(&self, tag: u16) -> Option<Values> {
+    pub fn find(&self, tag: u16) -> Option<Values>
+        ensures { result ≡ values_of self.now tag }
+    {
         self.tags[slot_of(tag)?]
     }
 }
 
 /// Returns where the values of a tag are kept.
 fn slot_of(tag: u16) -> Option<usize>
-    ensures { IfSome result (λ slot. slot < KEPT_TAGS) }
+    ensures slot { result ≡ slot_of tag }
+    ensures within { IfSome result (λ slot. slot < KEPT_TAGS) }
 {
     match tag {
         FIRST_TAG..=328 => Some(usize::from(tag - FIRST_TAG)),

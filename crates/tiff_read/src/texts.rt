@@ -1,7 +1,8 @@
 //! What a directory says in words.
 
-ghost use Rattle.std.specs.Prelude.{◌≤◌};
-ghost use Rattle.tiff_read.specs.Payments.{IsSameReading};
+ghost use Rattle.std.specs.Prelude.{◌≤◌, IfOk, OnOk};
+ghost use Rattle.tiff_read.specs.Payments.{Costs, IsSameReading};
+ghost use Rattle.tiff_read.specs.Texts.{AreTexts, cost_of_texts};
 
 use crate::directory::Directory;
 use crate::error::TiffError;
@@ -38,12 +39,14 @@ pub const NO_TEXTS: Texts<'static> = Texts {
 };
 
 impl<'a> Tiff<'a> {
-    /// Reads what a directory says in words, for seven steps and one for each byte.
+    /// Reads what a directory says in words, each as [`Tiff::text`] does: for seven steps, and one for each byte of the texts.
     ///
     /// # Errors
     ///
     /// `Spent`.
     pub fn texts(&mut self, directory: &Directory) -> Result<Texts<'a>, TiffError>
+        ensures texts { IfOk result (λ texts. AreTexts self.old.bytes directory.now texts) }
+        ensures paid { OnOk result (Costs (cost_of_texts self.old.bytes directory.now) self.old self.new) }
         ensures least { self.new.left ≤ self.old.left }
         ensures same { IsSameReading self.old self.new }
     {

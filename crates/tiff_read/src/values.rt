@@ -1,7 +1,8 @@
 //! The values of a tag: whole numbers, ratios and texts.
 
-ghost use Rattle.std.specs.Prelude.{◌≡◌, ◌+◌, ◌<◌, ◌≤◌, length, IfOk, IfSome, OnOk, OnErr, Ok, None};
+ghost use Rattle.std.specs.Prelude.{◌≡◌, ◌+◌, ◌<◌, ◌≤◌, length, take, IfOk, OnOk, OnErr, option_map, option_and_then};
 ghost use Rattle.tiff_read.specs.Payments.{Costs, IsSameReading};
+ghost use Rattle.tiff_read.specs.Texts.{before_nul, bytes_at, cost_of, text_of, values_of};
 
 use crate::directory::{Directory, Values};
 use crate::error::TiffError;
@@ -62,8 +63,8 @@ impl<'a> Tiff<'a> {
     ///
     /// `Spent`.
     pub fn text(&mut self, directory: &Directory, tag: u16) -> Result<Option<&'a [u8]>, TiffError>
-        ensures paid { IfOk result (λ found. IfSome found (λ text. Costs (1 + length text.now) self.old self.new)) }
-        ensures none { (result ≡ Ok None) → Costs 1 self.old self.new }
+        ensures text { IfOk result (λ found. option_map (λ text. text.now) found ≡ text_of self.old.bytes directory.now tag) }
+        ensures paid { OnOk result (Costs (cost_of (text_of self.old.bytes directory.now tag)) self.old self.new) }
         ensures least { self.new.left ≤ self.old.left }
         ensures same { IsSameReading self.old self.new }
     {
@@ -117,7 +118,9 @@ impl<'a> Tiff<'a> {
     }
 
     /// Returns the bytes of a tag of type ASCII, BYTE or UNDEFINED, unpaid.
-    fn text_of_tag(&self, directory: &Directory, tag: u16) -> Option<&'a [u8]> {
+    fn text_of_tag(&self, directory: &Directory, tag: u16) -> Option<&'a [u8]>
+        ensures { option_map (λ text. text.now) result ≡ option_and_then (bytes_at self.now.bytes) (values_of directory.now tag) }
+    {
         let values = directory.find(tag)?;
         if !matches!(values.kind, 1 | 2 | 7) {
             return None;
@@ -169,12 +172,25 @@ fn place_of(values: Values, index: u64) -> u64 {
 }
 
 /// Returns the bytes before the first NUL; one more than `most` if there is none among them.
-fn before_nul(bytes: &[u8], most: usize) -> &[u8] {
-    let near = &bytes[..bytes.len().min(most.saturating_add(1))];
+fn before_nul(bytes: &[u8], most: usize) -> &[u8]
+    ensures { result.now ≡ before_nul (take (1 + most) bytes.now) }
+{
+    let near = first_bytes(bytes, most);
     for index in 0..near.len() {
         if near[index] == 0 {
             return &near[..index];
         }
     }
     near
+}
+
+/// Returns the first bytes, one more than `most` if there are so many.
+fn first_bytes(bytes: &[u8], most: usize) -> &[u8]
+    ensures { result.now ≡ take (1 + most) bytes.now }
+{
+    if most < bytes.len() {
+        &bytes[..most + 1]
+    } else {
+        bytes
+    }
 }
