@@ -1,8 +1,10 @@
 """What was left out of a run of the checks because a tool is missing."""
 import functools
+import os
 import re
 import shutil
 import subprocess
+import sys
 
 LEFT_OUT = []
 
@@ -22,3 +24,12 @@ def leave_out(what, tool, is_listed=True):
     assert not is_listed or not has_all_packages(), f"{what} would be left out, without {tool}, though all packages of TESTED_WITH are installed"
     print(f"  left out, without {tool}")
     LEFT_OUT.append(f"{what} (without {tool})")
+
+
+def interpreter(*modules):
+    """An interpreter of Python that has one of these modules; None if there is none."""
+    for it in filter(os.path.exists, (sys.executable, "/usr/bin/python3")):
+        code = f"import importlib.util, sys; sys.exit(not any(map(importlib.util.find_spec, {modules!r})))"
+        if subprocess.run([it, "-c", code], check=False).returncode == 0:
+            return it
+    return None

@@ -4,10 +4,9 @@ import itertools
 import os
 import shutil
 import subprocess
-import sys
 import tempfile
 
-from gate.skipped import leave_out
+from gate.skipped import interpreter, leave_out
 from programs import fax, fax_files
 from programs.fax_files import LONG, Page, SHORT, drawn, tiff
 
@@ -60,7 +59,7 @@ def by_libtiff(folder, name, picture):
 
 
 def by_pillow(folder, name, picture):
-    python = next((it for it in (sys.executable, "/usr/bin/python3") if os.path.exists(it) and done(it, "-c", "import PIL")), None)
+    python = interpreter("PIL")
     if not python:
         leave_out("files of other programs", "Pillow")
         return

@@ -8,7 +8,7 @@ import subprocess
 import sys
 import tempfile
 
-from gate.skipped import leave_out
+from gate.skipped import interpreter, leave_out
 from releases import users
 
 COLUMNS, ROWS = 1240, 1754
@@ -66,13 +66,13 @@ def pictures_of(folder, name, picture):
     """What fax2pbm and the Python package write for a file, and what they print."""
     done = ran(folder, os.path.abspath("build/fax2pbm"), name)
     found = [(done.returncode, done.stdout, done.stderr)]
-    interpreter = users.interpreter("pikepdf", "pypdf") if name.endswith(".pdf") else sys.executable
-    if not interpreter:
+    python = interpreter("pikepdf", "pypdf") if name.endswith(".pdf") else sys.executable
+    if not python:
         leave_out("PDF files by the Python package", "pikepdf or pypdf")
         return found
     library = os.path.abspath("build/libhayro_ccitt.so")
     environment = {**os.environ, "PYTHONPATH": os.path.abspath("bindings/python"), "HAYRO_CCITT_LIBRARY": library}
-    words = [interpreter, "-m", "hayro_ccitt", name, picture]
+    words = [python, "-m", "hayro_ccitt", name, picture]
     done = subprocess.run(words, cwd=folder, env=environment, capture_output=True, check=False, timeout=120)
     data = b""
     if os.path.exists(f"{folder}/{picture}-0.pbm"):

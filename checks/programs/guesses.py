@@ -8,6 +8,7 @@ from pathlib import Path
 import corpus
 from gate import built
 from programs.fax import run
+from releases import users
 
 MODES = {"g4": "Group 4", "1d": "Group 3, one-dimensional", "2d": "Group 3, two-dimensional"}
 # Narrower rows are read in many ways.
@@ -88,7 +89,7 @@ def lines_are_as_told():
 
 def as_python_guesses():
     """The guesses, their order and their words are those of the Python package."""
-    built.have("faxconv")
+    users.make()
     os.environ.setdefault("HAYRO_CCITT_LIBRARY", os.path.abspath("build/libhayro_ccitt.so"))
     sys.path.insert(0, os.path.abspath("bindings/python"))
     import hayro_ccitt  # pylint: disable=import-outside-toplevel

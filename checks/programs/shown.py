@@ -1,20 +1,36 @@
 """Checks of `faxconv --show-damage`: its pictures are, pixel by pixel, those of the Python package, with the legend, and turned as the page
 is; a page without damage is the picture alone."""
-import importlib.util
 import os
 import random
 import subprocess
-import sys
 import tempfile
 from pathlib import Path
 
 from gate import built
-from gate.skipped import leave_out
+from gate.skipped import interpreter, leave_out
 from programs import fax
 from programs.fax import run
+from releases import users
 
 # The picture, the encoding, rows a strip, and the turn.
 PAGES = [("1d", 300, 0), ("2d", 300, 0), ("g4", 300, 0), ("1d", 300, 90), ("2d", 0, 180), ("g4", 300, 270)]
+
+# Compares a picture with that of the package for a damaged file, turned by so many degrees. Turned, it has no legend to compare.
+SAME = """
+import sys
+import hayro_ccitt
+from PIL import Image
+
+own, damaged, degrees = sys.argv[1:]
+page = hayro_ccitt.open(damaged)[0]
+other, found = hayro_ccitt.damage_shown(page), Image.open(own).convert("RGB")
+if degrees != "0":
+    size = page.picture().image().size
+    turn = {"90": Image.ROTATE_270, "180": Image.ROTATE_180, "270": Image.ROTATE_90}[degrees]
+    other = other.crop((0, 0, *size)).transpose(turn)
+    found = found.crop((0, 0, *other.size))
+print("same" if found.size == other.size and found.tobytes() == other.tobytes() else "others")
+"""
 
 
 def page_of_tiff(encoding, rows, folder):
@@ -32,30 +48,20 @@ def page_of_tiff(encoding, rows, folder):
 
 def damage_is_shown_as_by_python():
     """Pictures of damaged TIFF files, whole and turned, are those of Pillow."""
-    built.have("faxconv")
-    if not importlib.util.find_spec("PIL"):
+    users.make()
+    python = interpreter("PIL")
+    if not python:
         leave_out("damage shown as by the Python package", "Pillow")
         return
-    os.environ.setdefault("HAYRO_CCITT_LIBRARY", os.path.abspath("build/libhayro_ccitt.so"))
-    sys.path.insert(0, os.path.abspath("bindings/python"))
-    import hayro_ccitt  # pylint: disable=import-outside-toplevel
-    from PIL import Image  # pylint: disable=import-outside-toplevel
-
-    turns = {90: 4, 180: 3, 270: 2}
+    named = {"PYTHONPATH": "bindings/python", "HAYRO_CCITT_LIBRARY": os.path.abspath("build/libhayro_ccitt.so"), **os.environ}
     with tempfile.TemporaryDirectory() as folder:
         for encoding, rows, degrees in PAGES:
             page_of_tiff(encoding, rows, folder)
-            own = f"{folder}/shown.png"
-            subprocess.run([fax.FAX, "-q", "--overwrite", "--rotate", str(degrees), "--show-damage", own, f"{folder}/damaged.tif"], check=False, timeout=60)
-            page = hayro_ccitt.open(f"{folder}/damaged.tif")[0]
-            other = hayro_ccitt.damage_shown(page)
-            with Image.open(own) as found:
-                seen = found.convert("RGB")
-            if degrees:
-                size = page.picture().image().size
-                other, turned = other.crop((0, 0, *size)).transpose(turns[degrees]), size if degrees == 180 else size[::-1]
-                seen = seen.crop((0, 0, *turned))
-            assert seen.size == other.size and seen.tobytes() == other.tobytes(), (encoding, rows, degrees)
+            own, damaged = f"{folder}/shown.png", f"{folder}/damaged.tif"
+            words = ["-q", "--overwrite", "--rotate", str(degrees), "--show-damage", own, damaged]
+            subprocess.run([fax.FAX, *words], check=False, timeout=60)
+            told = subprocess.run([python, "-c", SAME, own, damaged, str(degrees)], env=named, capture_output=True, text=True, check=False)
+            assert told.stdout == "same\n", (encoding, rows, degrees, told)
     print(f"  {len(PAGES)} pictures")
 
 

@@ -14,7 +14,7 @@ import threading
 import corpus
 from c import c_library
 from gate.built import BUILT, made_by, place
-from gate.skipped import leave_out
+from gate.skipped import interpreter, leave_out
 
 PAGES = ["README.md", "INSTALL.md", "docs/USING.md"]
 # Tools that a command may need and that need not be installed.
@@ -58,15 +58,6 @@ def copied(folder):
     for name in [*(name for name in listed if name and os.path.isfile(name)), *proved]:
         os.makedirs(os.path.dirname(f"{folder}/{name}"), exist_ok=True)
         shutil.copy2(name, f"{folder}/{name}")
-
-
-def interpreter(*modules):
-    """An interpreter of Python that has one of these modules; None if there is none."""
-    for it in filter(os.path.exists, (sys.executable, "/usr/bin/python3")):
-        code = f"import importlib.util, sys; sys.exit(not any(map(importlib.util.find_spec, {modules!r})))"
-        if subprocess.run([it, "-c", code], check=False).returncode == 0:
-            return it
-    return None
 
 
 def commands(page):
