@@ -75,7 +75,7 @@ uint32_t fax_encode_bitmap(const uint8_t *bitmap, size_t bitmap_length, const fa
  * FAX_ENCODE_OUT_OF_MEMORY of a writer that is open, it returns that again until it is closed. */
 typedef struct {
     void *strip;           /* the fields are the library's own: set all to zero before fax_encode_open, change none after it, */
-    void *nowhere;         /* and don't copy an open writer */
+    void *dangling;        /* and don't copy an open writer */
     unsigned char is_open;
     unsigned char black_is_0;
 } fax_encode_writer;

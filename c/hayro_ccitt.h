@@ -125,7 +125,7 @@ uint32_t hayro_ccitt_decode_changes(const uint8_t *data, size_t data_length, con
  * Several readers may be open at a time. Each belongs to one thread at a time. A reader that isn't closed leaks its memory. */
 typedef struct {
     void *reading;         /* the fields are the library's own: set all to zero before hayro_ccitt_open, change none after it, */
-    void *nowhere;         /* and don't copy an open reader */
+    void *dangling;        /* and don't copy an open reader */
     unsigned char is_open;
 } hayro_ccitt_reader;
 
@@ -178,7 +178,7 @@ uint32_t hayro_ccitt_close(hayro_ccitt_reader *reader);
  * Several feeds may be open at a time. Each belongs to one thread at a time. A feed that isn't closed leaks its memory. */
 typedef struct {
     void *feeding;         /* the fields are the library's own: set all to zero before hayro_ccitt_feed_open, change none after it, */
-    void *nowhere;         /* and don't copy an open feed */
+    void *dangling;        /* and don't copy an open feed */
     unsigned char is_open;
 } hayro_ccitt_row_feed;
 

@@ -21,7 +21,7 @@ import cost  # noqa: E402
 from c import arm64, c_library, cuts, encoder, feed, hostile, inline_images, large, memory, refusals, row_by_row  # noqa: E402
 from gate import built  # noqa: E402
 from gate.skipped import LEFT_OUT  # noqa: E402
-from programs import built_tests, claims, conformance, devices, directories, fax, fax_limits, fax_others, fax_output, faxconv, files, guesses, objects, outputs, packing, pages, pictures, program, shown, streams  # noqa: E402
+from programs import built_tests, claims, conformance, devices, directories, fax, fax_limits, fax_memory, fax_others, fax_output, faxconv, files, guesses, objects, outputs, packing, pages, pictures, program, shown, streams  # noqa: E402
 from releases import browsers, clients, erased, erased_programs, erased_targets, installed, javascript, released, released_arm64, systems, users, web  # noqa: E402
 from repository import definitions, repository  # noqa: E402
 
@@ -30,12 +30,12 @@ FILES = [
     *(repository, definitions),
     *(program, claims, pictures, built_tests, packing, conformance, streams, directories, pages, objects, outputs, faxconv),
     *(c_library, row_by_row, feed, encoder, refusals, devices, cuts, hostile, memory, large),
-    *(installed, users, files, fax, fax_output, fax_limits, fax_others, guesses, shown, inline_images),
+    *(installed, users, files, fax, fax_output, fax_limits, fax_memory, fax_others, guesses, shown, inline_images),
     *(released, systems, erased, erased_programs, erased_targets, javascript, browsers, web, clients, cost, arm64, released_arm64),
 ]
 # those that run beside the build of the library for C, as they don't use it
 WITHOUT_LIBRARY = [repository, definitions, program, claims, pictures, built_tests, packing, conformance, streams, directories, pages, objects, outputs, faxconv, fax,
-                   fax_limits, fax_others, fax_output, devices, browsers, web]
+                   fax_limits, fax_memory, fax_others, fax_output, devices, browsers, web]
 # those that call `make`, which run in turn, and those that take longest
 MAKE = [installed, users, files, arm64, released_arm64]
 LONG = [cost, large, memory, hostile, released, systems, fax_limits]

@@ -12,8 +12,16 @@ from programs import fax
 from programs.fax import run
 from releases import users
 
-# The picture, the encoding, rows a strip, and the turn.
-PAGES = [("1d", 300, 0), ("2d", 300, 0), ("g4", 300, 0), ("1d", 300, 90), ("2d", 0, 180), ("g4", 300, 270)]
+# The encoding, the columns, rows a strip, and the turn. The legend of a low and wide page is as high as the page at most.
+PAGES = [
+    ("1d", 1240, 300, 0),
+    ("2d", 1240, 300, 0),
+    ("g4", 1240, 300, 0),
+    ("1d", 1240, 300, 90),
+    ("2d", 1240, 0, 180),
+    ("g4", 1240, 300, 270),
+    ("1d", 4960, 100, 0),
+]
 
 # Compares a picture with that of the package for a damaged file, turned by so many degrees. Turned, it has no legend to compare.
 SAME = """
@@ -33,9 +41,11 @@ print("same" if found.size == other.size and found.tobytes() == other.tobytes() 
 """
 
 
-def page_of_tiff(encoding, rows, folder):
-    """A TIFF file of the page of the corpus, with bytes of its strips changed."""
-    picture = b"P4\n1240 1754\n" + Path("corpus/pictures/page").read_bytes()
+def page_of_tiff(encoding, columns, rows, folder):
+    """A TIFF file of the page of the corpus, as rows of so many columns, with bytes of its strips changed."""
+    bits, width = Path("corpus/pictures/page").read_bytes(), columns // 8
+    high = len(bits) // width
+    picture = b"P4\n%d %d\n" % (columns, high) + bits[: width * high]
     words = ["-e", encoding, "-o", f"{folder}/made.tif", "--overwrite", *(["--rows-per-strip", str(rows)] if rows else [])]
     assert run(*words, data=picture)[0] == 0
     file = bytearray(Path(f"{folder}/made.tif").read_bytes())
@@ -55,13 +65,13 @@ def damage_is_shown_as_by_python():
         return
     named = {"PYTHONPATH": "bindings/python", "HAYRO_CCITT_LIBRARY": os.path.abspath("build/libhayro_ccitt.so"), **os.environ}
     with tempfile.TemporaryDirectory() as folder:
-        for encoding, rows, degrees in PAGES:
-            page_of_tiff(encoding, rows, folder)
+        for encoding, columns, rows, degrees in PAGES:
+            page_of_tiff(encoding, columns, rows, folder)
             own, damaged = f"{folder}/shown.png", f"{folder}/damaged.tif"
             words = ["-q", "--overwrite", "--rotate", str(degrees), "--show-damage", own, damaged]
             subprocess.run([fax.FAX, *words], check=False, timeout=60)
             told = subprocess.run([python, "-c", SAME, own, damaged, str(degrees)], env=named, capture_output=True, text=True, check=False)
-            assert told.stdout == "same\n", (encoding, rows, degrees, told)
+            assert told.stdout == "same\n", (encoding, columns, rows, degrees, told)
     print(f"  {len(PAGES)} pictures")
 
 
@@ -69,7 +79,7 @@ def whole_pages_are_alone():
     """A page without damage is as it is written as PNG."""
     built.have("faxconv")
     with tempfile.TemporaryDirectory() as folder:
-        whole = page_of_tiff("g4", 0, folder)
+        whole = page_of_tiff("g4", 1240, 0, folder)
         assert run("--show-damage", f"{folder}/one.png", data=whole) == (0, b"", "")
         assert run("-o", f"{folder}/two.png", data=whole) == (0, b"", "")
         assert Path(f"{folder}/one.png").read_bytes() == Path(f"{folder}/two.png").read_bytes()

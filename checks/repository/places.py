@@ -91,7 +91,7 @@ def wants_of_memory():
             start = 0
             for line in code.splitlines(keepends=True):
                 text = re.sub(r"-> (?:std::result::)?Result<.*AllocError>", "", line)
-                if WORDS.search(text) or (crate == "hayro_ccitt_c" and STATUS.search(line)):
+                if WORDS.search(text) or (crate in ("c_rows", "hayro_ccitt_c") and STATUS.search(line)):
                     heads = blocks_around(code, start + len(line) - len(line.lstrip()))
                     yield path, function_of(heads), heads[1:], " ".join(line.split())
                 start += len(line)

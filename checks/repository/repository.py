@@ -30,9 +30,9 @@ def handles_are_none():
 BY_HAND = [
     "crates/fax_bits/proofs/codes/Ticks/after",
     "crates/fax_bits/proofs/codes/Ticks/new",
+    "crates/hayro_ccitt_c/proofs/handle/Handle/dangling",
     "crates/hayro_ccitt_c/proofs/handle/Handle/from_unboxed",
     "crates/hayro_ccitt_c/proofs/handle/Handle/into_unboxed",
-    "crates/hayro_ccitt_c/proofs/handle/Handle/nowhere",
     "crates/hayro_ccitt_c/proofs/handle/Unboxed/from_box",
     "crates/hayro_ccitt_c/proofs/handle/Unboxed/into_box",
 ]
@@ -197,7 +197,8 @@ NO_WRONG_BODY = {
 
 
 # What `hayro_ccitt` passes on of the crates below it, which no other crate names: nothing of the window, nor of a reader's offset, nor
-# anything that counts more than a tick; and of a context no function that changes what a row is, or counts it.
+# anything that counts more than a tick; and of a context no function that changes what a row is, or counts it. What `fax_encode` passes
+# on of its layers: the bitmap. What `hayro_ccitt_c` passes on of the one below it: the structures of C.
 PASSED_ON = {
     "fax_bits": {
         "DecodeError",
@@ -232,20 +233,48 @@ PASSED_ON = {
         "row_reader::RowReader",
     },
     "fax_feeds": {"row_feed::Fed", "row_feed::RowFeed"},
+    "fax_words": set(),
+    "fax_bitmap": {
+        "bitmap_rows::rows_of_bitmap",
+        "bitmap_sink::BitmapSink",
+        "black_runs::paint_cleared",
+        "painting::most_cleared_first",
+        "painting::paint_over",
+        "painting::paint_row",
+        "pixel_words::fill_all",
+        "pixel_words::fill_apart",
+        "pixel_words::fill_bytes",
+    },
+    "fax_coding": set(),
+    "c_rows": {
+        "encoding::EncodeOutcome",
+        "encoding::EncodeSettings",
+        "report::Outcome",
+        "row_outcome::RowOutcome",
+        "settings::Settings",
+    },
 }
+# The encoder's layers.
+ENCODER = ["fax_words", "fax_bitmap", "fax_coding", "fax_encode"]
 
 
-# The crates below the decoder: the file of `hayro_ccitt` that passes their items on, which, and the crates that may depend on them.
+# The crates below the decoder, below the encoder and below the library for C: the file that passes their items on, which, and the crates
+# that may depend on them.
 def below():
     laws = {item.name for item in Source("crates/fax_reading").public()}
     assert all(name.startswith("laws::") for name in laws), laws
     for place, crate in enumerate(places.DECODER[:-1]):
         name, items = ("laws", laws) if crate == "fax_reading" else ("lib", PASSED_ON[crate])
         yield crate, f"crates/hayro_ccitt/src/{name}.rt", items, places.DECODER[place + 1 :]
+    for crate in ENCODER[:-1]:
+        above = ENCODER[1:] if crate == "fax_words" else ENCODER[-1:]
+        yield crate, "crates/fax_encode/src/lib.rt", PASSED_ON[crate], above
+    yield "c_rows", "crates/hayro_ccitt_c/src/lib.rt", PASSED_ON["c_rows"], ["hayro_ccitt_c"]
 
 
 def only_what_users_call_is_passed_on():
-    """Of the crates below `hayro_ccitt` what is listed above, and of `fax_reading`, which has laws alone, each of them."""
+    """Of the crates below `hayro_ccitt`, `fax_encode` and `hayro_ccitt_c` what is listed above, and of `fax_reading`, which has laws alone,
+    each of them."""
     for crate, name, items, crates in below():
         with open(name, encoding="utf-8") as file:
             found = re.findall(rf"^ *pub use {crate}::(?:([\w:]+)::)?(\{{[^}}]*\}}|\w+);", file.read(), re.MULTILINE)
@@ -254,14 +283,14 @@ def only_what_users_call_is_passed_on():
         others = [place for place, line in lines_of_code(".rt", "//") if re.search(rf"\bpub(?:\([a-z]+\))? use {crate}\b", line)]
         assert len(others) == len(found) and all(place.startswith(f"{name}:") for place in others), others
         with open("crates.txt", encoding="utf-8") as file:
-            above = [line.split(":")[0] for line in file if not line.startswith("#") and crate in line.partition(":")[2].split()]
+            above = [line.split(":")[0].split()[0] for line in file if not line.startswith("#") and crate in line.partition(":")[2].split()]
         assert above == crates, above
 
 
 def is_for_users(crate, item):
-    """Whether a function is more than a part of the library: of the crates below the decoder only what is passed on is, with each method
-    of a type that is."""
-    if crate not in PASSED_ON:
+    """Whether a function is more than a part of the library: of the crates below others only what these pass on is, with each
+    method of a type that is, and the sinks' `push_row`."""
+    if crate not in PASSED_ON or item.last == "push_row":
         return True
     above, types = item.name.split("::"), {name.rpartition("::")[2] for name in PASSED_ON[crate]}
     return bool(types & set(above[-2:-1]) or PASSED_ON[crate] & {"::".join(above[:length]) for length in range(1, len(above) + 1)})
@@ -478,6 +507,19 @@ def no_contract_is_too_long():
     assert not found, "\n".join(found)
 
 
+MOST_FUNCTIONS = 120
+# the crate that has more
+LARGER = {"fax_bits": 144}
+
+
+def no_crate_has_too_many_functions():
+    """A crate is one layer: its check takes time by its functions, and the crates above it wait. Tests and examples, which nothing waits
+    for, may have more."""
+    counts = {crate: sum(item.kind == "fn" for item in Source(f"crates/{crate}").items) for crate in set(os.listdir("crates")) - places.NOT_CALLED}
+    found = {crate: count for crate, count in counts.items() if count > LARGER.get(crate, MOST_FUNCTIONS)}
+    assert not found, found
+
+
 CHECKS = [
     handles_are_none,
     seven_proofs_by_hand,
@@ -497,6 +539,7 @@ CHECKS = [
     each_edit_can_be_applied,
     no_line_is_too_long,
     no_contract_is_too_long,
+    no_crate_has_too_many_functions,
     each_name_of_a_module_is_there,
 ]
 COMMANDS = {"--write": places.write}

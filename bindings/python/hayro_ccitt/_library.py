@@ -31,7 +31,7 @@ class Outcome(ctypes.Structure):
 class Reader(ctypes.Structure):
     """hayro_ccitt_reader; and hayro_ccitt_row_feed, whose fields are of the same types."""
 
-    _fields_ = [("reading", c_void_p), ("nowhere", c_void_p), ("is_open", c_uint8)]
+    _fields_ = [("reading", c_void_p), ("dangling", c_void_p), ("is_open", c_uint8)]
 
 
 class Row(ctypes.Structure):

@@ -32,8 +32,8 @@ MARKS = {
 }
 # The method of Pillow's `transpose` for each of TIFF's orientations that turns or mirrors.
 TURNS = {2: 0, 3: 3, 4: 1, 5: 5, 6: 4, 7: 6, 8: 2}
-# The legend is as large as its letters for so many columns.
-LEGEND_COLUMNS = 600
+# The legend is as large as its letters for so many columns, and no higher than the page if it is larger: it has so many rows.
+LEGEND_COLUMNS, LEGEND_ROWS = 600, 64
 # The rows of each letter, from the top, two digits each: five pixels, the leftmost in the highest bit.
 LETTERS = {
     "0": "0e11131519110e0000",
@@ -102,7 +102,7 @@ def damage_shown(page: Page) -> Any:
     found = [mark for mark in MARKS if mark and mark in marks]
     if not found:
         return shown
-    size = max(shown.width // LEGEND_COLUMNS, 1)
+    size = max(min(shown.width // LEGEND_COLUMNS, shown.height // LEGEND_ROWS), 1)
     legend = images.new("RGB", (max(shown.width // size, LEGEND_COLUMNS // 2), 16 * len(found)), "white")
     for line, mark in enumerate(found):
         text, color = MARKS[mark]

@@ -67,7 +67,7 @@ pub(crate) struct ViolationOutcome {
 #[repr(C)]
 pub(crate) struct Reader {
     reading: *mut c_void,
-    nowhere: *mut c_void,
+    dangling: *mut c_void,
     is_open: u8,
 }
 
@@ -84,7 +84,7 @@ impl Default for Reader {
     fn default() -> Self {
         Self {
             reading: core::ptr::null_mut(),
-            nowhere: core::ptr::null_mut(),
+            dangling: core::ptr::null_mut(),
             is_open: 0,
         }
     }

@@ -10,7 +10,7 @@ use Rattle.hayro_ccitt.specs.PlainReading.{plain}
 use Rattle.hayro_ccitt.specs.Rows.{HaveWidth, Row}
 use Rattle.fax_encode.specs.Chosen.{filled_up}
 use Rattle.fax_encode.specs.Packed.{bytes_of_row, packed, shown}
-use Rattle.fax_encode.proofs.ScannedRows.{packed_is_shown}
+use Rattle.fax_encode.proofs.PackedRows.{packed_is_shown}
 use Rattle.fax_pages.specs.declared.page.Page.{Page}
 use Rattle.fax_pages.specs.declared.page.Part.{Part}
 use Rattle.fax_pictures.specs.Pictures.{LieOver, Picture}

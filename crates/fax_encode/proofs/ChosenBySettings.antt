@@ -14,7 +14,8 @@ use Rattle.fax_encode.proofs.Names.{Effort, Procedure, Shortest, line_1d, line_2
 use Rattle.fax_encode.proofs.Names.{cases_lt, le-leb}
 use Rattle.std.proofs.lemmas.Bool.{lt-leb}
 use Rattle.fax_encode.proofs.ShortestRows.{shortest_1d_encodes}
-use Rattle.fax_encode.proofs.{BytesOfBits.same_bytes, ChosenLines.line_1d_encodes, ChosenLines.line_2d_encodes}
+use Rattle.fax_encode.proofs.BytesOfBits.{same_bytes}
+use Rattle.fax_encode.proofs.ChosenLines.{line_1d_encodes, line_2d_encodes}
 use Rattle.fax_encode.proofs.ShortestLines.{shortest_lines}
 use Rattle.fax_encode.proofs.ReadToTheEnd.{all_but, rounded_up, rtc_few, few_zeros, all_t6, all_t4, all_t4_with_eols}
 

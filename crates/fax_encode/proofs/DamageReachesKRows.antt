@@ -10,7 +10,8 @@ use Rattle.fax_encode.proofs.Names.{eol_before, EncodeSettings, line_1d, filled_
 use Rattle.fax_encode.proofs.Names.{lenient_settings_for, tag_after, line_end, ChangesAtMost, DamagedLine, RowsEncoded, no_rows}
 use Rattle.fax_encode.proofs.Names.{with_row, with_rows, chosen, is_two_dimensional, chosen_line, left_after, fill_of}
 use Rattle.fax_encode.proofs.Names.{chosen_lines_with_eols, chosen_eols, with_end}
-use Rattle.fax_encode.proofs.{ChosenBySettings.line_2d_encoded, ChosenBySettings.line_1d_encoded, FilledEols.length-eol}
+use Rattle.fax_encode.proofs.ChosenBySettings.{line_2d_encoded, line_1d_encoded}
+use Rattle.fax_encode.proofs.FilledEols.{length-eol}
 use Rattle.fax_encode.proofs.ChosenBySettings.{line_encodes, lines_with_eols_encode, eols_close, white_is_wide}
 use Rattle.fax_encode.proofs.Names.{Effort, line_2d}
 use Rattle.fax_encode.proofs.LinesOfPictures.{lines_pushed, rows_are_chosen}

@@ -1,4 +1,5 @@
 -- What was encoded is read again.
+use Rattle.fax_encode.proofs.Names.{chosen_lines_2d, ChosenIsAnEncoding}
 use Rattle.fax_encode.proofs.Names.{◌≡◌, ℕ, suc, ◌+◌, ◌-◌, ◌/◌, ◌%◌, ◌^◌, ◌<◌, true, false, List, [], ◌∷◌, ◌++◌, length}
 use Rattle.fax_encode.proofs.Names.{replicate, refl, sym, ap, subst, ◌∙◌, arith, inl, append_assoc, Ok, length-append}
 use Rattle.fax_encode.proofs.Names.{length-replicate, length-map, All-head, All-tail, All-cons, All-nil, DecodeSettings, Group4}
@@ -8,7 +9,27 @@ use Rattle.fax_encode.proofs.Names.{PictureT6, BeginsWithPictureT6, BeginsWithPi
 use Rattle.fax_encode.proofs.Names.{length-bits_of, bits_are_whole, length-pixels, eols-none, closed_picture_t6}
 use Rattle.fax_encode.proofs.Names.{closed_picture_t4, eols_here_one, chosen_t6, chosen_t4, chosen_lines_1d, return_to_control}
 use Rattle.fax_encode.proofs.Names.{filled_up, rows_of, AreRows, RoundTripT6, RoundTripT4, ReadToTheEnd}
-use Rattle.fax_encode.proofs.ChosenLines.{chosen_is_an_encoding, lines_1d_encode, closes}
+use Rattle.fax_encode.proofs.ChosenLines.{lines_1d_encode, lines_2d_encode, closes}
+
+-- the law
+pub chosen_is_an_encoding : ChosenIsAnEncoding
+chosen_is_an_encoding columns rows is = (
+  λ aligned. (
+    chosen_lines_2d aligned (white_row columns) rows,
+    is,
+    lines_2d_encode columns aligned (white_row columns) rows (length-replicate columns false) is.1,
+    refl,
+  ),
+  λ some. (
+    chosen_lines_1d rows,
+    return_to_control,
+    some,
+    is,
+    lines_1d_encode columns (white_row columns) rows is.0 is.1,
+    closes,
+    refl,
+  ),
+)
 
 -- valid lists are rows of the width
 pub widths_of : (columns : ℕ) (lists : List (List ℕ)) → AreRows columns lists → HaveWidth columns (rows_of columns lists)

@@ -10,7 +10,8 @@ use Rattle.fax_encode.proofs.Names.{shortest_line_2d}
 use Rattle.fax_encode.specs.Shortest.{shortest_line_1d}
 use Rattle.fax_encode.proofs.FilledEols.{length-eol}
 use Rattle.fax_encode.proofs.ChosenBySettings.{shorter_line}
-use Rattle.fax_encode.proofs.{ShortestLines.shortest_lines, ShortestRows.shortest_1d_least}
+use Rattle.fax_encode.proofs.ShortestLines.{shortest_lines}
+use Rattle.fax_encode.proofs.ShortestRows.{shortest_1d_least}
 use Rattle.fax_encode.proofs.ShortestPictures.{line_least, lines_least, any_kind, end_least}
 
 -- ---- A line.

@@ -8,7 +8,8 @@ use Rattle.fax_encode.proofs.Names.{Shortest, chosen_line, chosen_lines, is_two_
 use Rattle.fax_encode.proofs.Names.{shortest_lines_2d, ShortestPicturesT6}
 use Rattle.fax_encode.specs.Shortest.{shortest_line_1d}
 use Rattle.fax_encode.proofs.ChosenBySettings.{chosen_lines_encode}
-use Rattle.fax_encode.proofs.{ShortestLines.shortest_lines, ShortestRows.shortest_1d_least}
+use Rattle.fax_encode.proofs.ShortestLines.{shortest_lines}
+use Rattle.fax_encode.proofs.ShortestRows.{shortest_1d_least}
 
 -- ---- A line.
 first_bit : Bits → Bool

@@ -6,7 +6,7 @@ use Rattle.hayro_ccitt.specs.Color.{Color}
 use Rattle.hayro_ccitt.specs.Rows.{opposite, pixels}
 use Rattle.fax_encode.specs.Chosen.{chosen_mode, chosen_run, place_after}
 use Rattle.fax_encode.specs.Coding.{AreAllLeft, IsNear, place_of}
-use Rattle.fax_encode.specs.declared.group4.Coding.{Coding}
+use Rattle.fax_coding.specs.declared.group4.Coding.{Coding}
 use Rattle.fax_encode.specs.declared.procedure.CodedMode.{CodedMode}
 use Rattle.fax_encode.specs.declared.procedure.Runs.{Runs}
 

@@ -16,7 +16,7 @@ use Rattle.hayro_ccitt.specs.BitOrder.TheVariants.{HighestFirst}
 use Rattle.hayro_ccitt.specs.PlainReading.{plain}
 use Rattle.fax_encode.specs.Chosen.{chosen_t6, chosen_t4, filled_up, rows_of}
 use Rattle.fax_encode.specs.Packed.{packed, shown, with_packed_row}
-use Rattle.fax_encode.specs.Refusals.{AreRows}
+use Rattle.fax_encode.specs.Chosen.{AreRows}
 use Rattle.fax_encode.specs.RowByRow.{no_rows, with_rows}
 use Rattle.fax_encode.specs.declared.settings.Effort.{Effort}
 use Rattle.fax_encode.specs.declared.settings.Effort.TheVariants.{Procedure, Shortest}

@@ -1,5 +1,5 @@
 -- What an encoder refuses, and how it says so.
-use Rattle.std.specs.Prelude.{◌≡◌, ◌≢◌, ℕ, ◌<◌, ◌↔◌, true, List, ◌++◌, length, get_or, codes, decimal, [], All}
+use Rattle.std.specs.Prelude.{◌≡◌, ◌≢◌, ℕ, ◌<◌, ◌↔◌, true, List, ◌++◌, length, get_or, codes, decimal, []}
 use Rattle.std.specs.Prelude.{Option, Some, None, Result, Err}
 use Rattle.hayro_ccitt.specs.Rows.{AreChanges}
 use Rattle.fax_encode.specs.declared.error.EncodeError.{EncodeError}
@@ -11,10 +11,6 @@ pub record IsFirstUnlawful (columns : ℕ) (lists : List (List ℕ)) (k : ℕ) :
   pub within : k < length lists
   pub before : (j : ℕ) → j < k → AreChanges columns (get_or lists j [])
   pub here : AreChanges columns (get_or lists k []) → ⊥
-
--- all lists are rows of the width
-abbrev pub AreRows : ℕ → List (List ℕ) → Type 0
-AreRows columns lists = All (AreChanges columns) lists
 
 -- of lists that aren't all rows the first such is refused, if there are columns
 abbrev pub RefusesFirstUnlawful : {V : Type 0} → ℕ → List (List ℕ) → Result V EncodeError → Type 0

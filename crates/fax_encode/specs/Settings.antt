@@ -1,5 +1,5 @@
 -- The encoding that is chosen, by settings (T.4, 4.1 and 4.2; T.6, 2.2).
-use Rattle.std.specs.Prelude.{ℕ, zero, suc, ◌+◌, ◌-◌, ◌%◌, Bool, true, false, not, ◌&&◌, nat_le, nat_lt, List, [], ◌∷◌, ◌++◌}
+use Rattle.std.specs.Prelude.{◌≡◌, ℕ, zero, suc, ◌+◌, ◌-◌, ◌%◌, Bool, true, false, not, ◌&&◌, nat_le, nat_lt, List, [], ◌∷◌, ◌++◌}
 use Rattle.std.specs.Prelude.{length, if◌then◌else◌}
 use Rattle.hayro_ccitt.specs.EncodingMode.{EncodingMode}
 use Rattle.hayro_ccitt.specs.EncodingMode.TheVariants.{Group4, Group3_1D, Group3_2D}
@@ -13,6 +13,7 @@ use Rattle.fax_encode.specs.declared.settings.Effort.{Effort}
 use Rattle.fax_encode.specs.declared.settings.Effort.TheVariants.{Procedure, Shortest}
 use Rattle.fax_encode.specs.Chosen.{chosen_line_1d, chosen_line_2d}
 use Rattle.fax_encode.specs.Shortest.{shortest_line_1d, shortest_line_2d}
+use Rattle.fax_encode.specs.Writing.{Written, all_bits}
 
 -- ---- settings that name an encoding
 
@@ -225,3 +226,8 @@ decode_settings_for settings columns rows = record {
   encoding = settings.encoding;
   strict = true;
 }
+
+-- where lines have no EOLs and are aligned, what is written ends at a whole byte
+abbrev pub EndsWhereAligned : EncodeSettings → Written → Type 0
+EndsWhereAligned settings written = has_eols settings.encoding settings.end_of_line ≡ false
+    → settings.rows_are_byte_aligned ≡ true → length (all_bits written) % 8 ≡ 0

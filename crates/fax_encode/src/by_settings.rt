@@ -4,17 +4,18 @@ ghost use Rattle.std.specs.Prelude.{◌≡◌, ◌≢◌, ◌<◌, ◌≤◌, �
 ghost use Rattle.hayro_ccitt.specs.Bits.{bits_in};
 ghost use Rattle.fax_encode.specs.Chosen.{filled_up, rows_of};
 ghost use Rattle.fax_encode.specs.Packed.{bytes_of_row, shown};
-ghost use Rattle.fax_encode.specs.Refusals.{AreRows, RefusesFirstUnlawful};
+ghost use Rattle.fax_encode.specs.Chosen.{AreRows};
+ghost use Rattle.fax_encode.specs.Refusals.{RefusesFirstUnlawful};
 ghost use Rattle.fax_encode.specs.Settings.{chosen, names_encoding, needs_row, with_end};
 ghost use Rattle.fax_encode.specs.Writing.{all_bits};
 
 use crate::bit_order::bytes_in_order;
-use crate::bit_writer::BitWriter;
-use crate::bitmap_rows::scan_row;
 use crate::encoding::{RowBelow, put_end, put_part};
 use crate::rows::first_unlawful;
 use crate::white_rows::{WhiteRows, lines_for, put_white_lines, white_rows};
 use crate::{EncodeError, EncodeSettings};
+use fax_bitmap::bitmap_rows::scan_row;
+use fax_words::bit_writer::BitWriter;
 use hayro_ccitt::EncodingMode;
 use std::alloc::{AllocError, Global};
 use std::mem;

@@ -4,7 +4,8 @@ ghost use Rattle.std.specs.Prelude.{◌≡◌, ◌≢◌, ◌<◌, ◌↔◌, �
 ghost use Rattle.hayro_ccitt.specs.Bits.{bits_of};
 ghost use Rattle.fax_encode.specs.Chosen.{chosen_t4, chosen_t6, filled_up, rows_of};
 ghost use Rattle.fax_encode.specs.Packed.{bytes_of_row, shown};
-ghost use Rattle.fax_encode.specs.Refusals.{AreRows, RefusesFirstUnlawful};
+ghost use Rattle.fax_encode.specs.Chosen.{AreRows};
+ghost use Rattle.fax_encode.specs.Refusals.{RefusesFirstUnlawful};
 ghost use Rattle.fax_encode.specs.Settings.{group3_settings, group4_settings};
 
 use crate::{Effort, EncodeError, EncodeSettings, encode, encode_bitmap};

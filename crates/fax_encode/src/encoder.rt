@@ -10,14 +10,14 @@ ghost use Rattle.fax_encode.specs.RowByRow.{KeepsSettings, no_rows, with_row};
 ghost use Rattle.fax_encode.specs.Settings.{names_encoding, needs_row, with_end};
 
 use crate::bit_order::bytes_in_order;
-use crate::bit_writer::BitWriter;
-use crate::bitmap_rows::{scan_in_black, zero_bytes};
 use crate::by_settings::needs_row;
 use crate::encoding::{RowBelow, put_end, put_part};
 use crate::rows::is_row;
-use crate::shortest_lines::Way;
 use crate::white_rows::{WhiteLines, put_white_line, white_lines};
 use crate::{EncodeError, EncodeSettings};
+use fax_bitmap::bitmap_rows::{scan_in_black, zero_bytes};
+use fax_coding::shortest_lines::Way;
+use fax_words::bit_writer::BitWriter;
 use std::alloc::{AllocError, Global};
 use std::marker::Model;
 use std::mem;
@@ -49,7 +49,8 @@ impl Model for Encoder {
     ghost use Rattle.hayro_ccitt.specs.Rows.{AreChanges, pixels};
     ghost use Rattle.fax_encode.specs.RowByRow.{RowsEncoded};
     ghost use Rattle.fax_encode.specs.WhiteRows.{AreWhiteLines};
-    ghost use Rattle.fax_encode.specs.Writing.{all_bits, EndsWhereAligned};
+    ghost use Rattle.fax_encode.specs.Writing.{all_bits};
+    ghost use Rattle.fax_encode.specs.Settings.{EndsWhereAligned};
 
     ghost Value = { RowsEncoded };
 

@@ -5,14 +5,15 @@ ghost use Rattle.hayro_ccitt.specs.Rows.{AreChanges, pixels};
 ghost use Rattle.fax_encode.specs.Settings.{chosen_line, chosen_part, has_eols, left_after, line_1d, line_2d, names_encoding};
 ghost use Rattle.fax_encode.specs.Settings.{names_group3};
 ghost use Rattle.fax_encode.specs.Settings.{with_end};
-ghost use Rattle.fax_encode.specs.Writing.{all_bits, EndsWhereAligned};
+ghost use Rattle.fax_encode.specs.Writing.{all_bits};
+ghost use Rattle.fax_encode.specs.Settings.{EndsWhereAligned};
 
-use crate::bit_writer::BitWriter;
 use crate::group3::{put_closing_eols, put_eol, put_filled_eol};
-use crate::group4::{put_line, put_padding};
-use crate::runs::{put_row, put_shortest_row, shortest_takes_at_least, takes_at_least};
-use crate::shortest_lines::{Way, put_shortest_line};
 use crate::{Effort, EncodeSettings};
+use fax_coding::group4::{put_line, put_padding};
+use fax_coding::runs::{put_row, put_shortest_row, shortest_takes_at_least, takes_at_least};
+use fax_coding::shortest_lines::{Way, put_shortest_line};
+use fax_words::bit_writer::BitWriter;
 use hayro_ccitt::EncodingMode;
 use std::alloc::AllocError;
 
@@ -49,7 +50,7 @@ pub fn names_encoding(settings: EncodeSettings) -> bool
 
 /// Writes a one-dimensional line.
 #[inline(always)]
-#[tactic(auto, using(crate::proofs::RowLists::line_of_list, crate::proofs::ShortestRows::shortest_of_list))]
+#[tactic(auto, using(crate::proofs::RowLists::line_of_list, fax_coding::proofs::ShortestRows::shortest_of_list))]
 fn put_line_1d(
     writer: &mut BitWriter,
     effort: Effort,
@@ -67,7 +68,7 @@ fn put_line_1d(
 
 /// Returns whether a one-dimensional line has at least this many bits.
 #[inline(always)]
-#[tactic(auto, using(crate::proofs::RowLists::line_of_list, crate::proofs::ShortestRows::shortest_of_list))]
+#[tactic(auto, using(crate::proofs::RowLists::line_of_list, fax_coding::proofs::ShortestRows::shortest_of_list))]
 fn line_1d_takes_at_least(effort: Effort, columns: u32, changes: &[u32], bits: u128) -> bool
     requires { AreChanges columns changes.now }
     ensures { result ≡ nat_le bits (length (line_1d effort (pixels columns changes.now))) }

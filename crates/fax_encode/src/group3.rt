@@ -5,7 +5,7 @@ ghost use Rattle.hayro_ccitt.specs.Encodings.{eol, tag_of};
 ghost use Rattle.fax_encode.specs.Settings.{chosen_eols, fill_of};
 ghost use Rattle.fax_encode.specs.Writing.{all_bits};
 
-use crate::bit_writer::BitWriter;
+use fax_words::bit_writer::BitWriter;
 use hayro_ccitt::EncodingMode;
 use std::alloc::AllocError;
 

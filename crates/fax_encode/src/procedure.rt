@@ -10,8 +10,8 @@ ghost use Rattle.fax_encode.specs.Comparing.{Compares, CountsBits, IsOneModeOn, 
 ghost use Rattle.fax_encode.specs.Procedure.{StandsUpTo, line_by_procedure, part_by_procedure, tag_of_line};
 
 use crate::encoding::RowBelow;
-use crate::group4::{Above, Coding, above_after_vertical, b2_left_of, color_after};
-use crate::words::{
+use fax_coding::group4::{Above, Coding, above_after_vertical, b2_left_of, color_after};
+use fax_words::words::{
     Word, below_word, horizontal_word, makeup_word, pass_word, terminating_word, vertical_word,
 };
 use hayro_ccitt::EncodingMode;

@@ -5,7 +5,8 @@ ghost use Rattle.hayro_ccitt.specs.Bits.{bits_of};
 ghost use Rattle.hayro_ccitt.specs.Pictures.{IsClosedPicture};
 ghost use Rattle.fax_encode.specs.Chosen.{rows_of};
 ghost use Rattle.fax_encode.specs.Packed.{packed};
-ghost use Rattle.fax_encode.specs.Refusals.{AreRows, RefusesFirstUnlawful};
+ghost use Rattle.fax_encode.specs.Chosen.{AreRows};
+ghost use Rattle.fax_encode.specs.Refusals.{RefusesFirstUnlawful};
 
 use crate::{BitmapSink, EncodeError, encode_1d, encode_g4};
 use hayro_ccitt::{DecodeSettings, DecoderContext, EncodingMode, bits_fit, decode};

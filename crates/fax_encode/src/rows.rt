@@ -2,7 +2,8 @@
 
 ghost use Rattle.std.specs.Prelude.{◌↔◌, IsTrue, MatchOption, map};
 ghost use Rattle.hayro_ccitt.specs.Rows.{AreChanges};
-ghost use Rattle.fax_encode.specs.Refusals.{AreRows, IsFirstUnlawful};
+ghost use Rattle.fax_encode.specs.Chosen.{AreRows};
+ghost use Rattle.fax_encode.specs.Refusals.{IsFirstUnlawful};
 
 /// Returns whether a list is strictly ascending and below the width.
 pub fn is_row(columns: u32, changes: &[u32]) -> bool

@@ -6,15 +6,16 @@ ghost use Rattle.hayro_ccitt.specs.Bits.{bits_of};
 ghost use Rattle.hayro_ccitt.specs.Rows.{Row, white_row};
 ghost use Rattle.fax_encode.specs.Settings.{chosen_part, left_after, lines_left};
 ghost use Rattle.fax_encode.specs.WhiteRows.{IsWhiteLine, AreWhiteLines};
-ghost use Rattle.fax_encode.specs.Writing.{all_bits, EndsWhereAligned};
+ghost use Rattle.fax_encode.specs.Writing.{all_bits};
+ghost use Rattle.fax_encode.specs.Settings.{EndsWhereAligned};
 
 use crate::EncodeSettings;
-use crate::bit_writer::BitWriter;
-use crate::bitmap_rows::zero_bytes;
 use crate::encoding::{RowBelow, put_part};
-use crate::runs::put_joined;
-use crate::shortest_lines::Way;
-use crate::words::Joined;
+use fax_bitmap::bitmap_rows::zero_bytes;
+use fax_coding::runs::put_joined;
+use fax_coding::shortest_lines::Way;
+use fax_words::bit_writer::BitWriter;
+use fax_words::words::Joined;
 use hayro_ccitt::EncodingMode;
 use std::alloc::{AllocError, Global};
 

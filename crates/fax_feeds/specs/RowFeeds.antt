@@ -27,7 +27,7 @@ use Rattle.fax_reading.specs.PlainReading.{line_here, lines_of, row_of_line}
 use Rattle.fax_reading.specs.Rows.{Row, changes}
 use Rattle.fax_rows.specs.RowsRead.{IsStanding, IsStandingAtLine, ReachesNextLine, ReadsNext, RowsRead, ended, is_at_line}
 use Rattle.fax_rows.specs.RowsRead.{seen}
-use Rattle.fax_rows.specs.RowsTried.{CanCome, IsLeft, TriesRow, front_is_settled}
+use Rattle.fax_rows.specs.RowsTried.{CanCome, IsUnread, TriesRow, front_is_settled}
 use Rattle.fax_bits.specs.Faults.{no_memory}
 
 -- ---- What is seen
@@ -372,24 +372,24 @@ pub record TriesLine (is_last : Bool) (line_start : ℕ) (rows kept : RowState) 
   pub tried : TriesRow is_last old new answer before after
   pub same_bits : after.bits ≡ before.bits
   pub within : after.place ≤ length after.bits
-  pub left : IsLeft answer → (kept ≡ rows) × (after ≡ before)
+  pub left : IsUnread answer → (kept ≡ rows) × (after ≡ before)
   pub stand : answer ≡ Ok true → kept.stand ≡ AfterRow
-  pub reads : (from : ℕ) (whole : Bits) (dropped : ℕ) → (IsLeft answer → ⊥) → LieIn whole dropped is_last before.bits
+  pub reads : (from : ℕ) (whole : Bits) (dropped : ℕ) → (IsUnread answer → ⊥) → LieIn whole dropped is_last before.bits
       → line_start ≡ dropped + before.place → IsStandingAtLine from rows old (record { bits = whole; place = line_start })
       → ReadsNext (seen rows old (record { bits = whole; place = line_start }))
       (seen kept new (record { bits = whole; place = dropped + after.place })) answer
-  pub stands : (from : ℕ) (whole : Bits) (dropped : ℕ) → (IsLeft answer → ⊥) → LieIn whole dropped is_last before.bits
+  pub stands : (from : ℕ) (whole : Bits) (dropped : ℕ) → (IsUnread answer → ⊥) → LieIn whole dropped is_last before.bits
       → line_start ≡ dropped + before.place → IsStandingAtLine from rows old (record { bits = whole; place = line_start })
       → IsStanding from kept new (record { bits = whole; place = dropped + after.place })
 
-abbrev pub some_line : Result Bool DecodeError → Result (Option Bool) DecodeError
-some_line (Ok line) = Ok (Some line)
-some_line (Err error) = Err error
+abbrev pub of_settled_gap : Result Bool DecodeError → Result (Option Bool) DecodeError
+of_settled_gap (Ok line) = Ok (Some line)
+of_settled_gap (Err error) = Err error
 
 -- a line was left
-abbrev pub is_left : Result Bool DecodeError → Bool
-is_left (Ok read) = not read
-is_left (Err error) = no_memory error
+abbrev pub is_unread : Result Bool DecodeError → Bool
+is_unread (Ok read) = not read
+is_unread (Err error) = no_memory error
 
 -- what came of a line that wasn't left
 abbrev pub line_answer : Result Bool DecodeError → Result (Unit {0}) DecodeError
@@ -463,8 +463,8 @@ pub record LineIsPaid (old new : Feeding) (answer : Result Bool DecodeError) (co
   pub goes_on : answer ≡ Ok false → old.part ≢ None → counted + paid_for_line old ≤ paid_for_line new + 2
   pub begins : answer ≡ Ok false → old.part ≡ None → counted ≤ paid_for_line new
       + (4 * length (drop old.place old.kept) + length (changes old.ctx.held.reference) + 2)
-  pub read : (IsLeft answer → ⊥) → counted + paid_for_line old ≤ most_for_line old + 4
-  pub at_once : (IsLeft answer → ⊥) → old.part ≡ None → counted ≡ 0
+  pub read : (IsUnread answer → ⊥) → counted + paid_for_line old ≤ most_for_line old + 4
+  pub at_once : (IsUnread answer → ⊥) → old.part ≡ None → counted ≡ 0
   pub some : answer ≡ Ok false → old.part ≢ None → new.part ≢ None
   pub failed : answer ≡ Err OutOfMemory → counted + paid_for_line old ≤ most_for_line old + most_to_find old + 6
   pub failed_at_once : answer ≡ Err OutOfMemory → old.part ≡ None → counted ≤ most_to_find old + 2
@@ -475,14 +475,14 @@ pub record ReadsInFeed (old new : Feeding) (answer : Result Bool DecodeError) : 
   pub keeps : KeepsBits old new
   pub begun : new.begun ≡ true
   pub counts : old.ctx.ticks ≤ new.ctx.ticks
-  pub left : IsLeft answer → (new.rows ≡ old.rows) × (new.place ≡ old.place) × (new.ctx.held ≡ redrawn old.ctx.held [] White)
+  pub left : IsUnread answer → (new.rows ≡ old.rows) × (new.place ≡ old.place) × (new.ctx.held ≡ redrawn old.ctx.held [] White)
   pub unsettled : answer ≡ Ok false → (old.finished ≡ false)
       × (is_short (line_here new.ctx.held.settings new.ctx.held.reference (drop old.place old.kept)) ≡ true)
   pub memory : answer ≡ Err OutOfMemory
       → HasBlack (front_of (line_here new.ctx.held.settings new.ctx.held.reference (drop old.place old.kept)))
   pub paints : (whole : Bits) (tried : ℕ) → answer ≡ Err OutOfMemory → IsFeedOf whole tried old
       → PaintsBlack (lines_of new.ctx.held.settings whole) new.ctx.held.taken
-  pub reads : (whole : Bits) (tried : ℕ) → (IsLeft answer → ⊥) → IsFeedOf whole tried old
+  pub reads : (whole : Bits) (tried : ℕ) → (IsUnread answer → ⊥) → IsFeedOf whole tried old
       → ReadsNext (fed_over whole old) (fed_over whole new) answer
   pub stands : (whole : Bits) (tried : ℕ) → IsFeedOf whole tried old → IsFeedOf whole (tried + extra) new
   pub most : new.ctx.space ≤ max old.ctx.space (2 * old.ctx.held.settings.columns + 66)
@@ -550,10 +550,10 @@ fed_row (Ok false) = Ok Fed.NeedsMore
 fed_row (Err error) = Err error
 
 -- what it answers where no line was reached
-abbrev pub fed_none : Result (Option Bool) DecodeError → Result Fed DecodeError
-fed_none (Ok None) = Ok Fed.NeedsMore
-fed_none (Ok (Some line)) = Ok Fed.End
-fed_none (Err error) = Err error
+abbrev pub fed_without_row : Result (Option Bool) DecodeError → Result Fed DecodeError
+fed_without_row (Ok None) = Ok Fed.NeedsMore
+fed_without_row (Ok (Some line)) = Ok Fed.End
+fed_without_row (Err error) = Err error
 
 -- ---- Rows that are passed to a sink
 

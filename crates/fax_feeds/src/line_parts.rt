@@ -2,7 +2,7 @@
 
 ghost use Rattle.std.specs.Prelude.{◌≡◌, ◌≢◌, ◌≤◌, ◌<◌, ◌+◌, ◌*◌, true, false, length, IfSome, IfNone, Err, None, [], not, pos};
 ghost use Rattle.fax_bits.specs.Bits.{Bits, here};
-ghost use Rattle.fax_reading.specs.Context.{right_of_painted};
+ghost use Rattle.fax_reading.specs.Context.{ArePassed, right_of_painted};
 ghost use Rattle.fax_reading.specs.Continuations.{is_short};
 ghost use Rattle.fax_bits.specs.Faults.{misses_end};
 ghost use Rattle.fax_feeds.specs.LineParts.{ContinuesLine, CountsMode, GoesOnByMode, IsInRun, IsLawfulPart, IsPartOf, Leads};
@@ -11,14 +11,17 @@ ghost use Rattle.fax_feeds.specs.LineParts.{ReadsWord, StepsInRun, first_kept, i
 ghost use Rattle.fax_feeds.specs.LineParts.{run_of_part};
 ghost use Rattle.fax_reading.specs.LinesGoOn.{OpenRun, word_added};
 ghost use Rattle.fax_reading.specs.PlainReading.{line_here};
-ghost use Rattle.fax_reading.specs.Rows.{Row, opposite, paint, too_many_pixels};
+ghost use Rattle.fax_reading.specs.Rows.{Row, b1, b2, changes, opposite, paint, too_many_pixels};
+ghost use Rattle.fax_bits.specs.CodeReading.{read_code};
+ghost use Rattle.fax_bits.specs.ReaderSteps.{Reads};
+ghost use Rattle.fax_bits.specs.Runs.{codes_of};
+ghost use Rattle.fax_lines.specs.ContextSteps.{PassesChanges};
 
 use fax_bits::bit_reader::{BitReader, BitScanner};
 use fax_bits::codes::{Color, Mode};
-use fax_bits::{DecodeError, DecodeSettings, EncodingMode};
-use fax_lines::changes::vertical_place;
-use fax_lines::context::DecoderContext;
-use fax_lines::context::reading::{places_after, read_word};
+use fax_bits::{DecodeError, DecodeSettings, EncodingMode, Result};
+use fax_lines::changes::{b1_index, change_or_end, vertical_place};
+use fax_lines::context::{DecoderContext, reading_parts};
 
 /// Where in a line its next word begins. Of its front only the number of pixels is kept.
 #[derive(Clone, Copy)]
@@ -82,6 +85,47 @@ fn word_of_fault(error: DecodeError) -> Word
     } else {
         Word::Ends
     }
+}
+
+/// Reads a word of a run of a colour without drawing it.
+#[inline(always)]
+fn read_word(ctx: &mut DecoderContext, color: Color, reader: &mut BitScanner<'_>) -> Result<u16>
+    ensures word { Reads (read_code (codes_of color)) reader.old reader.new result }
+    ensures same_bits { reader.new.bits ≡ reader.old.bits }
+    ensures onward { reader.old.place ≤ reader.new.place }
+    ensures lacking { result ≡ Err DecodeError.UnexpectedEof → reader.new ≡ reader.old }
+    ensures frame { ctx.new ≡ record ctx.old { ticks = ctx.old.ticks + 1 } }
+{
+    let (_, tables, ticks) = reading_parts(ctx);
+    reader.read_word(color, tables, ticks)
+}
+
+/// Returns b1 and b2 of a row of which this many pixels are painted, and whose next ones have this colour (T.4, 4.2.1.1).
+/// `passed` is how many changes of the reference row are known not to be right of a0; afterwards it is the number of all such
+/// changes.
+#[inline(always)]
+fn places_after(
+    ctx: &mut DecoderContext,
+    painted: u32,
+    color: Color,
+    passed: &mut usize,
+) -> (u32, u32)
+    requires { ArePassed (changes ctx.old.held.reference) painted passed.old }
+    ensures b1 { result.0 ≡ b1 ctx.old.held.reference (right_of_painted painted) color }
+    ensures b2 { result.1 ≡ b2 ctx.old.held.reference (right_of_painted painted) color }
+    ensures within { result.0 ≤ ctx.old.held.settings.columns }
+    ensures onward { painted ≤ ctx.old.held.settings.columns → painted ≤ result.0 }
+    ensures passes { PassesChanges (changes ctx.old.held.reference) painted passed.old passed.new ctx.old.ticks
+        ctx.new.ticks }
+    ensures frame { ctx.new ≡ record ctx.old { ticks = ctx.new.ticks } }
+{
+    let columns = ctx.settings().columns;
+    let (reference, _, ticks) = reading_parts(ctx);
+    let index = b1_index(reference, painted, color, columns, passed, ticks);
+    (
+        change_or_end(reference, index, columns),
+        change_or_end(reference, index + 1, columns),
+    )
 }
 
 /// Goes on after a pass: the colour continues to below b2 (T.4, 4.2.1.3).

@@ -8,12 +8,13 @@ ghost use Rattle.fax_reading.specs.Context.{fresh, redrawn};
 ghost use Rattle.fax_reading.specs.GapsContinued.{gap_is_settled};
 ghost use Rattle.fax_feeds.specs.GapsSeen.{CountsLooks, IsSeen, is_settled, nothing_seen, rules_for, stage_following};
 ghost use Rattle.fax_rows.specs.RowsRead.{at_end_of_rows, ended, is_at_line};
-ghost use Rattle.fax_rows.specs.RowsTried.{IsLeft, front_is_settled};
+ghost use Rattle.fax_rows.specs.RowsTried.{IsUnread, front_is_settled};
 ghost use Rattle.fax_feeds.specs.RowFeeds.{Begins, ComeNext, ComesInFeed, DropsRead, ReadsInFeed, ComesOn, FeedsNext};
-ghost use Rattle.fax_feeds.specs.RowFeeds.{IsFeedOf, KeepsBits, TriesLine, fed_bits, fed_end, fed_none, fed_row, is_left};
+ghost use Rattle.fax_feeds.specs.RowFeeds.{IsFeedOf, KeepsBits, TriesLine, fed_bits, fed_end, fed_row, fed_without_row};
+ghost use Rattle.fax_feeds.specs.RowFeeds.{is_unread};
 ghost use Rattle.fax_feeds.specs.RowFeeds.{HoldsMore, KeepsPart, LineGoesOn, Scans, ScansLine, StaysShort, line_answer};
 ghost use Rattle.fax_reading.specs.Continuations.{is_short};
-ghost use Rattle.fax_feeds.specs.RowFeeds.{IsPartOf1d, line_of_feed, says_short, some_line};
+ghost use Rattle.fax_feeds.specs.RowFeeds.{IsPartOf1d, line_of_feed, says_short, of_settled_gap};
 ghost use Rattle.fax_feeds.specs.RowFeeds.{CountsRow, Feeding, FeedsRow, PassesRows, PushesRows, unused};
 ghost use Rattle.fax_reading.specs.Rows.{AreChanges, changes};
 ghost use Rattle.fax_lines.specs.SinkStates.{state_of};
@@ -144,8 +145,8 @@ fn front_waits(
 }
 
 /// Returns whether a line is here after a gap that was passed.
-fn some_line(line: Result<bool>) -> Result<Option<bool>>
-    ensures { result ≡ some_line line }
+fn of_settled_gap(line: Result<bool>) -> Result<Option<bool>>
+    ensures { result ≡ of_settled_gap line }
 {
     match line {
         Ok(line) => Ok(Some(line)),
@@ -154,8 +155,8 @@ fn some_line(line: Result<bool>) -> Result<Option<bool>>
 }
 
 /// Returns whether a line was left.
-fn is_left(row: &Result<bool>) -> bool
-    ensures { result ≡ is_left row.now }
+fn is_unread(row: &Result<bool>) -> bool
+    ensures { result ≡ is_unread row.now }
 {
     matches!(row, Ok(false) | Err(DecodeError::OutOfMemory))
 }
@@ -187,8 +188,8 @@ fn is_some_line(line: &Result<Option<bool>>) -> bool
 }
 
 /// Returns what a call comes to that reaches no line.
-fn fed_none(line: Result<Option<bool>>) -> Result<Fed>
-    ensures { result ≡ fed_none line }
+fn fed_without_row(line: Result<Option<bool>>) -> Result<Fed>
+    ensures { result ≡ fed_without_row line }
 {
     match line {
         Ok(None) => Ok(Fed::NeedsMore),
@@ -287,7 +288,7 @@ fn can_take_row(ctx: &DecoderContext) -> bool
 /// Passes the gap before the next line, which begins at this offset of the data, if no data that follows can change it.
 /// Returns whether there is a line after it, or `None` if more data is needed.
 #[inline(always)]
-fn come_to_settled_line(
+fn pass_settled_gap(
     rows: &mut RowState,
     ctx: &mut DecoderContext,
     look: &mut GapLook,
@@ -309,7 +310,7 @@ fn come_to_settled_line(
         return Ok(None);
     }
     *look = GapLook::new();
-    some_line(rows.pass_gap_here(ctx, reader, gap_start))
+    of_settled_gap(rows.pass_gap_here(ctx, reader, gap_start))
 }
 
 /// Reads the line here, which begins at this offset of the data, and returns true, if no data that follows can change it;
@@ -335,7 +336,7 @@ fn try_line(
     let cut_rows = ctx.cut_rows();
     let row = try_row(ctx, reader, is_last);
     let _end = reader.bit_pos();
-    if is_left(&row) {
+    if is_unread(&row) {
         return row;
     }
     let line = line_answer(&row);
@@ -703,7 +704,7 @@ impl RowFeed {
     {
         let mut reader = placed_at(&self.data, self.order, self.place);
         let gap_start = self.dropped + self.place;
-        let line = come_to_settled_line(
+        let line = pass_settled_gap(
             &mut self.rows,
             &mut self.ctx,
             &mut self.look,
@@ -713,7 +714,7 @@ impl RowFeed {
         );
         self.place = reader.bit_pos();
         if !is_some_line(&line) {
-            return fed_none(line);
+            return fed_without_row(line);
         }
         if !can_take_row(&self.ctx) {
             return Err(DecodeError::UnexpectedEof);

@@ -18,8 +18,9 @@ ghost use Rattle.fax_reading.specs.Answers.{line_from_1d, line_from_2d, front_of
 ghost use Rattle.fax_reading.specs.Answers.{TellsCut};
 ghost use Rattle.fax_reading.specs.Lines.{line_1d, line_2d};
 ghost use Rattle.fax_reading.specs.Space.{most_stored};
+ghost use Rattle.std.specs.Borrow.{sem};
+ghost use Rattle.fax_lines.specs.Lending.{LendsTicks};
 
-pub mod reading;
 pub mod row_record;
 
 use crate::Decoder;
@@ -735,12 +736,16 @@ pub fn reference_row(ctx: &DecoderContext) -> &[u32]
     ctx.ref_changes.as_slice()
 }
 
-/// Returns whether a run of the line was cut at the row's end.
+/// Lends what words are read with that aren't drawn: the changes of the reference row, the look-up tables, and the count of work.
 #[inline(always)]
-pub fn is_cut(ctx: &DecoderContext) -> bool
-    ensures { result ≡ ctx.now.cut }
+pub fn reading_parts(ctx: &mut DecoderContext) -> (&[u32], &Tables, &mut Ticks)
+    ensures* writes_back { sem 𝓛 (LendsTicks ctx.entry result.2) }
+    ensures changes { result.0.now ≡ changes ctx.old.held.reference }
+    ensures lawful { AreChanges ctx.old.held.settings.columns result.0.now }
+    ensures width { length ctx.old.held.reference ≡ ctx.old.held.settings.columns }
+    ensures ticks { result.2.now ≡ ctx.old.ticks }
 {
-    ctx.is_cut
+    (ctx.ref_changes.as_slice(), &ctx.tables, &mut ctx.ticks)
 }
 
 /// Empties the front and sets the colour to white, as each line begins, where no run of it is cut.
@@ -756,15 +761,17 @@ pub fn begin_line(ctx: &mut DecoderContext)
     ctx.color = Color::White;
 }
 
-/// Makes the row that was drawn, continued in its last colour if it isn't full, the reference row. The front is empty
-/// then, the colour is white, and one more row is counted. It allocates nothing.
+/// Makes the row that was drawn, continued in its last colour if it isn't full, the reference row, and returns whether a run of its
+/// line was cut at the row's end. The front is empty then, the colour is white, and one more row is counted. It allocates nothing.
 #[tactic(auto, using(fax_reading::proofs::PixelRows::ChangesAndPixels::front_fits))]
 #[inline(always)]
-pub fn end_line(ctx: &mut DecoderContext)
+pub fn end_line(ctx: &mut DecoderContext) -> bool
     requires rows { ctx.old.held.taken + 1 < 2 ^ 64 }
+    ensures cut { result ≡ ctx.old.cut }
     ensures frame { ctx.new ≡ record ctx.old { held = after_taking ctx.old.held; passed = 0; cut = false } }
     ensures width { length ctx.new.held.reference ≡ ctx.new.held.settings.columns }
 {
+    let is_cut = ctx.is_cut;
     // The row that was drawn is whole.
     ctx.pixels_decoded = ctx.settings.columns;
     // No change of the new reference row was passed.
@@ -772,6 +779,7 @@ pub fn end_line(ctx: &mut DecoderContext)
     exchange(&mut ctx.ref_changes, &mut ctx.coding_changes);
     begin_line(ctx);
     ctx.rows.decoded_rows += 1;
+    is_cut
 }
 
 /// Decodes a one-dimensional line, whatever the front was before (T.4, 4.1.1). Of what the context holds, only

@@ -1,7 +1,7 @@
 //! The pages of a TIFF file.
 
-ghost use Rattle.std.specs.Prelude.{◌≡◌, ◌+◌, ◌*◌, ◌<◌, ◌≤◌, ◌↔◌, true, length, All, IfOk, IfSome, OnOk, IsNone};
-ghost use Rattle.tiff_read.specs.Payments.{IsSameFile, IsSameReading, Opens, room_for};
+ghost use Rattle.std.specs.Prelude.{◌≡◌, ◌+◌, ◌*◌, ◌<◌, ◌≤◌, ◌↔◌, true, length, All, IfOk, IfSome, OnErr, OnOk, IsNone};
+ghost use Rattle.tiff_read.specs.Payments.{Costs, IsSameFile, IsSameReading, Opens, room_for};
 ghost use Rattle.fax_pages.specs.Tags.{is_fax_compression, settings_of_tags};
 ghost use Rattle.fax_pages.specs.TiffPages.{HasSizes, IsTiffPage, LiesIn, cost_of};
 
@@ -11,7 +11,7 @@ use crate::tags::{is_fax_compression, is_inverted_by_tags, order_of_tags, settin
 use paid_cursor::Cursor;
 use std::alloc::Global;
 use std::marker::Model;
-use tiff_read::{Directory, Layout, Picture, Tiff, TiffError};
+use tiff_read::{Directory, Layout, Picture, Texts, Tiff, TiffError};
 
 /// The pages of a TIFF file, in the order of its directories.
 #[derive(Drop)]
@@ -90,18 +90,18 @@ impl<'a> TiffPages<'a> {
         ensures least { self.new.left ≤ self.old.left }
         ensures same { IsSameReading self.old self.new }
     {
-        let picture = self.tiff.picture(directory)?;
+        let picture = self.picture(directory)?;
         if let Some(why) = why_refused(&picture) {
             return Ok(self.refused(why));
         }
-        let Some(layout) = self.tiff.layout(directory)? else {
+        let Some(layout) = self.layout(directory)? else {
             return Ok(self.refused(Refusal::NoParts));
         };
         let Some(sizes) = sizes_of(&picture, &layout) else {
             return Ok(self.refused(Refusal::TileSize));
         };
         let is_dark_first = picture.photometric == Some(3) && self.is_dark_first(directory)?;
-        let texts = self.tiff.texts(directory)?;
+        let texts = self.texts(directory)?;
         let parts = self.parts(alloc, &picture, &layout, sizes)?;
         Ok(Found::Page(Page {
             number: self.pages,
@@ -127,6 +127,30 @@ impl<'a> TiffPages<'a> {
             },
             texts,
         }))
+    }
+
+    /// Returns what a directory says of its picture.
+    fn picture(&mut self, directory: &Directory) -> Result<Picture, TiffError>
+        ensures paid { OnOk result (Costs 13 self.old self.new) }
+        ensures unchanged { OnErr result (self.new ≡ self.old) }
+    {
+        self.tiff.picture(directory)
+    }
+
+    /// Returns how the picture of a directory is laid out.
+    fn layout(&mut self, directory: &Directory) -> Result<Option<Layout>, TiffError>
+        ensures paid { OnOk result (Costs 5 self.old self.new) }
+        ensures unchanged { OnErr result (self.new ≡ self.old) }
+    {
+        self.tiff.layout(directory)
+    }
+
+    /// Returns what a directory says in words.
+    fn texts(&mut self, directory: &Directory) -> Result<Texts<'a>, TiffError>
+        ensures least { self.new.left ≤ self.old.left }
+        ensures same { IsSameReading self.old self.new }
+    {
+        self.tiff.texts(directory)
     }
 
     /// Returns that the page isn't decoded.
@@ -189,7 +213,7 @@ impl<'a> TiffPages<'a> {
         let mut left: u32 = 0;
         let mut top: u32 = 0;
         'parts: while index < count && top < sizes.rows {
-            let Some(found) = self.tiff.part(layout, index)? else {
+            let Some(found) = self.bytes_of(layout, index)? else {
                 break;
             };
             let rows = sizes.part_rows.min(sizes.rows - top);
@@ -216,6 +240,19 @@ impl<'a> TiffPages<'a> {
             }
         }
         Ok(parts)
+    }
+
+    /// Returns where the bytes of a strip or tile are; `None` after the last one.
+    fn bytes_of(
+        &mut self,
+        layout: &Layout,
+        index: u64,
+    ) -> Result<Option<tiff_read::Part>, TiffError>
+        ensures paid { OnOk result (Costs 2 self.old self.new) }
+        ensures unchanged { OnErr result (self.new ≡ self.old) }
+        ensures within { IfOk result (λ found. IfSome found (λ part. (part.start ≤ part.end) × (part.end ≤ length self.old.bytes))) }
+    {
+        self.tiff.part(layout, index)
     }
 
     /// Returns where the first `count` strips or tiles begin, in ascending order, if the directory doesn't say how many bytes they have, or says

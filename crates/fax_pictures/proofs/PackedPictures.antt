@@ -8,8 +8,9 @@ use Rattle.std.proofs.lemmas.List.{drop-drop, take-take}
 use Rattle.fax_encode.proofs.Names.{take-append-drop, take-append_seam, drop-append_seam, length-bits_of, Bits, bits_of, Row}
 use Rattle.fax_encode.proofs.Names.{filled_up, packed, rows_shown, shown, bytes_of_row}
 use Rattle.fax_encode.proofs.PaintedRows.{bits_of_plain}
-use Rattle.fax_encode.proofs.PaintedWords.{bits_of-take, bits_of-drop}
-use Rattle.fax_encode.proofs.ScannedRows.{length-row, packed_is_shown, shown-row, shown-none}
+use Rattle.fax_encode.proofs.WordBytes.{bits_of-take, bits_of-drop}
+use Rattle.fax_encode.proofs.ScannedRows.{length-row, shown-row, shown-none}
+use Rattle.fax_encode.proofs.PackedRows.{packed_is_shown}
 use Rattle.fax_encode.proofs.Names.{map, rows_of, pixels, HighestFirst, bits_of_byte}
 use Rattle.fax_pictures.proofs.LaidLists.{take-laid_over}
 use Rattle.hayro_ccitt.specs.Rows.{HaveWidth, white_row}

@@ -86,9 +86,9 @@ lacks_memory (Ok x) = false
 lacks_memory (Err error) = no_memory error
 
 -- a line wasn't read: more data is needed, or there is no memory
-abbrev pub IsLeft : Result Bool DecodeError → Type 0
-IsLeft (Ok read) = read ≡ false
-IsLeft (Err error) = error ≡ OutOfMemory
+abbrev pub IsUnread : Result Bool DecodeError → Type 0
+IsUnread (Ok read) = read ≡ false
+IsUnread (Err error) = error ≡ OutOfMemory
 
 -- What a call that tries to read the line here leaves: whatever bits follow, its row or its fault; or the line is left, and
 -- what the context holds is as at its start, since the line is short and more data may come, or since a change can't be stored
@@ -99,7 +99,7 @@ pub record TriesRow (is_last : Bool) (old new : Context) (answer : Result Bool D
       → ReadsRow old new (Ok tt) (here before ++ more) (here after ++ more)
   pub failed : IfErr answer (λ e. IsFault e → (more : Bits) → CanCome is_last more
       → ReadsRow old new (Err e) (here before ++ more) (here after ++ more))
-  pub left : IsLeft answer → new.held ≡ redrawn old.held [] White
+  pub left : IsUnread answer → new.held ≡ redrawn old.held [] White
   pub short : answer ≡ Ok false
       → (is_last ≡ false) × (is_short (line_here old.held.settings old.held.reference (here before)) ≡ true)
   pub memory : answer ≡ Err OutOfMemory → HasBlack (front_of (line_here old.held.settings old.held.reference (here before)))

@@ -28,18 +28,18 @@ pub(crate) fn count_damaged_row(ctx: &mut DecoderContext, fault: DecodeError)
     set_row_record(ctx, rows);
 }
 
-/// Counts the row of the line as one in which a run was cut.
+/// Counts the last row as one in which a run was cut.
 #[cold]
 #[inline(never)]
 pub(crate) fn count_cut_row(ctx: &mut DecoderContext)
-    requires rows { ctx.old.held.taken + 1 < 2 ^ 64 }
+    requires { 0 < ctx.old.held.taken }
     ensures frame { ctx.new ≡ record ctx.old {
-      held = record ctx.old.held { repairs = with_cut ctx.old.held.taken ctx.old.held.repairs };
+      held = record ctx.old.held { repairs = with_cut (ctx.old.held.taken - 1) ctx.old.held.repairs };
     } }
 {
     let mut rows = row_record(ctx);
     // At most one row is cut a row.
-    if rows.cut_rows <= rows.decoded_rows {
+    if rows.cut_rows < rows.decoded_rows {
         rows.cut_rows += 1;
         set_row_record(ctx, rows);
     }

@@ -12,7 +12,8 @@ ghost use Rattle.fax_rows.specs.WhiteRows.{PushesWhite};
 use crate::counts::take_back_row;
 use crate::row_reader::{RowState, first_stand, has_ended};
 use crate::white_lines::{
-    WhiteLines, may_follow, no_white_lines, pass_placed_line, placed_lines, white_is_next,
+    WhiteLines, may_follow, no_white_lines, pass_line, pass_placed_line, placed_lines,
+    white_is_next,
 };
 use fax_bits::bit_reader::{
     BitOrder, BitReader, WordsAhead, at_bit, bit_len, go_on_at, words_ahead,
@@ -174,10 +175,23 @@ fn push_white_lines<D: Decoder>(
         reader.new result }
 {
     let lines = *white.lines;
-    'white: while rows.take_white_row(lines, white.dropped + reader.bit_pos(), ctx, reader) {
+    let most = rows_left(lines.limit, ctx.decoded_rows());
+    let mut count = 0;
+    let mut start = reader.bit_pos();
+    'white: while count < most {
+        let line_start = reader.bit_pos();
+        if !pass_line(lines, reader) {
+            break 'white;
+        }
+        start = line_start;
+        count += 1;
         if let Err(refusal) = decoder.push_row(&[]) {
+            rows.take_white_rows(count, white.dropped + start + lines.gap, ctx);
             return Err(refusal);
         }
+    }
+    if count > 0 {
+        rows.take_white_rows(count, white.dropped + start + lines.gap, ctx);
     }
     Ok(())
 }

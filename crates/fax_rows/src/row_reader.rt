@@ -17,14 +17,11 @@ ghost use Rattle.fax_rows.specs.RowsRead.{ReachesNextLine};
 ghost use Rattle.fax_rows.specs.RowsRead.{stand_after, line_after, is_at_line, at_end_of_rows, ended, seen, IsStanding};
 ghost use Rattle.fax_reading.specs.PlainReading.{failed_at};
 ghost use Rattle.fax_rows.specs.RowsTried.{PassesGapHere, StandsAlone, StandsFirst, TakesNone, rows_after_line};
-ghost use Rattle.fax_rows.specs.WhiteRows.{TakesWhite};
-ghost use Rattle.fax_rows.specs.WhiteLines.{MayFollow};
 ghost use Rattle.fax_rows.specs.RowsRead.{IsStandingAtLine, DamageIsCounted, ReadsNext, gaps_passed, row_came};
 
 use crate::counts::take_rows_again;
 use crate::group3::read_leading_eols;
 use crate::rows::{pass_gap, read_row};
-use crate::white_lines::{WhiteLines, pass_line};
 use fax_bits::bit_reader::{BitOrder, BitReader, bit_len};
 use fax_bits::{DecodeError, DecodeSettings, EncodingMode, Result};
 use fax_lines::context::row_record::row_record;
@@ -286,32 +283,6 @@ impl RowState {
         let _end = reader.bit_pos();
         self.note_line(ctx, &row, line_start, damaged_rows, cut_rows);
         row
-    }
-
-    /// Reads one of these white lines with its EOL, which are at this offset of the data, and returns whether one is next; otherwise
-    /// nothing is read. No data that follows can change such a row.
-    #[inline(always)]
-    pub(crate) fn take_white_row(
-        &mut self,
-        lines: WhiteLines,
-        start: usize,
-        ctx: &mut DecoderContext,
-        reader: &mut BitReader<'_>,
-    ) -> bool
-        requires follow { MayFollow ctx.old.held.settings ctx.old.held.has_eols ctx.old.held.reference lines }
-        requires fits { start + 64 < 2 ^ 64 }
-        ensures taken { result ≡ true
-            → TakesWhite lines start self.old self.new ctx.old ctx.new reader.old reader.new }
-        ensures none { result ≡ false → (self.new ≡ self.old) × (ctx.new ≡ ctx.old) × (reader.new ≡ reader.old) }
-    {
-        if ctx.decoded_rows() >= lines.limit {
-            return false;
-        }
-        if !pass_line(lines, reader) {
-            return false;
-        }
-        self.take_white_rows(1, start + lines.gap, ctx);
-        true
     }
 
     /// Counts white rows that were read again and again, one at least. The line of the last one begins at this offset.

@@ -23,9 +23,7 @@ use crate::group3::recover;
 use fax_bits::bit_reader::{BitReader, at_bit, copy};
 use fax_bits::codes::Color;
 use fax_bits::{DecodeError, EncodingMode, Result};
-use fax_lines::context::{
-    DecoderContext, begin_line, decode_1d_line, decode_2d_line, end_line, is_cut,
-};
+use fax_lines::context::{DecoderContext, begin_line, decode_1d_line, decode_2d_line, end_line};
 
 /// Returns whether the row limit is met; a limit of 0 is no limit.
 pub fn limit_met(ctx: &DecoderContext) -> bool
@@ -45,16 +43,19 @@ fn align_row(ctx: &DecoderContext, reader: &mut BitReader<'_>)
     }
 }
 
-/// Makes the full row that was drawn the reference row, and moves to where the next line, or its EOL, begins.
+/// Makes the full row that was drawn the reference row, and moves to where the next line, or its EOL, begins. Returns whether a run of
+/// the row's line was cut.
 #[inline(always)]
-fn take_row(ctx: &mut DecoderContext, reader: &mut BitReader<'_>)
+fn take_row(ctx: &mut DecoderContext, reader: &mut BitReader<'_>) -> bool
     requires full { IsFull ctx.old.held }
     requires rows { ctx.old.held.taken + 1 < 2 ^ 64 }
+    ensures cut { result ≡ ctx.old.cut }
     ensures taken { ctx.new.held ≡ with_row_taken ctx.old.held ctx.old.held.front }
     ensures moves { MovesAfterRow ctx.old ctx.new reader.old reader.new }
 {
-    end_line(ctx);
+    let is_cut = end_line(ctx);
     align_row(ctx, reader);
+    is_cut
 }
 
 /// Takes the row of a whole line, as `take_row` does, and counts it if a run of it was cut.
@@ -67,10 +68,9 @@ fn take_whole_row(ctx: &mut DecoderContext, reader: &mut BitReader<'_>)
     } }
     ensures moves { MovesAfterRow ctx.old ctx.new reader.old reader.new }
 {
-    if is_cut(ctx) {
+    if take_row(ctx, reader) {
         count_cut_row(ctx);
     }
-    take_row(ctx, reader);
 }
 
 /// Takes the row of a line that was repaired after this fault, as `take_row` does, and counts it as damaged.

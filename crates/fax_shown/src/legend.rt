@@ -8,8 +8,11 @@ use std::alloc::{AllocError, Global};
 /// How many pixels a line of a legend has from top to bottom.
 pub(crate) const LINE: u64 = 16;
 
-/// A legend is as large as its letters for so many columns.
+/// A legend is as large as its letters for so many columns, but of a low and wide page.
 pub(crate) const LEGEND_COLUMNS: u64 = 600;
+
+/// How many rows a legend of four lines has: one that is larger isn't higher than its page.
+pub(crate) const LEGEND_ROWS: u64 = 64;
 
 /// Returns what the rows of a mark are.
 fn text_of(mark: Mark) -> &'static str {

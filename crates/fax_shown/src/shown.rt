@@ -1,7 +1,7 @@
 //! A picture with its damage in colour.
 
 use crate::canvas::{Area, Canvas, color_of};
-use crate::legend::{LEGEND_COLUMNS, LINE, Legend};
+use crate::legend::{LEGEND_COLUMNS, LEGEND_ROWS, LINE, Legend};
 use crate::marks::{Mark, Marks};
 use fax_pictures::{Bitmap, PictureError};
 use std::alloc::Global;
@@ -19,7 +19,7 @@ pub fn damage_shown(
 ) -> Result<Canvas, PictureError> {
     let (columns, rows) = (u64::from(picture.columns()), u64::from(picture.rows()));
     let lines = lines_of(marks);
-    let size = (columns / LEGEND_COLUMNS).max(1);
+    let size = (columns / LEGEND_COLUMNS).min(rows / LEGEND_ROWS).max(1);
     let legend = Legend {
         top: rows,
         size,

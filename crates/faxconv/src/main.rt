@@ -10,6 +10,7 @@ mod raw;
 mod run;
 mod shown;
 mod source;
+mod split;
 mod texts;
 mod tiff;
 mod written;

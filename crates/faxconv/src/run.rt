@@ -34,22 +34,22 @@ pub(crate) struct Run<'a, 'b, 'c> {
     pub(crate) teller: Teller<'a>,
     pub(crate) options: &'b Options<'c>,
     /// The pictures of the files before.
-    before: u64,
+    pub(crate) before: u64,
     /// What was written.
     pub(crate) written: Written<'a>,
 }
 
 /// A page that is read, among those of its file.
 #[derive(Clone, Copy)]
-struct Job<'n> {
+pub(crate) struct Job<'n> {
     /// The name of the file.
-    name: &'n str,
+    pub(crate) name: &'n str,
     /// Where the page is in it.
-    place: Place,
+    pub(crate) place: Place,
     /// What is to be written.
-    output: Output,
+    pub(crate) output: Output,
     /// What is wrong with what follows it.
-    note: Option<Note<'static>>,
+    pub(crate) note: Option<Note<'static>>,
 }
 
 impl<'a, 'b, 'c> Run<'a, 'b, 'c> {
@@ -131,7 +131,10 @@ impl<'a, 'b, 'c> Run<'a, 'b, 'c> {
             return self.do_stream(STANDARD_INPUT, &mut self.rt.stdin());
         }
         match fs::File::open(self.rt, path) {
-            Ok(mut file) => self.do_stream(path, &mut file),
+            Ok(mut file) => match self.size_if_split(&file) {
+                Some(size) => self.do_split(path, &file, size),
+                None => self.do_stream(path, &mut file),
+            },
             Err(error) => self.cannot(path, &error),
         }
     }
@@ -188,7 +191,7 @@ impl<'a, 'b, 'c> Run<'a, 'b, 'c> {
     }
 
     /// Tells why a file isn't read.
-    fn do_other(&mut self, name: &str, why: &str) -> Result<Status, AllocError> {
+    pub(crate) fn do_other(&mut self, name: &str, why: &str) -> Result<Status, AllocError> {
         self.teller.tell(Some(name), why);
         Ok(Status::Missing)
     }
@@ -253,7 +256,7 @@ impl<'a, 'b, 'c> Run<'a, 'b, 'c> {
     }
 
     /// Returns whether the page of a number is wanted; an image that no page shows has the number 0.
-    fn is_wanted(&self, number: u64) -> bool {
+    pub(crate) fn is_wanted(&self, number: u64) -> bool {
         match u32::try_from(self.told(number)) {
             Ok(told) if number > 0 => self.options.pages.contains(told),
             _ => self.options.pages.ranges.is_empty(),
@@ -290,7 +293,7 @@ impl<'a, 'b, 'c> Run<'a, 'b, 'c> {
                 is_only,
                 resolution: None,
             },
-            note: note_of(entry),
+            note: note_of(entry.note),
         }
     }
 
@@ -336,7 +339,7 @@ impl<'a, 'b, 'c> Run<'a, 'b, 'c> {
     }
 
     /// Reads a page, tells of it, and writes it.
-    fn do_entry(
+    pub(crate) fn do_entry(
         &mut self,
         job: &Job<'_>,
         entry: Entry<'_>,
@@ -637,8 +640,8 @@ fn report_of<'r>(
 }
 
 /// Returns what is wrong with what follows a page.
-fn note_of(entry: &Entry<'_>) -> Option<Note<'static>> {
-    match entry.note {
+pub(crate) fn note_of(note: Option<&'static str>) -> Option<Note<'static>> {
+    match note {
         None => None,
         Some(text) => Some(Note {
             text,

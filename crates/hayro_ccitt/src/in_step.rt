@@ -12,12 +12,11 @@ ghost use Rattle.hayro_ccitt.specs.Rows.{Row};
 ghost use Rattle.hayro_ccitt.specs.RowsKept.{EndsByWords, IsInStepFrom, PutsInStep, RowsFollow, TellsStep};
 ghost use Rattle.hayro_ccitt.specs.Work.{most_for_lines};
 
-use crate::reach::{is_before_1d, pass_modes};
+use crate::reach::{is_before_1d, pass_modes, run_length};
 use crate::{DecodeSettings, EncodingMode};
 use fax_bits::bit_reader::{BitOrder, BitReader, at_place, copy};
 use fax_bits::codes::{Color, pass_eol};
 use fax_lines::context::DecoderContext;
-use fax_lines::context::reading::run_length;
 use fax_rows::rows::read_eols;
 
 /// Passes the runs of a one-dimensional line without drawing them, as many as its columns take, and returns whether it is

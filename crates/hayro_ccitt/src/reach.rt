@@ -1,18 +1,40 @@
 //! How many rows damage to a line of two-dimensional data may change.
 
 ghost use Rattle.std.specs.Prelude.{◌≡◌, ◌+◌, ◌*◌, ◌<◌, ◌≤◌, ◌⊎◌, ◌↔◌, [], ◌∷◌, ℕ, suc, Some, IfSome, IsTrue, true, false};
-ghost use Rattle.std.specs.Prelude.{length, drop, if◌then◌else◌, is_some, option_map};
+ghost use Rattle.std.specs.Prelude.{length, drop, if◌then◌else◌, is_some, option_map, None, Ok, Err};
 ghost use Rattle.hayro_ccitt.specs.Counting.{OnlyCounts};
 ghost use Rattle.hayro_ccitt.specs.Bits.{Bits, BitsFit, bits_in, here};
 ghost use Rattle.hayro_ccitt.specs.EndOfLine.{after_eol, next_eol};
 ghost use Rattle.hayro_ccitt.specs.LocalityByK.{ComeBefore1D, IsFollowedBy, IsLine2D, ReadsModes, after_mode};
-ghost use Rattle.hayro_ccitt.specs.{Ticks.looked, Work.mode_found, Work.most_for_lines};
+ghost use Rattle.hayro_ccitt.specs.Runs.{read_run};
+ghost use Rattle.hayro_ccitt.specs.{Ticks.looked, Ticks.run_found, Work.mode_found, Work.most_for_lines};
 
-use crate::{DecodeSettings, EncodingMode};
+use crate::{DecodeError, DecodeSettings, EncodingMode};
 use fax_bits::bit_reader::{BitOrder, BitReader, at_place, copy};
 use fax_bits::codes::{Color, Mode, pass_eol};
-use fax_lines::context::DecoderContext;
-use fax_lines::context::reading::run_length;
+use fax_lines::context::{DecoderContext, reading_parts};
+
+/// Passes a run of a colour without drawing it, and returns its length. If there is none, it returns `None`, and the
+/// offset is unspecified.
+pub(crate) fn run_length(
+    ctx: &mut DecoderContext,
+    color: Color,
+    reader: &mut BitReader<'_>,
+) -> Option<u32>
+    ensures run { (n : ℕ) → result ≡ Some n → read_run color (here reader.old) ≡ Ok (n, here reader.new) }
+    ensures none { result ≡ None → (fault : DecodeError) × (read_run color (here reader.old) ≡ Err fault) }
+    ensures same_bits { reader.new.bits ≡ reader.old.bits }
+    ensures only_ticks { OnlyCounts ctx.old ctx.new }
+    ensures cut { ctx.new.cut ≡ ctx.old.cut }
+    ensures at_most { ctx.new.ticks
+        ≤ ctx.old.ticks + length (run_found color (0, here reader.old)) + (if is_some result then 0 else 1) }
+{
+    let (_, tables, ticks) = reading_parts(ctx);
+    match reader.decode_run(color, tables, ticks) {
+        Ok(run) => Some(run),
+        Err(_) => None,
+    }
+}
 
 /// Passes the mode here, in a line of this colour, with the runs of a horizontal one, without drawing it, and
 /// returns the colour after it. If there is none, or one of its runs is broken, it returns `None`, and the offset is

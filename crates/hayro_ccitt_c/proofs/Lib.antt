@@ -1,12 +1,8 @@
 pub mod Encoded
-pub mod FedRows
-pub mod InvertedBits
-pub mod ListedMemory
-pub mod PackedMemory
 pub mod PackedTogether
 pub mod PointersHeld
-pub mod Reporting
-pub mod SpreadRows
-pub mod StandingRows
-pub mod TakenRows
-pub mod WhiteRows
+pub use Rattle.c_rows.proofs.PackedMemory
+pub use Rattle.c_rows.proofs.Reporting
+pub use Rattle.c_rows.proofs.SpreadRows
+pub use Rattle.c_rows.proofs.StandingRows
+pub use Rattle.c_rows.proofs.WhiteRows

@@ -8,7 +8,7 @@ use Rattle.hayro_ccitt.specs.Bits.{Bits, bits_of}
 use Rattle.hayro_ccitt.specs.PlainReading.{plain}
 use Rattle.hayro_ccitt.specs.Rows.{Row}
 use Rattle.fax_encode.specs.Packed.{packed}
-use Rattle.fax_encode.proofs.ScannedRows.{bits_of-parts}
+use Rattle.fax_encode.proofs.WordBytes.{bits_of-parts}
 use Rattle.hayro_ccitt_c.proofs.PackedMemory.{one_row_more}
 use Rattle.hayro_ccitt_c.specs.Packing.{bytes_of_row, bytes_of_rows, outside_rows, packed_row, rows_at, together}
 use Rattle.hayro_ccitt_c.specs.Reports.{ArePacked, AreTogether}

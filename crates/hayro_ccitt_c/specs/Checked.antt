@@ -10,7 +10,7 @@ use Rattle.fax_conforms.specs.declared.stops.Rule.TheVariants as rule
 use Rattle.fax_conforms.specs.declared.stops.Violation.{Violation}
 use Rattle.hayro_ccitt_c.specs.Reports.{OnSettings}
 use Rattle.hayro_ccitt_c.specs.declared.checks.ViolationOutcome.{ViolationOutcome}
-use Rattle.hayro_ccitt_c.specs.declared.settings.Settings.{Settings}
+use Rattle.c_rows.specs.declared.settings.Settings.{Settings}
 
 -- K of two-dimensional Group 3 (T.4, 4.2.1), if C limits the two-dimensional lines by one: 0 is no limit
 abbrev pub k_of : ℕ → Option ℕ

@@ -2,9 +2,9 @@
 use Rattle.std.specs.Prelude.{Bool, true, false, Option, None, Some, IfSome}
 use Rattle.hayro_ccitt_c.specs.declared.owned.Owned.{Owned as OwnedValue}
 use Rattle.hayro_ccitt_c.specs.declared.owned.Owned.TheVariants.{Reading as OfReading, Strip as OfStrip, Feeding as OfFeeding}
-use Rattle.hayro_ccitt_c.specs.declared.feeding.Feeding.{Feeding}
-use Rattle.hayro_ccitt_c.specs.declared.reading.Reading.{Reading}
-use Rattle.hayro_ccitt_c.specs.declared.strip.Strip.{Strip}
+use Rattle.c_rows.specs.declared.feeding.Feeding.{Feeding}
+use Rattle.c_rows.specs.declared.reading.Reading.{Reading}
+use Rattle.c_rows.specs.declared.strip.Strip.{Strip}
 
 -- whether it is a reading, a strip, or a reading of data in pieces
 abbrev pub is_reading : OwnedValue → Bool

@@ -6,10 +6,10 @@ ghost use Rattle.fax_conforms.specs.ByProcedure.{ConformsIn};
 ghost use Rattle.hayro_ccitt_c.specs.Checked.{IsViolationTold, OnGrade, grade_of, k_of, no_violation, number_of_rule};
 ghost use Rattle.hayro_ccitt_c.specs.Checked.{outcome_of_violation};
 ghost use Rattle.hayro_ccitt_c.specs.Settings.{settings_of};
-ghost use Rattle.hayro_ccitt_c.specs.declared.status.TheConstants.{OK, OUT_OF_MEMORY, NOT_TAKEN, VIOLATION};
+ghost use Rattle.c_rows.specs.declared.status.TheConstants.{OK, OUT_OF_MEMORY, NOT_TAKEN, VIOLATION};
 
-use crate::settings::{Settings, order_of, settings_for};
-use crate::status;
+use c_rows::settings::{Settings, order_of, settings_for};
+use c_rows::status;
 use fax_conforms::{Grade, Rule, Violation, first_violation};
 use hayro_ccitt::codes::Ticks;
 use std::alloc::Global;

@@ -14,7 +14,7 @@ use std::mem;
 pub struct Feed {
     pub(crate) handle: Handle,
     /// A pointer that a handle of nothing has; nothing is read or written there.
-    nowhere: *mut u8,
+    dangling: *mut u8,
     /// Whether the handle holds a reading.
     pub(crate) is_open: bool,
     pub(crate) ghost tied: { is_open ≡ true → holds_feeding handle.value ≡ true },
@@ -29,7 +29,7 @@ impl Feed {
         ensures closed { self.new.is_open ≡ false }
     {
         self.is_open = false;
-        let handle = mem::replace(&mut self.handle, Handle::nowhere(self.nowhere, alloc));
+        let handle = mem::replace(&mut self.handle, Handle::dangling(self.dangling, alloc));
         handle.into_box()
     }
 

@@ -11,13 +11,13 @@ ghost use Rattle.hayro_ccitt_c.specs.RowsReported.{as_paused};
 ghost use Rattle.hayro_ccitt_c.specs.GivenRows.{ListsRows, PacksRows};
 ghost use Rattle.hayro_ccitt_c.specs.RowsGiven.{IsListed, IsPacked, TellsOf, reported_nothing};
 ghost use Rattle.hayro_ccitt_c.specs.Settings.{layout_of, order_of, settings_of};
-ghost use Rattle.hayro_ccitt_c.specs.declared.status.TheConstants.{OK, OUT_OF_MEMORY, REFUSED, NOT_TAKEN};
+ghost use Rattle.c_rows.specs.declared.status.TheConstants.{OK, OUT_OF_MEMORY, REFUSED, NOT_TAKEN};
 
 use crate::feed_handle::Feed;
 use crate::owned::Owned;
-use crate::row_outcome::{RowOutcome, nothing_reported};
-use crate::settings::{Settings, layout_of, order_of, settings_of};
-use crate::status;
+use c_rows::row_outcome::{RowOutcome, nothing_reported};
+use c_rows::settings::{Settings, layout_of, order_of, settings_of};
+use c_rows::status;
 use std::alloc::Global;
 
 /// Opens a reader of the rows of data that comes in pieces. The reader must be closed: all zeros, or as

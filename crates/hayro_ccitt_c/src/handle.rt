@@ -54,7 +54,7 @@ impl Model for Handle {
 
 impl Handle {
     /// Creates a handle of nothing, whose pointer is never dereferenced.
-    pub(crate) fn nowhere(at: *mut u8, alloc: Global) -> Handle
+    pub(crate) fn dangling(at: *mut u8, alloc: Global) -> Handle
         ensures { result.value ≡ None }
     {
         Handle { at, alloc }

@@ -21,34 +21,30 @@ ghost use Rattle.hayro_ccitt_c.specs.Reports.{ArePacked, AreListed, AreTogether,
 ghost use Rattle.hayro_ccitt_c.specs.RowsGiven.{GivesRow, IsListed, IsOpened, IsPacked, TellsOf, reported_nothing};
 ghost use Rattle.hayro_ccitt_c.specs.RowsTaken.{Finishes, IfFinished, IsGiven, TakesRow, strip_reported};
 ghost use Rattle.hayro_ccitt_c.specs.Settings.{layout_of, order_of, settings_of};
-ghost use Rattle.hayro_ccitt_c.specs.declared.strip.Strip.TheVariants.{Rows};
-ghost use Rattle.hayro_ccitt_c.specs.declared.status.TheConstants.{OK, OUT_OF_MEMORY, REFUSED, NOT_TAKEN};
+ghost use Rattle.c_rows.specs.declared.strip.Strip.TheVariants.{Rows};
+ghost use Rattle.c_rows.specs.declared.status.TheConstants.{OK, OUT_OF_MEMORY, REFUSED, NOT_TAKEN};
 
-mod change_count;
 mod checks;
-mod encoding;
-mod fed_status;
 mod feed_handle;
-mod feeding;
 mod feeds;
 mod handle;
-mod listed_rows;
 mod owned;
 mod owned_feeding;
-mod packed_rows;
-mod reading;
-mod report;
 mod row_handle;
-mod row_outcome;
-mod row_room;
-mod settings;
-mod status;
-mod strip;
 
-use change_count::ChangeCount;
+use c_rows::change_count::ChangeCount;
+use c_rows::encoding::{Unencoded, encoded, encoder_of_rows, layout_asked, rows_asked};
+pub use c_rows::encoding::{EncodeOutcome, EncodeSettings};
+use c_rows::listed_rows::ListedRows;
+use c_rows::packed_rows::PackedRows;
+pub use c_rows::report::Outcome;
+use c_rows::report::{decoded, reported, untaken};
+pub use c_rows::row_outcome::RowOutcome;
+use c_rows::row_outcome::nothing_reported;
+pub use c_rows::settings::Settings;
+use c_rows::settings::{layout_of, order_of, settings_for};
+use c_rows::status;
 pub use checks::{ViolationOutcome, hayro_ccitt_check};
-use encoding::{Unencoded, encoded, encoder_of_rows, layout_asked, rows_asked};
-pub use encoding::{EncodeOutcome, EncodeSettings};
 pub use feed_handle::Feed;
 pub use feeds::{
     hayro_ccitt_feed, hayro_ccitt_feed_close, hayro_ccitt_feed_finish,
@@ -56,16 +52,8 @@ pub use feeds::{
     hayro_ccitt_feed_rows_changes, hayro_ccitt_feed_rows_packed, hayro_ccitt_feed_unused,
 };
 use hayro_ccitt::bits_fit;
-use listed_rows::ListedRows;
 use owned::Owned;
-use packed_rows::PackedRows;
-pub use report::Outcome;
-use report::{decoded, reported, untaken};
 pub use row_handle::{Reader, Writer};
-pub use row_outcome::RowOutcome;
-use row_outcome::nothing_reported;
-pub use settings::Settings;
-use settings::{layout_of, order_of, settings_for};
 use std::alloc::Global;
 
 /// Counts the rows of the data and their changes.

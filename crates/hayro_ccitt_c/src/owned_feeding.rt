@@ -10,13 +10,13 @@ ghost use Rattle.hayro_ccitt_c.specs.RowsFed.{FinishesFeed, GivesFed, IsFeedOpen
 ghost use Rattle.hayro_ccitt_c.specs.RowsReported.{as_paused};
 ghost use Rattle.hayro_ccitt_c.specs.GivenRows.{ListsRows, PacksRows};
 ghost use Rattle.hayro_ccitt_c.specs.RowsGiven.{IsListed, IsPacked, TellsOf};
-ghost use Rattle.hayro_ccitt_c.specs.declared.status.TheConstants.{OK, REFUSED};
+ghost use Rattle.c_rows.specs.declared.status.TheConstants.{OK, REFUSED};
 
-use crate::feeding::Feeding;
 use crate::owned::Owned;
-use crate::packed_rows::Layout;
-use crate::row_outcome::RowOutcome;
-use crate::status;
+use c_rows::feeding::Feeding;
+use c_rows::packed_rows::Layout;
+use c_rows::row_outcome::RowOutcome;
+use c_rows::status;
 use hayro_ccitt::DecodeSettings;
 use hayro_ccitt::bit_reader::BitOrder;
 use std::alloc::Global;

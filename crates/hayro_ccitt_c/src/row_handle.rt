@@ -14,7 +14,7 @@ use std::mem;
 pub struct Reader {
     pub(crate) handle: Handle,
     /// A pointer that a handle of nothing has; nothing is read or written there.
-    nowhere: *mut u8,
+    dangling: *mut u8,
     /// Whether the handle holds a reading.
     pub(crate) is_open: bool,
     pub(crate) ghost tied: { is_open ≡ true → holds_reading handle.value ≡ true },
@@ -29,7 +29,7 @@ impl Reader {
         ensures closed { self.new.is_open ≡ false }
     {
         self.is_open = false;
-        let handle = mem::replace(&mut self.handle, Handle::nowhere(self.nowhere, alloc));
+        let handle = mem::replace(&mut self.handle, Handle::dangling(self.dangling, alloc));
         handle.into_box()
     }
 
@@ -39,10 +39,10 @@ impl Reader {
         ensures reading { self.new.handle.value ≡ Some reading.value }
         ensures open { self.new.is_open ≡ true }
     {
-        let nowhere = self.nowhere;
+        let dangling = self.dangling;
         *self = Reader {
             handle: Handle::of(reading),
-            nowhere,
+            dangling,
             is_open: true,
         };
     }
@@ -54,7 +54,7 @@ impl Reader {
 pub struct Writer {
     pub(crate) handle: Handle,
     /// A pointer that a handle of nothing has; nothing is read or written there.
-    nowhere: *mut u8,
+    dangling: *mut u8,
     /// Whether the handle holds a strip.
     pub(crate) is_open: bool,
     /// Whether 0 stands for black in packed rows.
@@ -72,7 +72,7 @@ impl Writer {
         ensures black { self.new.black_is_0 ≡ self.old.black_is_0 }
     {
         self.is_open = false;
-        let handle = mem::replace(&mut self.handle, Handle::nowhere(self.nowhere, alloc));
+        let handle = mem::replace(&mut self.handle, Handle::dangling(self.dangling, alloc));
         handle.into_box()
     }
 
@@ -83,10 +83,10 @@ impl Writer {
         ensures open { self.new.is_open ≡ true }
         ensures black { self.new.black_is_0 ≡ black_is_0 }
     {
-        let nowhere = self.nowhere;
+        let dangling = self.dangling;
         *self = Writer {
             handle: Handle::of(strip),
-            nowhere,
+            dangling,
             is_open: true,
             black_is_0,
         };

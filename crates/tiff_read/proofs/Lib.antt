@@ -1,1 +1,2 @@
 mod NulLemmas
+mod NumberLemmas

@@ -43,3 +43,18 @@ text_found most bytes text said found cut few =
 
 pub cost_found : (text : List ℕ) (said : Option (List ℕ)) → Some text ≡ said → cost_of said ≡ 1 + length text
 cost_found text said found = rw (← found) refl
+
+-- No more bytes come before the first NUL of the first bytes.
+pub before_nul-few : (most : ℕ) (bytes : List ℕ) → length (before_nul (take most bytes)) ≤ length (before_nul bytes)
+unfolding before_nul
+before_nul-few zero bytes = omega arith
+before_nul-few (suc most) [] = omega arith
+before_nul-few (suc most) (zero ∷ bytes) = omega arith
+before_nul-few (suc most) (suc b ∷ bytes) = omega (arith, before_nul-few most bytes)
+
+-- The text of a tag costs more than there is exactly if so many of its bytes were looked at.
+pub text_spent : (most : ℕ) (bytes text : List ℕ) (said : Option (List ℕ)) → Some bytes ≡ said
+    → text ≡ before_nul (take (1 + most) bytes) → most < length text → most + 1 < cost_of (option_map before_nul said)
+text_spent most bytes text said found cut less =
+    let few = before_nul-few (1 + most) bytes in
+    rw (← found) (omega (arith, ap length cut, few, less))

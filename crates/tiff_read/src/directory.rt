@@ -36,7 +36,8 @@ pub struct Directory {
 impl Directory {
     /// Creates a directory without tags.
     pub(crate) fn new(entries: usize, is_cut: bool) -> Directory
-        ensures { result.entries ≡ entries }
+        ensures entries { result.entries ≡ entries }
+        ensures is_cut { result.is_cut ≡ is_cut }
     {
         Directory {
             entries,
@@ -47,7 +48,8 @@ impl Directory {
 
     /// Sets the values of a tag, unless it has some: of a tag that occurs twice the first entry counts.
     pub(crate) fn set(&mut self, tag: u16, values: Values)
-        ensures { self.new.entries ≡ self.old.entries }
+        ensures entries { self.new.entries ≡ self.old.entries }
+        ensures is_cut { self.new.is_cut ≡ self.old.is_cut }
     {
         let Some(slot) = slot_of(tag) else {
             return;

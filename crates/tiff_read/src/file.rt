@@ -1,7 +1,11 @@
 //! A TIFF file, and the way to its next directory.
 
-ghost use Rattle.std.specs.Prelude.{◌≡◌, ◌+◌, ◌-◌, ◌*◌, ◌/◌, ◌<◌, ◌≤◌, ◌↔◌, length, IfOk, IfSome, IsNone, OnOk, OnErr};
-ghost use Rattle.tiff_read.specs.Payments.{Costs, IsSameFile, Moves, Opens, Reading, entries_of, room_for};
+ghost use Rattle.std.specs.Prelude.{◌≡◌, ◌+◌, ◌-◌, ◌*◌, ◌/◌, ◌^◌, ◌<◌, ◌≤◌, ◌↔◌};
+ghost use Rattle.std.specs.Prelude.{length, Err, Some, None, IfOk, IfSome, IsNone, OnOk, OnErr, IsOkUnless};
+ghost use Rattle.std.specs.Prelude.{true, false, ◌≢◌, IfErr};
+ghost use Rattle.tiff_read.specs.Directories.{IsDirectoryAt, IsTableAt, IsNotReadAt, StopsBy, next_after};
+ghost use Rattle.tiff_read.specs.Numbers.{IsFormOf, is_tiff, number_at};
+ghost use Rattle.tiff_read.specs.Payments.{CanOpen, Costs, IsSameFile, Moves, Opens, Reading, entries_of, first_of, room_for};
 
 use crate::directory::{Directory, Values};
 use crate::error::TiffError;
@@ -23,11 +27,14 @@ pub struct Tiff<'a> {
 }
 
 impl<'a> Model for Tiff<'a> {
+    ghost use Rattle.tiff_read.specs.Numbers.{IsFormOf};
     ghost use Rattle.tiff_read.specs.Payments.{Reading};
 
     ghost Value = { Reading };
 
     ghost view = { λ t. record { bytes = t.source.bytes; place = t.source.place; left = t.source.left; next = t.next } };
+
+    ghost invariant = { λ t. IsFormOf t.source.bytes t.form };
 }
 
 /// Where the entries of a directory are.
@@ -54,13 +61,18 @@ impl<'a> Tiff<'a> {
     /// `NotTiff`, `Outside` if the file ends within its header, `Spent` or `OutOfMemory`.
     pub fn open(alloc: Global, mut source: Cursor<'a>) -> Result<Tiff<'a>, TiffError>
         ensures paid { IfOk result (λ tiff. Opens (room_for (length source.entry.bytes)) source.entry tiff) }
+        ensures first { IfOk result (λ tiff. Some tiff.next ≡ first_of source.entry.bytes) }
+        ensures not_tiff { (result ≡ Err TiffError.NotTiff) ↔ (is_tiff source.entry.bytes ≡ false) }
+        ensures outside { (result ≡ Err TiffError.Outside) ↔ ((is_tiff source.entry.bytes ≡ true) × (first_of source.entry.bytes ≡ None)) }
+        ensures spent { (result ≡ Err TiffError.Spent) ↔ (CanOpen source.entry.bytes × (source.entry.left < room_for (length source.entry.bytes))) }
+        ensures no_loop { IfErr result (λ error. error ≢ TiffError.Loop) }
     {
         let bytes = source.bytes();
-        let Some(form) = bytes.get(..4).and_then(Form::of_head) else {
+        let Some(form) = Form::of_file(bytes) else {
             return Err(TiffError::NotTiff);
         };
-        let first = if form.is_big_tiff { 8 } else { 4 };
-        let Some(next) = form.number_at(bytes, first, form.offset_bytes()) else {
+        let Some(next) = number_in(bytes, form, form.offset_bytes() as u64, form.offset_bytes())
+        else {
             return Err(TiffError::Outside);
         };
         let room = bytes.len() / 8 + 1;
@@ -95,6 +107,8 @@ impl<'a> Tiff<'a> {
     pub(crate) fn pay(&mut self, count: usize) -> Result<(), TiffError>
         ensures paid { OnOk result (Costs count self.old self.new) }
         ensures unchanged { OnErr result (self.new ≡ self.old) }
+        ensures spent { (result ≡ Err TiffError.Spent) ↔ (self.old.left < count) }
+        ensures only_spent { IsOkUnless result TiffError.Spent }
     {
         self.source.pay(count)?;
         Ok(())
@@ -109,6 +123,10 @@ impl<'a> Tiff<'a> {
     pub fn next_directory(&mut self) -> Result<Option<Directory>, TiffError>
         ensures paid { IfOk result (λ found. Moves (1 + entries_of found) self.old self.new) }
         ensures end { IfOk result (λ found. IsNone found ↔ (self.old.next ≡ 0)) }
+        ensures found { IfOk result (λ found. IfSome found (IsDirectoryAt self.old.bytes self.old.next)) }
+        ensures next { OnOk result (self.new.next ≡ next_after self.old.bytes self.old.next) }
+        ensures why { IfErr result (StopsBy self.old) }
+        ensures last { IfErr result (λ error. error ≢ TiffError.Spent → self.new.next ≡ 0) }
         ensures least { OnErr result (self.new.left ≤ self.old.left) }
         ensures same { IsSameFile self.old self.new }
     {
@@ -127,7 +145,8 @@ impl<'a> Tiff<'a> {
 
     /// Reads the entries of a directory, unpaid.
     fn directory_of(&self, table: &Table) -> Directory
-        ensures { result.entries ≡ table.now.entries }
+        ensures entries { result.entries ≡ table.now.entries }
+        ensures is_cut { result.is_cut ≡ table.now.is_cut }
     {
         let mut directory = Directory::new(table.entries, table.is_cut);
         'entries: for index in 0..table.entries {
@@ -143,7 +162,9 @@ impl<'a> Tiff<'a> {
 
     /// Records that a directory is read at an offset.
     fn mark(&mut self, at: u64) -> Result<(), TiffError>
-        ensures { self.new ≡ self.old }
+        ensures same { self.new ≡ self.old }
+        ensures within { OnOk result (at < length self.old.bytes) }
+        ensures why { IfErr result (IsNotReadAt at (length self.old.bytes)) }
     {
         if at >= self.bytes().len() as u64 {
             return Err(TiffError::Outside);
@@ -159,7 +180,10 @@ impl<'a> Tiff<'a> {
     }
 
     /// Returns where the entries of the directory at an offset are, and the next directory.
-    fn table_at(&self, at: u64) -> Table {
+    fn table_at(&self, at: u64) -> Table
+        requires { at < length self.now.bytes }
+        ensures { IsTableAt self.now.bytes at result }
+    {
         let count_bytes = self.form.count_bytes();
         let entry_bytes = self.form.entry_bytes();
         let start = (at as usize).saturating_add(count_bytes);
@@ -194,8 +218,8 @@ impl<'a> Tiff<'a> {
     fn entry_at(&self, place: usize) -> Option<Entry> {
         let bytes = self.bytes().get(place..)?.get(..self.form.entry_bytes())?;
         let offset_bytes = self.form.offset_bytes();
-        let tag = self.form.short([bytes[0], bytes[1]]);
-        let kind = self.form.short([bytes[2], bytes[3]]);
+        let tag = self.form.short(bytes[0], bytes[1]);
+        let kind = self.form.short(bytes[2], bytes[3]);
         let count = self.form.number(&bytes[4..4 + offset_bytes]);
         let word = &bytes[4 + offset_bytes..];
         let place_of_word = place.saturating_add(4 + offset_bytes) as u64;
@@ -218,7 +242,22 @@ impl<'a> Tiff<'a> {
     }
 
     /// Returns the number of some bytes at an offset; `None` if the file doesn't have them.
-    pub(crate) fn number_at(&self, offset: u64, count: usize) -> Option<u64> {
-        self.form.number_at(self.bytes(), offset, count)
+    pub(crate) fn number_at(&self, offset: u64, count: usize) -> Option<u64>
+        requires { count ≤ 8 }
+        ensures number { result ≡ number_at self.now.bytes offset count }
+        ensures few { length self.now.bytes < 2 ^ 64 }
+    {
+        number_in(self.bytes(), self.form, offset, count)
     }
+}
+
+/// Returns the number of some bytes at an offset of a file; `None` if it doesn't have them.
+fn number_in(file: &[u8], form: Form, offset: u64, count: usize) -> Option<u64>
+    requires count { count ≤ 8 }
+    requires form { IsFormOf file.now form }
+    ensures { result ≡ number_at file.now offset count }
+{
+    let start = offset as usize;
+    let digits = file.get(start..start.checked_add(count)?)?;
+    Some(form.number(digits))
 }

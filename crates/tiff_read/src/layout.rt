@@ -1,7 +1,10 @@
 //! How a picture is laid out in strips or tiles.
 
-ghost use Rattle.std.specs.Prelude.{◌≡◌, ◌+◌, ◌<◌, ◌≤◌, length, IfOk, IfSome, OnOk, OnErr};
+ghost use Rattle.std.specs.Prelude.{◌≡◌, ◌+◌, ◌-◌, ◌<◌, ◌≤◌, ◌↔◌, length, Err, IfOk, IfSome, OnOk, OnErr, IsOkUnless};
+ghost use Rattle.std.specs.Option.{unwrap_or};
 ghost use Rattle.tiff_read.specs.Payments.{Costs};
+ghost use Rattle.tiff_read.specs.Pictures.{count_of_part, cut_at, is_tiled, layout_of};
+ghost use Rattle.tiff_read.specs.Pictures.{part_of, part_values, rows_of_strip, said_of};
 
 use crate::directory::{Directory, Values};
 use crate::error::TiffError;
@@ -54,8 +57,11 @@ impl<'a> Tiff<'a> {
     ///
     /// `Spent`.
     pub fn layout(&mut self, directory: &Directory) -> Result<Option<Layout>, TiffError>
+        ensures layout { IfOk result (λ found. found ≡ layout_of self.old.bytes directory.now) }
         ensures paid { OnOk result (Costs LAYOUT_NUMBERS self.old self.new) }
         ensures unchanged { OnErr result (self.new ≡ self.old) }
+        ensures spent { (result ≡ Err TiffError.Spent) ↔ (self.old.left < LAYOUT_NUMBERS) }
+        ensures only_spent { IsOkUnless result TiffError.Spent }
         ensures parts { IfOk result (λ found. IfSome found (λ layout. (0 < layout.across) × (0 < layout.part_columns) × (0 < layout.part_rows))) }
     {
         self.pay(LAYOUT_NUMBERS)?;
@@ -64,7 +70,8 @@ impl<'a> Tiff<'a> {
 
     /// Returns how the picture of a directory is laid out, unpaid.
     fn layout_of(&self, directory: &Directory) -> Option<Layout>
-        ensures { IfSome result (λ layout. (0 < layout.across) × (0 < layout.part_columns) × (0 < layout.part_rows)) }
+        ensures layout { result ≡ layout_of self.now.bytes directory.now }
+        ensures parts { IfSome result (λ layout. (0 < layout.across) × (0 < layout.part_columns) × (0 < layout.part_rows)) }
     {
         let columns = self.first_or(directory, 256, 0);
         let rows = self.first_or(directory, 257, 0);
@@ -102,8 +109,11 @@ impl<'a> Tiff<'a> {
     ///
     /// `Spent`.
     pub fn part(&mut self, layout: &Layout, index: u64) -> Result<Option<Part>, TiffError>
+        ensures part { IfOk result (λ found. found ≡ part_of self.old.bytes layout.now index) }
         ensures paid { OnOk result (Costs PART_NUMBERS self.old self.new) }
         ensures unchanged { OnErr result (self.new ≡ self.old) }
+        ensures spent { (result ≡ Err TiffError.Spent) ↔ (self.old.left < PART_NUMBERS) }
+        ensures only_spent { IsOkUnless result TiffError.Spent }
         ensures within { IfOk result (λ found. IfSome found (λ part. (part.start ≤ part.end) × (part.end ≤ length self.old.bytes))) }
     {
         self.pay(PART_NUMBERS)?;
@@ -111,25 +121,37 @@ impl<'a> Tiff<'a> {
             return Ok(None);
         }
         let start = self.number_among(layout.offsets, index).unwrap_or(0);
-        let count = match layout.byte_counts {
-            Some(byte_counts) if byte_counts.count > 0 => self
-                .number_among(byte_counts, index)
-                .or(Some(0)),
-            _ => None,
-        };
-        let is_whole_picture = layout.count == 1 && !layout.is_tiled;
-        let count = if is_whole_picture && count == Some(0) {
+        let count = self.count_of_part(layout, index);
+        Ok(Some(part_of(start, count, self.bytes().len())))
+    }
+
+    /// Returns how many bytes a strip or tile has, if that is said, and isn't 0 of the only strip; unpaid.
+    fn count_of_part(&self, layout: &Layout, index: u64) -> Option<u64>
+        ensures { result ≡ count_of_part self.now.bytes layout.now index }
+    {
+        let count = self.said_of(layout.byte_counts, index);
+        if layout.count == 1 && !layout.is_tiled && count == Some(0) {
             None
         } else {
             count
-        };
-        Ok(Some(part_of(start, count, self.bytes().len())))
+        }
+    }
+
+    /// Returns how many bytes a strip or tile has, as the directory says it; 0 if it says it of fewer; unpaid.
+    fn said_of(&self, byte_counts: Option<Values>, index: u64) -> Option<u64>
+        ensures { result ≡ said_of self.now.bytes byte_counts index }
+    {
+        let byte_counts = byte_counts?;
+        if byte_counts.count == 0 {
+            return None;
+        }
+        Some(self.number_among(byte_counts, index).unwrap_or(0))
     }
 }
 
 /// Returns how many rows a strip has: no more than the picture.
 fn rows_of_strip(said: u64, rows: u64) -> u64
-    ensures { (0 < rows) → (0 < result) }
+    ensures { result ≡ rows_of_strip said rows }
 {
     if said == 0 { rows } else { said.min(rows) }
 }
@@ -137,21 +159,23 @@ fn rows_of_strip(said: u64, rows: u64) -> u64
 /// Returns the values of the tag for tiles or for strips; if there are none, those of the other.
 fn values_of(
     directory: &Directory,
-    is_tiled: bool,
+    has_tiles: bool,
     of_tiles: u16,
     of_strips: u16,
-) -> Option<Values> {
-    let (own, other) = if is_tiled {
-        (of_tiles, of_strips)
+) -> Option<Values>
+    requires { has_tiles ≡ is_tiled directory.now }
+    ensures { result ≡ part_values directory.now of_tiles of_strips }
+{
+    if has_tiles {
+        directory.find(of_tiles).or(directory.find(of_strips))
     } else {
-        (of_strips, of_tiles)
-    };
-    directory.find(own).or(directory.find(other))
+        directory.find(of_strips).or(directory.find(of_tiles))
+    }
 }
 
 /// Returns so many bytes from an offset on, all of them if their number isn't known, cut at the end of a file of `size` bytes.
 fn part_of(start: u64, count: Option<u64>, size: usize) -> Part
-    ensures { (result.start ≤ result.end) × (result.end ≤ size) }
+    ensures { result ≡ cut_at start (unwrap_or count (size - start)) size }
 {
     let room = (size as u64).saturating_sub(start);
     let whole = count.unwrap_or(room);

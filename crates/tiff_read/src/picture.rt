@@ -1,7 +1,8 @@
 //! What a directory says of its picture.
 
-ghost use Rattle.std.specs.Prelude.{◌≡◌, ◌+◌, ◌<◌, ◌≤◌, length, IfOk, IfSome, OnOk, OnErr};
+ghost use Rattle.std.specs.Prelude.{◌≡◌, ◌+◌, ◌<◌, ◌≤◌, ◌↔◌, length, Err, IfOk, IfSome, OnOk, OnErr, IsOkUnless};
 ghost use Rattle.tiff_read.specs.Payments.{Costs};
+ghost use Rattle.tiff_read.specs.Pictures.{first_or, orientation_of, picture_of, unit_of};
 
 use crate::directory::Directory;
 use crate::error::TiffError;
@@ -60,8 +61,11 @@ impl<'a> Tiff<'a> {
     ///
     /// `Spent`.
     pub fn picture(&mut self, directory: &Directory) -> Result<Picture, TiffError>
+        ensures picture { IfOk result (λ picture. picture ≡ picture_of self.old.bytes directory.now) }
         ensures paid { OnOk result (Costs PICTURE_NUMBERS self.old self.new) }
         ensures unchanged { OnErr result (self.new ≡ self.old) }
+        ensures spent { (result ≡ Err TiffError.Spent) ↔ (self.old.left < PICTURE_NUMBERS) }
+        ensures only_spent { IsOkUnless result TiffError.Spent }
         ensures orientation { IfOk result (λ picture. (1 ≤ picture.orientation) × (picture.orientation ≤ 8)) }
     {
         self.pay(PICTURE_NUMBERS)?;
@@ -83,14 +87,16 @@ impl<'a> Tiff<'a> {
     }
 
     /// Returns the first number of a tag, unpaid, or another one if there is none.
-    pub(crate) fn first_or(&self, directory: &Directory, tag: u16, otherwise: u64) -> u64 {
+    pub(crate) fn first_or(&self, directory: &Directory, tag: u16, otherwise: u64) -> u64
+        ensures { result ≡ first_or self.now.bytes directory.now tag otherwise }
+    {
         self.number_of_tag(directory, tag, 0).unwrap_or(otherwise)
     }
 }
 
 /// Returns an orientation; 1 for a number that is none.
 fn orientation_of(number: u64) -> u8
-    ensures { (1 ≤ result) × (result ≤ 8) }
+    ensures { result ≡ orientation_of number }
 {
     match number {
         1..=8 => number as u8,
@@ -99,7 +105,9 @@ fn orientation_of(number: u64) -> u8
 }
 
 /// Returns a unit; inches for a number that is none.
-fn unit_of(number: u64) -> ResolutionUnit {
+fn unit_of(number: u64) -> ResolutionUnit
+    ensures { result ≡ unit_of number }
+{
     match number {
         1 => ResolutionUnit::None,
         3 => ResolutionUnit::Centimetre,

@@ -1,6 +1,6 @@
 //! What a directory says in words.
 
-ghost use Rattle.std.specs.Prelude.{◌≤◌, IfOk, OnOk};
+ghost use Rattle.std.specs.Prelude.{◌≡◌, ◌<◌, ◌≤◌, ◌↔◌, Err, IfOk, OnOk, IsOkUnless};
 ghost use Rattle.tiff_read.specs.Payments.{Costs, IsSameReading};
 ghost use Rattle.tiff_read.specs.Texts.{AreTexts, cost_of_texts};
 
@@ -49,6 +49,8 @@ impl<'a> Tiff<'a> {
         ensures paid { OnOk result (Costs (cost_of_texts self.old.bytes directory.now) self.old self.new) }
         ensures least { self.new.left ≤ self.old.left }
         ensures same { IsSameReading self.old self.new }
+        ensures spent { (result ≡ Err TiffError.Spent) ↔ (self.old.left < cost_of_texts self.old.bytes directory.now) }
+        ensures only_spent { IsOkUnless result TiffError.Spent }
     {
         let document_name = self.text(directory, 269)?;
         let image_description = self.text(directory, 270)?;

@@ -1,8 +1,11 @@
 //! The values of a tag: whole numbers, ratios and texts.
 
-ghost use Rattle.std.specs.Prelude.{◌≡◌, ◌+◌, ◌<◌, ◌≤◌, length, take, IfOk, OnOk, OnErr, option_map, option_and_then};
+ghost use Rattle.std.specs.Prelude.{◌≡◌, ◌+◌, ◌-◌, ◌^◌, ◌<◌, ◌≤◌, ◌↔◌, length};
+ghost use Rattle.std.specs.Prelude.{take, Err, IfOk, OnOk, OnErr, IsOkUnless, SomeIff, option_map, option_and_then};
 ghost use Rattle.tiff_read.specs.Payments.{Costs, IsSameReading};
 ghost use Rattle.tiff_read.specs.Texts.{before_nul, bytes_at, cost_of, text_of, values_of};
+ghost use Rattle.tiff_read.specs.Values.{bytes_of_kind, is_negative, is_whole_kind, number_among, number_of_tag, place_of};
+ghost use Rattle.tiff_read.specs.Values.{ratio_among, ratio_at, ratio_of_tag, unless_negative};
 
 use crate::directory::{Directory, Values};
 use crate::error::TiffError;
@@ -30,8 +33,11 @@ impl<'a> Tiff<'a> {
         tag: u16,
         index: u64,
     ) -> Result<Option<u64>, TiffError>
+        ensures number { IfOk result (λ found. found ≡ number_of_tag self.old.bytes directory.now tag index) }
         ensures paid { OnOk result (Costs 1 self.old self.new) }
         ensures unchanged { OnErr result (self.new ≡ self.old) }
+        ensures spent { (result ≡ Err TiffError.Spent) ↔ (self.old.left < 1) }
+        ensures only_spent { IsOkUnless result TiffError.Spent }
     {
         self.pay(1)?;
         Ok(self.number_of_tag(directory, tag, index))
@@ -49,8 +55,11 @@ impl<'a> Tiff<'a> {
         tag: u16,
         index: u64,
     ) -> Result<Option<Ratio>, TiffError>
+        ensures ratio { IfOk result (λ found. found ≡ ratio_of_tag self.old.bytes directory.now tag index) }
         ensures paid { OnOk result (Costs 1 self.old self.new) }
         ensures unchanged { OnErr result (self.new ≡ self.old) }
+        ensures spent { (result ≡ Err TiffError.Spent) ↔ (self.old.left < 1) }
+        ensures only_spent { IsOkUnless result TiffError.Spent }
     {
         self.pay(1)?;
         Ok(self.ratio_of_tag(directory, tag, index))
@@ -67,6 +76,8 @@ impl<'a> Tiff<'a> {
         ensures paid { OnOk result (Costs (cost_of (text_of self.old.bytes directory.now tag)) self.old self.new) }
         ensures least { self.new.left ≤ self.old.left }
         ensures same { IsSameReading self.old self.new }
+        ensures spent { (result ≡ Err TiffError.Spent) ↔ (self.old.left < cost_of (text_of self.old.bytes directory.now tag)) }
+        ensures only_spent { IsOkUnless result TiffError.Spent }
     {
         self.pay(1)?;
         let Some(bytes) = self.text_of_tag(directory, tag) else {
@@ -78,31 +89,37 @@ impl<'a> Tiff<'a> {
     }
 
     /// Returns one of the numbers of a tag, unpaid.
-    pub(crate) fn number_of_tag(&self, directory: &Directory, tag: u16, index: u64) -> Option<u64> {
+    pub(crate) fn number_of_tag(&self, directory: &Directory, tag: u16, index: u64) -> Option<u64>
+        ensures { result ≡ number_of_tag self.now.bytes directory.now tag index }
+    {
         self.number_among(directory.find(tag)?, index)
     }
 
     /// Returns one of some values, unpaid, if it is a whole number that isn't negative.
-    pub(crate) fn number_among(&self, values: Values, index: u64) -> Option<u64> {
+    pub(crate) fn number_among(&self, values: Values, index: u64) -> Option<u64>
+        ensures { result ≡ number_among self.now.bytes values index }
+    {
         if index >= values.count || !is_whole_kind(values.kind) {
             return None;
         }
         let size = bytes_of_kind(values.kind);
-        let number = self.number_at(place_of(values, index), size as usize)?;
-        if is_signed_kind(values.kind) && is_negative(number, size) {
-            return None;
-        }
-        Some(number)
+        unless_negative(
+            values.kind,
+            self.number_at(self.place_of(values, index)?, size as usize)?,
+        )
     }
 
     /// Returns one of the ratios of a tag, unpaid.
-    pub(crate) fn ratio_of_tag(
-        &self,
-        directory: &Directory,
-        tag: u16,
-        index: u64,
-    ) -> Option<Ratio> {
-        let values = directory.find(tag)?;
+    pub(crate) fn ratio_of_tag(&self, directory: &Directory, tag: u16, index: u64) -> Option<Ratio>
+        ensures { result ≡ ratio_of_tag self.now.bytes directory.now tag index }
+    {
+        self.ratio_among(directory.find(tag)?, index)
+    }
+
+    /// Returns one of some values as a ratio, unpaid.
+    fn ratio_among(&self, values: Values, index: u64) -> Option<Ratio>
+        ensures { result ≡ ratio_among self.now.bytes values index }
+    {
         if values.kind != RATIONAL {
             let above = self.number_among(values, index)?;
             return Some(Ratio { above, below: 1 });
@@ -110,11 +127,26 @@ impl<'a> Tiff<'a> {
         if index >= values.count {
             return None;
         }
-        let place = place_of(values, index);
-        Some(Ratio {
-            above: self.number_at(place, 4)?,
-            below: self.number_at(place.saturating_add(4), 4)?,
-        })
+        self.ratio_at(self.place_of(values, index)?)
+    }
+
+    /// Returns the ratio of two numbers of four bytes at a place, unpaid.
+    fn ratio_at(&self, place: u64) -> Option<Ratio>
+        ensures { result ≡ ratio_at self.now.bytes place }
+    {
+        let above = self.number_at(place, 4)?;
+        let below = self.number_at(place.checked_add(4)?, 4)?;
+        Some(Ratio { above, below })
+    }
+
+    /// Returns how many bytes of the file come before one of some values; `None` if it has fewer.
+    fn place_of(&self, values: Values, index: u64) -> Option<u64>
+        ensures { SomeIff result (place_of values index ≤ length self.now.bytes) (place_of values index) }
+    {
+        let size = self.bytes().len() as u64;
+        let before = index.checked_mul(bytes_of_kind(values.kind))?;
+        let place = values.offset.checked_add(before)?;
+        if place <= size { Some(place) } else { None }
     }
 
     /// Returns the bytes of a tag of type ASCII, BYTE or UNDEFINED, unpaid.
@@ -133,7 +165,7 @@ impl<'a> Tiff<'a> {
 
 /// Returns how many bytes a value of a type has (TIFF 6.0, section 2, and BigTIFF), 0 if there is no such type.
 pub(crate) fn bytes_of_kind(kind: u16) -> u64
-    ensures { result ≤ 8 }
+    ensures { result ≡ bytes_of_kind kind }
 {
     match kind {
         1 | 2 | 6 | 7 => 1,
@@ -145,30 +177,34 @@ pub(crate) fn bytes_of_kind(kind: u16) -> u64
 }
 
 /// Returns whether the values of a type are whole numbers.
-fn is_whole_kind(kind: u16) -> bool {
-    matches!(kind, 1 | 3 | 4 | 13 | 16 | 18) || is_signed_kind(kind)
+fn is_whole_kind(kind: u16) -> bool
+    ensures { result ≡ is_whole_kind kind }
+{
+    matches!(kind, 1 | 3 | 4 | 6 | 8 | 9 | 13 | 16 | 17 | 18)
 }
 
-/// Returns whether the values of a type are whole numbers with a sign.
-fn is_signed_kind(kind: u16) -> bool {
-    matches!(kind, 6 | 8 | 9 | 17)
-}
-
-/// Returns whether the highest of the bits of some bytes is set.
-fn is_negative(number: u64, bytes: u64) -> bool {
-    match bytes {
-        1 => number >= 1 << 7,
-        2 => number >= 1 << 15,
-        4 => number >= 1 << 31,
-        _ => number >= 1 << 63,
+/// Returns whether a number is a negative one of a type with a sign: its highest bit is set.
+fn is_negative(kind: u16, number: u64) -> bool
+    ensures { result ≡ is_negative kind number }
+{
+    match kind {
+        6 => number >= 128,
+        8 => number >= 32768,
+        9 => number >= 2147483648,
+        17 => number >= 9223372036854775808,
+        _ => false,
     }
 }
 
-/// Returns how many bytes of the file come before one of some values.
-fn place_of(values: Values, index: u64) -> u64 {
-    values
-        .offset
-        .saturating_add(index.saturating_mul(bytes_of_kind(values.kind)))
+/// Returns a number, `None` if it is a negative one of a type.
+fn unless_negative(kind: u16, number: u64) -> Option<u64>
+    ensures { result ≡ unless_negative kind number }
+{
+    if is_negative(kind, number) {
+        None
+    } else {
+        Some(number)
+    }
 }
 
 /// Returns the bytes before the first NUL; one more than `most` if there is none among them.

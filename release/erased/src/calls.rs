@@ -1,11 +1,11 @@
 //! The calls for C without their allocator, and what else `c.rs` takes of their sources.
 
 use crate::lists::Global;
+use crate::proved::c_rows::encoding::{Unencoded, encoded};
 use crate::proved::hayro_ccitt_c as proved;
-use crate::proved::hayro_ccitt_c::encoding::{Unencoded, encoded};
 use alloc::vec::Vec;
 
-pub(crate) use proved::status::{
+pub(crate) use crate::proved::c_rows::status::{
     INVALID_CODE, NEEDS_MORE, NO_ROW, NOT_TAKEN, OK, OUT_OF_MEMORY, OVERFLOW, REFUSED,
     UNEXPECTED_EOF, VIOLATION,
 };

@@ -9,7 +9,7 @@ use crate::lists::{Box, Global};
 pub struct Handle(Option<Box<Owned>>);
 
 impl Handle {
-    pub(crate) fn nowhere(_at: usize, _alloc: Global) -> Self {
+    pub(crate) fn dangling(_at: usize, _alloc: Global) -> Self {
         Self::default()
     }
 

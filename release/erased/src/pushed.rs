@@ -1,9 +1,9 @@
 //! The rows of an image are passed to a sink as they are read.
 
 use crate::lists::Global;
+use crate::proved::c_rows::report::{decoded, reported};
+use crate::proved::c_rows::settings::{order_of, settings_for};
 use crate::proved::hayro_ccitt as decoder;
-use crate::proved::hayro_ccitt_c::report::{decoded, reported};
-use crate::proved::hayro_ccitt_c::settings::{order_of, settings_for};
 use crate::{DecodeError, Decoder, DecoderContext, Result, c, error_of};
 
 /// A sink of the caller's, which refuses no row.

@@ -15,7 +15,7 @@ use Rattle.fax_feeds.specs.declared.gap_look.GapLook.{GapLook}
 use Rattle.fax_feeds.specs.declared.row_feed.RowFeed.TheInside.{Inside}
 use Rattle.fax_rows.specs.declared.row_reader.RowState.{RowState}
 use Rattle.fax_feeds.specs.RowFeeds.{ComesInFeed, ComesOn, Feeding, FeedsRow, IsKept, KeepsBits}
-use Rattle.fax_feeds.specs.RowFeeds.{ReadsInFeed, TriesLine, fed_none, fed_row, feeding_of}
+use Rattle.fax_feeds.specs.RowFeeds.{ReadsInFeed, TriesLine, fed_without_row, fed_row, feeding_of}
 
 -- A feed that has begun, and keeps no part of a line, is read by this reader of its bits.
 pub record IsReadBy (f : Inside) (reader : BitsAt) : Type 0 where
@@ -72,7 +72,7 @@ module _ {f : Inside} {before after : BitsAt} {rows : RowState} {ctx : Context} 
 
   -- no line is reached
   pub gap_row : ended f.rows.stand ≡ None → line ≢ Ok (Some true)
-      → FeedsRow (feeding_of f) (feeding_of (past_gap f ctx rows place look)) (fed_none line)
+      → FeedsRow (feeding_of f) (feeding_of (past_gap f ctx rows place look)) (fed_without_row line)
   gap_row unended other = record {
     reads = λ whole tried _ feed. gap_feeds line turn_comes other by.begun unended by.none by.none feed;
     keeps = keeps_gap;

@@ -19,12 +19,12 @@ use Rattle.fax_feeds.proofs.Readings.BlackGoesOn.{black_goes_on}
 use Rattle.fax_reading.specs.Answers.{HasBlack, PaintsBlack}
 use Rattle.fax_reading.specs.Continuations.{is_short}
 use Rattle.fax_reading.specs.GapsContinued.{gap_is_settled}
-use Rattle.fax_rows.specs.RowsTried.{CanCome, IsLeft, StandsFirst, TriesRow, front_is_settled}
+use Rattle.fax_rows.specs.RowsTried.{CanCome, IsUnread, StandsFirst, TriesRow, front_is_settled}
 use Rattle.fax_feeds.specs.RowFeeds.{ComesInFeed, ComesOn, Feeding, IsFeedOf, KeepsBits, LieIn, ReadsInFeed, StandsIn}
 use Rattle.fax_feeds.specs.RowFeeds.{HasNone, LooksAhead, TriesLine, came, fed_over}
 use Rattle.fax_feeds.specs.declared.gap_look.GapLook.{GapLook}
-use Rattle.fax_feeds.specs.RowFeeds.{ComeNext, DropsRead, FeedsNext, IsAtFront, IsOpenAt, StaysThere, fed_none}
-use Rattle.fax_feeds.specs.RowFeeds.{LineWork, fed_bits, fed_row, is_left, line_first, paid_by}
+use Rattle.fax_feeds.specs.RowFeeds.{ComeNext, DropsRead, FeedsNext, IsAtFront, IsOpenAt, StaysThere, fed_without_row}
+use Rattle.fax_feeds.specs.RowFeeds.{LineWork, fed_bits, fed_row, is_unread, line_first, paid_by}
 use Rattle.fax_feeds.proofs.Names.{changes}
 use Rattle.fax_reading.proofs.Work.WordsPay.{found_within}
 use Rattle.fax_reading.proofs.Work.TurnsPaid.{row_shorter}
@@ -55,7 +55,7 @@ at_none true n e = absurd (false≢true (sym e))
 at_none false n e = refl
 
 -- a line that wasn't left isn't said to be
-unleft : (answer : Result Bool DecodeError) → (IsLeft answer → ⊥) → is_left answer ≡ false
+unleft : (answer : Result Bool DecodeError) → (IsUnread answer → ⊥) → is_unread answer ≡ false
 unleft answer other = grind (arith, common_steps, left_is)
 
 module _ (old new : Feeding) (before after : BitsAt) (before_is : before ≡ record { bits = old.kept; place = old.place })
@@ -168,10 +168,10 @@ module _ (old new : Feeding) (before after : BitsAt) (before_is : before ≡ rec
     counted : old.ctx.ticks ≤ new.ctx.ticks
     counted = omega (arith, tries.tried.counts, ap (λ (x : Context). x.ticks) frame)
 
-    left_held : IsLeft answer → new.ctx.held ≡ redrawn old.ctx.held [] White
+    left_held : IsUnread answer → new.ctx.held ≡ redrawn old.ctx.held [] White
     left_held left = tries.tried.left left ∙ ap (λ (x : Context). redrawn x.held [] White) frame
 
-    same_line : (P : DecodeSettings → Bits → Bits → Type 0) → IsLeft answer
+    same_line : (P : DecodeSettings → Bits → Bits → Type 0) → IsUnread answer
         → P mid.held.settings mid.held.reference (here before) → P new.ctx.held.settings new.ctx.held.reference
         (drop old.place old.kept)
     same_line P left known = grind (arith, common_steps)
@@ -191,7 +191,7 @@ module _ (old new : Feeding) (before after : BitsAt) (before_is : before ≡ rec
       begins_there : IsStandingAtLine tried old.rows mid (record { bits = whole; place = at })
       begins_there = grind (arith, common_steps, mid_is, stood)
 
-      line_fed : (IsLeft answer → ⊥) → ReadsNext (fed_over whole old) (fed_over whole new) answer
+      line_fed : (IsUnread answer → ⊥) → ReadsNext (fed_over whole old) (fed_over whole new) answer
       line_fed read =
           subst (λ (n : ℕ). ReadsNext (fed_over whole old) (seen new.rows new.ctx (record { bits = whole; place = n })) answer)
           place_is
@@ -202,7 +202,7 @@ module _ (old new : Feeding) (before after : BitsAt) (before_is : before ≡ rec
       -- the line there paints a black pixel, whatever bits follow those kept
       line_paints : answer ≡ Err OutOfMemory → PaintsBlack (lines_of new.ctx.held.settings whole) new.ctx.held.taken
       line_paints e =
-          let left : IsLeft answer = subst IsLeft (sym e) refl in
+          let left : IsUnread answer = subst IsUnread (sym e) refl in
           let stays = (tries.tried.left left) ∙ ap (λ (h : Held). redrawn h [] White) same in
           let lie = lies feed in
           let within : before.place ≤ length before.bits = grind (arith, common_steps, tries.left left) in
@@ -214,7 +214,7 @@ module _ (old new : Feeding) (before after : BitsAt) (before_is : before ≡ rec
           (subst (λ (b : Bits). HasBlack (front_of (line_here old.ctx.held.settings old.ctx.held.reference b))) (sym there)
           (black_goes_on old.ctx.held.settings old.ctx.held.reference (here before) lie.more black)))
 
-      line_stays_fed : (b : Bool) → is_left answer ≡ b
+      line_stays_fed : (b : Bool) → is_unread answer ≡ b
           → IsFeedOf whole (tried + cond b (new.ctx.ticks - old.ctx.ticks) 0) new
       line_stays_fed true left_so =
           let left = left_is answer left_so in
@@ -271,7 +271,7 @@ module _ (old new : Feeding) (before after : BitsAt) (before_is : before ≡ rec
           )
 
     line_stored : answer ≡ Ok true → length (changes new.ctx.held.reference)
-        + (old.ctx.ticks + cond (is_left answer) (new.ctx.ticks - old.ctx.ticks) 0) ≤ new.ctx.ticks + 1
+        + (old.ctx.ticks + cond (is_unread answer) (new.ctx.ticks - old.ctx.ticks) 0) ≤ new.ctx.ticks + 1
     line_stored e =
         let reads = tries.tried.read e [] no_more in
         omega (
@@ -279,10 +279,10 @@ module _ (old new : Feeding) (before after : BitsAt) (before_is : before ≡ rec
           reads.at_least,
           reads.stored,
           ap (λ (x : Context). x.ticks) frame,
-          at_none (is_left answer) (new.ctx.ticks - old.ctx.ticks) (ap is_left e),
+          at_none (is_unread answer) (new.ctx.ticks - old.ctx.ticks) (ap is_unread e),
         )
 
-    line_found : cond (is_left answer) (new.ctx.ticks - old.ctx.ticks) 0 ≤ most_to_find old + 2
+    line_found : cond (is_unread answer) (new.ctx.ticks - old.ctx.ticks) 0 ≤ most_to_find old + 2
     line_found = grind (arith, common_steps, found_within, at_most)
 
     -- no line changes the settings
@@ -300,19 +300,19 @@ module _ (old new : Feeding) (before after : BitsAt) (before_is : before ≡ rec
 
     pub feed_reads : ReadsInFeed old new answer
     feed_reads = record {
-      extra = cond (is_left answer) (new.ctx.ticks - old.ctx.ticks) 0;
+      extra = cond (is_unread answer) (new.ctx.ticks - old.ctx.ticks) 0;
       keeps = keeps;
       begun = still;
       left = λ left. grind (arith, common_steps, left_held, tries.left left);
       unsettled = λ e. grind (arith, common_steps, same_line, tries.tried.short e);
-      memory = λ e. same_line (λ s r b. HasBlack (front_of (line_here s r b))) (subst IsLeft (sym e) refl)
+      memory = λ e. same_line (λ s r b. HasBlack (front_of (line_here s r b))) (subst IsUnread (sym e) refl)
           (tries.tried.memory e);
       paints = λ whole tried e feed. line_paints feed e;
       reads = λ whole tried read feed. line_fed feed read;
-      stands = λ whole tried feed. line_stays_fed feed (is_left answer) refl;
+      stands = λ whole tried feed. line_stays_fed feed (is_unread answer) refl;
       most = grind (arith, common_steps, row_enough);
       counts = counted;
-      counted = omega (arith, counted, at_most (is_left answer) (new.ctx.ticks - old.ctx.ticks));
+      counted = omega (arith, counted, at_most (is_unread answer) (new.ctx.ticks - old.ctx.ticks));
       stored = λ e. line_stored e;
       looked = same_look;
       done = λ e. none_new;
@@ -553,7 +553,7 @@ open_gap true AtEnd ctx next begun line unended gap = absurd cc
 open_gap true (AtFault error) ctx next begun line unended gap = absurd cc
 
 -- a line that is left changes nothing
-line_left : {whole : Bits} {old new : Feeding} (answer : Result Bool DecodeError) → ReadsInFeed old new answer → IsLeft answer
+line_left : {whole : Bits} {old new : Feeding} (answer : Result Bool DecodeError) → ReadsInFeed old new answer → IsUnread answer
     → is_at_line old.rows.stand ≡ true → StaysThere (fed_over whole old) (fed_over whole new)
 line_left {whole} {old} {new} answer reads left line = grind (arith, common_steps, at_line_unended)
 
@@ -579,7 +579,7 @@ line_paid {old} {new} (Ok true) reads unread line = grind (arith, common_steps)
 line_paid {old} {new} (Ok false) reads unread line = grind (arith, common_steps)
 line_paid {old} {new} (Err error) reads unread line = grind (arith, common_steps, next_is)
 
-left_as_none : (answer : Result Bool DecodeError) → HasNone (fed_row answer) → IsLeft answer
+left_as_none : (answer : Result Bool DecodeError) → HasNone (fed_row answer) → IsUnread answer
 left_as_none (Ok true) left = cc
 left_as_none (Ok false) left = refl
 left_as_none (Err error) left = left
@@ -592,9 +592,9 @@ line_onward : {whole : Bits} {tried : ℕ} {old new : Feeding} (answer : Result 
     → IsFeedOf whole tried old → ended new.rows.stand ≡ None → old.place ≤ new.place
 line_onward {whole} {tried} {old} {new} (Ok true) reads feed unended = (reads.row_is whole tried refl feed).1
 line_onward {whole} {tried} {old} {new} (Ok false) reads feed unended = omega (arith, (reads.left refl).1)
-line_onward {whole} {tried} {old} {new} (Err error) reads feed unended = by_left (is_left (Err error)) refl
+line_onward {whole} {tried} {old} {new} (Err error) reads feed unended = by_left (is_unread (Err error)) refl
   where
-    by_left : (b : Bool) → is_left (Err error) ≡ b → old.place ≤ new.place
+    by_left : (b : Bool) → is_unread (Err error) ≡ b → old.place ≤ new.place
     by_left true e = omega (arith, (reads.left (left_is (Err error) e)).1)
     by_left false e = absurd (fault_ends (reads.reads whole tried (left_not (Err error) e) feed) unended)
 
@@ -670,10 +670,10 @@ line_failed : (answer : Result Bool DecodeError) → fed_row answer ≡ Err OutO
 line_failed answer e = grind (arith, common_steps)
 
 row_of_line_read : {old new : RowsRead} (answer : Result Bool DecodeError) → answer ≡ Ok true
-    → ((IsLeft answer → ⊥) → ReadsNext old new answer) → ReadsNext old new (Ok true)
+    → ((IsUnread answer → ⊥) → ReadsNext old new answer) → ReadsNext old new (Ok true)
 row_of_line_read {old} {new} answer is reads = subst (ReadsNext old new) is (reads (λ left. grind (arith, common_steps)))
 
-line_fault : {old new : RowsRead} (answer : Result Bool DecodeError) → ((IsLeft answer → ⊥) → ReadsNext old new answer)
+line_fault : {old new : RowsRead} (answer : Result Bool DecodeError) → ((IsUnread answer → ⊥) → ReadsNext old new answer)
     → IfErr (fed_row answer) (λ e. e ≢ OutOfMemory → ReadsNext old new (Err e))
 line_fault (Ok true) reads = tt
 line_fault (Ok false) reads = tt
@@ -720,13 +720,13 @@ gap_ended {new = new} {answer = answer} counts space unkept over some other none
     grind (arith, common_steps, none_paid, false≢true)
 
 -- no row is read where no line is reached
-pub none_row : (line : Result (Option Bool) DecodeError) → fed_none line ≢ Ok Fed.Row
+pub none_row : (line : Result (Option Bool) DecodeError) → fed_without_row line ≢ Ok Fed.Row
 none_row (Ok None) e = cc
 none_row (Ok (Some line)) e = cc
 none_row (Err error) e = cc
 
 gap_end : {old new : RowsRead} (answer : Result (Option Bool) DecodeError) → answer ≢ Ok (Some true)
-    → fed_none answer ≡ Ok Fed.End → ReachesNextLine old new (came answer) → ReadsNext old new (Ok false)
+    → fed_without_row answer ≡ Ok Fed.End → ReachesNextLine old new (came answer) → ReadsNext old new (Ok false)
 gap_end (Ok None) other e reached = absurd cc
 gap_end (Ok (Some true)) other e reached = absurd (other refl)
 gap_end (Ok (Some false)) other e reached = none_after (Ok false) (λ is. cc) reached
@@ -737,7 +737,8 @@ over_feeds : {whole : Bits} {tried : ℕ} {old new : Feeding} (answer : Result (
     → answer ≢ Ok None → answer ≢ Ok (Some true) → answer ≢ Err OutOfMemory
     → ReachesNextLine (fed_over whole old) (fed_over whole new) (came answer) → IsFeedOf whole (tried + more) new
     → LooksAhead old.finished (old.begun && is_at_line old.rows.stand) old.looked (drop old.place old.kept) more
-    → old.part ≡ None → CallGoesOn old new (fed_none answer) more more → FeedsNext whole tried old new (fed_none answer)
+    → old.part ≡ None → CallGoesOn old new (fed_without_row answer) more more
+    → FeedsNext whole tried old new (fed_without_row answer)
 over_feeds {whole} {tried} {old} {new} answer more waits line memory reached stands looks unkept goes_on = record {
   row = λ e. absurd (none_row answer e);
   end = λ e. gap_end answer line e reached;
@@ -762,7 +763,7 @@ pub gap_feeds : {whole : Bits} {tried : ℕ} {old new : Feeding} (answer : Resul
     → ComesInFeed old new answer
     → answer ≢ Ok (Some true) → old.begun ≡ true → ended old.rows.stand ≡ None → old.part ≡ None → new.part ≡ None
     → IsFeedOf whole tried old
-    → FeedsNext whole tried old new (fed_none answer)
+    → FeedsNext whole tried old new (fed_without_row answer)
 gap_feeds {whole} {tried} {old} {new} (Ok None) comes other begun unended unkept none feed =
     let w = comes.waits refl in
     record {

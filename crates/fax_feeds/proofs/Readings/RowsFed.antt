@@ -15,8 +15,8 @@ use Rattle.fax_rows.proofs.Readings.GapsPassed.{gap_stays, gap_reaches}
 use Rattle.fax_rows.proofs.Readings.RowByRow.{reported_at_line}
 use Rattle.fax_rows.specs.declared.row_reader.RowState.{RowState}
 use Rattle.fax_reading.specs.GapsContinued.{gap_is_settled}
-use Rattle.fax_rows.specs.RowsTried.{CanCome, IsLeft, PassesGap, PassesGapHere, ReadsRow, TriesRow, rows_after_line}
-use Rattle.fax_feeds.specs.RowFeeds.{LieIn, came, is_left, line_answer, some_line}
+use Rattle.fax_rows.specs.RowsTried.{CanCome, IsUnread, PassesGap, PassesGapHere, ReadsRow, TriesRow, rows_after_line}
+use Rattle.fax_feeds.specs.RowFeeds.{LieIn, came, is_unread, line_answer, of_settled_gap}
 use Rattle.fax_rows.proofs.Readings.LinesRead.{line_stays, line_is_next}
 use Rattle.fax_bits.specs.declared.error.DecodeError.TheVariants.{InvalidCode}
 use Rattle.fax_feeds.proofs.Names.{no_memory}
@@ -123,7 +123,7 @@ module _ (is_last : Bool) (gap_start : ℕ) (rows kept : RowState) (old mid new 
       no_line later)
 
   pub gap_step_reaches : ReachesNextLine (seen rows old (record { bits = whole; place = gap_start }))
-      (seen kept new (record { bits = whole; place = dropped + after.place })) (came (some_line answer))
+      (seen kept new (record { bits = whole; place = dropped + after.place })) (came (of_settled_gap answer))
   gap_step_reaches =
       let reaches = gap_reaches (from + more_ticks) rows mid new whole gap_start
       (dropped + after.place) gap.over passes begun within
@@ -135,7 +135,7 @@ module _ (is_last : Bool) (gap_start : ℕ) (rows kept : RowState) (old mid new 
       (seen r new (record { bits = whole; place = dropped + after.place })) (line_after gap.over)) (sym gap.kept_is) reaches) in
       from_before said
     where
-      came_is : (r : Result Bool DecodeError) → came (some_line r) ≡ r
+      came_is : (r : Result Bool DecodeError) → came (of_settled_gap r) ≡ r
       came_is (Ok line) = refl
       came_is (Err e) = refl
 
@@ -157,12 +157,12 @@ waits_not false true e = inr refl
 waits_not false false e = absurd cc
 
 -- a gap that was passed didn't wait
-pub passed_some : (r : Result Bool DecodeError) → some_line r ≡ Ok None → ⊥
+pub passed_some : (r : Result Bool DecodeError) → of_settled_gap r ≡ Ok None → ⊥
 passed_some (Ok line) e = cc
 passed_some (Err error) e = cc
 
 -- where a line is said to be here, it is
-pub said_line : (over : Result Bool DecodeError) (r : Result Bool DecodeError) → r ≡ line_after over → some_line r ≡ Ok
+pub said_line : (over : Result Bool DecodeError) (r : Result Bool DecodeError) → r ≡ line_after over → of_settled_gap r ≡ Ok
     (Some true)
     → is_at_line (stand_after over) ≡ true
 said_line (Ok true) r is e = grind (arith, common_steps)
@@ -171,29 +171,30 @@ said_line (Err error) r is e = grind (arith, common_steps)
 
 -- its only fault is a missing EOL
 pub said_code : (over r : Result Bool DecodeError) → r ≡ line_after over → IfErr over (λ e. e ≡ InvalidCode)
-    → IfErr (some_line r) (λ e. e ≡ InvalidCode)
-said_code (Ok over) r is code = subst (λ (r : Result Bool DecodeError). IfErr (some_line r) (λ e. e ≡ InvalidCode)) (sym is) tt
+    → IfErr (of_settled_gap r) (λ e. e ≡ InvalidCode)
+said_code (Ok over) r is code =
+    subst (λ (r : Result Bool DecodeError). IfErr (of_settled_gap r) (λ e. e ≡ InvalidCode)) (sym is) tt
 said_code (Err error) r is code = grind (arith, common_steps)
 
 -- ---- The line here
 
-pub left_is : (r : Result Bool DecodeError) → is_left r ≡ true → IsLeft r
+pub left_is : (r : Result Bool DecodeError) → is_unread r ≡ true → IsUnread r
 left_is (Ok true) e = absurd cc
 left_is (Ok false) e = refl
 left_is (Err error) e = no_memory_is error e
 
-pub left_not : (r : Result Bool DecodeError) → is_left r ≡ false → IsLeft r → ⊥
+pub left_not : (r : Result Bool DecodeError) → is_unread r ≡ false → IsUnread r → ⊥
 left_not (Ok true) e left = absurd cc
 left_not (Ok false) e left = absurd cc
 left_not (Err error) e left = false≢true (sym e ∙ ap no_memory left)
 
-came_of : (r : Result Bool DecodeError) → is_left r ≡ false → row_came (line_answer r) ≡ r
+came_of : (r : Result Bool DecodeError) → is_unread r ≡ false → row_came (line_answer r) ≡ r
 came_of (Ok true) e = refl
 came_of (Ok false) e = absurd cc
 came_of (Err error) e = refl
 
 module _ (is_last : Bool) (line_start : ℕ) (rows kept : RowState) (old new : Context) (before after : BitsAt)
-    (answer : Result Bool DecodeError) (tries : TriesRow is_last old new answer before after) (other : is_left answer ≡ false)
+    (answer : Result Bool DecodeError) (tries : TriesRow is_last old new answer before after) (other : is_unread answer ≡ false)
     (same_bits : after.bits ≡ before.bits) (begun : before.place ≤ length before.bits) (ends : after.place ≤ length after.bits)
     (kept_is : kept ≡ rows_after_line rows (line_answer answer) line_start old.held.repairs.rows old.held.repairs.cut
     new.held.repairs)
@@ -214,7 +215,7 @@ module _ (is_last : Bool) (line_start : ℕ) (rows kept : RowState) (old new : C
   fails e is fault = (subst (λ (r : Result Bool DecodeError). IfErr r (λ e. IsFault e → (more : Bits) → CanCome is_last more
       → ReadsRow old new (Err e) (here before ++ more) (here after ++ more))) is tries.failed) fault lie.more lie.can_come
 
-  reads_here : (r : Result Bool DecodeError) → answer ≡ r → is_left r ≡ false
+  reads_here : (r : Result Bool DecodeError) → answer ≡ r → is_unread r ≡ false
       → ReadsRow old new (line_answer r) (here before ++ lie.more) (here after ++ lie.more)
   reads_here (Ok true) is e = tries.read is lie.more lie.can_come
   reads_here (Ok false) is e = absurd cc
@@ -246,7 +247,7 @@ module _ (is_last : Bool) (line_start : ℕ) (rows kept : RowState) (old new : C
       (line_is_next from rows old new whole line_start (dropped + after.place) line_begins line_within at (line_answer answer)
       line_reads))
 
-pub none_read : (r : Result Bool DecodeError) → IsLeft r → r ≢ Ok true
+pub none_read : (r : Result Bool DecodeError) → IsUnread r → r ≢ Ok true
 none_read (Ok true) left e = absurd cc
 none_read (Ok false) left e = cc
 none_read (Err error) left e = cc

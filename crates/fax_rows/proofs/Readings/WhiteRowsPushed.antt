@@ -25,10 +25,10 @@ some_after zero start rows some = absurd (omega arith)
 some_after (suc count) start rows some = refl
 
 -- no row was passed
-first_meaning : {M : Type 0} (step : M → List ℕ → M) (lines : WhiteLines) (dropped : ℕ) (old new : Pushed M) (count : ℕ)
-    → count ≡ 0 → PassWhite step lines dropped count old new → new.meaning ≡ old.meaning
-first_meaning {M} step lines dropped old new zero none pass = ap (λ (p : Pushed M). p.meaning) pass
-first_meaning step lines dropped old new (suc count) none pass = absurd (omega (arith, none))
+still_there : {M : Type 0} (step : M → List ℕ → M) (lines : WhiteLines) (dropped : ℕ) (old new : Pushed M) (count : ℕ)
+    → count ≡ 0 → PassWhite step lines dropped count old new → new ≡ old
+still_there step lines dropped old new zero none pass = pass
+still_there step lines dropped old new (suc count) none pass = absurd (omega (arith, none))
 
 -- so many rows were read and passed, and no more than there may be before the row limit
 pub record HasPushedWhite {M : Type 0} (step : M → List ℕ → M) (lines : WhiteLines) (dropped most counted start : ℕ)
@@ -110,6 +110,12 @@ module _ {M : Type 0} {step : M → List ℕ → M} {lines : WhiteLines} {droppe
           ends = grind (arith, common_steps, so_far, rows_after, count, start_then, ctx_after, takes_more);
         }
 
+  none_passed : counted ≡ 0 → so_far ≡ record { rows = rows; ctx = ctx; at = at; meaning = before }
+  none_passed none = still_there step lines dropped _ so_far count (omega (arith, none, pushed.count_is)) pushed.pass
+
+  pub still_at : counted ≡ 0 → next ≡ at
+  still_at none = ap (λ (p : Pushed M). p.at) (none_passed none)
+
   -- none is next
   module _ {kept : RowState} {new : Context} {last : BitsAt} {first end : SinkState M} (start_is : first.meaning ≡ before)
       (means : end.meaning ≡ after) (flag : end.refused ≡ first.refused) where
@@ -130,8 +136,7 @@ module _ {M : Type 0} {step : M → List ℕ → M} {lines : WhiteLines} {droppe
     pub no_row_left : counted ≡ 0 → kept ≡ rows → new ≡ ctx → last ≡ at
         → PushesWhite step lines dropped first end rows kept ctx new at last (Ok tt)
     no_row_left none kept_is new_is last_is =
-        let unmoved : after ≡ before = first_meaning step lines dropped _ so_far count
-        (omega (arith, none, pushed.count_is)) pushed.pass in
+        let unmoved : after ≡ before = ap (λ (p : Pushed M). p.meaning) (none_passed none) in
         record {
           count = 0;
           mid = record { rows = rows; ctx = ctx; at = at; meaning = first.meaning };
@@ -191,26 +196,3 @@ module _ {M : Type 0} {step : M → List ℕ → M} {lines : WhiteLines} {droppe
           answer
       flag_before (Ok x) ends = (ends.0, ends.1 ∙ pushes.ends.1)
       flag_before (Err error) ends = ends
-
-  module _ {last : SinkState M} {end : RowState} {new : Context} {then : BitsAt}
-      (reads : ReadsWhite lines dropped so_far_pushed
-      (record { rows = end; ctx = new; at = then; meaning = last.meaning })) where
-    -- one more was
-    pub then_one : last.meaning ≡ step mid.meaning [] → last.refused ≡ mid.refused
-        → PushesWhite step lines dropped first last rows end old new at then (Ok tt)
-    then_one means flag = record {
-      count = suc pushes.count;
-      mid = record { rows = end; ctx = new; at = then; meaning = last.meaning };
-      pass = (so_far_pushed, passed_so_far, record { reads = reads; meaning = means });
-      ends = (refl, flag ∙ pushes.ends.1);
-    }
-
-    -- or the sink refuses its row
-    pub then_refused : {error : DecodeError} → last.meaning ≡ mid.meaning → error ≡ Refused → last.refused ≡ true
-        → last.refuses [] → PushesWhite step lines dropped first last rows end old new at then (Err error)
-    then_refused means is flag row = record {
-      count = pushes.count;
-      mid = so_far_pushed;
-      pass = passed_so_far;
-      ends = record { reads = reads; meaning = means; is = is; flag = flag; row = row };
-    }

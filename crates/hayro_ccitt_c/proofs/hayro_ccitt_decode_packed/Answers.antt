@@ -7,7 +7,7 @@ use Rattle.hayro_ccitt_c.specs.Packing.{Packing, bytes_of_row, together, with_pa
 use Rattle.hayro_ccitt_c.specs.Reports.{changes_taken, ArePacked, AreTogether}
 use Rattle.hayro_ccitt.specs.DecodeSettings.{DecodeSettings}
 use Rattle.hayro_ccitt_c.specs.Settings.{layout_of, order_of, settings_of}
-use Rattle.hayro_ccitt_c.specs.declared.packed_rows.Layout.{Layout}
+use Rattle.c_rows.specs.declared.packed_rows.Layout.{Layout}
 use Rattle.hayro_ccitt_c.proofs.PackedMemory.{all_fit, are_packed, changes_are, packing_of, same_meaning, same_name, start_is}
 use Rattle.hayro_ccitt_c.proofs.PackedTogether.{are_together}
 use Rattle.hayro_ccitt_c.proofs.WhiteRows.{all_in_memory}

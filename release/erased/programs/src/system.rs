@@ -290,6 +290,16 @@ pub mod fs {
         }
     }
 
+    impl std::os::unix::fs::FileExt for File {
+        fn read_at(&self, to: &mut [u8], offset: u64) -> Result<usize> {
+            self.0.read_at(to, offset)
+        }
+
+        fn write_at(&self, from: &[u8], offset: u64) -> Result<usize> {
+            self.0.write_at(from, offset)
+        }
+    }
+
     impl std::os::fd::AsRawFd for File {
         fn as_raw_fd(&self) -> std::os::fd::RawFd {
             self.0.as_raw_fd()

@@ -1,6 +1,7 @@
 use Rattle.fax_encode.proofs.Names.{◌≡◌, ◌+◌, ◌∷◌, ◌++◌, List, ℕ, drop, map, length, sym, ap, subst, ◌∙◌, Bits, Row, AreChanges}
 use Rattle.fax_encode.proofs.Names.{pixels, rows_of, chosen_part, left_after, all_bits}
-use Rattle.fax_encode.proofs.{LinesOfPictures.line_written, RowLists.item_lawful, RowLists.item_next}
+use Rattle.fax_encode.proofs.LinesOfPictures.{line_written}
+use Rattle.fax_encode.proofs.RowLists.{item_lawful, item_next}
 use Rattle.fax_encode.proofs.Names.{lines_left}
 use Rattle.fax_encode.proofs.by_settings.put_rows.Goals as goal
 

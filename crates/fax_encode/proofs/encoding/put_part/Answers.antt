@@ -1,5 +1,6 @@
 use Rattle.fax_encode.proofs.Names.{◌≡◌, ◌++◌, false, length, sym, ap, ◌∙◌, Bits, Row, pixels, chosen_line, has_eols, all_bits}
-use Rattle.fax_encode.proofs.{LinesOfPictures.part_without_eol, ModesWritten.padded_line, ModesWritten.padded_whole}
+use Rattle.fax_encode.proofs.LinesOfPictures.{part_without_eol}
+use Rattle.fax_encode.proofs.ModesWritten.{padded_line, padded_whole}
 use Rattle.fax_encode.proofs.encoding.put_part.Goals as goal
 
 pub returns-clause-written : goal.returns-clause-written

@@ -1,6 +1,7 @@
 use Rattle.fax_encode.proofs.Names.{◌<◌, ℕ, List, map, refl, ap, ◌∙◌, arith, inl, inr, cases_eq, err_from_is_err_and, bits_of}
 use Rattle.fax_encode.proofs.Names.{IsClosedPicture}
-use Rattle.fax_encode.proofs.{PackedRows.same_refusals, RoundTrip.begins_with_chosen_t6}
+use Rattle.fax_encode.proofs.PackedRows.{same_refusals}
+use Rattle.fax_encode.proofs.RoundTrip.{begins_with_chosen_t6}
 use Rattle.fax_encode.proofs.round_trip.bitmap_by_group4.Goals as goal
 
 pub returns-clause-packed : goal.returns-clause-packed

@@ -9,10 +9,10 @@ use Rattle.fax_feeds.specs.RowFeeds.{line_answer}
 use Rattle.fax_feeds.proofs.row_feed.try_line.Goals.{After-note_line}
 use Rattle.fax_feeds.proofs.row_feed.try_line.Goals as goal
 
-pub returns-then-is_left-clause-tries : goal.returns-then-is_left-clause-tries
-returns-then-is_left-clause-tries c =
+pub returns-then-is_unread-clause-tries : goal.returns-then-is_unread-clause-tries
+returns-then-is_unread-clause-tries c =
     let row = c.try_row-row.ensures in
-    let left = left_is c.try_row-row.result (sym c.is_left.ensures ∙ c.if-is_left.true) in
+    let left = left_is c.try_row-row.result (sym c.is_unread.ensures ∙ c.if-is_unread.true) in
     record {
       tried = row.row;
       same_bits = row.same_bits;
@@ -39,7 +39,7 @@ pub returns-clause-tries : goal.returns-clause-tries
 returns-clause-tries c =
     let row = c.try_row-row.ensures in
     let answer = c.try_row-row.result in
-    let other = sym c.is_left.ensures ∙ c.if-is_left.false in
+    let other = sym c.is_unread.ensures ∙ c.if-is_unread.false in
     let begun : c.args.reader.now.place ≤ length c.args.reader.now.bits
     = omega (arith, c.bit_pos-start.ensures.place, c.bit_pos-start.ensures.within) in
     let ends : c.try_row-row.new.reader.place ≤ length c.try_row-row.new.reader.bits

@@ -25,17 +25,17 @@ unended_feed c = ap (λ (f : Feeding). ended f.rows.stand) c.self.view_is ∙ c.
 
 -- the feed where the gap was passed
 abbrev after_gap : After-is_some_line → Inside
-after_gap c = past_gap c.self.inside c.come_to_settled_line-line.new.ctx c.come_to_settled_line-line.new.rows
-    c.bit_pos-self-inside.result c.come_to_settled_line-line.new.look
+after_gap c = past_gap c.self.inside c.pass_settled_gap-line.new.ctx c.pass_settled_gap-line.new.rows
+    c.bit_pos-self-inside.result c.pass_settled_gap-line.new.look
 
-gap_kept : (c : After-is_some_line) → IsReadBy (after_gap c) c.come_to_settled_line-line.new.reader
-gap_kept c = gap_read_by (feed_by c) c.bit_pos-self-inside.ensures.place c.come_to_settled_line-line.ensures
+gap_kept : (c : After-is_some_line) → IsReadBy (after_gap c) c.pass_settled_gap-line.new.reader
+gap_kept c = gap_read_by (feed_by c) c.bit_pos-self-inside.ensures.place c.pass_settled_gap-line.ensures
 
-pub come_to_settled_line-line-requires-clause-seen : goal.come_to_settled_line-line-requires-clause-seen
-come_to_settled_line-line-requires-clause-seen c = grind (arith, common_steps, seen_by)
+pub pass_settled_gap-line-requires-clause-seen : goal.pass_settled_gap-line-requires-clause-seen
+pass_settled_gap-line-requires-clause-seen c = grind (arith, common_steps, seen_by)
 
-pub come_to_settled_line-line-requires-clause-line : goal.come_to_settled_line-line-requires-clause-line
-come_to_settled_line-line-requires-clause-line c = c.self.invariant.line
+pub pass_settled_gap-line-requires-clause-line : goal.pass_settled_gap-line-requires-clause-line
+pass_settled_gap-line-requires-clause-line c = c.self.invariant.line
 
 pub invariant_of-self : goal.invariant_of-self
 invariant_of-self c = (gap_kept (goal.at.invariant_of-self c).After-is_some_line).kept
@@ -43,8 +43,8 @@ invariant_of-self c = (gap_kept (goal.at.invariant_of-self c).After-is_some_line
 pub returns-then-not-is_some_line : goal.returns-then-not-is_some_line
 returns-then-not-is_some_line c =
     let here = (goal.at.returns-then-not-is_some_line c).After-is_some_line in
-    rw (← c.self.view_is, c.fed_none.ensures)
-    (gap_row (feed_by here) c.bit_pos-self-inside.ensures.place c.come_to_settled_line-line.ensures (unended_feed here)
+    rw (← c.self.view_is, c.fed_without_row.ensures)
+    (gap_row (feed_by here) c.bit_pos-self-inside.ensures.place c.pass_settled_gap-line.ensures (unended_feed here)
     (c.is_some_line.ensures.none c.if-not-is_some_line.true))
 
 -- ---- The line
@@ -57,7 +57,7 @@ pub returns-then-not-can_take_row : goal.returns-then-not-can_take_row
 returns-then-not-can_take_row c =
     let here = (goal.at.returns-then-not-can_take_row c).After-is_some_line in
     rw (← c.self.view_is)
-    (full_row (feed_by here) c.bit_pos-self-inside.ensures.place c.come_to_settled_line-line.ensures (unended_feed here)
+    (full_row (feed_by here) c.bit_pos-self-inside.ensures.place c.pass_settled_gap-line.ensures (unended_feed here)
     (c.is_some_line.ensures.here c.if-not-is_some_line.false)
     (λ fits few. false≢true (sym c.if-not-can_take_row.true ∙ c.can_take_row.ensures.room fits few)) _)
 
@@ -70,8 +70,8 @@ module _ (c : After-is_unsettled) where
   abbrev here_gap : After-is_some_line
   here_gap = c.before.before.before.before.before.before.before.before.before.before.before.before.before.before.before
 
-  line_is_at : is_at_line c.come_to_settled_line-line.new.rows.stand ≡ true
-  line_is_at = c.come_to_settled_line-line.ensures.line (c.is_some_line.ensures.here c.if-not-is_some_line.false)
+  line_is_at : is_at_line c.pass_settled_gap-line.new.rows.stand ≡ true
+  line_is_at = c.pass_settled_gap-line.ensures.line (c.is_some_line.ensures.here c.if-not-is_some_line.false)
 
   -- the feed where the line was read, or left
   abbrev following_line : Inside
@@ -95,7 +95,7 @@ invariant_of-self-else-is_unsettled c = (line_kept (goal.at.invariant_of-self-el
 whole_feeds : (c : After-is_unsettled) → c.try_line-row.result ≢ Ok false
     → FeedsRow (feeding_of c.self.inside) (feeding_of (following_line c)) (fed_row c.try_line-row.result)
 whole_feeds c other = line_row (feed_by (here_gap c)) c.bit_pos-self-inside.ensures.place
-    c.come_to_settled_line-line.ensures (unended_feed (here_gap c)) (c.is_some_line.ensures.here c.if-not-is_some_line.false)
+    c.pass_settled_gap-line.ensures (unended_feed (here_gap c)) (c.is_some_line.ensures.here c.if-not-is_some_line.false)
     (c.can_take_row.ensures.rows c.if-not-can_take_row.false) (line_reads c) (λ e none. absurd (other e))
 
 -- it is short, and its part is kept
@@ -106,7 +106,7 @@ short_feeds c {new} is keeps =
     let short = subst (ReadsInFeed gap (feeding_of (following_line c))) is (line_reads c) in
     let kept = subst (ReadsInFeed gap new) (sym is)
     (scanned_after short (gap_kept (here_gap c)).none (line_kept c).none keeps) in
-    line_row (feed_by (here_gap c)) c.bit_pos-self-inside.ensures.place c.come_to_settled_line-line.ensures
+    line_row (feed_by (here_gap c)) c.bit_pos-self-inside.ensures.place c.pass_settled_gap-line.ensures
     (unended_feed (here_gap c)) (c.is_some_line.ensures.here c.if-not-is_some_line.false)
     (c.can_take_row.ensures.rows c.if-not-can_take_row.false) kept
     (λ e still. unread_line short refl (λ tagged end. c.try_line-row.ensures.no_tag

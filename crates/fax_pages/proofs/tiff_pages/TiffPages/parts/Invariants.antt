@@ -6,8 +6,8 @@ use Rattle.fax_pages.proofs.tiff_pages.TiffPages.parts.Given as goal
 abbrev pub invariant-parts : goal.invariant-parts
 invariant-parts l = record {
   parts : All (LiesIn l.fn.picture l.fn.sizes (length l.fn.self.bytes)) l.parts.items;
-  paid : l.self-inside.tiff.left + 2 * length l.parts.items ≤ l.fn.self.left;
-  same : IsSameReading l.fn.self l.self-inside.tiff;
+  paid : l.self.left + 2 * length l.parts.items ≤ l.fn.self.left;
+  same : IsSameReading l.fn.self l.self;
   left : l.left < l.sizes.columns;
   size : l.size ≡ length l.fn.self.bytes;
 }

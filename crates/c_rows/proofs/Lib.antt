@@ -1,0 +1,9 @@
+pub mod FedRows
+pub mod InvertedBits
+pub mod ListedMemory
+pub mod PackedMemory
+pub mod Reporting
+pub mod SpreadRows
+pub mod StandingRows
+pub mod TakenRows
+pub mod WhiteRows

@@ -1,0 +1,10 @@
+pub mod Encoding
+pub mod GivenRows
+pub mod Listing
+pub mod Packing
+pub mod Reports
+pub mod RowsFed
+pub mod RowsGiven
+pub mod RowsReported
+pub mod RowsTaken
+pub mod Settings

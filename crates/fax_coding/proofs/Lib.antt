@@ -1,0 +1,14 @@
+pub mod ChosenLines
+pub mod ChosenWords
+pub mod Elements
+pub mod ModesBelow
+pub mod ModesWritten
+pub mod Names
+pub mod RunLengths
+pub mod ShortestLines
+pub mod ShortestRows
+pub mod ShortestRuns
+pub mod ShortestRunsWritten
+pub mod ShortestSteps
+pub mod ShortestWays
+pub mod StepsToB1

@@ -1,0 +1,19 @@
+use Rattle.fax_coding.proofs.Names.{◌≡◌, ◌-◌, ◌*◌, ◌++◌, OnOk, sym, ap, subst, ◌∙◌, Bits, word_of_length, shortest_run, all_bits}
+use Rattle.fax_coding.proofs.ShortestRunsWritten.{shortest_more, shortest_few}
+use Rattle.fax_words.proofs.RunsWritten.{one_part}
+use Rattle.fax_coding.proofs.runs.put_long_shortest_run.Goals as goal
+
+pub loop-left-preserved : goal.loop-left-preserved
+loop-left-preserved c = one_part (all_bits c.put_code_word.new.writer) (all_bits c.loop-left.writer)
+    (shortest_run c.args.color c.loop-left.left) (word_of_length c.args.color (64 * c.first_makeup-times.result))
+    (shortest_run c.args.color (c.loop-left.left - 64 * c.first_makeup-times.result)) _ c.loop-left.invariant
+    (shortest_more c.args.color c.loop-left.left c.first_makeup-times.result c.loop-left-test.true
+    c.first_makeup-times.ensures.is)
+    (c.in_ok-put_code_word.ensures ∙ ap (λ (b : Bits). all_bits c.loop-left.writer ++ b) c.makeup_word.ensures.spells)
+
+pub returns : goal.returns
+returns c =
+    let rest =
+    ap (λ (b : Bits). all_bits c.loop-left.writer ++ b) (shortest_few c.args.color c.loop-left.left c.loop-left-test.false) in
+    subst (λ (b : Bits). OnOk c.put_rest.result (all_bits c.put_rest.new.writer ≡ b))
+    (sym rest ∙ c.loop-left.invariant) c.put_rest.ensures

@@ -1,0 +1,9 @@
+use Rattle.std.proofs.lemmas.Grind.{common_steps}
+use Rattle.fax_coding.proofs.Names.{arith, length-append}
+use Rattle.fax_words.proofs.RunsWritten.{next_within, next_ascends}
+use Rattle.fax_coding.proofs.ShortestRows.{next_shortest}
+use Rattle.fax_coding.proofs.runs.shortest_row_bits.Goals as goal
+
+pub changes-preserved : goal.changes-preserved
+changes-preserved c =
+    grind (arith, common_steps, next_within, next_ascends, next_shortest, length-append, c.shortest_run_bits.type_inv)

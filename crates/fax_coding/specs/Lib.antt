@@ -1,0 +1,3 @@
+pub mod Coding
+pub mod Shortest
+pub mod Ways

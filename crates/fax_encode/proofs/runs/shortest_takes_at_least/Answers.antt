@@ -1,8 +1,0 @@
-use Rattle.fax_encode.proofs.Names.{sym, White, arith, le-leb, length}
-use Rattle.fax_encode.specs.Shortest.{shortest_runs_1d}
-use Rattle.fax_encode.proofs.ShortestRows.{shortest_row_least}
-use Rattle.fax_encode.proofs.runs.shortest_takes_at_least.Goals as goal
-
-pub returns-then-bits-least : goal.returns-then-bits-least
-returns-then-bits-least c = sym (le-leb c.args.bits (length (shortest_runs_1d c.args.columns White 0 c.args.changes.now))
-    (omega (arith, shortest_row_least c.args.columns c.args.changes.now, c.if-bits-least.true)))

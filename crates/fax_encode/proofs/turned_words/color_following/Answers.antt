@@ -1,8 +1,0 @@
-use Rattle.fax_encode.proofs.Names.{refl}
-use Rattle.fax_encode.proofs.TurnedWords.{color_of_last}
-use Rattle.fax_encode.proofs.turned_words.color_following.Goals as goal
-
-pub returns : goal.returns
-returns c =
-    let is = color_of_last c.args.word _ refl in
-    record { plain = is.0; same = is.1 }

@@ -1,0 +1,144 @@
+//! TIFF files of which no more than a page is in memory.
+
+use crate::output::Output;
+use crate::run::{Job, Run, note_of};
+use crate::source::{Content, Entry};
+use crate::tiff::TiffEntries;
+use fax_decode::Allowance;
+use faxconv_lib::report::Place;
+use faxconv_lib::{Action, Kind, Status, kind_of};
+use std::alloc::{AllocError, Global};
+use std::fs::File;
+use tiff_split::{LIES_OVER_OTHERS, Ranges, SplitError, SplitPage, SplitPages};
+
+/// The most bytes of a TIFF file that is read whole.
+const MOST_READ_WHOLE: u64 = 1 << 20;
+
+impl<'a, 'b, 'c> Run<'a, 'b, 'c> {
+    /// Returns how many bytes a file has, if it is a TIFF file that is read page by page.
+    pub(crate) fn size_if_split(&self, file: &File) -> Option<u64> {
+        let found = file.metadata().ok()?;
+        let mut first = [0u8; 8];
+        if !found.is_file()
+            || found.len() <= MOST_READ_WHOLE
+            || matches!(self.options.action, Action::Guess)
+            || file.read_range(0, &mut first).is_err()
+        {
+            return None;
+        }
+        match kind_of(&first, false) {
+            Some(Kind::Tiff) => Some(found.len()),
+            _ => None,
+        }
+    }
+
+    /// Reads the pages of a TIFF file of so many bytes, each by itself.
+    pub(crate) fn do_split(
+        &mut self,
+        name: &str,
+        file: &File,
+        size: u64,
+    ) -> Result<Status, AllocError> {
+        match self.do_split_pages(name, file, size) {
+            Ok(status) => Ok(status),
+            Err(SplitError::Unread(error)) => self.cannot(name, &error),
+            Err(SplitError::OutOfMemory) => Err(AllocError),
+            Err(_) => self.do_other(name, "its directory isn't in the file"),
+        }
+    }
+
+    /// Reads the pages of a file, as [`Run::do_source`] does.
+    fn do_split_pages(&mut self, name: &str, file: &File, size: u64) -> Result<Status, SplitError> {
+        let mut pages = SplitPages::open(self.rt.alloc(), file, size)?;
+        let mut allowance = Allowance::of_file(size as usize);
+        let mut status = Status::Whole;
+        let mut done: u64 = 0;
+        let mut now = self.next_split(&mut pages)?;
+        for _ in 0..u64::MAX {
+            let Some(page) = now else {
+                break;
+            };
+            let after = self.next_split(&mut pages)?;
+            let is_only = done == 0 && after.is_none() && self.options.files.len() <= 1;
+            let job = self.job_of_split(name, &page, is_only);
+            let read = pages.read(&page)?;
+            status = status.worse(self.do_split_page(&job, &page, read, &mut allowance)?);
+            done = done.saturating_add(1);
+            now = if matches!(status, Status::CannotGoOn) || pages.is_spent {
+                None
+            } else {
+                after
+            };
+        }
+        self.before = self.before.saturating_add(u64::from(pages.count));
+        if done > 0 {
+            return Ok(status);
+        }
+        self.teller.tell(Some(name), "there is no such page");
+        Ok(Status::Missing)
+    }
+
+    /// Finds the next page that is wanted.
+    fn next_split(&self, pages: &mut SplitPages<'_>) -> Result<Option<SplitPage>, SplitError> {
+        for _ in 0..u64::MAX {
+            let Some(page) = pages.next()? else {
+                break;
+            };
+            if self.is_wanted(u64::from(page.number)) {
+                return Ok(Some(page));
+            }
+        }
+        Ok(None)
+    }
+
+    /// Returns what is known of a page before it is read.
+    fn job_of_split<'n>(&self, name: &'n str, page: &SplitPage, is_only: bool) -> Job<'n> {
+        let number = u64::from(page.number);
+        Job {
+            name,
+            place: Place::Page(self.told(number)),
+            output: Output {
+                number: self.before.saturating_add(number),
+                is_only,
+                resolution: None,
+            },
+            note: note_of(page.note),
+        }
+    }
+
+    /// Reads a page that is a file of its own.
+    fn do_split_page(
+        &mut self,
+        job: &Job<'_>,
+        page: &SplitPage,
+        read: Result<Vec<u8>, &'static str>,
+        allowance: &mut Allowance,
+    ) -> Result<Status, AllocError> {
+        let alloc = self.rt.alloc();
+        let why = match &read {
+            Ok(file) => match TiffEntries::open(alloc, file.as_slice())? {
+                Some(mut entries) => match entries.next()? {
+                    Some(entry) => {
+                        let content = entry.content;
+                        return self.do_entry(job, entry_of(page, content), allowance);
+                    }
+                    None => LIES_OVER_OTHERS,
+                },
+                None => LIES_OVER_OTHERS,
+            },
+            Err(why) => why,
+        };
+        let content = Content::Refused(String::from_str(alloc, why)?);
+        self.do_entry(job, entry_of(page, content), allowance)
+    }
+}
+
+/// Returns a page whose contents are known.
+fn entry_of<'d>(page: &SplitPage, content: Content<'d>) -> Entry<'d> {
+    Entry {
+        number: page.number,
+        image: page.number,
+        content,
+        note: page.note,
+    }
+}

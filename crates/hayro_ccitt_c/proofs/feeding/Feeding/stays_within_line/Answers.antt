@@ -1,9 +1,0 @@
-use Rattle.std.proofs.Common.{Bool, subst, sym}
-use Rattle.hayro_ccitt_c.specs.RowsFed.{TurnsToFed}
-use Rattle.hayro_ccitt_c.proofs.feeding.Feeding.stays_within_line.Goals as goal
-
-pub returns-clause-goes_on : goal.returns-clause-goes_on
-returns-clause-goes_on c e next answer turns =
-    subst (λ (kept : Bool). TurnsToFed kept c.args.self.now.rows next answer) (sym c.if-self.false)
-    (c.stays_within_line.ensures.goes_on e next answer
-    (subst (λ (kept : Bool). TurnsToFed kept c.stays_within_line.new.self next answer) c.if-self.false turns))

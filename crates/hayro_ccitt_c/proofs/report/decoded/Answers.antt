@@ -1,6 +1,0 @@
-use Rattle.hayro_ccitt.specs.Bits.{bits_in}
-use Rattle.hayro_ccitt_c.proofs.Reporting.{no_memory}
-use Rattle.hayro_ccitt_c.proofs.report.decoded.Goals as goal
-
-pub returns-in_default-clause-report : goal.returns-in_default-clause-report
-returns-in_default-clause-report g c = no_memory c.args.settings (bits_in c.args.order c.args.«data».now)

@@ -1,0 +1,19 @@
+//! A TIFF file split into files of one page each, as it is read by ranges: neither the file nor more than a page of it is in memory.
+//!
+//! [`Split::next_table`] finds the next directory, and [`Split::page_file`] reads what the tags of one say that is kept by
+//! [`tiff_read::Directory`], and the strips or tiles of fax data, as the bytes of a file which has that page alone.
+#![tactic(auto)]
+
+mod entries;
+mod error;
+mod form;
+mod page_file;
+mod pages;
+mod ranges;
+mod runs;
+mod split;
+
+pub use error::SplitError;
+pub use pages::{LIES_OVER_OTHERS, SplitPage, SplitPages};
+pub use ranges::Ranges;
+pub use split::{Split, Table};

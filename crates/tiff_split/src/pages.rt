@@ -1,0 +1,128 @@
+//! The pages of a TIFF file, of which no more than one is in memory.
+
+use crate::error::SplitError;
+use crate::split::{Split, Table};
+use std::alloc::Global;
+use std::fs::File;
+
+/// What is said of a page for which more is to be read than the file's size allows.
+pub const LIES_OVER_OTHERS: &str = "its directory lies over others";
+
+/// The pages of a file, whose directories are found one ahead.
+#[derive(Drop)]
+pub struct SplitPages<'f> {
+    file: &'f File,
+    split: Split,
+    ahead: Option<Result<Option<Table>, SplitError>>,
+    /// How many pages there were.
+    pub count: u32,
+    has_ended: bool,
+    /// Whether a page wasn't read since the allowance was spent: none is read after it.
+    pub is_spent: bool,
+}
+
+/// A page of a file.
+#[derive(Clone, Copy)]
+pub struct SplitPage {
+    /// The number of the page. The first one is 1.
+    pub number: u32,
+    /// Its directory, or why it isn't read.
+    table: Result<Table, &'static str>,
+    /// What is wrong with what follows it.
+    pub note: Option<&'static str>,
+}
+
+impl<'f> SplitPages<'f> {
+    /// Begins with a file of so many bytes.
+    ///
+    /// # Errors
+    ///
+    /// Those of [`Split::open`].
+    pub fn open(alloc: Global, file: &'f File, size: u64) -> Result<SplitPages<'f>, SplitError> {
+        Ok(SplitPages {
+            file,
+            split: Split::open(alloc, file, size)?,
+            ahead: None,
+            count: 0,
+            has_ended: false,
+            is_spent: false,
+        })
+    }
+
+    /// Finds the next page. Nothing comes after the last one. A page whose directory can't be read is the last one.
+    ///
+    /// # Errors
+    ///
+    /// `OutOfMemory` and `Unread`.
+    pub fn next(&mut self) -> Result<Option<SplitPage>, SplitError> {
+        if self.has_ended {
+            return Ok(None);
+        }
+        let found = match self.ahead.take() {
+            Some(found) => found,
+            None => self.split.next_table(self.file),
+        };
+        match found {
+            Ok(Some(table)) => {
+                let ahead = self.split.next_table(self.file);
+                let note = match &ahead {
+                    Err(SplitError::Outside) => Some("the next directory isn't in the file"),
+                    Err(SplitError::Loop) => Some("the next directory is that of an earlier page"),
+                    _ => None,
+                };
+                self.ahead = Some(ahead);
+                Ok(Some(self.page(Ok(table), note)))
+            }
+            Err(SplitError::OutOfMemory) => Err(SplitError::OutOfMemory),
+            Err(SplitError::Unread(error)) => Err(SplitError::Unread(error)),
+            Err(SplitError::Spent) => Ok(Some(self.last(LIES_OVER_OTHERS))),
+            Ok(None) | Err(SplitError::Outside | SplitError::Loop) if self.count > 0 => {
+                self.has_ended = true;
+                Ok(None)
+            }
+            Ok(None) | Err(SplitError::Outside | SplitError::Loop) => {
+                Ok(Some(self.last("its directory isn't in the file")))
+            }
+        }
+    }
+
+    /// Returns the last page, which isn't read.
+    fn last(&mut self, why: &'static str) -> SplitPage {
+        self.has_ended = true;
+        self.page(Err(why), None)
+    }
+
+    /// Counts a page.
+    fn page(
+        &mut self,
+        table: Result<Table, &'static str>,
+        note: Option<&'static str>,
+    ) -> SplitPage {
+        self.count = self.count.saturating_add(1);
+        SplitPage {
+            number: self.count,
+            table,
+            note,
+        }
+    }
+
+    /// Reads a page as a file of its own; or why it isn't read.
+    ///
+    /// # Errors
+    ///
+    /// Those of [`Split::page_file`] but `Spent`.
+    pub fn read(&mut self, page: &SplitPage) -> Result<Result<Vec<u8>, &'static str>, SplitError> {
+        let table = match page.table {
+            Ok(table) => table,
+            Err(why) => return Ok(Err(why)),
+        };
+        match self.split.page_file(self.file, &table) {
+            Ok(file) => Ok(Ok(file)),
+            Err(SplitError::Spent) => {
+                self.is_spent = true;
+                Ok(Err(LIES_OVER_OTHERS))
+            }
+            Err(error) => Err(error),
+        }
+    }
+}
