@@ -89,7 +89,7 @@ def rows_in_pieces():
 # pages, which have some 3, 20 and 330 bytes a line, and go on a word at a time.
 PIECES = {"changes": 1.14, "packed": 1.08, "next_changes": 1.07, "next_packed": 1.05}
 FEW_RUNS = {
-    "blank": {"changes": 1.46, "packed": 1.13, "next_changes": 0.2, "next_packed": 0.2},
+    "blank": {"changes": 1.47, "packed": 1.13, "next_changes": 0.2, "next_packed": 0.2},
     "borders": {"changes": 1.45, "packed": 1.21, "next_changes": 1.03, "next_packed": 1.01},
 }
 BYTES = {("blank", 256): 7.7, ("text", 300): 7.4, ("dither", 10): 8.45}
