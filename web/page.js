@@ -63,7 +63,7 @@ function stopped(why) {
     worker?.terminate();
     worker = null;
     for (const it of files.values()) {
-        it.isOpen = false;
+        it.opening = null;
     }
     for (const { refuse } of waiting.values()) {
         refuse(new Error(why));
@@ -75,15 +75,24 @@ function stopped(why) {
 /** Asks for something of a file, which is opened first if this worker hasn't. */
 async function askOf(file, call, words) {
     const it = files.get(file);
-    if (!it.isOpen) {
-        it.isOpen = true;
-        const bytes = new Uint8Array(await it.source.arrayBuffer());
-        await ask("open", { file, bytes }, [bytes.buffer]);
-        if (it.settings) {
-            await ask("settings", { file, settings: it.settings });
+    const opening = (it.opening ??= openAgain(file, it));
+    try {
+        await opening;
+    } catch (error) {
+        if (it.opening === opening) {
+            it.opening = null;
         }
+        throw error;
     }
     return ask(call, { file, ...words });
+}
+
+async function openAgain(file, { source, settings }) {
+    const bytes = new Uint8Array(await source.arrayBuffer());
+    await ask("open", { file, bytes }, [bytes.buffer]);
+    if (settings) {
+        await ask("settings", { file, settings });
+    }
 }
 
 // ---- What is told
@@ -128,7 +137,7 @@ async function openAll(sources) {
     let isShown = false;
     for (const source of sources) {
         const file = (lastFile += 1);
-        files.set(file, { source, isOpen: true, settings: null });
+        files.set(file, { source, opening: Promise.resolve(), settings: null });
         const bytes = await during(`Reading ${source.name}`, async () => new Uint8Array(await source.arrayBuffer()));
         const opened = bytes && (await during(`Opening ${source.name}`, () => ask("open", { file, bytes }, [bytes.buffer])));
         if (!opened) {
@@ -243,7 +252,7 @@ function describe(page, picture) {
     const list = picture?.damage ?? {};
     const items = Object.entries(list).flatMap(([name, { count, ranges }]) => (count === 0 ? [] : damaged(name, count, ranges)));
     byId("damage").replaceChildren(...items);
-    byId("whole").textContent = page.refused ? `Not decoded: ${page.refused}.` : !picture ? "No picture." : picture.fault ? `${picture.fault}.` : items.length > 0 ? "" : "None: every row is as it was encoded, by a strict reading.";
+    byId("whole").textContent = page.refused ? `Not decoded: ${page.refused}.` : !picture ? "No picture." : picture.fault ? `${picture.fault}.` : items.length > 0 || it.kind === "PBM" ? "" : "None: every row is as it was encoded, by a strict reading.";
     byId("canvas").setAttribute("aria-label", `Page ${page.number}: ${facts.Size} pixels${items.length > 0 ? ", damaged" : ""}`);
 }
 

@@ -71,7 +71,7 @@ export function pbmOf({ packed, columns, rows }) {
 
 /** The picture of a PBM file, or null if it isn't one of packed rows. */
 export function ofPbm(bytes) {
-    const head = String.fromCharCode(...bytes.subarray(0, 256)).match(/^P4(?:\s+|#[^\n]*\n)*(\d+)(?:\s+|#[^\n]*\n)+(\d+)\s/);
+    const head = String.fromCharCode(...bytes.subarray(0, 256)).match(/^P4(?:\s|#[^\n]*\n)*(\d+)(?:\s|#[^\n]*\n)+(\d+)\s/);
     if (!head) {
         return null;
     }

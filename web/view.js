@@ -28,7 +28,7 @@ export class View {
 
     /** The scale at which all of the picture is seen. */
     get whole() {
-        const { columns, rows } = this.#picture;
+        const { columns, rows } = this.#picture ?? { columns: 0, rows: 0 };
         return Math.min(this.#scroller.clientWidth / columns, this.#scroller.clientHeight / rows, 1);
     }
 

@@ -34,17 +34,20 @@ function rawPicture(bytes, settings) {
     const damage = { missing: [], repaired: [], cut: [], missedEols: [] };
     let fault = null;
     let missed = 0;
+    const noteMissedEol = () => {
+        if (feed.damage.missedEols > missed && rows.length > 0) {
+            missed = feed.damage.missedEols;
+            damage.missedEols.push(rows.length - 1);
+        }
+    };
     try {
         const read = () => {
             for (const row of feed) {
+                noteMissedEol();
                 if (feed.fault) {
                     damage.repaired.push(rows.length);
                 } else if (feed.isCut) {
                     damage.cut.push(rows.length);
-                }
-                if (feed.damage.missedEols > missed && rows.length > 0) {
-                    missed = feed.damage.missedEols;
-                    damage.missedEols.push(rows.length - 1);
                 }
                 rows.push(row);
             }
@@ -63,6 +66,11 @@ function rawPicture(bytes, settings) {
         fault = rows.length > 0 ? `After ${rows.length} rows ${rest}` : error.message;
     } finally {
         feed.close();
+    }
+    // What follows the last row is known only after it.
+    noteMissedEol();
+    if (rows.length < settings.rows) {
+        fault ??= `The data has ${rows.length} of ${settings.rows} rows`;
     }
     const packed = new Uint8Array(width * rows.length);
     rows.forEach((row, index) => packed.set(row, index * width));

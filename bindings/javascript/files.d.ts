@@ -69,7 +69,8 @@ export interface DamagedRows {
 
 /** Makes a PNG file of a picture, whose samples are 0 for black, or 1 with `blackIs1`.
  *
- * @throws {OutOfMemory} an allocation failed in the module of WebAssembly, or the picture has no size that a PNG file may have.
+ * @throws {RangeError} the picture has no pixels, or 2 ** 31 columns or rows, or other bytes than its size says.
+ * @throws {OutOfMemory} an allocation failed in the module of WebAssembly.
  */
 export function png(picture: { columns: number; rows: number; packed: Uint8Array }, options?: { blackIs1?: boolean; dotsPerInch?: DotsPerInch | null }): Uint8Array;
 

@@ -94,9 +94,11 @@ export class FaxFile {
 
     constructor(data) {
         const bytes = bytesOf(data);
-        const block = taken(bytes.length);
-        new Uint8Array(calls.memory.buffer, block, bytes.length).set(bytes);
-        const [opened, file] = filled(OPENED.bytes, (at) => calls.open_file(block, bytes.length, at) >>> 0);
+        const [opened, file] = filled(OPENED.bytes, (at) => {
+            const block = taken(bytes.length);
+            new Uint8Array(calls.memory.buffer, block, bytes.length).set(bytes);
+            return calls.open_file(block, bytes.length, at) >>> 0;
+        });
         const error = opened.getUint32(OPENED.error, true);
         if (file === 0) {
             throw error === NO_MEMORY ? new OutOfMemory(FAULTS[error]) : new FileError(FAULTS[error]);
@@ -186,6 +188,10 @@ function inverted(bytes) {
 }
 
 export function png({ columns, rows, packed }, { blackIs1 = false, dotsPerInch = null } = {}) {
+    const isSize = (it) => Number.isInteger(it) && it > 0 && it < 2 ** 31;
+    if (!isSize(columns) || !isSize(rows) || packed.length !== Math.ceil(columns / 8) * rows) {
+        throw new RangeError(`a PNG file can't have ${columns} columns and ${rows} rows of ${packed.length} bytes`);
+    }
     const metre = (dots) => Math.min(Math.round(dots / 0.0254), 2 ** 31 - 1);
     const size = Uint32Array.of(columns, rows, metre(dotsPerInch?.across ?? 0), metre(dotsPerInch?.down ?? 0));
     const bits = taken(packed.length);

@@ -123,7 +123,7 @@ export class RowFeed implements Iterable<Uint8Array> {
      * @throws {TypeError} the feed is closed. */
     finish(): void;
     [Symbol.iterator](): Generator<Uint8Array, void, undefined>;
-    /** The next rows that are known and haven't been read, at most this many and about a megabyte of them, one after another. There
+    /** The next rows that are known and haven't been read, at most this many and, unless one row has more, 131,072 bytes of them, one after another. There
      * are none where more data is needed, or at the end of the image. It takes less time than an iteration. If one more row is known, it
      * was read too: the numbers are also of it. */
     readRows(most: number): Uint8Array;

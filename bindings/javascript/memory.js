@@ -78,7 +78,7 @@ export function number(name, value, least = 0) {
 
 /** The number of the encoding that PDF's K names. */
 export function encodingOf(k) {
-    number("k", Math.abs(k));
+    number("k", typeof k === "number" ? Math.abs(k) : k);
     return k < 0 ? 0 : k === 0 ? 1 : 2;
 }
 

@@ -222,12 +222,16 @@ def files_of(folder):
 def hostile_files(folder):
     """Files by their names that aren't what they seem, each with words that the page tells of it, or none if it has a picture."""
     whole = Path(folder, "g4.tif").read_bytes()
+    # Ten white rows of 1728 columns, each after an EOL, and a bit where there is an EOL no more.
+    lines = f"{10 * ('000000000001' + '010011011' + '00110101')}1"
     made = {
         "empty.tif": (b"", "the file is empty"),
         "cut.tif": (whole[: len(whole) // 2], "ends before"),
         "header.tif": (b"II*\0\xff\xff\xff\x7f", "after page 0: it ends before"),
         "text.txt": (b"A text, which is no fax.\n" * 40, ""),
         "zeros.g4": (bytes(1 << 20), ""),
+        "spaces.pbm": (b"P4" + 250 * b" ", ""),
+        "lines.g3": (int(lines.ljust(296, "0"), 2).to_bytes(37, "big"), "Row 10 after which an EOL is missing"),
     }
     for name, (data, _) in made.items():
         Path(folder, name).write_bytes(data)
@@ -353,7 +357,7 @@ def is_asked(browser, folder):
     is_seen(browser, turned)
     for name, told in hostile_files(folder).items():
         browser.run("await drop(given)", [name, in_text(f"{folder}/{name}")])
-        found = browser.run("return told() + document.getElementById('whole').textContent")
+        found = browser.run("return ['message', 'whole', 'damage'].map((it) => document.getElementById(it).textContent).join(' ')")
         assert told in found, (name, found)
     # A hundred megabytes, of which one call takes seconds: it is stopped, and the files that were open are opened again.
     told = browser.run("""const dropped = new DataTransfer();
@@ -364,7 +368,8 @@ def is_asked(browser, folder):
         await until(isIdle);
         return told()""")
     assert "cancelled" in told, told
-    browser.run("document.querySelector('#pages button').click(); await until(isIdle); await until(() => document.getElementById('facts').textContent.includes('g4.tif'))")
+    browser.run("for (const it of [1, 2]) { document.querySelector('#pages button').click(); } await until(isIdle); await until(() => document.getElementById('facts').textContent.includes('g4.tif'))")
+    assert browser.run("return told()") == ""
     assert saved(browser, "page", "pbm") == [turned]
     browser.run("document.getElementById('clear').click(); await drop(given)", ["damaged.tif", base64.b64encode(damaged_lines()).decode()])
     listed = browser.run("await until(() => document.getElementById('damage').children.length > 0); return document.getElementById('damage').innerText")
@@ -372,6 +377,7 @@ def is_asked(browser, folder):
     assert saved(browser, "page", "pbm") == [REPAIRED]
     (document,) = saved(browser, "all", "pdf")
     assert b"/Count 1 " in document and browser.run("return told()") == "A page can't be decoded, and was left out."
+    browser.run("document.querySelectorAll('#pages button')[1].click(); document.getElementById('fit').click(); document.querySelector('#pages button').click(); await until(isIdle)")
     keeps_resolution(browser, folder, (13, 16), (204, 98))
     browser.run("document.getElementById('turn').click(); await until(() => !isIdle()); await until(isIdle)")
     keeps_resolution(browser, folder, (16, 13), (98, 204))

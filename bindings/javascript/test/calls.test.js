@@ -73,7 +73,7 @@ test("settings are as documented, or refused", () => {
     for (const [name, value] of [["columns", -1], ["columns", 2 ** 32], ["rows", 1.5], ["rows", NaN], ["k", 0.5], ["k", -Infinity]]) {
         assert.throws(() => fax.decode(DATA, { ...SETTINGS, [name]: value }), RangeError, `${name} ${value}`);
     }
-    for (const [name, value] of [["columns", "8"], ["rows", null], ["k", 1n], ["Columns", 8], ["eolsEndAtBytes", true]]) {
+    for (const [name, value] of [["columns", "8"], ["rows", null], ["k", 1n], ["k", "0"], ["k", null], ["Columns", 8], ["eolsEndAtBytes", true]]) {
         assert.throws(() => fax.decode(DATA, { ...SETTINGS, [name]: value }), TypeError, `${name} ${value}`);
         assert.throws(() => new fax.RowFeed({ ...SETTINGS, [name]: value }), TypeError, `${name} ${value}`);
     }

@@ -148,7 +148,9 @@ def kept_result(path: str, folder: str) -> Result | None:
     try:
         with open(f"{folder}/{RESULT}", encoding="utf-8") as file:
             kept: Result = json.load(file)
-    except (OSError, ValueError):
+        if set(kept) != set(Result.__annotations__):
+            raise ValueError
+    except (OSError, ValueError, TypeError):
         return not_read(path, f"{folder} is there, and isn't of an earlier run") if os.path.lexists(folder) else None
     kept["file"] = path
     return kept
