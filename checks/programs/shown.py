@@ -83,9 +83,9 @@ def whole_pages_are_alone():
         assert run("--show-damage", f"{folder}/one.png", data=whole) == (0, b"", "")
         assert run("-o", f"{folder}/two.png", data=whole) == (0, b"", "")
         assert Path(f"{folder}/one.png").read_bytes() == Path(f"{folder}/two.png").read_bytes()
-        for name in ("page", "page.pbm"):
-            assert run("--show-damage", name, data=whole)[0] == 2, name
-    print("  1 picture, and names of other formats")
+        for words in (["page"], ["page.pbm"], [f"{folder}/a.png", "-o", f"{folder}/b.png"], [f"{folder}/a.png", "-f", "png"]):
+            assert run("--show-damage", *words, data=whole)[0] == 2, words
+    print("  1 picture, names of other formats, and other names")
 
 
 CHECKS = [damage_is_shown_as_by_python, whole_pages_are_alone]

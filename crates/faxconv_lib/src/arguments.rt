@@ -97,6 +97,7 @@ impl<'a> From<AllocError> for ArgumentError<'a> {
 struct Reading<'a> {
     alloc: Global,
     options: Options<'a>,
+    has_output: bool,
     has_format: bool,
     has_limit: bool,
     request: Option<Known>,
@@ -115,6 +116,7 @@ pub fn request_of<'a>(
     let mut reading = Reading {
         alloc,
         options: Options::new(alloc, program),
+        has_output: false,
         has_format: false,
         has_limit: false,
         request: None,
@@ -312,9 +314,11 @@ impl<'a> Reading<'a> {
                 self.options.output = Some(value);
                 self.options.format = Format::Png;
                 self.options.is_damage_shown = true;
-                self.has_format = true;
             }
-            Known::Output => self.options.output = Some(value),
+            Known::Output => {
+                self.options.output = Some(value);
+                self.has_output = true;
+            }
             Known::Format => {
                 self.options.format = format_of(value)?;
                 self.has_format = true;
@@ -357,6 +361,7 @@ impl<'a> Reading<'a> {
         let Reading {
             alloc: _,
             mut options,
+            has_output,
             has_format,
             has_limit,
             request: _,
@@ -368,6 +373,12 @@ impl<'a> Reading<'a> {
                     None => return Err(ArgumentError::NoFormat(name)),
                 }
             }
+        }
+        if options.is_damage_shown && has_output {
+            return Err(ArgumentError::Excluded("--show-damage", "--output"));
+        }
+        if options.is_damage_shown && has_format {
+            return Err(ArgumentError::Excluded("--show-damage", "--format"));
         }
         if options.is_copy && options.encoding.is_some() {
             return Err(ArgumentError::Excluded("--copy", "--encode"));
