@@ -2,6 +2,7 @@
 pixel; PNG, TIFF and PDF have the same pixels, also for other programs; names, turns, resolutions, and what is said of pages."""
 import json
 import os
+import random
 import shutil
 import struct
 import subprocess
@@ -132,6 +133,33 @@ def pages_are_changed_as_told():
     print("  3 turns")
 
 
+def other_pages_are_carried_along():
+    """From TIFF to TIFF a page in colour between fax pages is to libtiff what it was, in strips and tiles, of each kind of file, read whole or by
+    parts; entries that aren't carried along are told, and so is a page that isn't, which is missing."""
+    if not shutil.which("tiffcp"):
+        leave_out("pages in colour, which are carried along", "tiffcp")
+        return
+    page, colour = made_page(encoder(), fax.PICTURE, Rule()), b"P6\n700 600\n255\n" + random.Random(1).randbytes(3 * 700 * 600)
+    with tempfile.TemporaryDirectory() as folder:
+        Path(f"{folder}/one").write_bytes(tiff([page]))
+        Path(f"{folder}/ppm").write_bytes(colour)
+        for stored, kind in (("ppm2tiff -c lzw ppm second", ""), ("ppm2tiff -c zip -r 7 ppm second", "-B"), ("tiffcp -t -w 64 -l 32 -p separate second tiles; mv tiles second", "-8")):
+            subprocess.run(["sh", "-e", "-c", f"{stored}; tiffcp {kind} one second one both"], cwd=folder, check=True, timeout=60)
+            both = Path(f"{folder}/both").read_bytes()
+            piped, named = run("-f", "tiff", data=both), run("-f", "tiff", f"{folder}/both")
+            assert piped[:2] == named[:2] and named[0] == 0, (stored, kind, named[0], named[2])
+            assert named[2].count("\n") == 1 and "page 2: compression " in named[2] and named[2].endswith("; carried along unread\n"), named[2]
+            Path(f"{folder}/made").write_bytes(named[1])
+            same = subprocess.run(["tiffcmp", "both", "made"], cwd=folder, capture_output=True, check=False, timeout=60)
+            assert same.returncode == 0, (stored, kind, same)
+    deep = {256: 8, 257: 1, 258: 16, 259: 1, 277: 1}
+    for order, more, told in (("<", {330: 8}, "unread without tag 330\n"), (">", {}, "can't be carried along: its samples have the highest byte first\n")):
+        answer = run("-f", "tiff", data=tiff([page, fax.page_of({**deep, **more}, [bytes(range(16))]), page], order))
+        assert answer[0] == (1 if order == ">" else 0) and answer[2].endswith(told), answer[2]
+        assert run("-p", "2" if order == ">" else "3", data=answer[1])[1] == fax.PICTURE.pbm(), order
+    print("  3 files that tiffcmp takes for the same, and 2 that aren't whole")
+
+
 def rows_of_pbm(file):
     """The pixels of a PBM picture's rows, without what fills up their last bytes."""
     _, size, data = file.split(b"\n", 2)
@@ -178,5 +206,5 @@ def pages_are_described():
     print("  2 pages")
 
 
-CHECKS = [pictures_of_libtiff, strips_of_other_encoders, png_has_the_pixels, names_as_told, pbm_is_read, pages_are_changed_as_told, pdf_is_sound,
-          pages_are_described]
+CHECKS = [pictures_of_libtiff, strips_of_other_encoders, png_has_the_pixels, names_as_told, pbm_is_read, pages_are_changed_as_told, other_pages_are_carried_along,
+          pdf_is_sound, pages_are_described]

@@ -7,6 +7,7 @@ use crate::page::Page;
 use hayro_ccitt::bit_reader::BitOrder;
 use std::alloc::{AllocError, Global};
 use tiff_read::{Ratio, ResolutionUnit};
+use tiff_split::{CarriedEntry, CarriedPage};
 
 /// The types of values.
 const ASCII: u16 = 2;
@@ -35,7 +36,7 @@ pub(crate) struct Places {
 enum Value {
     Here(u64),
     There(usize),
-    /// The offsets of the strips, which follow those values if there are several.
+    /// The offsets of the strips or tiles, which follow those values if there are several.
     Offsets,
 }
 
@@ -80,6 +81,35 @@ impl<'a> Directory<'a> {
         Ok(made)
     }
 
+    /// Makes the directory of a page that is carried along.
+    pub(crate) fn of_carried(
+        alloc: Global,
+        is_big: bool,
+        page: &CarriedPage,
+        strips: &'a [&'a [u8]],
+    ) -> Result<Directory<'a>, AllocError> {
+        let mut made = Directory {
+            alloc,
+            is_big,
+            entries: Vec::new(alloc),
+            values: Vec::new(alloc),
+            strips,
+        };
+        for entry in &page.entries {
+            made.add_carried(entry)?;
+        }
+        Ok(made)
+    }
+
+    /// Adds an entry as it is, or of the strips or tiles where they are now.
+    fn add_carried(&mut self, entry: &CarriedEntry) -> Result<(), AllocError> {
+        match entry.tag {
+            273 | 324 => self.add_offsets(entry.tag),
+            279 | 325 => self.add_lengths(entry.tag),
+            _ => self.add(entry.tag, entry.kind, entry.count, entry.bytes.as_slice()),
+        }
+    }
+
     /// Adds the entries up to those of the strips: the size, and how pixels are stored.
     fn add_size(&mut self, page: &Page<'_>, coding: Coding) -> Result<(), AllocError> {
         self.add_long(256, page.settings.columns)?;
@@ -94,22 +124,38 @@ impl<'a> Directory<'a> {
 
     /// Adds the entries that say where the strips are, and those between them.
     fn add_strips(&mut self, page: &Page<'_>) -> Result<(), AllocError> {
-        let count = self.strips.len() as u64;
-        let kind = if self.is_big { LONG8 } else { LONG };
+        self.add_offsets(273)?;
+        self.add_short(274, orientation_of(page.orientation))?;
+        self.add_short(277, 1)?;
+        self.add_long(278, page.rows_each())?;
+        self.add_lengths(279)
+    }
+
+    /// Adds the entry that says where the strips or tiles are.
+    fn add_offsets(&mut self, tag: u16) -> Result<(), AllocError> {
+        let (kind, count) = (self.kind_of_offset(), self.strips.len() as u64);
         self.entries.push(Entry {
-            tag: 273,
+            tag,
             kind,
             count,
             value: Value::Offsets,
         })?;
-        self.add_short(274, orientation_of(page.orientation))?;
-        self.add_short(277, 1)?;
-        self.add_long(278, page.rows_each())?;
+        Ok(())
+    }
+
+    /// Adds the entry that says how many bytes the strips or tiles have.
+    fn add_lengths(&mut self, tag: u16) -> Result<(), AllocError> {
         let mut lengths = Vec::new(self.alloc);
         for strip in self.strips {
             self.push_offset(&mut lengths, strip.len() as u64)?;
         }
-        self.add(279, kind, count, lengths.as_slice())
+        let (kind, count) = (self.kind_of_offset(), self.strips.len() as u64);
+        self.add(tag, kind, count, lengths.as_slice())
+    }
+
+    /// Returns the type of an offset.
+    fn kind_of_offset(&self) -> u16 {
+        if self.is_big { LONG8 } else { LONG }
     }
 
     /// Adds how many pixels a unit has, and the name of the page between that and the unit.

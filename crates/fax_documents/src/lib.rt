@@ -1,6 +1,7 @@
 //! Writes pages of fax data as TIFF files (TIFF 6.0, and BigTIFF) and as PDF files (ISO 32000-1), a page at a time.
 //!
-//! Of a TIFF file nothing is kept but where the next page begins, of a PDF file 8 bytes for each object.
+//! Of a TIFF file nothing is kept but where the next page begins, of a PDF file 8 bytes for each object. A TIFF file also takes pages that
+//! are carried along from another one, as they are.
 #![tactic(auto)]
 
 mod coding;

@@ -1,6 +1,6 @@
 //! A TIFF file, a page at a time.
 
-ghost use Rattle.std.specs.Prelude.{◌≡◌, ◌↔◌, ◌⊎◌, Err, IfErr, IsSome, OnOk};
+ghost use Rattle.std.specs.Prelude.{◌≡◌, ◌≢◌, ◌↔◌, ◌⊎◌, Err, IfErr, IsSome, OnOk};
 ghost use Rattle.std.specs.Io.KnownBytes.{Appends, Keeps};
 ghost use Rattle.fax_documents.specs.Codings.{coding_of};
 ghost use Rattle.fax_documents.specs.Pages.{HasSize};
@@ -11,8 +11,9 @@ use crate::directory::{Directory, Places, even};
 use crate::error::DocumentError;
 use crate::output::put;
 use crate::page::Page;
-use std::alloc::Global;
+use std::alloc::{AllocError, Global};
 use std::io::Write;
+use tiff_split::CarriedPage;
 
 /// Writes a TIFF file, a page at a time: of each its directory first, and then its strips.
 #[derive(Drop)]
@@ -76,8 +77,43 @@ impl TiffWriter {
             return Err(DocumentError::Encoding);
         };
         let directory = Directory::of(alloc, self.is_big, page, coding)?;
+        self.put_directory(out, &directory, page.strips, is_last)
+    }
+
+    /// Writes a page that is carried along: its entries as they are, but for where its strips or tiles are, and these. `is_last` says that it
+    /// is the last one.
+    ///
+    /// # Errors
+    ///
+    /// `TooLong` if the file would become too long, so that it must be begun anew as BigTIFF; and `OutOfMemory`. Nothing is written then.
+    /// `Write` if the writer fails.
+    pub fn put_carried<W: Write>(
+        &mut self,
+        alloc: Global,
+        out: &mut W,
+        page: &CarriedPage,
+        is_last: bool,
+    ) -> Result<(), DocumentError>
+        ensures unwritten { IfErr result (λ error. (error ≡ DocumentError.Write) ⊎ (Keeps (W.contents out.old) (W.contents out.new))) }
+    {
+        let strips = slices_of(alloc, page)?;
+        let directory = Directory::of_carried(alloc, self.is_big, page, strips.as_slice())?;
+        self.put_directory(out, &directory, strips.as_slice(), is_last)
+    }
+
+    /// Writes a directory and the strips or tiles that it is of.
+    fn put_directory<W: Write>(
+        &mut self,
+        out: &mut W,
+        directory: &Directory<'_>,
+        parts: &[&[u8]],
+        is_last: bool,
+    ) -> Result<(), DocumentError>
+        ensures only { IfErr result (λ error. error ≢ DocumentError.Size) }
+        ensures unwritten { IfErr result (λ error. (error ≡ DocumentError.Write) ⊎ (Keeps (W.contents out.old) (W.contents out.new))) }
+    {
         let strips = self.place.saturating_add(directory.len());
-        let end = strips.saturating_add(strips_len(page.strips));
+        let end = strips.saturating_add(strips_len(parts));
         if end > self.most() {
             return Err(DocumentError::TooLong);
         }
@@ -88,7 +124,7 @@ impl TiffWriter {
         };
         let bytes = directory.bytes(places)?;
         put(out, bytes.as_slice())?;
-        put_strips(out, page.strips)?;
+        put_strips(out, parts)?;
         self.place = end;
         Ok(())
     }
@@ -97,6 +133,15 @@ impl TiffWriter {
     fn most(&self) -> u64 {
         if self.is_big { MOST_BIG } else { MOST }
     }
+}
+
+/// Returns the strips or tiles of a page.
+fn slices_of(alloc: Global, page: &CarriedPage) -> Result<Vec<&[u8]>, AllocError> {
+    let mut slices = Vec::new(alloc);
+    for strip in &page.strips {
+        slices.push(strip.as_slice())?;
+    }
+    Ok(slices)
 }
 
 /// Returns how many bytes strips have, each up to an even offset.

@@ -1,6 +1,7 @@
 //! `faxconv`: reads fax pages of TIFF and PDF files and raw fax data, and writes them as pictures or documents: see `faxconv --help`.
 #![tactic(auto)]
 
+mod carried;
 mod guess;
 mod output;
 mod pbm;

@@ -13,7 +13,9 @@ use faxconv_lib::folder::files_in;
 use faxconv_lib::names::name_of_picture;
 use faxconv_lib::options::{Encoding, Rotation};
 use faxconv_lib::{Action, Format, NewFile, Status};
-use faxconv_out::{Document, Drawing, Unwritten, exchanged, put_picture, resolution_of_dots};
+use faxconv_out::{
+    AddedPage, Document, Drawing, Unwritten, exchanged, put_picture, resolution_of_dots,
+};
 use std::alloc::AllocError;
 use std::io::ErrorKind;
 use std::{fs, io, mem};
@@ -40,16 +42,20 @@ impl<'a, 'b, 'c> Run<'a, 'b, 'c> {
         }
     }
 
+    /// Returns the document into which pages go as they are stored, if they aren't turned.
+    pub(crate) fn target_of_pages(&self) -> Option<Target> {
+        match (self.options.action, self.options.rotation) {
+            (Action::Convert, Rotation::None) => self.target(),
+            _ => None,
+        }
+    }
+
     /// Returns the document into which strips are copied, if they may be.
     pub(crate) fn target_of_copies(&self) -> Option<Target> {
-        let options = self.options;
-        if !matches!(options.action, Action::Convert)
-            || !matches!(options.rotation, Rotation::None)
-            || options.encoding.is_some()
-        {
-            return None;
+        match self.options.encoding {
+            None => self.target_of_pages(),
+            Some(_) => None,
         }
-        self.target()
     }
 
     /// Writes the picture of a page as it is shown.
@@ -156,7 +162,7 @@ impl<'a, 'b, 'c> Run<'a, 'b, 'c> {
         let settings = self.options.encoding.unwrap_or(Encoding::Group4).settings();
         let rows = self.options.rows_per_strip;
         match encode_picture(self.rt.alloc(), picture, settings, rows, resolution, texts) {
-            Ok(page) => self.add_page(page),
+            Ok(page) => self.add_page(AddedPage::Fax(page)),
             Err(EncodeError::OutOfMemory) => Err(AllocError),
             Err(_) => self.cannot_write(self.name_of_output(), Unwritten::Size),
         }
@@ -167,11 +173,11 @@ impl<'a, 'b, 'c> Run<'a, 'b, 'c> {
         if let Some(dots) = self.options.resolution {
             page.resolution = Some(resolution_of_dots(dots));
         }
-        self.add_page(page)
+        self.add_page(AddedPage::Fax(page))
     }
 
     /// Adds a page to the document, which is begun with the first one.
-    fn add_page(&mut self, page: StripPage) -> Result<Status, AllocError> {
+    pub(crate) fn add_page(&mut self, page: AddedPage) -> Result<Status, AllocError> {
         let mut document = match mem::replace(&mut self.written, Written::Failed) {
             Written::Failed => return Ok(Status::CannotGoOn),
             Written::Document(document) => document,

@@ -4,132 +4,26 @@ use crate::output::{Output, STANDARD_OUTPUT};
 use crate::raw::{MOST_BYTES, RawPage, page_of, piece_of, written_page};
 use crate::run::Run;
 use fax_program::Uninterrupted;
-use faxconv_lib::kinds::FIRST_BYTES;
 use faxconv_lib::names::name_of_picture;
 use faxconv_lib::options::RawOptions;
 use faxconv_lib::raw_reading::RawReading;
 use faxconv_lib::{NewFile, Status};
-use faxconv_out::{Unwritten, put_pbm_head};
-use std::alloc::{AllocError, Global};
+use faxconv_out::{RowsOut, Unwritten};
+use std::alloc::AllocError;
 use std::io;
-use std::io::{Read, Write};
+use std::io::Read;
 
 /// The most columns of data that is read as it comes.
-const WIDEST: u32 = 1 << 20;
+pub(crate) const WIDEST: u32 = 1 << 20;
 
 /// How many bytes are read at a time.
 const PIECE: usize = 1 << 16;
-
-/// Where rows are written.
-#[derive(Drop)]
-enum Place {
-    /// Nowhere yet.
-    None,
-    /// A file, which gets its name once it is whole.
-    File(NewFile),
-    /// Standard output.
-    Standard,
-}
-
-/// The picture of rows that come one after the other.
-#[derive(Drop)]
-struct RowsOut<'a> {
-    rt: &'a HostRuntime,
-    place: Place,
-    columns: u32,
-    /// How many rows it has in the end, 0 if that isn't known: then they are kept.
-    height: u32,
-    /// Whether the rows that are kept are too many.
-    is_large: bool,
-}
 
 /// Returns whether raw data has a picture that isn't too large, as far as that is known before it is read.
 pub(crate) fn can_be_piped(raw: &RawOptions) -> bool {
     let rows = if raw.has_height { raw.settings.rows } else { 1 };
     let width = (raw.settings.columns as usize).div_ceil(8);
     raw.settings.columns <= WIDEST && width.saturating_mul(rows as usize) <= MOST_BYTES
-}
-
-/// Reads the first bytes of a file, as many as say what it is.
-pub(crate) fn read_first<R: Read>(source: &mut R, bytes: &mut Vec<u8>) -> io::Result<()> {
-    let mut piece = [0u8; FIRST_BYTES];
-    'pieces: for _ in 0..FIRST_BYTES {
-        if bytes.len() >= FIRST_BYTES {
-            break;
-        }
-        let count = Uninterrupted(&mut *source).read(&mut piece[bytes.len()..])?;
-        let Some(read) = piece[bytes.len()..].get(..count) else {
-            break;
-        };
-        if read.is_empty() {
-            break;
-        }
-        bytes.extend_from_slice(read)?;
-    }
-    Ok(())
-}
-
-impl<'a> RowsOut<'a> {
-    /// Writes rows.
-    fn put(&mut self, rows: &[u8]) -> Result<(), Unwritten> {
-        match &mut self.place {
-            Place::None => Ok(()),
-            Place::File(file) => put_bytes(file, rows),
-            Place::Standard => put_bytes(&mut self.rt.stdout(), rows),
-        }
-    }
-
-    /// Writes the head of the picture.
-    fn put_head(&mut self) -> Result<(), Unwritten> {
-        let alloc = self.rt.alloc();
-        match &mut self.place {
-            Place::None => Ok(()),
-            Place::File(file) => put_pbm_head(alloc, file, self.columns, self.height),
-            Place::Standard => {
-                put_pbm_head(alloc, &mut self.rt.stdout(), self.columns, self.height)
-            }
-        }
-    }
-
-    /// Writes white rows after so many.
-    fn put_white(&mut self, rows: u64) -> Result<(), Unwritten> {
-        let width = u64::from(self.columns.div_ceil(8));
-        let mut left = u64::from(self.height)
-            .saturating_sub(rows)
-            .saturating_mul(width);
-        let white = [0u8; 4096];
-        'white: while left > 0 {
-            let count = left.min(4096);
-            self.put(&white[..count as usize])?;
-            left -= count;
-        }
-        Ok(())
-    }
-
-    /// Gives a file its name, if rows were written to one.
-    fn finish(self) -> io::Result<()> {
-        let RowsOut { rt, place, .. } = self;
-        match place {
-            Place::File(file) => file.finish(rt),
-            Place::None | Place::Standard => Ok(()),
-        }
-    }
-
-    /// Removes a file, if rows were written to one.
-    fn discard(self) {
-        let RowsOut { rt, place, .. } = self;
-        if let Place::File(file) = place {
-            file.discard(rt);
-        }
-    }
-}
-
-/// Writes bytes, so that they can be read at once.
-fn put_bytes<W: Write>(out: &mut W, bytes: &[u8]) -> Result<(), Unwritten> {
-    if out.write_all(bytes).is_err() || out.flush().is_err() {
-        return Err(Unwritten::Write);
-    }
-    Ok(())
 }
 
 impl<'a, 'b, 'c> Run<'a, 'b, 'c> {
@@ -144,13 +38,8 @@ impl<'a, 'b, 'c> Run<'a, 'b, 'c> {
         let raw = self.options.raw;
         let output = self.output_of_raw();
         let mut reading = RawReading::new(self.rt.alloc(), &raw)?;
-        let mut out = RowsOut {
-            rt: self.rt,
-            place: Place::None,
-            columns: raw.settings.columns,
-            height: if raw.has_height { raw.settings.rows } else { 0 },
-            is_large: false,
-        };
+        let height = if raw.has_height { raw.settings.rows } else { 0 };
+        let mut out = RowsOut::new(self.rt, raw.settings.columns, height);
         let mut status = self.take_bytes(first, &mut reading, &mut out, output)?;
         if !matches!(status, Status::CannotGoOn) {
             status = self.read_piped(name, source, &mut reading, &mut out, output)?;
@@ -163,7 +52,7 @@ impl<'a, 'b, 'c> Run<'a, 'b, 'c> {
     }
 
     /// Reads data to its end, after its first bytes.
-    fn read_piped<R: Read>(
+    pub(crate) fn read_piped<R: Read>(
         &mut self,
         name: &str,
         source: &mut R,
@@ -225,14 +114,13 @@ impl<'a, 'b, 'c> Run<'a, 'b, 'c> {
         if out.height == 0 || reading.kept_bytes() == 0 {
             return Ok(Status::Whole);
         }
-        if matches!(out.place, Place::None) {
+        if !out.is_open() {
             let status = self.open_rows(out, output)?;
             if matches!(status, Status::CannotGoOn) {
                 return Ok(status);
             }
         }
-        let rows = reading.take_rows();
-        match out.put(rows.as_slice()) {
+        match out.put(reading.take_rows()) {
             Ok(()) => Ok(Status::Whole),
             Err(why) => self.cannot_write_rows(output, why),
         }
@@ -241,18 +129,18 @@ impl<'a, 'b, 'c> Run<'a, 'b, 'c> {
     /// Opens where rows are written, and writes the head of the picture.
     fn open_rows(&mut self, out: &mut RowsOut<'a>, output: Output) -> Result<Status, AllocError> {
         let name = self.name_of_rows(output)?;
-        out.place = match name {
-            None => Place::Standard,
+        let file = match name {
+            None => None,
             Some(name) => match NewFile::create(
                 self.rt,
                 name.as_str(),
                 self.options.may_overwrite,
             ) {
-                Ok(file) => Place::File(file),
+                Ok(file) => Some(file),
                 Err(error) => return self.cannot_create(name.as_str(), &error),
             },
         };
-        match out.put_head() {
+        match out.open(file) {
             Ok(()) => Ok(Status::Whole),
             Err(why) => self.cannot_write_rows(output, why),
         }
@@ -289,7 +177,7 @@ impl<'a, 'b, 'c> Run<'a, 'b, 'c> {
         &mut self,
         name: &str,
         mut reading: RawReading,
-        mut out: RowsOut<'a>,
+        out: RowsOut<'a>,
         output: Output,
     ) -> Result<Status, AllocError> {
         let raw = self.options.raw;
@@ -299,14 +187,7 @@ impl<'a, 'b, 'c> Run<'a, 'b, 'c> {
         if out.height > 0 && count > 0 {
             let page = written_page(self.rt.alloc(), &raw, end)?;
             let status = self.tell_raw(name, &page, &None)?;
-            if let Err(why) = out.put_white(count) {
-                out.discard();
-                return self.cannot_write_rows(output, why);
-            }
-            return match out.finish() {
-                Ok(()) => Ok(status),
-                Err(error) => self.cannot_name_rows(output, &error),
-            };
+            return self.finish_rows(out, count, status, output);
         }
         let page = page_of(self.rt.alloc(), &raw, rows, end, out.is_large)?;
         let status = self.tell_raw(name, &page, &None)?;
@@ -320,5 +201,22 @@ impl<'a, 'b, 'c> Run<'a, 'b, 'c> {
             return Ok(status);
         };
         self.write_if_wanted(status, picture, output)
+    }
+    /// Writes the white rows after so many, and gives the file its name.
+    pub(crate) fn finish_rows(
+        &mut self,
+        mut out: RowsOut<'a>,
+        rows: u64,
+        status: Status,
+        output: Output,
+    ) -> Result<Status, AllocError> {
+        if let Err(why) = out.put_white(rows) {
+            out.discard();
+            return self.cannot_write_rows(output, why);
+        }
+        match out.finish() {
+            Ok(()) => Ok(status),
+            Err(error) => self.cannot_name_rows(output, &error),
+        }
     }
 }

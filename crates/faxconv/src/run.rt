@@ -3,7 +3,7 @@
 use crate::output::Output;
 use crate::pbm::PbmEntries;
 use crate::pdf::PdfEntries;
-use crate::piped::{can_be_piped, read_first};
+use crate::piped::can_be_piped;
 use crate::raw::{RawPage, read_raw};
 use crate::source::{Content, Entry, Source};
 use crate::texts::text_of_no_picture;
@@ -20,12 +20,14 @@ use faxconv_lib::kinds::{behind_digifax, name_of_other};
 use faxconv_lib::options::Rotation;
 use faxconv_lib::report::{Note, PageReport, Place, note_of_keys};
 use faxconv_lib::standard::violation_of;
+use faxconv_lib::streams::read_first;
 use faxconv_lib::visible::put_visible;
 use faxconv_lib::{Action, Format, Kind, Options, Program, Status, Teller, kind_of};
 use std::alloc::{AllocError, Global};
 use std::io::Read;
 use std::{fs, io};
 use tiff_read::NO_TEXTS;
+use tiff_split::{Carrier, Held};
 
 /// A run of the program.
 #[derive(Drop)]
@@ -178,7 +180,7 @@ impl<'a, 'b, 'c> Run<'a, 'b, 'c> {
             Some(Kind::Pdf) => self.do_pdf(name, file),
             Some(Kind::Pbm) => {
                 let entries = PbmEntries::open(self.rt.alloc(), file);
-                self.do_source(name, Source::Pbm(entries), file.len())
+                self.do_source(name, Source::Pbm(entries), file)
             }
             None => {
                 let other = name_of_other(file);
@@ -199,7 +201,7 @@ impl<'a, 'b, 'c> Run<'a, 'b, 'c> {
     /// Reads a TIFF file.
     fn do_tiff(&mut self, name: &str, file: &[u8]) -> Result<Status, AllocError> {
         match TiffEntries::open(self.rt.alloc(), file)? {
-            Some(entries) => self.do_source(name, Source::Tiff(entries), file.len()),
+            Some(entries) => self.do_source(name, Source::Tiff(entries), file),
             None => self.do_other(name, "its directory isn't in the file"),
         }
     }
@@ -207,20 +209,21 @@ impl<'a, 'b, 'c> Run<'a, 'b, 'c> {
     /// Reads a PDF file.
     fn do_pdf(&mut self, name: &str, file: &[u8]) -> Result<Status, AllocError> {
         match PdfEntries::open(self.rt.alloc(), file)? {
-            Ok(entries) => self.do_source(name, Source::Pdf(entries), file.len()),
+            Ok(entries) => self.do_source(name, Source::Pdf(entries), file),
             Err(why) => self.do_other(name, why),
         }
     }
 
-    /// Reads the pages of a file of so many bytes. A page is written after the next one is found, since its name depends on whether
+    /// Reads the pages of a file. A page is written after the next one is found, since its name depends on whether
     /// there are others.
     fn do_source(
         &mut self,
         name: &str,
         mut source: Source<'_>,
-        bytes: usize,
+        file: &[u8],
     ) -> Result<Status, AllocError> {
-        let mut allowance = Allowance::of_file(bytes);
+        let mut allowance = Allowance::of_file(file.len());
+        let mut carrier = Carrier::new(self.rt.alloc(), file.len() as u64);
         let mut status = Status::Whole;
         let mut done: u64 = 0;
         let mut now = self.next_wanted(&mut source)?;
@@ -231,6 +234,11 @@ impl<'a, 'b, 'c> Run<'a, 'b, 'c> {
             let after = self.next_wanted(&mut source)?;
             let is_only = done == 0 && after.is_none() && self.options.files.len() <= 1;
             let job = self.job_of(name, &source, &entry, is_only);
+            let entry = if matches!(source, Source::Tiff(_)) {
+                self.carried(entry, &mut carrier, &Held(file))?
+            } else {
+                entry
+            };
             status = status.worse(self.do_entry(&job, entry, &mut allowance)?);
             done = done.saturating_add(1);
             now = if matches!(status, Status::CannotGoOn) {
@@ -355,6 +363,7 @@ impl<'a, 'b, 'c> Run<'a, 'b, 'c> {
                 let report = report_of(job, Some(why.as_str()), &none, "strip", 0);
                 self.tell_page(job.name, &report)
             }
+            Content::Carried(page, told) => self.do_carried(job, page, told.as_str()),
             Content::Picture(picture) => {
                 let rows = u64::from(picture.rows());
                 let report = report_of(job, None, &none, "picture", rows);
@@ -445,7 +454,7 @@ impl<'a, 'b, 'c> Run<'a, 'b, 'c> {
         let contents = match content {
             Content::Page(page) => Contents::Fax(page),
             Content::Picture(picture) => Contents::Picture(picture.columns(), picture.rows()),
-            Content::Refused(why) => Contents::Refused(why.as_str()),
+            Content::Refused(why) | Content::Carried(_, why) => Contents::Refused(why.as_str()),
         };
         self.print_contents(job.name, job.place, &contents)
     }
@@ -581,7 +590,11 @@ impl<'a, 'b, 'c> Run<'a, 'b, 'c> {
     }
 
     /// Tells what is wrong with a page, or in a check that nothing is. Returns its status.
-    fn tell_page(&mut self, name: &str, report: &PageReport<'_>) -> Result<Status, AllocError> {
+    pub(crate) fn tell_page(
+        &mut self,
+        name: &str,
+        report: &PageReport<'_>,
+    ) -> Result<Status, AllocError> {
         let alloc = self.rt.alloc();
         if matches!(self.options.action, Action::Check) {
             let line = self.line_of_check(alloc, name, report)?;
@@ -621,7 +634,7 @@ impl<'a, 'b, 'c> Run<'a, 'b, 'c> {
 const STANDARD_INPUT: &str = "standard input";
 
 /// Returns what is said of a page.
-fn report_of<'r>(
+pub(crate) fn report_of<'r>(
     job: &Job<'_>,
     refused: Option<&'r str>,
     damage: &'r Damage,

@@ -7,6 +7,7 @@ use fax_pages::Page;
 use fax_pictures::Bitmap;
 use faxconv_lib::report::Place;
 use std::alloc::AllocError;
+use tiff_split::CarriedPage;
 
 /// What a page of a file is.
 #[derive(Drop)]
@@ -17,6 +18,8 @@ pub(crate) enum Content<'a> {
     Picture(Bitmap),
     /// It isn't decoded, and why.
     Refused(String),
+    /// It isn't decoded but carried along, and why.
+    Carried(CarriedPage, String),
 }
 
 /// A page of a file.

@@ -9,10 +9,20 @@ use faxconv_lib::report::Place;
 use faxconv_lib::{Action, Kind, Status, kind_of};
 use std::alloc::{AllocError, Global};
 use std::fs::File;
-use tiff_split::{LIES_OVER_OTHERS, Ranges, SplitError, SplitPage, SplitPages};
+use tiff_split::{Carrier, LIES_OVER_OTHERS, Ranges, SplitError, SplitPage, SplitPages};
 
 /// The most bytes of a TIFF file that is read whole.
 const MOST_READ_WHOLE: u64 = 1 << 20;
+
+/// A file whose pages are read.
+#[derive(Drop)]
+struct SplitReading<'f> {
+    file: &'f File,
+    pages: SplitPages<'f>,
+    /// Its pages that aren't fax.
+    carrier: Carrier,
+    allowance: Allowance,
+}
 
 impl<'a, 'b, 'c> Run<'a, 'b, 'c> {
     /// Returns how many bytes a file has, if it is a TIFF file that is read page by page.
@@ -49,28 +59,31 @@ impl<'a, 'b, 'c> Run<'a, 'b, 'c> {
 
     /// Reads the pages of a file, as [`Run::do_source`] does.
     fn do_split_pages(&mut self, name: &str, file: &File, size: u64) -> Result<Status, SplitError> {
-        let mut pages = SplitPages::open(self.rt.alloc(), file, size)?;
-        let mut allowance = Allowance::of_file(size as usize);
+        let mut reading = SplitReading {
+            file,
+            pages: SplitPages::open(self.rt.alloc(), file, size)?,
+            carrier: Carrier::new(self.rt.alloc(), size),
+            allowance: Allowance::of_file(size as usize),
+        };
         let mut status = Status::Whole;
         let mut done: u64 = 0;
-        let mut now = self.next_split(&mut pages)?;
+        let mut now = self.next_split(&mut reading.pages)?;
         for _ in 0..u64::MAX {
             let Some(page) = now else {
                 break;
             };
-            let after = self.next_split(&mut pages)?;
+            let after = self.next_split(&mut reading.pages)?;
             let is_only = done == 0 && after.is_none() && self.options.files.len() <= 1;
             let job = self.job_of_split(name, &page, is_only);
-            let read = pages.read(&page)?;
-            status = status.worse(self.do_split_page(&job, &page, read, &mut allowance)?);
+            status = status.worse(self.do_split_page(&job, &page, &mut reading)?);
             done = done.saturating_add(1);
-            now = if matches!(status, Status::CannotGoOn) || pages.is_spent {
+            now = if matches!(status, Status::CannotGoOn) || reading.pages.is_spent {
                 None
             } else {
                 after
             };
         }
-        self.before = self.before.saturating_add(u64::from(pages.count));
+        self.before = self.before.saturating_add(u64::from(reading.pages.count));
         if done > 0 {
             return Ok(status);
         }
@@ -106,39 +119,36 @@ impl<'a, 'b, 'c> Run<'a, 'b, 'c> {
         }
     }
 
-    /// Reads a page that is a file of its own.
+    /// Reads a page as a file of its own.
     fn do_split_page(
         &mut self,
         job: &Job<'_>,
         page: &SplitPage,
-        read: Result<Vec<u8>, &'static str>,
-        allowance: &mut Allowance,
-    ) -> Result<Status, AllocError> {
+        reading: &mut SplitReading<'_>,
+    ) -> Result<Status, SplitError> {
         let alloc = self.rt.alloc();
-        let why = match &read {
-            Ok(file) => match TiffEntries::open(alloc, file.as_slice())? {
-                Some(mut entries) => match entries.next()? {
-                    Some(entry) => {
-                        let content = entry.content;
-                        return self.do_entry(job, entry_of(page, content), allowance);
-                    }
-                    None => LIES_OVER_OTHERS,
-                },
-                None => LIES_OVER_OTHERS,
-            },
-            Err(why) => why,
+        let read = reading.pages.read(page)?;
+        let content = match &read {
+            Ok(bytes) => content_of(alloc, bytes.as_slice())?,
+            Err(why) => Content::Refused(String::from_str(alloc, why)?),
         };
-        let content = Content::Refused(String::from_str(alloc, why)?);
-        self.do_entry(job, entry_of(page, content), allowance)
+        let entry = Entry {
+            number: page.number,
+            image: page.number,
+            content,
+            note: page.note,
+        };
+        let entry = self.carried(entry, &mut reading.carrier, reading.file)?;
+        Ok(self.do_entry(job, entry, &mut reading.allowance)?)
     }
 }
 
-/// Returns a page whose contents are known.
-fn entry_of<'d>(page: &SplitPage, content: Content<'d>) -> Entry<'d> {
-    Entry {
-        number: page.number,
-        image: page.number,
-        content,
-        note: page.note,
+/// Returns what the page of a file of one is.
+fn content_of(alloc: Global, file: &[u8]) -> Result<Content<'_>, AllocError> {
+    if let Some(mut entries) = TiffEntries::open(alloc, file)? {
+        if let Some(entry) = entries.next()? {
+            return Ok(entry.content);
+        }
     }
+    Ok(Content::Refused(String::from_str(alloc, LIES_OVER_OTHERS)?))
 }

@@ -1,7 +1,10 @@
-//! The standard streams where they are closed.
+//! The standard streams where they are closed, and the first bytes of a stream.
 
+use crate::kinds::FIRST_BYTES;
+use fax_program::Uninterrupted;
 use std::fs::File;
 use std::io;
+use std::io::Read;
 use std::os::fd::AsRawFd;
 
 /// Opens `/dev/null` for each standard stream that is closed, so that no file that is opened later gets its number: what is written to a
@@ -24,4 +27,23 @@ pub fn open_standard_streams(rt: &HostRuntime) -> io::Result<Vec<File>> {
         open.push(file)?;
     }
     Ok(open)
+}
+
+/// Reads the first bytes of a file, as many as say what it is.
+pub fn read_first<R: Read>(source: &mut R, bytes: &mut Vec<u8>) -> io::Result<()> {
+    let mut piece = [0u8; FIRST_BYTES];
+    'pieces: for _ in 0..FIRST_BYTES {
+        if bytes.len() >= FIRST_BYTES {
+            break;
+        }
+        let count = Uninterrupted(&mut *source).read(&mut piece[bytes.len()..])?;
+        let Some(read) = piece[bytes.len()..].get(..count) else {
+            break;
+        };
+        if read.is_empty() {
+            break;
+        }
+        bytes.extend_from_slice(read)?;
+    }
+    Ok(())
 }

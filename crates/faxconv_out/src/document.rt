@@ -7,6 +7,7 @@ use faxconv_lib::NewFile;
 use std::alloc::{AllocError, Global};
 use std::io;
 use std::io::Write;
+use tiff_split::CarriedPage;
 
 /// Where a document is written.
 #[derive(Drop)]
@@ -24,6 +25,15 @@ enum Writer {
     Pdf(PdfWriter),
 }
 
+/// A page that is added to a document.
+#[derive(Drop)]
+pub enum AddedPage {
+    /// Fax data.
+    Fax(StripPage),
+    /// A page of a TIFF file that isn't fax, as it is. A PDF file takes none.
+    Carried(CarriedPage),
+}
+
 /// A document that is being written.
 #[derive(Drop)]
 pub struct Document<'a> {
@@ -31,7 +41,7 @@ pub struct Document<'a> {
     place: Place,
     writer: Writer,
     /// The last page of a TIFF file so far, which isn't written before it is known whether another one follows.
-    waiting: Option<StripPage>,
+    waiting: Option<AddedPage>,
 }
 
 impl From<AllocError> for Unwritten {
@@ -74,7 +84,7 @@ impl<'a> Document<'a> {
     }
 
     /// Adds a page.
-    pub fn add(&mut self, page: StripPage) -> Result<(), Unwritten> {
+    pub fn add(&mut self, page: AddedPage) -> Result<(), Unwritten> {
         let ready = match &self.writer {
             Writer::Tiff(_) => self.waiting.replace(page),
             Writer::Pdf(_) => Some(page),
@@ -86,7 +96,7 @@ impl<'a> Document<'a> {
     }
 
     /// Writes a page.
-    fn put(&mut self, page: &StripPage, is_last: bool) -> Result<(), Unwritten> {
+    fn put(&mut self, page: &AddedPage, is_last: bool) -> Result<(), Unwritten> {
         let alloc = self.rt.alloc();
         match &mut self.place {
             Place::File(file) => put_page(alloc, &mut self.writer, file, page, is_last),
@@ -169,14 +179,22 @@ fn put_page<W: Write>(
     alloc: Global,
     writer: &mut Writer,
     out: &mut W,
-    page: &StripPage,
+    page: &AddedPage,
     is_last: bool,
 ) -> Result<(), Unwritten> {
-    let slices = page.slices(alloc)?;
-    let page = page.page(slices.as_slice());
-    let written = match writer {
-        Writer::Tiff(tiff) => tiff.put_page(alloc, out, &page, is_last),
-        Writer::Pdf(pdf) => pdf.put_page(out, &page),
+    let written = match page {
+        AddedPage::Fax(page) => {
+            let slices = page.slices(alloc)?;
+            let page = page.page(slices.as_slice());
+            match writer {
+                Writer::Tiff(tiff) => tiff.put_page(alloc, out, &page, is_last),
+                Writer::Pdf(pdf) => pdf.put_page(out, &page),
+            }
+        }
+        AddedPage::Carried(page) => match writer {
+            Writer::Tiff(tiff) => tiff.put_carried(alloc, out, page, is_last),
+            Writer::Pdf(_) => Err(DocumentError::Encoding),
+        },
     };
     match written {
         Ok(()) => Ok(()),

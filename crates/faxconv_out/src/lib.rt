@@ -3,6 +3,8 @@
 
 mod document;
 mod picture;
+mod rows_out;
 
-pub use document::Document;
+pub use document::{AddedPage, Document};
 pub use picture::{Drawing, Unwritten, exchanged, put_pbm_head, put_picture, resolution_of_dots};
+pub use rows_out::RowsOut;

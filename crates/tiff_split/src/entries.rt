@@ -7,7 +7,7 @@ use crate::ranges::Ranges;
 use crate::split::{Split, Table};
 
 /// An entry of a directory.
-#[derive(Clone, Copy)]
+#[derive(Clone, Copy, PartialEq, Eq, PartialOrd, Ord)]
 pub(crate) struct Entry {
     pub(crate) tag: u16,
     /// The number of the type of its values.
@@ -106,7 +106,7 @@ fn is_kept(tag: u16) -> bool {
 }
 
 /// Returns how many bytes a value of a type has (TIFF 6.0, section 2, and BigTIFF), 0 if there is no such type.
-fn bytes_of_kind(kind: u16) -> u64 {
+pub(crate) fn bytes_of_kind(kind: u16) -> u64 {
     match kind {
         1 | 2 | 6 | 7 => 1,
         3 | 8 => 2,

@@ -8,7 +8,7 @@ use std::alloc::AllocError;
 #[derive(Clone, Copy)]
 pub(crate) struct Form {
     /// Whether the first byte of a number counts most (`MM`).
-    is_big_endian: bool,
+    pub(crate) is_big_endian: bool,
     /// Whether it is a BigTIFF file, whose offsets and counts have eight bytes.
     is_big_tiff: bool,
 }

@@ -2,6 +2,7 @@
 
 use std::fs::File;
 use std::io;
+use std::io::ErrorKind;
 use std::os::unix::fs::FileExt;
 
 /// Bytes that are read by ranges.
@@ -17,5 +18,24 @@ pub trait Ranges {
 impl Ranges for File {
     fn read_range(&self, offset: u64, into: &mut [u8]) -> io::Result<()> {
         self.read_exact_at(into, offset)
+    }
+}
+
+/// Bytes that are in memory.
+#[derive(Clone, Copy)]
+pub struct Held<'a>(pub &'a [u8]);
+
+impl Ranges for Held<'_> {
+    fn read_range(&self, offset: u64, into: &mut [u8]) -> io::Result<()> {
+        let count = into.len();
+        let Some(found) = self
+            .0
+            .get(offset as usize..)
+            .and_then(|rest| rest.get(..count))
+        else {
+            return Err(io::Error::from(ErrorKind::UnexpectedEof));
+        };
+        into.copy_from_slice(found);
+        Ok(())
     }
 }

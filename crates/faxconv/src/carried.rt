@@ -1,0 +1,75 @@
+//! Pages that aren't fax, carried from TIFF files into a TIFF file.
+
+use crate::run::{Job, Run, report_of};
+use crate::source::{Content, Entry};
+use fax_decode::damage::Damage;
+use fax_strips::Target;
+use faxconv_lib::Status;
+use faxconv_lib::report::{Note, PageReport};
+use faxconv_out::AddedPage;
+use std::alloc::{AllocError, Global};
+use tiff_split::{CarriedPage, Carrier, Ranges, SplitError};
+
+impl<'a, 'b, 'c> Run<'a, 'b, 'c> {
+    /// Returns a page of a TIFF file; with its entries and its data if it isn't decoded and can be carried into the document.
+    pub(crate) fn carried<'d, R: Ranges>(
+        &self,
+        entry: Entry<'d>,
+        carrier: &mut Carrier,
+        source: &R,
+    ) -> Result<Entry<'d>, AllocError> {
+        let is_tiff = matches!(self.target_of_pages(), Some(Target::Tiff));
+        let why = match entry.content {
+            Content::Refused(why) if is_tiff => why,
+            content => return Ok(Entry { content, ..entry }),
+        };
+        let alloc = self.rt.alloc();
+        let content = match carrier.page(source, entry.number) {
+            Ok(Ok(page)) => {
+                let told = text_of_carried(alloc, why.as_str(), &page)?;
+                Content::Carried(page, told)
+            }
+            Ok(Err(other)) => Content::Refused(format!(in alloc;
+                "{why}, and can't be carried along: {other}"
+            )?),
+            Err(SplitError::OutOfMemory) => return Err(AllocError),
+            Err(_) => Content::Refused(why),
+        };
+        Ok(Entry { content, ..entry })
+    }
+
+    /// Tells that a page isn't decoded, and adds it to the document.
+    pub(crate) fn do_carried(
+        &mut self,
+        job: &Job<'_>,
+        page: CarriedPage,
+        told: &str,
+    ) -> Result<Status, AllocError> {
+        let none = Damage::new(self.rt.alloc());
+        let note = Note {
+            text: told,
+            status: Status::Whole,
+        };
+        let report = PageReport {
+            note: Some(note),
+            ..report_of(job, None, &none, "strip", 0)
+        };
+        let status = self.tell_page(job.name, &report)?;
+        let added = self.add_page(AddedPage::Carried(page))?;
+        Ok(status.worse(added))
+    }
+}
+
+/// Returns why a page isn't decoded, and what of it isn't carried along.
+fn text_of_carried(alloc: Global, why: &str, page: &CarriedPage) -> Result<String, AllocError> {
+    let mut text = format!(in alloc; "{why}; carried along unread")?;
+    for (index, tag) in page.left_out.iter().enumerate() {
+        let before = if index == 0 {
+            " without tag"
+        } else {
+            ", without tag"
+        };
+        write!(text, "{before} {tag}")?;
+    }
+    Ok(text)
+}

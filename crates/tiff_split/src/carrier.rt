@@ -1,0 +1,64 @@
+//! The pages of a file that are carried into another one.
+
+use crate::carried::CarriedPage;
+use crate::error::SplitError;
+use crate::ranges::Ranges;
+use crate::split::Split;
+use std::alloc::Global;
+
+/// The pages of a file of which some are carried into another one. Its directories are found again, up to the last one of these.
+#[derive(Drop)]
+pub struct Carrier {
+    alloc: Global,
+    /// How many bytes the file has.
+    size: u64,
+    /// The way through its directories, once one was sought.
+    split: Option<Split>,
+    /// How many directories were found.
+    count: u32,
+}
+
+impl Carrier {
+    /// Begins with a file of so many bytes, of which nothing is read yet.
+    pub fn new(alloc: Global, size: u64) -> Carrier {
+        Carrier {
+            alloc,
+            size,
+            split: None,
+            count: 0,
+        }
+    }
+
+    /// Reads the page of a number, which is above those of the pages before, as [`Split::carried`] does.
+    ///
+    /// # Errors
+    ///
+    /// Those of [`Split::open`], of [`Split::next_table`] and of [`Split::carried`].
+    pub fn page<R: Ranges>(
+        &mut self,
+        source: &R,
+        number: u32,
+    ) -> Result<Result<CarriedPage, &'static str>, SplitError> {
+        let mut split = match self.split.take() {
+            Some(split) => split,
+            None => {
+                self.count = 0;
+                Split::open(self.alloc, source, self.size)?
+            }
+        };
+        let mut found = None;
+        'tables: while self.count < number {
+            found = split.next_table(source)?;
+            if found.is_none() {
+                break;
+            }
+            self.count += 1;
+        }
+        let page = match found {
+            Some(table) => split.carried(source, &table)?,
+            None => Err("its directory isn't found again"),
+        };
+        self.split = Some(split);
+        Ok(page)
+    }
+}
