@@ -6,7 +6,7 @@ import resource
 import subprocess
 import tempfile
 
-from programs import fax
+from programs import fax, packing
 from programs.fax import PICTURE, changed
 from programs.fax_files import BLOCK, G4, LONG, Rule, SHORT, drawn, made_page, pairs, shown, tiff
 from programs.fax_files import Page
@@ -57,6 +57,10 @@ def pages_are_those_of_the_whole_file():
     print(f"  {count} files")
 
 
+def limited():
+    resource.setrlimit(resource.RLIMIT_AS, (MOST_MEMORY, MOST_MEMORY))
+
+
 def memory_is_that_of_a_page():
     """A file of 1,000 pages is written as pictures, as TIFF and as PDF in less memory than a fifth of it."""
     encode = fax.encoder()
@@ -64,18 +68,38 @@ def memory_is_that_of_a_page():
     page, rule = made_page(encode, picture, Rule()), Rule()
     file = tiff([page] * 1000)
     assert len(file) > 5 * MOST_MEMORY, len(file)
-    def limit():
-        resource.setrlimit(resource.RLIMIT_AS, (MOST_MEMORY, MOST_MEMORY))
     with tempfile.TemporaryDirectory() as folder:
         path = f"{folder}/file"
         with open(path, "wb") as out:
             out.write(file)
         for form in (["--check"], ["-f", "tiff", "-o", f"{folder}/made.tif"], ["-f", "tiff", "--copy", "-o", f"{folder}/copied.tif"], ["-f", "pdf", "-o", f"{folder}/made.pdf"]):
-            done = subprocess.run([fax.FAX, *form, path], capture_output=True, check=False, timeout=300, preexec_fn=limit)
+            done = subprocess.run([fax.FAX, *form, path], capture_output=True, check=False, timeout=300, preexec_fn=limited)
             assert done.returncode == 0, (form, done.returncode, done.stderr[-300:])
-        last = subprocess.run([fax.FAX, "-p", "1000", "-f", "pbm", f"{folder}/made.tif"], capture_output=True, check=False, timeout=300, preexec_fn=limit)
+        last = subprocess.run([fax.FAX, "-p", "1000", "-f", "pbm", f"{folder}/made.tif"], capture_output=True, check=False, timeout=300, preexec_fn=limited)
         assert (last.returncode, last.stdout) == (0, shown(picture, rule).pbm()), (last.returncode, last.stderr[-300:])
     print(f"  {len(file) >> 20} MB in {MOST_MEMORY >> 20} MB")
 
 
-CHECKS = [pages_are_those_of_the_whole_file, memory_is_that_of_a_page]
+def a_long_strip_is_not_in_memory():
+    """A page of one strip of some 20 MB is written as PBM in memory that its picture alone has no room in, also if it is inverted, cut or damaged:
+    what is written and told is that of the page on standard input."""
+    fax.encoder()
+    columns, rows = 4095, 18000
+    picture = b"P4\n%d %d\n" % (columns, rows) + random.Random(1).randbytes((columns + 7) // 8 * rows)
+    strip = subprocess.run([packing.PROGRAM, "g4", "b"], input=picture, capture_output=True, check=True, timeout=60).stdout
+    assert len(strip) > MOST_MEMORY, len(strip)
+    damaged = strip[: len(strip) // 2] + b"\0\0\0" + strip[len(strip) // 2 :]
+    with tempfile.TemporaryDirectory() as folder:
+        path = f"{folder}/file"
+        for photometric, data in ((0, strip), (1, strip), (0, strip[: 6 << 20]), (1, damaged)):
+            with open(path, "wb") as out:
+                out.write(tiff([fax.page_of({256: columns, 257: rows, 259: 4, 262: photometric, 278: rows}, [data])]))
+            with open(path, "rb") as file:
+                piped = subprocess.run([fax.FAX], stdin=file, capture_output=True, check=False, timeout=60)
+            named = subprocess.run([fax.FAX, path], capture_output=True, check=False, timeout=60, preexec_fn=limited)
+            assert (named.returncode, named.stderr) == (piped.returncode, piped.stderr.replace(b"standard input", path.encode())), (photometric, named.stderr, piped.stderr)
+            assert named.stdout == piped.stdout and (data != strip or named.returncode == 0), (photometric, named.returncode)
+    print(f"  4 files of {len(strip) >> 20} MB in {MOST_MEMORY >> 20} MB")
+
+
+CHECKS = [pages_are_those_of_the_whole_file, memory_is_that_of_a_page, a_long_strip_is_not_in_memory]

@@ -3,6 +3,7 @@
 
 mod carried;
 mod guess;
+mod long_strip;
 mod output;
 mod pbm;
 mod pdf;

@@ -12,16 +12,16 @@ use std::fs::File;
 use tiff_split::{Carrier, LIES_OVER_OTHERS, Ranges, SplitError, SplitPage, SplitPages};
 
 /// The most bytes of a TIFF file that is read whole.
-const MOST_READ_WHOLE: u64 = 1 << 20;
+pub(crate) const MOST_READ_WHOLE: u64 = 1 << 20;
 
 /// A file whose pages are read.
 #[derive(Drop)]
-struct SplitReading<'f> {
-    file: &'f File,
-    pages: SplitPages<'f>,
+pub(crate) struct SplitReading<'f> {
+    pub(crate) file: &'f File,
+    pub(crate) pages: SplitPages<'f>,
     /// Its pages that aren't fax.
     carrier: Carrier,
-    allowance: Allowance,
+    pub(crate) allowance: Allowance,
 }
 
 impl<'a, 'b, 'c> Run<'a, 'b, 'c> {
@@ -126,6 +126,9 @@ impl<'a, 'b, 'c> Run<'a, 'b, 'c> {
         page: &SplitPage,
         reading: &mut SplitReading<'_>,
     ) -> Result<Status, SplitError> {
+        if let Some(status) = self.do_long_strip(job, page, reading)? {
+            return Ok(status);
+        }
         let alloc = self.rt.alloc();
         let read = reading.pages.read(page)?;
         let content = match &read {
@@ -144,7 +147,7 @@ impl<'a, 'b, 'c> Run<'a, 'b, 'c> {
 }
 
 /// Returns what the page of a file of one is.
-fn content_of(alloc: Global, file: &[u8]) -> Result<Content<'_>, AllocError> {
+pub(crate) fn content_of(alloc: Global, file: &[u8]) -> Result<Content<'_>, AllocError> {
     if let Some(mut entries) = TiffEntries::open(alloc, file)? {
         if let Some(entry) = entries.next()? {
             return Ok(entry.content);

@@ -27,13 +27,13 @@ const PART_BYTES: u64 = 32;
 
 /// The strips or tiles of a page.
 #[derive(Drop)]
-struct Parts {
+pub(crate) struct Parts {
     /// The index of the entry that says where they are.
     index: usize,
     /// Where they begin.
-    starts: Vec<u64>,
+    pub(crate) starts: Vec<u64>,
     /// Which bytes they have.
-    ranges: Vec<Range>,
+    pub(crate) ranges: Vec<Range>,
 }
 
 impl Split {
@@ -81,7 +81,7 @@ impl Split {
     }
 
     /// Returns a BigTIFF file of a directory's entries and their values.
-    fn file_of_entries<R: Ranges>(
+    pub(crate) fn file_of_entries<R: Ranges>(
         &mut self,
         source: &R,
         entries: &[Entry],
@@ -117,7 +117,11 @@ impl Split {
     }
 
     /// Returns the strips or tiles of the page that a file of its entries has, if it has fax data.
-    fn parts_of(&mut self, file: &[u8], entries: &[Entry]) -> Result<Option<Parts>, SplitError>
+    pub(crate) fn parts_of(
+        &mut self,
+        file: &[u8],
+        entries: &[Entry],
+    ) -> Result<Option<Parts>, SplitError>
         ensures { Reads self.old self.new }
     {
         let mut tiff = Tiff::open(self.alloc, Cursor::new(file, usize::MAX))?;

@@ -1,6 +1,7 @@
 //! The pages of a TIFF file, of which no more than one is in memory.
 
 use crate::error::SplitError;
+use crate::one_strip::OneStrip;
 use crate::split::{Split, Table};
 use std::alloc::Global;
 use std::fs::File;
@@ -123,6 +124,20 @@ impl<'f> SplitPages<'f> {
                 Ok(Err(LIES_OVER_OTHERS))
             }
             Err(error) => Err(error),
+        }
+    }
+    /// Finds the strip of a page that has one, which isn't read.
+    ///
+    /// # Errors
+    ///
+    /// Those of [`Split::one_strip`] but `Spent`.
+    pub fn one_strip(&mut self, page: &SplitPage) -> Result<Option<OneStrip>, SplitError> {
+        let Ok(table) = page.table else {
+            return Ok(None);
+        };
+        match self.split.one_strip(self.file, &table) {
+            Err(SplitError::Spent) => Ok(None),
+            found => found,
         }
     }
 }
