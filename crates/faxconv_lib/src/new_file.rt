@@ -100,6 +100,25 @@ impl NewFile {
         }
     }
 
+    /// Opens what was written of the file, and creates another one that is to get its name.
+    ///
+    /// # Errors
+    ///
+    /// `Unsupported` if it is written at its name; or what the system says, or if an allocation fails.
+    pub fn again(&self, rt: &HostRuntime) -> io::Result<(File, NewFile)> {
+        let Place::Beside {
+            beside,
+            name,
+            may_overwrite,
+        } = &self.place
+        else {
+            return Err(io::Error::from(ErrorKind::Unsupported));
+        };
+        let written = File::open(rt, beside.as_str())?;
+        let other = NewFile::beside(rt, name.as_str(), *may_overwrite)?;
+        Ok((written, other))
+    }
+
     /// Gives the file its name.
     ///
     /// # Errors

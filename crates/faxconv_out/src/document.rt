@@ -5,9 +5,10 @@ use fax_documents::{DocumentError, PdfWriter, TiffWriter};
 use fax_strips::{StripPage, Target};
 use faxconv_lib::NewFile;
 use std::alloc::{AllocError, Global};
-use std::io;
+use std::fs::File;
 use std::io::Write;
-use tiff_split::CarriedPage;
+use std::{io, mem};
+use tiff_split::{CarriedPage, Carrier, SplitError};
 
 /// Where a document is written.
 #[derive(Drop)]
@@ -42,6 +43,10 @@ pub struct Document<'a> {
     writer: Writer,
     /// The last page of a TIFF file so far, which isn't written before it is known whether another one follows.
     waiting: Option<AddedPage>,
+    /// How many pages are written.
+    count: u32,
+    /// Whether it is a TIFF file with offsets of four bytes.
+    is_classic: bool,
 }
 
 impl From<AllocError> for Unwritten {
@@ -58,6 +63,7 @@ impl<'a> Document<'a> {
         target: Target,
         is_big: bool,
     ) -> Result<Document<'a>, Unwritten> {
+        let is_classic = matches!(target, Target::Tiff) && !is_big;
         match file {
             None => {
                 let writer = begun(rt.alloc(), &mut rt.stdout(), target, is_big)?;
@@ -66,6 +72,8 @@ impl<'a> Document<'a> {
                     place: Place::Standard,
                     writer,
                     waiting: None,
+                    count: 0,
+                    is_classic,
                 })
             }
             Some(mut file) => match begun(rt.alloc(), &mut file, target, is_big) {
@@ -74,6 +82,8 @@ impl<'a> Document<'a> {
                     place: Place::File(file),
                     writer,
                     waiting: None,
+                    count: 0,
+                    is_classic,
                 }),
                 Err(why) => {
                     file.discard(rt);
@@ -95,8 +105,45 @@ impl<'a> Document<'a> {
         }
     }
 
-    /// Writes a page.
+    /// Writes a page, in a TIFF file begun again as BigTIFF if it would become too long.
     fn put(&mut self, page: &AddedPage, is_last: bool) -> Result<(), Unwritten> {
+        match self.put_once(page, is_last) {
+            Err(Unwritten::TooLong) if self.is_classic => {
+                self.begin_again()?;
+                self.put_once(page, is_last)?;
+            }
+            written => written?,
+        }
+        self.count = self.count.saturating_add(1);
+        Ok(())
+    }
+
+    /// Begins again as BigTIFF, with the pages so far.
+    fn begin_again(&mut self) -> Result<(), Unwritten> {
+        let Place::File(file) = &self.place else {
+            return Err(Unwritten::TooLong);
+        };
+        let Ok((written, mut larger)) = file.again(self.rt) else {
+            return Err(Unwritten::TooLong);
+        };
+        match enlarged(self.rt.alloc(), &written, self.count, &mut larger) {
+            Ok(writer) => {
+                self.writer = Writer::Tiff(writer);
+                self.is_classic = false;
+                if let Place::File(smaller) = mem::replace(&mut self.place, Place::File(larger)) {
+                    smaller.discard(self.rt);
+                }
+                Ok(())
+            }
+            Err(why) => {
+                larger.discard(self.rt);
+                Err(why)
+            }
+        }
+    }
+
+    /// Writes a page, if the document doesn't become too long.
+    fn put_once(&mut self, page: &AddedPage, is_last: bool) -> Result<(), Unwritten> {
         let alloc = self.rt.alloc();
         match &mut self.place {
             Place::File(file) => put_page(alloc, &mut self.writer, file, page, is_last),
@@ -117,7 +164,7 @@ impl<'a> Document<'a> {
             rt,
             place,
             writer,
-            waiting: _,
+            ..
         } = self;
         match place {
             Place::Standard => {
@@ -143,12 +190,7 @@ impl<'a> Document<'a> {
 
     /// Removes the file, of which not all is written.
     pub fn discard(self) {
-        let Document {
-            rt,
-            place,
-            writer: _,
-            waiting: _,
-        } = self;
+        let Document { rt, place, .. } = self;
         if let Place::File(file) = place {
             file.discard(rt);
         }
@@ -172,6 +214,34 @@ fn begun<W: Write>(
             Err(error) => Err(why_unwritten(error)),
         },
     }
+}
+
+/// Begins a BigTIFF file with the pages of a TIFF file, of which there are so many.
+fn enlarged(
+    alloc: Global,
+    written: &File,
+    count: u32,
+    out: &mut NewFile,
+) -> Result<TiffWriter, Unwritten> {
+    let Ok(found) = written.metadata() else {
+        return Err(Unwritten::Write);
+    };
+    let mut carrier = Carrier::new(alloc, found.len());
+    let begun = TiffWriter::begin(out, true);
+    let Ok(mut writer) = begun else {
+        return Err(Unwritten::Write);
+    };
+    'pages: for number in 1..=count {
+        let page = match carrier.page(written, number) {
+            Ok(Ok(page)) => page,
+            Err(SplitError::OutOfMemory) => return Err(Unwritten::OutOfMemory),
+            _ => return Err(Unwritten::Write),
+        };
+        if let Err(error) = writer.put_carried(alloc, out, &page, false) {
+            return Err(why_unwritten(error));
+        }
+    }
+    Ok(writer)
 }
 
 /// Writes a page.
