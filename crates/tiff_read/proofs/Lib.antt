@@ -1,2 +1,3 @@
+mod EntryLemmas
 mod NulLemmas
 mod NumberLemmas

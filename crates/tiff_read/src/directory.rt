@@ -1,6 +1,8 @@
 //! What a directory says of each tag.
 
-ghost use Rattle.std.specs.Prelude.{◌≡◌, ◌<◌, ◌≤◌, length, IfSome};
+ghost use Rattle.std.specs.Prelude.{◌≡◌, ◌<◌, ◌≤◌, ℕ, length, IfSome, None};
+ghost use Rattle.std.specs.Option.{option_or};
+ghost use Rattle.tiff_read.specs.Directories.{values_if};
 ghost use Rattle.tiff_read.specs.Texts.{slot_of, values_of};
 
 /// The values of a tag: of which type, how many, and where in the file. There are none if the file lacks a part of them, or the type is unknown.
@@ -38,6 +40,7 @@ impl Directory {
     pub(crate) fn new(entries: usize, is_cut: bool) -> Directory
         ensures entries { result.entries ≡ entries }
         ensures is_cut { result.is_cut ≡ is_cut }
+        ensures values { (tag : ℕ) → values_of result tag ≡ None }
     {
         Directory {
             entries,
@@ -50,6 +53,7 @@ impl Directory {
     pub(crate) fn set(&mut self, tag: u16, values: Values)
         ensures entries { self.new.entries ≡ self.old.entries }
         ensures is_cut { self.new.is_cut ≡ self.old.is_cut }
+        ensures values { (wanted : ℕ) → values_of self.new wanted ≡ option_or (values_of self.old wanted) (values_if wanted (record { tag = tag; values = values })) }
     {
         let Some(slot) = slot_of(tag) else {
             return;

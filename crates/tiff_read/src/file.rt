@@ -1,10 +1,13 @@
 //! A TIFF file, and the way to its next directory.
 
 ghost use Rattle.std.specs.Prelude.{◌≡◌, ◌+◌, ◌-◌, ◌*◌, ◌/◌, ◌^◌, ◌<◌, ◌≤◌, ◌↔◌};
-ghost use Rattle.std.specs.Prelude.{length, Err, Some, None, IfOk, IfSome, IsNone, OnOk, OnErr, IsOkUnless};
+ghost use Rattle.std.specs.Prelude.{ℕ, length, Err, Some, None, IfOk, IfSome, IsNone, OnOk, OnErr, IsOkUnless};
 ghost use Rattle.std.specs.Prelude.{true, false, ◌≢◌, IfErr};
-ghost use Rattle.tiff_read.specs.Directories.{IsDirectoryAt, IsTableAt, IsNotReadAt, StopsBy, next_after};
-ghost use Rattle.tiff_read.specs.Numbers.{IsFormOf, is_tiff, number_at};
+ghost use Rattle.tiff_read.specs.Directories.{IsDirectoryAt, IsTableAt, IsNotReadAt, StopsBy, entry_at, first_values, next_after};
+ghost use Rattle.tiff_read.specs.Directories.{values_start, whole_values, word_at};
+ghost use Rattle.tiff_read.specs.Numbers.{IsFormOf, entry_bytes, is_big_tiff, is_tiff, number_at, offset_bytes};
+ghost use Rattle.tiff_read.specs.Texts.{values_of};
+ghost use Rattle.tiff_read.specs.Values.{bytes_of_kind};
 ghost use Rattle.tiff_read.specs.Payments.{CanOpen, Costs, IsSameFile, Moves, Opens, Reading, entries_of, first_of, room_for};
 
 use crate::directory::{Directory, Values};
@@ -147,6 +150,7 @@ impl<'a> Tiff<'a> {
     fn directory_of(&self, table: &Table) -> Directory
         ensures entries { result.entries ≡ table.now.entries }
         ensures is_cut { result.is_cut ≡ table.now.is_cut }
+        ensures values { (tag : ℕ) → values_of result tag ≡ first_values self.now.bytes table.now.start tag table.now.entries }
     {
         let mut directory = Directory::new(table.entries, table.is_cut);
         'entries: for index in 0..table.entries {
@@ -214,31 +218,52 @@ impl<'a> Tiff<'a> {
         }
     }
 
-    /// Reads the entry at a place.
-    fn entry_at(&self, place: usize) -> Option<Entry> {
-        let bytes = self.bytes().get(place..)?.get(..self.form.entry_bytes())?;
+    /// Reads the entry at a place; `None` if the file doesn't have it whole.
+    fn entry_at(&self, place: usize) -> Option<Entry>
+        ensures entry { result ≡ entry_at self.now.bytes place }
+        ensures few { length self.now.bytes < 2 ^ 64 }
+    {
+        let file = self.bytes();
+        if file.len() < self.form.entry_bytes() || place > file.len() - self.form.entry_bytes() {
+            return None;
+        }
+        let kind = self.form.short(file[place + 2], file[place + 3]);
+        let count = self.word_at(place + 4);
+        Some(Entry {
+            tag: self.form.short(file[place], file[place + 1]),
+            values: self.values_at(place, kind, count),
+        })
+    }
+
+    /// Returns so many values of a type, of the entry at a place: where they are; none if the file lacks a part of them.
+    fn values_at(&self, place: usize, kind: u16, count: u64) -> Values
+        requires { place + entry_bytes (is_big_tiff self.now.bytes) ≤ length self.now.bytes }
+        ensures { result ≡ whole_values self.now.bytes kind count (values_start self.now.bytes place (count * bytes_of_kind kind)) }
+    {
+        let end = self.bytes().len() as u64;
         let offset_bytes = self.form.offset_bytes();
-        let tag = self.form.short(bytes[0], bytes[1]);
-        let kind = self.form.short(bytes[2], bytes[3]);
-        let count = self.form.number(&bytes[4..4 + offset_bytes]);
-        let word = &bytes[4 + offset_bytes..];
-        let place_of_word = place.saturating_add(4 + offset_bytes) as u64;
         let size = bytes_of_kind(kind);
         let total = count.saturating_mul(size);
         let offset = if total <= offset_bytes as u64 {
-            place_of_word
+            (place + 4 + offset_bytes) as u64
         } else {
-            self.form.number(word)
+            self.word_at(place + 4 + offset_bytes)
         };
-        let is_whole = size > 0 && offset.saturating_add(total) <= self.bytes().len() as u64;
-        Some(Entry {
-            tag,
-            values: Values {
-                kind,
-                count: if is_whole { count } else { 0 },
-                offset,
-            },
-        })
+        let is_whole = size > 0 && offset.saturating_add(total) <= end;
+        Values {
+            kind,
+            count: if is_whole { count } else { 0 },
+            offset,
+        }
+    }
+
+    /// Returns the number of the bytes at a place, as many as an offset has.
+    fn word_at(&self, place: usize) -> u64
+        requires { place + offset_bytes (is_big_tiff self.now.bytes) ≤ length self.now.bytes }
+        ensures { result ≡ word_at self.now.bytes place }
+    {
+        self.form
+            .number(&self.bytes()[place..place + self.form.offset_bytes()])
     }
 
     /// Returns the number of some bytes at an offset; `None` if the file doesn't have them.
