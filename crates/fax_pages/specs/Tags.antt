@@ -1,10 +1,14 @@
 -- How the tags of a TIFF page say that its fax data is encoded (TIFF 6.0, sections 8, 10 and 11).
-use Rattle.std.specs.Prelude.{ℕ, Bool, true, false, ◌==◌, ◌||◌, ◌%◌, if◌then◌else◌, Option, Some, None}
+use Rattle.std.specs.Prelude.{ℕ, Bool, true, false, ◌+◌, ◌-◌, ◌^◌, ◌==◌, ◌||◌, ◌%◌, nat_lt, min, if◌then◌else◌, List, Option}
+use Rattle.std.specs.Prelude.{Some, None}
+use Rattle.std.specs.Option.{unwrap_or}
 use Rattle.hayro_ccitt.specs.DecodeSettings.{DecodeSettings}
 use Rattle.hayro_ccitt.specs.EncodingMode.{EncodingMode}
 use Rattle.hayro_ccitt.specs.EncodingMode.TheVariants.{Group4, Group3_1D, Group3_2D}
 use Rattle.hayro_ccitt.specs.BitOrder.{BitOrder}
 use Rattle.hayro_ccitt.specs.BitOrder.TheVariants.{HighestFirst, LowestFirst}
+use Rattle.tiff_read.specs.Values.{number_of_tag}
+use Rattle.tiff_read.specs.declared.directory.Directory.{Directory}
 use Rattle.tiff_read.specs.declared.picture.Picture.{Picture}
 
 -- Compression 2 and 32771, of which the second isn't in TIFF 6.0: one-dimensional lines without EOLs. Each row begins at a byte,
@@ -39,6 +43,21 @@ settings_of_tags picture columns rows = record {
 -- FillOrder 2: the lowest bit of a byte is that of its first pixel (section 8).
 abbrev pub order_of_tags : Picture → BitOrder
 order_of_tags picture = if picture.is_low_first then LowestFirst else HighestFirst
+
+-- one of the numbers of ColorMap; 0 if there are fewer
+abbrev pub map_value : List ℕ → Directory → ℕ → ℕ
+map_value bytes directory index = unwrap_or (number_of_tag bytes directory 320 index) 0
+
+-- The sum of the red, the green and the blue of a palette's first or second colour, up to the greatest number of 64 bits:
+-- ColorMap has the reds first, then the greens, then the blues (section 5).
+abbrev pub brightness : List ℕ → Directory → ℕ → ℕ
+brightness bytes directory colour =
+    min (map_value bytes directory colour + map_value bytes directory (colour + 2) + map_value bytes directory (colour + 4))
+    (2 ^ 64 - 1)
+
+-- whether the first colour of a palette is darker than the second one
+abbrev pub is_dark_first : List ℕ → Directory → Bool
+is_dark_first bytes directory = nat_lt (brightness bytes directory 0) (brightness bytes directory 1)
 
 -- Whether a white pixel, which is 0 in fax data, is shown black: Photometric 1, BlackIsZero, or 3, a palette, whose first colour
 -- is the darker one (sections 3 and 5). Without the tag it isn't.

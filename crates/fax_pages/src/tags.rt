@@ -1,8 +1,7 @@
 //! What TIFF's tags say of how a page is encoded.
 
 ghost use Rattle.std.specs.Prelude.{◌≡◌};
-ghost use Rattle.fax_pages.specs.Tags.{encoding_of_tags, is_fax_compression, is_inverted_by_tags, order_of_tags};
-ghost use Rattle.fax_pages.specs.Tags.{settings_of_tags};
+ghost use Rattle.fax_pages.specs.Tags.{encoding_of_tags, is_fax_compression, order_of_tags, settings_of_tags};
 
 use hayro_ccitt::bit_reader::BitOrder;
 use hayro_ccitt::{DecodeSettings, EncodingMode};
@@ -49,16 +48,5 @@ pub(crate) fn order_of_tags(picture: &Picture) -> BitOrder
         BitOrder::LowestFirst
     } else {
         BitOrder::HighestFirst
-    }
-}
-
-/// Returns whether the rows are the negative of the picture, whose palette has its darker colour first or not.
-pub(crate) fn is_inverted_by_tags(photometric: Option<u64>, is_dark_first: bool) -> bool
-    ensures { result ≡ is_inverted_by_tags photometric is_dark_first }
-{
-    match photometric {
-        Some(1) => true,
-        Some(3) => is_dark_first,
-        _ => false,
     }
 }

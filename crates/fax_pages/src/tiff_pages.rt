@@ -1,13 +1,18 @@
 //! The pages of a TIFF file.
 
-ghost use Rattle.std.specs.Prelude.{◌≡◌, ◌+◌, ◌*◌, ◌<◌, ◌≤◌, ◌↔◌, true, length, All, IfOk, IfSome, OnErr, OnOk, IsNone};
+ghost use Rattle.std.specs.Prelude.{◌≡◌, ◌+◌, ◌*◌, ◌<◌, ◌≤◌, ◌↔◌, ℕ, List, true, length, All, IfOk, IfSome, OnErr, OnOk, IsNone};
+ghost use Rattle.std.specs.Prelude.{None, Some, if◌then◌else◌};
 ghost use Rattle.tiff_read.specs.Payments.{Costs, IsSameFile, IsSameReading, Opens, room_for};
-ghost use Rattle.fax_pages.specs.Tags.{is_fax_compression, settings_of_tags};
-ghost use Rattle.fax_pages.specs.TiffPages.{HasSizes, IsTiffPage, LiesIn, cost_of};
+ghost use Rattle.tiff_read.specs.Pictures.{layout_of, picture_of};
+ghost use Rattle.tiff_read.specs.Texts.{AreTexts};
+ghost use Rattle.tiff_read.specs.declared.directory.Directory.{Directory};
+ghost use Rattle.fax_pages.specs.Tags.{brightness, is_dark_first, is_inverted_by_tags, map_value, settings_of_tags};
+ghost use Rattle.fax_pages.specs.TiffPages.{IsFoundBy, IsTiffPage, LiesIn, cost_of, has_parts, is_size, refusal_by};
+ghost use Rattle.fax_pages.specs.TiffPages.{kind_of, sizes, why_refused};
 
 use crate::page::{Page, PageBytes, Part, PartKind, Resolution};
 use crate::refused::{Found, Refusal, RefusedPage};
-use crate::tags::{is_fax_compression, is_inverted_by_tags, order_of_tags, settings_of_tags};
+use crate::tags::{is_fax_compression, order_of_tags, settings_of_tags};
 use paid_cursor::Cursor;
 use std::alloc::Global;
 use std::marker::Model;
@@ -69,7 +74,7 @@ impl<'a> TiffPages<'a> {
     ///
     /// `Outside` or `Loop` if the next directory isn't in the file, or is an earlier one: no page follows. `Spent` or `OutOfMemory`.
     pub fn next_page(&mut self, alloc: Global) -> Result<Option<Found<'a>>, TiffError>
-        ensures page { IfOk result (λ found. IfSome found (IsTiffPage self.old.bytes)) }
+        ensures page { IfOk result (λ found. IfSome found (IsTiffPage self.old.bytes self.old.next)) }
         ensures end { IfOk result (λ found. IsNone found ↔ (self.old.next ≡ 0)) }
         ensures paid { IfOk result (λ found. self.new.left + cost_of found ≤ self.old.left) }
         ensures least { self.new.left ≤ self.old.left }
@@ -85,7 +90,7 @@ impl<'a> TiffPages<'a> {
 
     /// Returns the page of a directory.
     fn page_of(&mut self, alloc: Global, directory: &Directory) -> Result<Found<'a>, TiffError>
-        ensures page { IfOk result (IsTiffPage self.old.bytes) }
+        ensures page { IfOk result (IsFoundBy self.old.bytes directory.now) }
         ensures paid { IfOk result (λ found. self.new.left + cost_of (Some found) ≤ self.old.left + 1) }
         ensures least { self.new.left ≤ self.old.left }
         ensures same { IsSameReading self.old self.new }
@@ -100,17 +105,13 @@ impl<'a> TiffPages<'a> {
         let Some(sizes) = sizes_of(&picture, &layout) else {
             return Ok(self.refused(Refusal::TileSize));
         };
-        let is_dark_first = picture.photometric == Some(3) && self.is_dark_first(directory)?;
+        let is_inverted = self.is_inverted(directory, picture.photometric)?;
         let texts = self.texts(directory)?;
         let parts = self.parts(alloc, &picture, &layout, sizes)?;
         Ok(Found::Page(Page {
             number: self.pages,
             image: self.pages,
-            kind: if layout.is_tiled {
-                PartKind::Tile
-            } else {
-                PartKind::Strip
-            },
+            kind: kind_of(&layout),
             bytes: PageBytes::File(self.tiff.bytes()),
             parts,
             columns: sizes.columns,
@@ -118,7 +119,7 @@ impl<'a> TiffPages<'a> {
             has_height: true,
             order: order_of_tags(&picture),
             orientation: picture.orientation,
-            is_inverted: is_inverted_by_tags(picture.photometric, is_dark_first),
+            is_inverted,
             rows_are_words: picture.compression == 32771,
             resolution: Resolution {
                 across: picture.across,
@@ -131,6 +132,7 @@ impl<'a> TiffPages<'a> {
 
     /// Returns what a directory says of its picture.
     fn picture(&mut self, directory: &Directory) -> Result<Picture, TiffError>
+        ensures picture { IfOk result (λ picture. picture ≡ picture_of self.old.bytes directory.now) }
         ensures paid { OnOk result (Costs 13 self.old self.new) }
         ensures unchanged { OnErr result (self.new ≡ self.old) }
     {
@@ -139,6 +141,7 @@ impl<'a> TiffPages<'a> {
 
     /// Returns how the picture of a directory is laid out.
     fn layout(&mut self, directory: &Directory) -> Result<Option<Layout>, TiffError>
+        ensures layout { IfOk result (λ found. found ≡ layout_of self.old.bytes directory.now) }
         ensures paid { OnOk result (Costs 5 self.old self.new) }
         ensures unchanged { OnErr result (self.new ≡ self.old) }
     {
@@ -147,6 +150,7 @@ impl<'a> TiffPages<'a> {
 
     /// Returns what a directory says in words.
     fn texts(&mut self, directory: &Directory) -> Result<Texts<'a>, TiffError>
+        ensures texts { IfOk result (AreTexts self.old.bytes directory.now) }
         ensures least { self.new.left ≤ self.old.left }
         ensures same { IsSameReading self.old self.new }
     {
@@ -155,7 +159,7 @@ impl<'a> TiffPages<'a> {
 
     /// Returns that the page isn't decoded.
     fn refused(&self, why: Refusal) -> Found<'a>
-        ensures page { IsTiffPage self.now.bytes result }
+        ensures page { (bytes : List ℕ) (directory : Directory) → refusal_by bytes directory ≡ Some why → IsFoundBy bytes directory result }
         ensures cost { cost_of (Some result) ≡ 1 }
     {
         Found::Unread(RefusedPage {
@@ -165,8 +169,26 @@ impl<'a> TiffPages<'a> {
         })
     }
 
+    /// Returns whether the rows are the negative of the picture.
+    fn is_inverted(
+        &mut self,
+        directory: &Directory,
+        photometric: Option<u64>,
+    ) -> Result<bool, TiffError>
+        ensures inverted { IfOk result (λ it. it ≡ is_inverted_by_tags photometric (is_dark_first self.old.bytes directory.now)) }
+        ensures least { self.new.left ≤ self.old.left }
+        ensures same { IsSameReading self.old self.new }
+    {
+        match photometric {
+            Some(1) => Ok(true),
+            Some(3) => self.is_dark_first(directory),
+            _ => Ok(false),
+        }
+    }
+
     /// Returns whether the first colour of a palette is darker than the second one.
     fn is_dark_first(&mut self, directory: &Directory) -> Result<bool, TiffError>
+        ensures dark { IfOk result (λ it. it ≡ is_dark_first self.old.bytes directory.now) }
         ensures least { self.new.left ≤ self.old.left }
         ensures same { IsSameReading self.old self.new }
     {
@@ -178,17 +200,24 @@ impl<'a> TiffPages<'a> {
     /// Returns the sum of the red, the green and the blue of a palette's first or second colour (TIFF 6.0, section 5).
     fn brightness(&mut self, directory: &Directory, colour: u64) -> Result<u64, TiffError>
         requires { colour < 2 }
+        ensures sum { IfOk result (λ sum. sum ≡ brightness self.old.bytes directory.now colour) }
         ensures least { self.new.left ≤ self.old.left }
         ensures same { IsSameReading self.old self.new }
     {
-        let red = self.tiff.number(directory, COLOR_MAP, colour)?;
-        let green = self.tiff.number(directory, COLOR_MAP, colour + 2)?;
-        let blue = self.tiff.number(directory, COLOR_MAP, colour + 4)?;
-        Ok(
-            red.unwrap_or(0)
-                .saturating_add(green.unwrap_or(0))
-                .saturating_add(blue.unwrap_or(0)),
-        )
+        let red = self.map_value(directory, colour)?;
+        let green = self.map_value(directory, colour + 2)?;
+        let blue = self.map_value(directory, colour + 4)?;
+        Ok(red.saturating_add(green).saturating_add(blue))
+    }
+
+    /// Returns one of the numbers of ColorMap; 0 if there are fewer.
+    fn map_value(&mut self, directory: &Directory, index: u64) -> Result<u64, TiffError>
+        ensures value { IfOk result (λ value. value ≡ map_value self.old.bytes directory.now index) }
+        ensures least { self.new.left ≤ self.old.left }
+        ensures same { IsSameReading self.old self.new }
+    {
+        let value = self.tiff.number(directory, COLOR_MAP, index)?;
+        Ok(value.unwrap_or(0))
     }
 
     /// Returns the strips or tiles of a picture, as many as the directory has offsets of.
@@ -285,6 +314,17 @@ impl<'a> TiffPages<'a> {
     }
 }
 
+/// Returns what the parts of a layout are.
+fn kind_of(layout: &Layout) -> PartKind
+    ensures { result ≡ kind_of layout.now }
+{
+    if layout.is_tiled {
+        PartKind::Tile
+    } else {
+        PartKind::Strip
+    }
+}
+
 /// Returns the first of some offsets, which ascend, after the offset of a part; or a file's size, if there is none.
 fn end_before_next(starts: &[usize], start: usize, size: usize) -> usize
     requires { start ≤ size }
@@ -298,7 +338,7 @@ fn end_before_next(starts: &[usize], start: usize, size: usize) -> usize
 
 /// Returns why a picture isn't decoded, `None` if it is.
 fn why_refused(picture: &Picture) -> Option<Refusal>
-    ensures { IsNone result → is_fax_compression picture.now.compression ≡ true }
+    ensures { result ≡ why_refused picture.now }
 {
     if !is_fax_compression(picture.compression) {
         return Some(Refusal::NotFax(picture.compression));
@@ -306,34 +346,36 @@ fn why_refused(picture: &Picture) -> Option<Refusal>
     if picture.bits_per_sample != 1 || picture.samples_per_pixel != 1 {
         return Some(Refusal::SeveralBits);
     }
-    if whole_size(picture.columns).is_none() || whole_size(picture.rows).is_none() {
+    if !is_size(picture.columns) || !is_size(picture.rows) {
         return Some(Refusal::NoSize);
     }
     None
 }
 
-/// Returns how many columns and rows the picture and its parts have; `None` if there are none of one, or 2^32 and more, or if the width of
-/// tiles isn't whole bytes.
+/// Returns how many columns and rows the picture, which has some, and its parts have; `None` if these have none of one, or 2^32 and more,
+/// or if the width of tiles isn't whole bytes.
 fn sizes_of(picture: &Picture, layout: &Layout) -> Option<Sizes>
-    ensures { IfSome result (HasSizes picture.now layout.now) }
+    requires columns { is_size picture.now.columns ≡ true }
+    requires rows { is_size picture.now.rows ≡ true }
+    ensures { result ≡ (if has_parts layout.now then Some (sizes picture.now layout.now) else None) }
 {
     if layout.is_tiled && layout.part_columns % 8 != 0 {
         return None;
     }
+    if !is_size(layout.part_columns) || !is_size(layout.part_rows) {
+        return None;
+    }
     Some(Sizes {
-        columns: whole_size(picture.columns)?,
-        rows: whole_size(picture.rows)?,
-        part_columns: whole_size(layout.part_columns)?,
-        part_rows: whole_size(layout.part_rows)?,
+        columns: picture.columns as u32,
+        rows: picture.rows as u32,
+        part_columns: layout.part_columns as u32,
+        part_rows: layout.part_rows as u32,
     })
 }
 
-/// Returns a number of columns or rows; `None` for 0, and for 2^32 and more.
-fn whole_size(number: u64) -> Option<u32>
-    ensures { IfSome result (λ size. (size ≡ number) × (0 < size)) }
+/// Returns whether a number is one of columns or rows: from 1 to 2^32 - 1.
+fn is_size(number: u64) -> bool
+    ensures { result ≡ is_size number }
 {
-    if number == 0 || number > u64::from(u32::MAX) {
-        return None;
-    }
-    Some(number as u32)
+    number > 0 && number <= u64::from(u32::MAX)
 }
