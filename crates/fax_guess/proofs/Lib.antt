@@ -1,1 +1,4 @@
+mod BlackRuns
+mod FoundForms
 mod Readings
+mod ZeroBytes

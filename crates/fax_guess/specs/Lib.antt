@@ -1,1 +1,3 @@
+pub mod BlackPixels
 pub mod Guesses
+pub mod Outcomes

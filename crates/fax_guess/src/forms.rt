@@ -1,7 +1,8 @@
 //! The ways in which data may be encoded.
 
-ghost use Rattle.std.specs.Prelude.{◌≡◌, true};
-ghost use Rattle.fax_guess.specs.Guesses.{settings_of};
+ghost use Rattle.std.specs.Prelude.{◌≡◌, ℕ, ◌<◌, IsTrue, IsFalse, get_or, false};
+ghost use Rattle.hayro_ccitt.specs.Bits.{bits_in, bits_of_byte};
+ghost use Rattle.fax_guess.specs.Guesses.{MayBegin, form_of, may_have_eols, settings_of};
 
 use hayro_ccitt::bit_reader::BitOrder;
 use hayro_ccitt::{DecodeSettings, EncodingMode};
@@ -17,17 +18,19 @@ pub(crate) struct Form {
     pub(crate) order: BitOrder,
 }
 
-/// Encodings, and whether their rows end at whole bytes. Rows that do have no EOLs, and no tags.
-pub(crate) const ENCODINGS: [(EncodingMode, bool); 5] = [
-    (EncodingMode::Group3_1D, false),
-    (EncodingMode::Group3_2D, false),
-    (EncodingMode::Group4, false),
-    (EncodingMode::Group4, true),
-    (EncodingMode::Group3_1D, true),
+/// Encodings, whether their rows end at whole bytes, and orders of bits. Rows that end so have no EOLs, and no tags.
+pub(crate) const FORMS: [(EncodingMode, bool, BitOrder); 10] = [
+    (EncodingMode::Group3_1D, false, BitOrder::HighestFirst),
+    (EncodingMode::Group3_2D, false, BitOrder::HighestFirst),
+    (EncodingMode::Group4, false, BitOrder::HighestFirst),
+    (EncodingMode::Group4, true, BitOrder::HighestFirst),
+    (EncodingMode::Group3_1D, true, BitOrder::HighestFirst),
+    (EncodingMode::Group3_1D, false, BitOrder::LowestFirst),
+    (EncodingMode::Group3_2D, false, BitOrder::LowestFirst),
+    (EncodingMode::Group4, false, BitOrder::LowestFirst),
+    (EncodingMode::Group4, true, BitOrder::LowestFirst),
+    (EncodingMode::Group3_1D, true, BitOrder::LowestFirst),
 ];
-
-/// The orders of bits.
-pub(crate) const ORDERS: [BitOrder; 2] = [BitOrder::HighestFirst, BitOrder::LowestFirst];
 
 /// Widths of fax machines (T.4, 2 and T.6, 1; 200, 300 and 400 dots an inch), and of scanned A4, letter and legal pages.
 pub(crate) const USUAL: [u32; 19] = [
@@ -44,6 +47,17 @@ pub fn is_usual(columns: u32) -> bool {
 }
 
 impl Form {
+    /// Returns the form of this encoding and order of bits.
+    pub(crate) fn of(form: (EncodingMode, bool, BitOrder)) -> Form
+        ensures { result ≡ form_of form }
+    {
+        Form {
+            encoding: form.0,
+            is_aligned: form.1,
+            order: form.2,
+        }
+    }
+
     /// Returns the settings by which data of this form and width is read.
     pub(crate) fn settings(&self, columns: u32, strict: bool) -> DecodeSettings
         ensures { result ≡ settings_of self.now columns strict }
@@ -60,35 +74,38 @@ impl Form {
     }
 
     /// Returns whether the first bits of data allow this form: only Group 3 begins with an EOL, and no rows that end at whole bytes.
-    pub(crate) fn may_begin(&self, data: &[u8]) -> bool {
-        let has_eols = !self.is_aligned && !matches!(self.encoding, EncodingMode::Group4);
-        has_eols || !begins_with_eol(data, self.order)
+    pub(crate) fn may_begin(&self, data: &[u8]) -> bool
+        ensures { MayBegin self.now «data».now → IsTrue result }
+    {
+        self.may_have_eols() || !begins_with_zeros(data, self.order)
     }
-}
 
-/// How many bytes are looked at for an EOL.
-const FIRST_BYTES: usize = 64;
-
-/// How many zeros an EOL has at least (T.4, 4.1.2).
-const ZEROS_OF_EOL: usize = 11;
-
-/// Returns whether data begins with an EOL: with zeros, of which there may be more, and a one.
-fn begins_with_eol(data: &[u8], order: BitOrder) -> bool {
-    let mut zeros: usize = 0;
-    for byte in data.iter().take(FIRST_BYTES) {
-        if *byte != 0 {
-            return zeros.saturating_add(first_one(*byte, order)) >= ZEROS_OF_EOL;
+    /// Returns whether data of this form may have EOLs.
+    fn may_have_eols(&self) -> bool
+        ensures { result ≡ may_have_eols self.now.encoding self.now.is_aligned }
+    {
+        match self.encoding {
+            EncodingMode::Group4 => false,
+            EncodingMode::Group3_1D | EncodingMode::Group3_2D => !self.is_aligned,
         }
-        zeros = zeros.saturating_add(8);
     }
-    false
 }
 
-/// Returns how many zeros a byte begins with.
-fn first_one(byte: u8, order: BitOrder) -> usize {
-    let zeros = match order {
-        BitOrder::HighestFirst => byte.leading_zeros(),
-        BitOrder::LowestFirst => byte.trailing_zeros(),
-    };
-    zeros as usize
+/// Returns whether data begins with eleven zeros, as many as an EOL has at least (T.4, 4.1.2), or is shorter and has no one.
+fn begins_with_zeros(data: &[u8], order: BitOrder) -> bool
+    ensures { IsTrue result → (i : ℕ) → i < 11 → get_or (bits_in order «data».now) i false ≡ false }
+{
+    let first = data.first().copied().unwrap_or(0);
+    let second = data.get(1).copied().unwrap_or(0);
+    first == 0 && has_three_zeros(second, order)
+}
+
+/// Returns whether a byte begins with three zeros.
+fn has_three_zeros(byte: u8, order: BitOrder) -> bool
+    ensures { IsTrue result → (i : ℕ) → i < 3 → get_or (bits_of_byte order byte) i false ≡ false }
+{
+    match order {
+        BitOrder::HighestFirst => byte < 32,
+        BitOrder::LowestFirst => byte % 8 == 0,
+    }
 }

@@ -1,9 +1,10 @@
 //! A reading of data in one way.
 
-ghost use Rattle.std.specs.Prelude.{◌≡◌, length, IfErr, IfOk};
+ghost use Rattle.std.specs.Prelude.{◌≡◌, ◌<◌, ◌*◌, ◌-◌, ◌^◌, ℕ, drop, length, min, IfErr, IfOk, IsTrue, OnErr};
 ghost use Rattle.hayro_ccitt.specs.Answers.{IsFault, OnAnswer};
 ghost use Rattle.hayro_ccitt.specs.Bits.{BitsFit, bits_in};
 ghost use Rattle.hayro_ccitt.specs.PlainReading.{plain};
+ghost use Rattle.fax_guess.specs.Outcomes.{AreZeros, IsWithin};
 
 use crate::pixel_count::PixelCount;
 use hayro_ccitt::bit_reader::BitOrder;
@@ -27,7 +28,10 @@ pub(crate) struct Outcome {
 
 impl Outcome {
     /// Returns how many bits were read, up to a whole byte where the reading ended without a fault.
-    pub(crate) fn bits(&self) -> usize {
+    pub(crate) fn bits(&self) -> usize
+        ensures ok { IfOk self.now.end (λ bytes. result ≡ min (8 * bytes) (2 ^ 64 - 1)) }
+        ensures fault { OnErr self.now.end (result ≡ self.now.fault_start) }
+    {
         match self.end {
             Ok(bytes) => bytes.saturating_mul(8),
             Err(_) => self.fault_start,
@@ -48,6 +52,8 @@ pub(crate) fn read(
 ) -> Result<Outcome, AllocError>
     requires fit { BitsFit «data».now }
     ensures rows { IfOk result (λ outcome. outcome.rows ≡ length (plain settings (bits_in order «data».now)).rows) }
+    ensures end { IfOk result (λ outcome. outcome.end ≡ (plain settings (bits_in order «data».now)).outcome) }
+    ensures within { IfOk result (IsWithin (length «data».now)) }
 {
     with_all_rows(outcome_of(alloc, data, order, settings))
 }
@@ -67,6 +73,8 @@ fn with_all_rows(outcome: Outcome) -> Result<Outcome, AllocError>
 fn outcome_of(alloc: Global, data: &[u8], order: BitOrder, settings: DecodeSettings) -> Outcome
     requires fit { BitsFit «data».now }
     ensures rows { OnAnswer result.end (result.rows ≡ length (plain settings (bits_in order «data».now)).rows) }
+    ensures end { OnAnswer result.end (result.end ≡ (plain settings (bits_in order «data».now)).outcome) }
+    ensures within { IsWithin (length «data».now) result }
 {
     let mut sink = PixelCount {
         columns: settings.columns,
@@ -89,7 +97,8 @@ fn outcome_of(alloc: Global, data: &[u8], order: BitOrder, settings: DecodeSetti
 
 /// Returns a reading without rows that ended so.
 fn without_rows(end: hayro_ccitt::Result<usize>) -> Outcome
-    ensures { result.end ≡ end }
+    ensures end { result.end ≡ end }
+    ensures start { result.fault_start ≡ 0 }
 {
     Outcome {
         rows: 0,
@@ -101,16 +110,36 @@ fn without_rows(end: hayro_ccitt::Result<usize>) -> Outcome
 }
 
 /// Returns whether data has only zeros from an offset in bits on.
-pub(crate) fn only_zeros(data: &[u8], place: usize, order: BitOrder) -> bool {
-    let (first, used) = (place / 8, place % 8);
-    let rest = data.get(first..).unwrap_or(&[]);
-    let Some((byte, after)) = rest.split_first() else {
+pub(crate) fn only_zeros(data: &[u8], place: usize, order: BitOrder) -> bool
+    ensures { (count : ℕ) → place ≡ 8 * count → AreZeros (drop count «data».now) → IsTrue result }
+{
+    let first = place / 8;
+    if first >= data.len() {
         return true;
-    };
-    let byte = u32::from(*byte);
-    let left = match order {
+    }
+    bits_after(data[first], place % 8, order) == 0 && are_zeros(&data[first + 1..])
+}
+
+/// Returns the bits of a byte after the first ones, as they stand in it.
+fn bits_after(byte: u8, used: usize, order: BitOrder) -> u32
+    requires { used < 8 }
+    ensures { byte ≡ 0 → result ≡ 0 }
+{
+    let byte = u32::from(byte);
+    match order {
         BitOrder::HighestFirst => byte & (0xff >> used),
         BitOrder::LowestFirst => byte >> used,
-    };
-    left == 0 && after.iter().all(|byte| *byte == 0)
+    }
+}
+
+/// Returns whether all bytes are zeros.
+fn are_zeros(bytes: &[u8]) -> bool
+    ensures { AreZeros bytes.now → IsTrue result }
+{
+    for byte in bytes {
+        if *byte != 0 {
+            return false;
+        }
+    }
+    true
 }

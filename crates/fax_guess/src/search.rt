@@ -1,11 +1,11 @@
 //! The search for ways to read data.
 
-ghost use Rattle.std.specs.Prelude.{◌≡◌, ◌<◌, ◌≤◌, length, IfOk};
+ghost use Rattle.std.specs.Prelude.{◌≡◌, ◌<◌, ◌≤◌, ◌+◌, ◌*◌, ◌^◌, ℕ, length, Some, IfOk, OnOk};
 ghost use Rattle.std.specs.List.{All};
 ghost use Rattle.hayro_ccitt.specs.Bits.{BitsFit};
-ghost use Rattle.fax_guess.specs.Guesses.{IsReadSo, IsSearchOf};
+ghost use Rattle.fax_guess.specs.Guesses.{FindsAll, IsAmong, IsFound, IsReadSo, IsSearchOf, Keeps, cost_of};
 
-use crate::forms::{ENCODINGS, Form, MOST_COLUMNS, ORDERS, USUAL, is_usual};
+use crate::forms::{FORMS, Form, MOST_COLUMNS, USUAL, is_usual};
 use crate::guess::Guess;
 use crate::reading::{Outcome, only_zeros, read};
 use hayro_ccitt::bit_reader::BitOrder;
@@ -45,38 +45,16 @@ const BITS_OF_A_READING: u64 = 64;
 pub fn guesses(alloc: Global, data: &[u8], columns: Option<u32>) -> Result<Vec<Guess>, AllocError>
     ensures most { IfOk result (λ found. length found.items ≤ 10) }
     ensures read { IfOk result (λ found. All (IsReadSo «data».now) found.items) }
+    ensures finds { IfOk result (λ found. (width : ℕ) → columns ≡ Some width → length «data».now < 2 ^ 57
+        → FindsAll width «data».now found.items) }
 {
     let mut search = Search::new(alloc, data);
     if !bits_fit(data) {
         return Ok(search.best);
     }
-    let forms = forms_of(alloc, data)?;
-    match columns {
-        Some(columns) => search.try_width(data, forms.as_slice(), columns)?,
-        None => search.try_widths(data, forms.as_slice())?,
-    }
-    if search.best.is_empty() {
-        search.repair(data)?;
-    }
+    search.try_strictly(data, columns)?;
+    search.repair(data)?;
     Ok(search.best)
-}
-
-/// Returns the forms that the first bits of data allow.
-fn forms_of(alloc: Global, data: &[u8]) -> Result<Vec<Form>, AllocError> {
-    let mut forms = Vec::new(alloc);
-    for order in ORDERS.iter() {
-        for (encoding, is_aligned) in ENCODINGS.iter() {
-            let form = Form {
-                encoding: *encoding,
-                is_aligned: *is_aligned,
-                order: *order,
-            };
-            if form.may_begin(data) {
-                forms.push(form)?;
-            }
-        }
-    }
-    Ok(forms)
 }
 
 /// A search among the readings of bytes.
@@ -94,7 +72,9 @@ pub(crate) struct Search {
 impl Search {
     /// Begins a search in which nothing was tried.
     fn new(alloc: Global, bytes: &[u8]) -> Search
-        ensures { IsSearchOf bytes.now result }
+        ensures found { IsSearchOf bytes.now result }
+        ensures none { length result.best.items ≡ 0 }
+        ensures left { length bytes.now < 2 ^ 57 → 10 * cost_of bytes.now ≤ result.left }
     {
         let bits = (bytes.len() as u64).saturating_mul(8);
         Search {
@@ -105,20 +85,35 @@ impl Search {
         }
     }
 
+    /// Tries the width that is given, or else each usual one and others.
+    fn try_strictly(&mut self, bytes: &[u8], columns: Option<u32>) -> Result<(), AllocError>
+        requires fit { BitsFit bytes.now }
+        requires none { length self.old.best.items ≡ 0 }
+        requires found { IsSearchOf bytes.now self.old }
+        ensures found { IsSearchOf bytes.now self.new }
+        ensures finds { OnOk result ((width : ℕ) → columns ≡ Some width → 10 * cost_of bytes.now ≤ self.old.left
+            → FindsAll width bytes.now self.new.best.items) }
+    {
+        match columns {
+            Some(columns) => self.try_width(bytes, columns),
+            None => self.try_widths(bytes),
+        }
+    }
+
     /// Tries each usual width, and others if no reading takes all data.
-    fn try_widths(&mut self, bytes: &[u8], forms: &[Form]) -> Result<(), AllocError>
+    fn try_widths(&mut self, bytes: &[u8]) -> Result<(), AllocError>
         requires fit { BitsFit bytes.now }
         requires found { IsSearchOf bytes.now self.old }
         ensures found { IsSearchOf bytes.now self.new }
     {
-        'usual: for form in forms {
-            self.try_usual(bytes, *form)?;
+        'usual: for form in FORMS.iter() {
+            self.try_usual(bytes, Form::of(*form))?;
         }
         if !self.best.is_empty() {
             return Ok(());
         }
-        'others: for form in forms {
-            self.try_others(bytes, *form)?;
+        'others: for form in FORMS.iter() {
+            self.try_others(bytes, Form::of(*form))?;
         }
         Ok(())
     }
@@ -150,18 +145,20 @@ impl Search {
     }
 
     /// Tries a width that is known.
-    fn try_width(&mut self, bytes: &[u8], forms: &[Form], columns: u32) -> Result<(), AllocError>
+    fn try_width(&mut self, bytes: &[u8], columns: u32) -> Result<(), AllocError>
         requires fit { BitsFit bytes.now }
+        requires none { length self.old.best.items ≡ 0 }
         requires found { IsSearchOf bytes.now self.old }
         ensures found { IsSearchOf bytes.now self.new }
+        ensures finds { OnOk result (10 * cost_of bytes.now ≤ self.old.left → FindsAll columns bytes.now self.new.best.items) }
     {
-        'forms: for form in forms {
-            self.try_form(bytes, *form, columns, 1)?;
+        'forms: for form in FORMS.iter() {
+            self.try_form(bytes, Form::of(*form), columns, 1)?;
         }
         Ok(())
     }
 
-    /// Reads data strictly in a form. That is a guess if it takes all data, and has so many rows.
+    /// Reads data strictly in a form, if it may begin so. That is a guess if it takes all data, and has so many rows.
     fn try_form(
         &mut self,
         bytes: &[u8],
@@ -173,18 +170,33 @@ impl Search {
         requires some { 0 < least }
         requires found { IsSearchOf bytes.now self.old }
         ensures found { IsSearchOf bytes.now self.new }
+        ensures paid { OnOk result (self.old.left ≤ self.new.left + cost_of bytes.now) }
+        ensures count { OnOk result (length self.new.best.items ≤ length self.old.best.items + 1) }
+        ensures keeps { OnOk result (length self.old.best.items < 10 → Keeps self.old.best.items self.new.best.items) }
+        ensures finds { OnOk result (0 < self.old.left → length self.old.best.items < 10 → least ≤ 1
+            → IsFound columns bytes.now self.new.best.items form) }
     {
-        if self.left == 0 {
+        if self.left == 0 || !form.may_begin(bytes) {
             return Ok(());
         }
         let settings = form.settings(columns, true);
         let outcome = read(self.alloc, bytes, form.order, settings)?;
         self.pay(outcome.bits());
-        if only_zeros(bytes, outcome.bits(), form.order) {
-            if outcome.rows >= least {
-                self.place(bytes, guess_of(settings, form.order, &outcome))?;
-            }
-        } else if outcome.rows >= LEAST_ROWS {
+        if !only_zeros(bytes, outcome.bits(), form.order) {
+            return self.keep_partial(form, columns, outcome.rows);
+        }
+        if outcome.rows < least {
+            return Ok(());
+        }
+        self.place(bytes, guess_of(settings, form.order, &outcome))
+    }
+
+    /// Keeps a form and a width whose strict reading fails, if that is after some rows.
+    fn keep_partial(&mut self, form: Form, columns: u32, rows: u64) -> Result<(), AllocError>
+        ensures best { self.new.best ≡ self.old.best }
+        ensures left { self.new.left ≡ self.old.left }
+    {
+        if rows >= LEAST_ROWS {
             self.partial.push((form, columns))?;
         }
         Ok(())
@@ -192,19 +204,25 @@ impl Search {
 
     /// Pays for a reading of so many bits.
     fn pay(&mut self, bits: usize)
-        ensures { self.new.best ≡ self.old.best }
+        ensures best { self.new.best ≡ self.old.best }
+        ensures left { self.old.left ≤ self.new.left + (bits + 64) }
     {
         let cost = (bits as u64).saturating_add(BITS_OF_A_READING);
         self.left = self.left.saturating_sub(cost);
     }
 
-    /// Reads data leniently in the forms whose strict readings failed. That is a guess if it takes half of the data, and has few damaged
-    /// rows.
+    /// Reads data leniently in the forms whose strict readings failed, if no guess was found. That is a guess if it takes half of the data,
+    /// and has few damaged rows.
     fn repair(&mut self, bytes: &[u8]) -> Result<(), AllocError>
         requires fit { BitsFit bytes.now }
         requires found { IsSearchOf bytes.now self.old }
         ensures found { IsSearchOf bytes.now self.new }
+        ensures finds { OnOk result ((width : ℕ) → FindsAll width bytes.now self.old.best.items
+            → FindsAll width bytes.now self.new.best.items) }
     {
+        if !self.best.as_slice().is_empty() {
+            return Ok(());
+        }
         let none = Vec::new(self.alloc);
         let partial = mem::replace(&mut self.partial, none);
         'forms: for (form, columns) in partial.iter() {
@@ -233,59 +251,33 @@ impl Search {
         Ok(())
     }
 
-    /// Places a guess among the best, behind those that are as good.
+    /// Places a guess among the best, behind those that are as good: the first ten of them are kept.
     fn place(&mut self, bytes: &[u8], guess: Guess) -> Result<(), AllocError>
         requires read { IsReadSo bytes.now guess }
         requires found { IsSearchOf bytes.now self.old }
         ensures found { IsSearchOf bytes.now self.new }
+        ensures left { self.new.left ≡ self.old.left }
+        ensures count { OnOk result (length self.new.best.items ≤ length self.old.best.items + 1) }
+        ensures keeps { OnOk result (length self.old.best.items < 10 → Keeps self.old.best.items self.new.best.items) }
+        ensures among { OnOk result (length self.old.best.items < 10 → IsAmong guess.settings guess.order self.new.best.items) }
     {
-        self.best = with_guess(self.alloc, bytes, self.best.as_slice(), guess)?;
+        let place = place_of(self.best.as_slice(), &guess);
+        self.best.insert(place, guess)?;
+        self.best.truncate(MOST_GUESSES);
         Ok(())
     }
 }
 
-/// Returns guesses with another one behind those that are as good: the first ten of them.
-fn with_guess(
-    alloc: Global,
-    bytes: &[u8],
-    best: &[Guess],
-    guess: Guess,
-) -> Result<Vec<Guess>, AllocError>
-    requires read { IsReadSo bytes.now guess }
-    requires found { All (IsReadSo bytes.now) best.now }
-    ensures most { IfOk result (λ made. length made.items ≤ 10) }
-    ensures read { IfOk result (λ made. All (IsReadSo bytes.now) made.items) }
+/// Returns how many of some guesses are before another one: those up to the first that it is to stand before.
+fn place_of(best: &[Guess], guess: &Guess) -> usize
+    ensures { result ≤ length best.now }
 {
-    let mut made = Vec::new(alloc);
-    let mut is_placed = false;
-    let mut index = 0;
-    while index < best.len() {
-        let other = best[index];
-        if !is_placed && guess.is_before(&other) {
-            put_guess(&mut made, bytes, guess)?;
-            is_placed = true;
+    for index in 0..best.len() {
+        if guess.is_before(&best[index]) {
+            return index;
         }
-        put_guess(&mut made, bytes, other)?;
-        index += 1;
     }
-    if !is_placed {
-        put_guess(&mut made, bytes, guess)?;
-    }
-    Ok(made)
-}
-
-/// Adds a guess, if there are fewer than ten.
-fn put_guess(made: &mut Vec<Guess>, _bytes: &[u8], guess: Guess) -> Result<(), AllocError>
-    requires read { IsReadSo _bytes.now guess }
-    requires most { length made.old.items ≤ 10 }
-    requires found { All (IsReadSo _bytes.now) made.old.items }
-    ensures most { length made.new.items ≤ 10 }
-    ensures found { All (IsReadSo _bytes.now) made.new.items }
-{
-    if made.len() < MOST_GUESSES {
-        made.push(guess)?;
-    }
-    Ok(())
+    best.len()
 }
 
 /// Returns a reading as a guess.
