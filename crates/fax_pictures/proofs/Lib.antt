@@ -4,3 +4,5 @@ mod LaidLists
 mod LaidRows
 mod OtherColours
 mod PackedPictures
+mod ShownColumns
+mod TurnedBytes

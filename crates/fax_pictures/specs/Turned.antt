@@ -1,6 +1,6 @@
 -- Pictures turned as TIFF's Orientation says: where the first row and the first column of the data are shown (TIFF 6.0,
 -- section 8).
-use Rattle.std.specs.Prelude.{ℕ, ◌-◌, Bool, ◌&&◌, ◌||◌, ◌==◌, [], length, map, get_or, nat_lt, if◌then◌else◌}
+use Rattle.std.specs.Prelude.{ℕ, ◌+◌, ◌-◌, ◌≡◌, ◌<◌, ◌≤◌, Bool, ◌&&◌, ◌||◌, ◌==◌, [], length, map, get_or, nat_lt, if◌then◌else◌}
 use Rattle.std.specs.List.{range_with_len}
 use Rattle.hayro_ccitt.specs.Rows.{Row, pixel}
 use Rattle.fax_pictures.specs.Pictures.{Picture}
@@ -55,3 +55,25 @@ turned orientation picture = record {
   columns = columns_turned orientation picture;
   rows = map (turned_row orientation picture) (range_with_len 0 (rows_turned orientation picture));
 }
+
+-- A picture has the size of the one that is shown.
+pub record HasSizeTurned (orientation : ℕ) (source made : Picture) : Type 0 where
+  pub columns : made.columns ≡ columns_turned orientation source
+  pub count : length made.rows ≡ rows_turned orientation source
+  pub wide : (y : ℕ) → y < rows_turned orientation source → length (get_or made.rows y []) ≡ columns_turned orientation source
+
+-- The pixel in a column and a row is the one that is shown there.
+abbrev pub IsShownAt : ℕ → Picture → Picture → ℕ → ℕ → Type 0
+IsShownAt orientation source made x y = pixel (get_or made.rows y []) x ≡ pixel_shown orientation source x y
+
+-- The pixels of some columns and rows are shown, and those that were remain so.
+pub record Shows (orientation : ℕ) (source old new : Picture) (Here : ℕ → ℕ → Type 0) : Type 0 where
+  pub size : HasSizeTurned orientation source new
+  pub kept : (x y : ℕ) → x < columns_turned orientation source → y < rows_turned orientation source
+      → IsShownAt orientation source old x y → IsShownAt orientation source new x y
+  pub shown : (x y : ℕ) → x < columns_turned orientation source → y < rows_turned orientation source
+      → Here x y → IsShownAt orientation source new x y
+
+-- A column is one of 512 from one on.
+abbrev pub IsInBlock : ℕ → ℕ → Type 0
+IsInBlock left x = (left ≤ x) × (x < left + 512)

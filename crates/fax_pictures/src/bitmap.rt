@@ -1,8 +1,8 @@
 //! A picture in memory.
 
-ghost use Rattle.std.specs.Prelude.{◌≡◌, ◌↔◌, ◌<◌, ◌≤◌, ◌+◌, ◌*◌, ◌%◌, length, [], ◌++◌, drop, replicate, take, get_or};
+ghost use Rattle.std.specs.Prelude.{◌≡◌, ◌↔◌, ◌<◌, ◌≤◌, ◌+◌, ◌-◌, ◌*◌, ◌%◌, ℕ, length, [], ◌++◌, drop, replicate, take, get_or};
 ghost use Rattle.std.specs.Prelude.{Err, IfOk, OnErr, OnOk};
-ghost use Rattle.hayro_ccitt.specs.Bits.{bits_of};
+ghost use Rattle.hayro_ccitt.specs.Bits.{bit_of, bits_of};
 ghost use Rattle.hayro_ccitt.specs.Rows.{AreChanges, pixel, pixels, white_row};
 ghost use Rattle.fax_encode.specs.Chosen.{filled_up};
 ghost use Rattle.fax_encode.specs.Packed.{bytes_of_row, packed};
@@ -123,6 +123,16 @@ impl Bitmap {
     {
         let byte = self.row_bytes(row)[column as usize / 8];
         byte >> (7 - column % 8) & 1 == 1
+    }
+
+    /// Returns the byte of a row at an index.
+    pub(crate) fn byte_of_row(&self, row: u32, index: usize) -> u8
+        requires index { 8 * index < self.now.columns }
+        requires row { row < length self.now.rows }
+        ensures { (t : ℕ) → t < 8 → 8 * index + t < self.now.columns
+            → bit_of result (7 - t) ≡ pixel (get_or self.now.rows row []) (8 * index + t) }
+    {
+        self.row_bytes(row)[index]
     }
 
     /// Lays bytes, of eight pixels each, over a row from a column on, as far as the row reaches.

@@ -1,10 +1,13 @@
 //! Pictures turned.
 
-ghost use Rattle.std.specs.Prelude.{◌≡◌, ◌↔◌, ◌<◌, length, Err, IfOk};
-ghost use Rattle.hayro_ccitt.specs.Rows.{AreChanges, pixels};
+ghost use Rattle.std.specs.Prelude.{◌≡◌, ◌↔◌, ◌<◌, ◌≤◌, ◌+◌, ◌-◌, ◌*◌, ◌/◌, ◌%◌, ℕ, true, [], length, get_or, slice_index};
+ghost use Rattle.std.specs.Prelude.{Err, IfOk, OnOk};
+ghost use Rattle.hayro_ccitt.specs.Bits.{bit_of};
+ghost use Rattle.hayro_ccitt.specs.Rows.{AreChanges, pixel, pixels};
 ghost use Rattle.fax_pictures.specs.Pictures.{HasRoom};
 ghost use Rattle.fax_pictures.specs.Turned.{columns_turned, counted, is_across, is_column_last, is_row_last, pixel_shown};
-ghost use Rattle.fax_pictures.specs.Turned.{rows_turned, turned, turned_row};
+ghost use Rattle.fax_pictures.specs.Turned.{column_shown, rows_turned, turned, turned_row};
+ghost use Rattle.fax_pictures.specs.Turned.{HasSizeTurned, IsInBlock, Shows};
 
 use crate::bitmap::Bitmap;
 use crate::error::PictureError;
@@ -40,6 +43,36 @@ fn counted(is_last: bool, count: u32, index: u32) -> u32
     if is_last { count - 1 - index } else { index }
 }
 
+/// How many rows of the data are shown as columns at a time.
+const BLOCK_ROWS: u32 = 512;
+
+/// Returns a bit of each of 512 bytes, the highest one is 0.
+fn bits_down(bytes: &[u8; 512], bit: u32) -> [u8; 64]
+    requires { bit < 8 }
+    ensures size { length result ≡ 64 }
+    ensures bits { (i : ℕ) → i < 512
+        → bit_of (slice_index result (i / 8)) (7 - i % 8) ≡ bit_of (slice_index bytes.now i) (7 - bit) }
+{
+    let mut bits = [0; 64];
+    for index in 0..64 {
+        bits[index] = eight_bits(bytes, 8 * index, bit);
+    }
+    bits
+}
+
+/// Returns a bit of each of eight bytes from a place on.
+fn eight_bits(bytes: &[u8; 512], start: usize, bit: u32) -> u8
+    requires bit { bit < 8 }
+    requires within { start + 8 ≤ 512 }
+    ensures { (i : ℕ) → i < 8 → bit_of result (7 - i) ≡ bit_of (slice_index bytes.now (start + i)) (7 - bit) }
+{
+    let mut bits = 0;
+    for i in 0..8 {
+        bits = bits << 1 | bytes[start + i] >> (7 - bit) & 1;
+    }
+    bits
+}
+
 impl Bitmap {
     /// Returns the picture that is shown if this one is the data of an image, by its orientation: where its first row and its first column
     /// are shown (TIFF 6.0, section 8). They are the top and the left with 1, and with each number but 2 to 8.
@@ -56,13 +89,88 @@ impl Bitmap {
         let columns = self.columns_turned(orientation);
         let rows = self.rows_turned(orientation);
         let mut made = Bitmap::white(alloc, columns, rows)?;
+        if is_across(orientation) {
+            self.show_columns(orientation, &mut made);
+        } else {
+            self.show_rows(alloc, orientation, &mut made)?;
+        }
+        Ok(made)
+    }
+
+    /// Shows each row of this picture as a row of a white one.
+    fn show_rows(&self, alloc: Global, orientation: u8, made: &mut Bitmap) -> Result<(), AllocError>
+        requires size { HasSizeTurned orientation self.now made.old }
+        ensures { OnOk result (made.new ≡ turned orientation self.now) }
+    {
+        let columns = self.columns_turned(orientation);
+        let rows = self.rows_turned(orientation);
         let mut y = 0;
         while y < rows {
             let changes = self.turned_row(alloc, orientation, y, columns)?;
             made.paint_row(y, changes.as_slice());
             y += 1;
         }
-        Ok(made)
+        Ok(())
+    }
+
+    /// Shows each column of this picture as a row of a white one: of 512 rows at a time, so that the bytes that are read and written lie
+    /// in few lines of the cache.
+    fn show_columns(&self, orientation: u8, made: &mut Bitmap)
+        requires across { is_across orientation ≡ true }
+        requires size { HasSizeTurned orientation self.now made.old }
+        ensures { made.new ≡ turned orientation self.now }
+    {
+        for block in 0..self.rows().div_ceil(BLOCK_ROWS) {
+            self.show_block(orientation, block * BLOCK_ROWS, made);
+        }
+    }
+
+    /// Shows the pixels of 512 rows of this picture in columns of another one, from one on.
+    fn show_block(&self, orientation: u8, left: u32, made: &mut Bitmap)
+        requires across { is_across orientation ≡ true }
+        requires size { HasSizeTurned orientation self.now made.old }
+        requires whole { left % 8 ≡ 0 }
+        requires within { left < length self.now.rows }
+        ensures { Shows orientation self.now made.old made.new (λ x y. IsInBlock left x) }
+    {
+        for byte in 0..self.columns().div_ceil(8) {
+            self.show_byte(orientation, left, byte, made);
+        }
+    }
+
+    /// Shows the pixels of a byte of each of 512 rows of this picture in columns of another one, from one on.
+    fn show_byte(&self, orientation: u8, left: u32, byte: u32, made: &mut Bitmap)
+        requires across { is_across orientation ≡ true }
+        requires size { HasSizeTurned orientation self.now made.old }
+        requires whole { left % 8 ≡ 0 }
+        requires within { left < length self.now.rows }
+        requires byte { 8 * byte < self.now.columns }
+        ensures { Shows orientation self.now made.old made.new
+            (λ x y. IsInBlock left x × (column_shown orientation self.now x y / 8 ≡ byte)) }
+    {
+        let bytes = self.bytes_down(orientation, left, byte as usize);
+        let count = (self.columns() - 8 * byte).min(8);
+        for bit in 0..count {
+            let y = counted(is_column_last(orientation), self.columns(), 8 * byte + bit);
+            made.lay_over_row(left, y, &bits_down(&bytes, bit));
+        }
+    }
+
+    /// Returns the bytes at an index of the rows that are shown as 512 columns, from one on, and zeros where there are fewer.
+    fn bytes_down(&self, orientation: u8, left: u32, index: usize) -> [u8; 512]
+        requires within { left < length self.now.rows }
+        requires index { 8 * index < self.now.columns }
+        ensures { (i t : ℕ) → i < 512 → left + i < length self.now.rows → t < 8 → 8 * index + t < self.now.columns
+            → bit_of (slice_index result i) (7 - t)
+            ≡ pixel (get_or self.now.rows (counted (is_row_last orientation) (length self.now.rows) (left + i)) []) (8 * index + t) }
+    {
+        let mut bytes = [0; 512];
+        let count = (self.rows() - left).min(BLOCK_ROWS);
+        for i in 0..count {
+            let row = counted(is_row_last(orientation), self.rows(), left + i);
+            bytes[i as usize] = self.byte_of_row(row, index);
+        }
+        bytes
     }
 
     /// Returns how many columns are shown.

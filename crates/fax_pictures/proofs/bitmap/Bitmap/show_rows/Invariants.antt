@@ -1,6 +1,6 @@
 use Rattle.fax_encode.proofs.Names.{◌-◌, ◌≡◌, ℕ, ◌<◌, [], length, get_or}
 use Rattle.fax_pictures.specs.Turned.{turned_row}
-use Rattle.fax_pictures.proofs.bitmap.Bitmap.turned.Given as goal
+use Rattle.fax_pictures.proofs.bitmap.Bitmap.show_rows.Given as goal
 
 abbrev pub invariant-loop-y : goal.invariant-loop-y
 invariant-loop-y l = record {

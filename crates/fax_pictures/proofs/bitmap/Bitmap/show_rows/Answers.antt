@@ -1,10 +1,10 @@
 use Rattle.fax_encode.proofs.Names.{ℕ, ◌∙◌, arith}
 use Rattle.fax_pictures.specs.Turned.{rows_turned, turned, turned_row}
 use Rattle.fax_pictures.proofs.DrawnRows.{picture_is, rows_drawn}
-use Rattle.fax_pictures.proofs.bitmap.Bitmap.turned.Goals as goal
+use Rattle.fax_pictures.proofs.bitmap.Bitmap.show_rows.Goals as goal
 
-pub returns-clause-turned : goal.returns-clause-turned
-returns-clause-turned c =
+pub returns : goal.returns
+returns c =
     let o : ℕ = c.args.orientation in
     picture_is c.loop-y.made (turned o c.args.self.now) (c.loop-y.invariant.columns ∙ c.columns_turned-columns.ensures)
     (rows_drawn (turned_row o c.args.self.now) (rows_turned o c.args.self.now) c.loop-y.made.rows
