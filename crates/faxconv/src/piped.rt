@@ -202,6 +202,7 @@ impl<'a, 'b, 'c> Run<'a, 'b, 'c> {
         };
         self.write_if_wanted(status, picture, output)
     }
+
     /// Writes the white rows after so many, and gives the file its name.
     pub(crate) fn finish_rows(
         &mut self,

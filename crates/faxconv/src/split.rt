@@ -9,7 +9,8 @@ use faxconv_lib::report::Place;
 use faxconv_lib::{Action, Kind, Status, kind_of};
 use std::alloc::{AllocError, Global};
 use std::fs::File;
-use tiff_split::{Carrier, LIES_OVER_OTHERS, Ranges, SplitError, SplitPage, SplitPages};
+use std::os::unix::fs::FileExt;
+use tiff_split::{Carrier, LIES_OVER_OTHERS, SplitError, SplitPage, SplitPages};
 
 /// The most bytes of a TIFF file that is read whole.
 pub(crate) const MOST_READ_WHOLE: u64 = 1 << 20;
@@ -32,7 +33,7 @@ impl<'a, 'b, 'c> Run<'a, 'b, 'c> {
         if !found.is_file()
             || found.len() <= MOST_READ_WHOLE
             || matches!(self.options.action, Action::Guess)
-            || file.read_range(0, &mut first).is_err()
+            || file.read_exact_at(&mut first, 0).is_err()
         {
             return None;
         }

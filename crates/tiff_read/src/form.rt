@@ -5,17 +5,17 @@ ghost use Rattle.tiff_read.specs.Numbers.{IsFormOf, count_bytes, entry_bytes, is
 
 /// How a file writes its numbers: the order of their bytes, and how many bytes numbers of directories have.
 #[derive(Clone, Copy, Debug, PartialEq, Eq)]
-pub(crate) struct Form {
+pub struct Form {
     /// Whether the first byte of a number counts most (`MM`).
-    pub(crate) is_big_endian: bool,
+    pub is_big_endian: bool,
     /// Whether it is a BigTIFF file, whose offsets and counts have eight bytes.
-    pub(crate) is_big_tiff: bool,
+    pub is_big_tiff: bool,
 }
 
 impl Form {
     /// Returns the form of the file with some bytes, `None` if they don't begin as a TIFF file does (TIFF 6.0, section 2; BigTIFF
     /// has 43 for 42).
-    pub(crate) fn of_file(bytes: &[u8]) -> Option<Form>
+    pub fn of_file(bytes: &[u8]) -> Option<Form>
         ensures form { IfSome result (IsFormOf bytes.now) }
         ensures none { IsNone result ↔ (is_tiff bytes.now ≡ false) }
     {
@@ -30,28 +30,28 @@ impl Form {
     }
 
     /// Returns how many bytes an offset has, and the number of an entry's values.
-    pub(crate) fn offset_bytes(self) -> usize
+    pub fn offset_bytes(self) -> usize
         ensures { result ≡ offset_bytes self.is_big_tiff }
     {
         if self.is_big_tiff { 8 } else { 4 }
     }
 
     /// Returns how many bytes a directory's number of entries has.
-    pub(crate) fn count_bytes(self) -> usize
+    pub fn count_bytes(self) -> usize
         ensures { result ≡ count_bytes self.is_big_tiff }
     {
         if self.is_big_tiff { 8 } else { 2 }
     }
 
     /// Returns how many bytes an entry has: a tag and a type of two bytes, how many values, and these or their offset.
-    pub(crate) fn entry_bytes(self) -> usize
+    pub fn entry_bytes(self) -> usize
         ensures { result ≡ entry_bytes self.is_big_tiff }
     {
         if self.is_big_tiff { 20 } else { 12 }
     }
 
     /// Returns the number of two bytes.
-    pub(crate) fn short(self, first: u8, second: u8) -> u16
+    pub fn short(self, first: u8, second: u8) -> u16
         ensures { result ≡ number_of self.is_big_endian (first ∷ second ∷ []) }
     {
         if self.is_big_endian {
@@ -62,7 +62,7 @@ impl Form {
     }
 
     /// Returns the number of at most eight bytes.
-    pub(crate) fn number(self, digits: &[u8]) -> u64
+    pub fn number(self, digits: &[u8]) -> u64
         requires { length digits.now ≤ 8 }
         ensures { result ≡ number_of self.is_big_endian digits.now }
     {

@@ -164,7 +164,7 @@ impl<'a> Tiff<'a> {
 }
 
 /// Returns how many bytes a value of a type has (TIFF 6.0, section 2, and BigTIFF), 0 if there is no such type.
-pub(crate) fn bytes_of_kind(kind: u16) -> u64
+pub fn bytes_of_kind(kind: u16) -> u64
     ensures { result ≡ bytes_of_kind kind }
 {
     match kind {

@@ -3,11 +3,12 @@
 ghost use Rattle.std.specs.Prelude.{◌<◌, ◌≤◌};
 ghost use Rattle.tiff_split.specs.Reads.{Reads};
 
-use crate::entries::{Entry, bytes_of_kind};
+use crate::entries::Entry;
 use crate::error::SplitError;
 use crate::ranges::Ranges;
 use crate::split::{Split, Table};
 use std::alloc::{AllocError, Global};
+use tiff_read::bytes_of_kind;
 
 /// An entry of a page that is carried along.
 #[derive(Drop)]
@@ -126,7 +127,7 @@ impl Split {
             return None;
         };
         let (count, word) = rest.split_at_checked(offset_bytes)?;
-        let kind = self.form.short([*c, *d]);
+        let kind = self.form.short(*c, *d);
         let count = self.form.number(count);
         let size = count.saturating_mul(bytes_of_kind(kind));
         let offset = if size <= offset_bytes as u64 {
@@ -136,7 +137,7 @@ impl Split {
         };
         let is_whole = offset.saturating_add(size) <= self.size;
         Some(Entry {
-            tag: self.form.short([*a, *b]),
+            tag: self.form.short(*a, *b),
             kind,
             count: if is_whole && size > 0 { count } else { 0 },
             size: if is_whole { size } else { 0 },

@@ -1,10 +1,12 @@
 //! The entries of a directory that are kept.
 
-ghost use Rattle.tiff_split.specs.Reads.{Reads};
+ghost use Rattle.std.specs.Prelude.{IfErr};
+ghost use Rattle.tiff_split.specs.Reads.{Reads, StopsPage};
 
 use crate::error::SplitError;
 use crate::ranges::Ranges;
 use crate::split::{Split, Table};
+use tiff_read::bytes_of_kind;
 
 /// An entry of a directory.
 #[derive(Clone, Copy, PartialEq, Eq, PartialOrd, Ord)]
@@ -30,7 +32,8 @@ impl Split {
         source: &R,
         table: &Table,
     ) -> Result<Vec<Entry>, SplitError>
-        ensures { Reads self.old self.new }
+        ensures reads { Reads self.old self.new }
+        ensures why { IfErr result StopsPage }
     {
         let mut entries = Vec::new(self.alloc);
         let mut piece = [0u8; PIECE];
@@ -44,20 +47,17 @@ impl Split {
                 .start
                 .saturating_add(before.saturating_mul(entry_bytes as u64));
             let length = (count as usize).saturating_mul(entry_bytes).min(PIECE);
-            self.pay(length as u64)?;
-            source.read_range(offset, &mut piece[..length])?;
+            let paid = self.pay(length as u64)?;
+            source.read_range(paid, offset, &mut piece[..length])?;
             self.keep_all(offset, &piece[..length], &mut entries)?;
         }
         Ok(entries)
     }
 
     /// Adds the entries from a place of the file on to others.
-    fn keep_all(
-        &self,
-        place: u64,
-        bytes: &[u8],
-        entries: &mut Vec<Entry>,
-    ) -> Result<(), SplitError> {
+    fn keep_all(&self, place: u64, bytes: &[u8], entries: &mut Vec<Entry>) -> Result<(), SplitError>
+        ensures { IfErr result StopsPage }
+    {
         let mut place = place;
         for entry in bytes.chunks_exact(self.form.entry_bytes()) {
             self.keep(place, entry, entries)?;
@@ -67,16 +67,21 @@ impl Split {
     }
 
     /// Adds the entry at a place of the file to others, if its tag is kept and isn't among them.
-    fn keep(&self, place: u64, bytes: &[u8], entries: &mut Vec<Entry>) -> Result<(), SplitError> {
+    fn keep(&self, place: u64, bytes: &[u8], entries: &mut Vec<Entry>) -> Result<(), SplitError>
+        ensures { IfErr result StopsPage }
+    {
         let offset_bytes = self.form.offset_bytes();
         let [a, b, c, d, rest @ ..] = bytes else {
             return Ok(());
         };
-        let tag = self.form.short([*a, *b]);
-        if !is_kept(tag) || rest.len() < offset_bytes || entries.iter().any(|it| it.tag == tag) {
+        let tag = self.form.short(*a, *b);
+        if !is_kept(tag)
+            || rest.len() != 2 * offset_bytes
+            || entries.iter().any(|it| it.tag == tag)
+        {
             return Ok(());
         }
-        let kind = self.form.short([*c, *d]);
+        let kind = self.form.short(*c, *d);
         let (count, word) = rest.split_at(offset_bytes);
         let count = self.form.number(count);
         let size = count.saturating_mul(bytes_of_kind(kind));
@@ -103,15 +108,4 @@ impl Split {
 /// Returns whether the values of a tag are kept, as [`tiff_read::Directory::find`] says.
 fn is_kept(tag: u16) -> bool {
     matches!(tag, 254..=328 | 33432)
-}
-
-/// Returns how many bytes a value of a type has (TIFF 6.0, section 2, and BigTIFF), 0 if there is no such type.
-pub(crate) fn bytes_of_kind(kind: u16) -> u64 {
-    match kind {
-        1 | 2 | 6 | 7 => 1,
-        3 | 8 => 2,
-        4 | 9 | 11 | 13 => 4,
-        5 | 10 | 12 | 16 | 17 | 18 => 8,
-        _ => 0,
-    }
 }

@@ -20,24 +20,40 @@ pub enum SplitError {
 }
 
 impl From<AllocError> for SplitError {
+    ghost use Rattle.std.specs.Prelude.{◌≡◌};
+    ghost use Rattle.tiff_split.specs.declared.error.SplitError.TheVariants.{OutOfMemory};
+
+    ghost from_gives = { λ _ made. made ≡ OutOfMemory };
+
     fn from(_error: AllocError) -> SplitError {
         SplitError::OutOfMemory
     }
 }
 
 impl From<Error> for SplitError {
+    ghost use Rattle.std.specs.Prelude.{◌≡◌};
+    ghost use Rattle.tiff_split.specs.declared.error.SplitError.TheVariants.{Unread};
+
+    ghost from_gives = { λ error made. made ≡ Unread error };
+
     fn from(error: Error) -> SplitError {
         SplitError::Unread(error)
     }
 }
 
 impl From<TiffError> for SplitError {
+    ghost use Rattle.std.specs.Prelude.{◌≡◌};
+    ghost use Rattle.tiff_split.specs.Reads.{error_of};
+
+    ghost from_gives = { λ error made. made ≡ error_of error };
+
+    /// Returns why a page isn't read in whose own file an error is found.
     fn from(error: TiffError) -> SplitError {
         match error {
-            TiffError::NotTiff | TiffError::Outside => SplitError::Outside,
-            TiffError::Loop => SplitError::Loop,
-            TiffError::Spent => SplitError::Spent,
             TiffError::OutOfMemory => SplitError::OutOfMemory,
+            TiffError::NotTiff | TiffError::Outside | TiffError::Loop | TiffError::Spent => {
+                SplitError::Spent
+            }
         }
     }
 }

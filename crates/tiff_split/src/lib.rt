@@ -5,6 +5,7 @@
 //! any page as it is, so that it can be written into another file.
 #![tactic(auto)]
 
+mod allowance;
 mod carried;
 mod carrier;
 mod entries;
@@ -17,6 +18,7 @@ mod ranges;
 mod runs;
 mod split;
 
+pub use allowance::Paid;
 pub use carried::{CarriedEntry, CarriedPage};
 pub use carrier::Carrier;
 pub use error::SplitError;

@@ -1,12 +1,15 @@
 //! A page as a file of its own.
 
-ghost use Rattle.tiff_split.specs.Reads.{Reads};
+ghost use Rattle.std.specs.Prelude.{IfErr};
+ghost use Rattle.tiff_split.specs.Reads.{Reads, StopsPage};
 
+use crate::allowance::LEAST;
 use crate::entries::Entry;
 use crate::error::SplitError;
+use crate::form::{big_head, long8, put_short};
 use crate::ranges::Ranges;
 use crate::runs::{Range, Run, place_among, runs_of};
-use crate::split::{LEAST, Split, Table};
+use crate::split::{Split, Table};
 use paid_cursor::Cursor;
 use std::alloc::{AllocError, Global};
 use tiff_read::{Directory, Layout, Tiff};
@@ -45,6 +48,7 @@ impl Split {
     /// `Spent`, `OutOfMemory` and `Unread`.
     pub fn page_file<R: Ranges>(&mut self, source: &R, table: &Table) -> Result<Vec<u8>, SplitError>
         ensures reads { Reads self.old self.new }
+        ensures why { IfErr result StopsPage }
     {
         let entries = self.entries_of(source, table)?;
         let mut file = self.file_of_entries(source, entries.as_slice())?;
@@ -87,20 +91,21 @@ impl Split {
         entries: &[Entry],
     ) -> Result<Vec<u8>, SplitError>
         ensures reads { Reads self.old self.new }
+        ensures why { IfErr result StopsPage }
     {
         let mut file = Vec::new(self.alloc);
-        file.extend_from_slice(&self.form.big_head())?;
-        file.extend_from_slice(&self.form.long8(entries.len() as u64))?;
+        file.extend_from_slice(&big_head(self.form))?;
+        file.extend_from_slice(&long8(self.form, entries.len() as u64))?;
         let place = HEAD_BYTES + COUNT_BYTES + 8;
         let mut place = place.saturating_add(entries.len().saturating_mul(ENTRY_BYTES)) as u64;
         let mut values = Vec::new(self.alloc);
         'entries: for entry in entries {
-            self.form.put_short(entry.tag, &mut file)?;
-            self.form.put_short(entry.kind, &mut file)?;
-            file.extend_from_slice(&self.form.long8(entry.count))?;
+            put_short(self.form, entry.tag, &mut file)?;
+            put_short(self.form, entry.kind, &mut file)?;
+            file.extend_from_slice(&long8(self.form, entry.count))?;
             let after = file.len().saturating_add(8);
             if entry.size > 8 {
-                file.extend_from_slice(&self.form.long8(place))?;
+                file.extend_from_slice(&long8(self.form, place))?;
                 self.append(source, entry.offset, entry.size, &mut values)?;
                 place = place.saturating_add(entry.size);
             } else {
@@ -111,7 +116,7 @@ impl Split {
                 return Err(SplitError::Spent);
             }
         }
-        file.extend_from_slice(&self.form.long8(0))?;
+        file.extend_from_slice(&long8(self.form, 0))?;
         file.extend_from_slice(values.as_slice())?;
         Ok(file)
     }
@@ -122,7 +127,8 @@ impl Split {
         file: &[u8],
         entries: &[Entry],
     ) -> Result<Option<Parts>, SplitError>
-        ensures { Reads self.old self.new }
+        ensures reads { Reads self.old self.new }
+        ensures why { IfErr result StopsPage }
     {
         let mut tiff = Tiff::open(self.alloc, Cursor::new(file, usize::MAX))?;
         let Some(directory) = tiff.next_directory()? else {
@@ -159,7 +165,8 @@ impl Split {
         layout: &Layout,
         of_offsets: (u16, usize),
     ) -> Result<Option<Parts>, SplitError>
-        ensures { Reads self.old self.new }
+        ensures reads { Reads self.old self.new }
+        ensures why { IfErr result StopsPage }
     {
         let (tag, index) = of_offsets;
         let count = layout.count.min(layout.offsets.count);
@@ -199,22 +206,19 @@ impl Split {
 
     /// Changes the entry that says where the strips or tiles are, so that it says where they are in the file of the page, and adds the
     /// numbers that it has, if there are several.
-    fn put_offsets(
-        &self,
-        parts: &Parts,
-        runs: &[Run],
-        file: &mut Vec<u8>,
-    ) -> Result<(), SplitError> {
+    fn put_offsets(&self, parts: &Parts, runs: &[Run], file: &mut Vec<u8>) -> Result<(), SplitError>
+        ensures { IfErr result StopsPage }
+    {
         let mut digits = Vec::new(self.alloc);
         for start in parts.starts.iter() {
             let place = place_among(runs, *start, self.size);
-            digits.extend_from_slice(&self.form.long8(place))?;
+            digits.extend_from_slice(&long8(self.form, place))?;
         }
         let mut entry = Vec::new(self.alloc);
-        self.form.put_short(LONG8, &mut entry)?;
-        entry.extend_from_slice(&self.form.long8(parts.starts.len() as u64))?;
+        put_short(self.form, LONG8, &mut entry)?;
+        entry.extend_from_slice(&long8(self.form, parts.starts.len() as u64))?;
         if digits.len() > 8 {
-            entry.extend_from_slice(&self.form.long8(file.len() as u64))?;
+            entry.extend_from_slice(&long8(self.form, file.len() as u64))?;
             file.extend_from_slice(digits.as_slice())?;
         } else {
             entry.extend_from_slice(digits.as_slice())?;

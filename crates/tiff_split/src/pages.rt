@@ -1,10 +1,15 @@
 //! The pages of a TIFF file, of which no more than one is in memory.
 
+ghost use Rattle.std.specs.Prelude.{◌≡◌, ◌<◌, true, false, Ok, Err, None, IfOk, IfErr, IfSome, IsOk, OnErr, OnOk};
+ghost use Rattle.tiff_split.specs.Pages.{Begins, CountsPage, IsNoPage, IsRead, IsSamePage, Pages, StopsPages, is_spent_after};
+ghost use Rattle.tiff_split.specs.Reads.{OpensNot};
+
 use crate::error::SplitError;
 use crate::one_strip::OneStrip;
 use crate::split::{Split, Table};
 use std::alloc::Global;
 use std::fs::File;
+use std::marker::Model;
 
 /// What is said of a page for which more is to be read than the file's size allows.
 pub const LIES_OVER_OTHERS: &str = "its directory lies over others";
@@ -20,6 +25,20 @@ pub struct SplitPages<'f> {
     has_ended: bool,
     /// Whether a page wasn't read since the allowance was spent: none is read after it.
     pub is_spent: bool,
+}
+
+impl<'f> Model for SplitPages<'f> {
+    ghost use Rattle.tiff_split.specs.Pages.{Pages};
+
+    ghost Value = { Pages };
+
+    ghost view = { λ p. record {
+      reading = p.split;
+      ahead = p.ahead;
+      count = p.count;
+      has_ended = p.has_ended;
+      is_spent = p.is_spent;
+    } };
 }
 
 /// A page of a file.
@@ -39,7 +58,11 @@ impl<'f> SplitPages<'f> {
     /// # Errors
     ///
     /// Those of [`Split::open`].
-    pub fn open(alloc: Global, file: &'f File, size: u64) -> Result<SplitPages<'f>, SplitError> {
+    pub fn open(alloc: Global, file: &'f File, size: u64) -> Result<SplitPages<'f>, SplitError>
+        ensures opened { IfOk result (Begins size) }
+        ensures why { IfErr result OpensNot }
+        ensures short { size < 8 → result ≡ Err SplitError.Outside }
+    {
         Ok(SplitPages {
             file,
             split: Split::open(alloc, file, size)?,
@@ -55,7 +78,13 @@ impl<'f> SplitPages<'f> {
     /// # Errors
     ///
     /// `OutOfMemory` and `Unread`.
-    pub fn next(&mut self) -> Result<Option<SplitPage>, SplitError> {
+    pub fn next(&mut self) -> Result<Option<SplitPage>, SplitError>
+        ensures ended { self.old.has_ended ≡ true → (result ≡ Ok None) × (self.new ≡ self.old) }
+        ensures none { result ≡ Ok None → IsNoPage self.old self.new }
+        ensures page { IfOk result (λ found. IfSome found (λ page. CountsPage page.number self.old self.new)) }
+        ensures same { IsSamePage self.old self.new }
+        ensures why { IfErr result StopsPages }
+    {
         if self.has_ended {
             return Ok(None);
         }
@@ -88,17 +117,20 @@ impl<'f> SplitPages<'f> {
     }
 
     /// Returns the last page, which isn't read.
-    fn last(&mut self, why: &'static str) -> SplitPage {
+    fn last(&mut self, why: &'static str) -> SplitPage
+        ensures page { CountsPage result.number self.old self.new }
+        ensures same { IsSamePage self.old self.new }
+    {
         self.has_ended = true;
         self.page(Err(why), None)
     }
 
     /// Counts a page.
-    fn page(
-        &mut self,
-        table: Result<Table, &'static str>,
-        note: Option<&'static str>,
-    ) -> SplitPage {
+    fn page(&mut self, table: Result<Table, &'static str>, note: Option<&'static str>) -> SplitPage
+        ensures page { CountsPage result.number self.old self.new }
+        ensures same { IsSamePage self.old self.new }
+        ensures ended { self.new.has_ended ≡ self.old.has_ended }
+    {
         self.count = self.count.saturating_add(1);
         SplitPage {
             number: self.count,
@@ -112,7 +144,12 @@ impl<'f> SplitPages<'f> {
     /// # Errors
     ///
     /// Those of [`Split::page_file`] but `Spent`.
-    pub fn read(&mut self, page: &SplitPage) -> Result<Result<Vec<u8>, &'static str>, SplitError> {
+    pub fn read(&mut self, page: &SplitPage) -> Result<Result<Vec<u8>, &'static str>, SplitError>
+        ensures refused { IfErr page.now.table (λ why. (result ≡ Ok (Err why)) × (self.new ≡ self.old)) }
+        ensures read { IsRead self.old self.new }
+        ensures spent { self.new.is_spent ≡ is_spent_after page.now.table result self.old.is_spent }
+        ensures why { IfErr result StopsPages }
+    {
         let table = match page.table {
             Ok(table) => table,
             Err(why) => return Ok(Err(why)),
@@ -126,6 +163,7 @@ impl<'f> SplitPages<'f> {
             Err(error) => Err(error),
         }
     }
+
     /// Finds the strip of a page that has one, which isn't read.
     ///
     /// # Errors

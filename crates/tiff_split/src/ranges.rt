@@ -1,5 +1,8 @@
-//! Bytes that are read by ranges.
+//! Bytes that are read by ranges, each of which is paid for.
 
+ghost use Rattle.std.specs.Prelude.{◌≡◌, length};
+
+use crate::allowance::Paid;
 use std::fs::File;
 use std::io;
 use std::io::ErrorKind;
@@ -7,16 +10,17 @@ use std::os::unix::fs::FileExt;
 
 /// Bytes that are read by ranges.
 pub trait Ranges {
-    /// Reads the bytes from an offset on, as many as there is room for.
+    /// Reads the bytes from an offset on, as many as there is room for, which are those that were paid for.
     ///
     /// # Errors
     ///
     /// `UnexpectedEof` if there are fewer, or what the system says.
-    fn read_range(&self, offset: u64, into: &mut [u8]) -> io::Result<()>;
+    fn read_range(&self, paid: Paid, offset: u64, into: &mut [u8]) -> io::Result<()>
+        requires { length into.old ≡ paid };
 }
 
 impl Ranges for File {
-    fn read_range(&self, offset: u64, into: &mut [u8]) -> io::Result<()> {
+    fn read_range(&self, _paid: Paid, offset: u64, into: &mut [u8]) -> io::Result<()> {
         self.read_exact_at(into, offset)
     }
 }
@@ -26,7 +30,7 @@ impl Ranges for File {
 pub struct Held<'a>(pub &'a [u8]);
 
 impl Ranges for Held<'_> {
-    fn read_range(&self, offset: u64, into: &mut [u8]) -> io::Result<()> {
+    fn read_range(&self, _paid: Paid, offset: u64, into: &mut [u8]) -> io::Result<()> {
         let count = into.len();
         let Some(found) = self
             .0

@@ -1,13 +1,16 @@
 //! The directories of a file that is read by ranges.
 
-ghost use Rattle.std.specs.Prelude.{◌≡◌, ◌+◌, ◌*◌, ◌^◌, ◌≤◌, ◌↔◌, IfOk, IsNone};
-ghost use Rattle.tiff_split.specs.Reads.{Passes, Reads, Reading};
+ghost use Rattle.std.specs.Prelude.{◌≡◌, ◌+◌, ◌*◌, ◌^◌, ◌-◌, ◌<◌, ◌≤◌, ◌↔◌, ◌++◌, min, length, Err, IfOk, IfErr, IfSome};
+ghost use Rattle.std.specs.Prelude.{IsNone, OnErr, OnOk, IsOkUnless};
+ghost use Rattle.tiff_split.specs.Reads.{Costs, IsFoundIn, IsMarked, Opens, OpensNot, Passes, Reads, Reading, StopsAdding};
+ghost use Rattle.tiff_split.specs.Reads.{StopsAtMark, StopsBy, StopsReading, cost_of_number, is_among};
 
+use crate::allowance::{Allowance, Paid};
 use crate::error::SplitError;
-use crate::form::Form;
 use crate::ranges::Ranges;
 use std::alloc::Global;
 use std::marker::Model;
+use tiff_read::Form;
 
 /// The way through the directories of a file that is read by ranges, and how many of its bytes may still be read.
 #[derive(Drop)]
@@ -22,8 +25,7 @@ pub struct Split {
     seen: Vec<u64>,
     /// The last place of those.
     last: u64,
-    /// How many bytes may still be read or compared.
-    left: u64,
+    left: Allowance,
 }
 
 impl Model for Split {
@@ -31,7 +33,14 @@ impl Model for Split {
 
     ghost Value = { Reading };
 
-    ghost view = { λ s. record { size = s.size; next = s.next; left = s.left } };
+    ghost view = { λ s. record {
+      form = s.form;
+      size = s.size;
+      next = s.next;
+      seen = s.seen.items;
+      last = s.last;
+      left = s.left;
+    } };
 }
 
 /// Where the entries of a directory are.
@@ -42,11 +51,6 @@ pub struct Table {
     /// How many of them the file has.
     pub(crate) entries: u64,
 }
-
-/// How many bytes may be read of a file, whatever its size, and for each of its bytes.
-pub(crate) const LEAST: u64 = 1 << 24;
-
-const READS_OF_A_BYTE: u64 = 16;
 
 /// How many offsets may be compared in place of a byte that is read.
 const COMPARED_FOR_ONE: u64 = 16;
@@ -59,13 +63,20 @@ impl Split {
     /// `Outside` if it doesn't begin as a TIFF file does, or ends within its header; `Unread`.
     pub fn open<R: Ranges>(alloc: Global, source: &R, size: u64) -> Result<Split, SplitError>
         ensures allowance { IfOk result (λ split. (split.size ≡ size) × (split.left ≤ 2 ^ 24 + 16 * size)) }
+        ensures paid { IfOk result (Opens size) }
+        ensures why { IfErr result OpensNot }
+        ensures short { size < 8 → result ≡ Err SplitError.Outside }
     {
         let mut head = [0u8; 4];
         if size < 8 {
             return Err(SplitError::Outside);
         }
-        source.read_range(0, &mut head)?;
-        let Some(form) = Form::of_head(head) else {
+        let mut left = Allowance::of_size(size);
+        let Some(paid) = left.pay(4) else {
+            return Err(SplitError::Outside);
+        };
+        source.read_range(paid, 0, &mut head)?;
+        let Some(form) = Form::of_file(&head) else {
             return Err(SplitError::Outside);
         };
         let mut split = Split {
@@ -75,10 +86,10 @@ impl Split {
             next: 0,
             seen: Vec::new(alloc),
             last: 0,
-            left: LEAST.saturating_add(READS_OF_A_BYTE.saturating_mul(size)),
+            left,
         };
         let offset_bytes = form.offset_bytes();
-        match split.number_at(source, form.place_of_first(), offset_bytes)? {
+        match split.number_at(source, offset_bytes as u64, offset_bytes)? {
             Some(next) => {
                 split.next = next;
                 Ok(split)
@@ -95,7 +106,10 @@ impl Split {
     /// `Outside` or `Loop`, after which no directory follows; `Spent`, `OutOfMemory` and `Unread`.
     pub fn next_table<R: Ranges>(&mut self, source: &R) -> Result<Option<Table>, SplitError>
         ensures end { IfOk result (λ found. IsNone found ↔ (self.old.next ≡ 0)) }
+        ensures found { IfOk result (λ found. IfSome found (IsFoundIn self.old)) }
         ensures passed { Passes self.old self.new }
+        ensures why { IfErr result (StopsBy self.old) }
+        ensures last { OnErr result (self.new.next ≡ 0) }
     {
         let at = self.next;
         if at == 0 {
@@ -119,7 +133,9 @@ impl Split {
 
     /// Records that a directory is at an offset.
     fn mark(&mut self, at: u64) -> Result<(), SplitError>
-        ensures { Reads self.old self.new }
+        ensures marked { OnOk result (IsMarked at self.old self.new) }
+        ensures reads { Reads self.old self.new }
+        ensures why { IfErr result (StopsAtMark at self.old) }
     {
         if at >= self.size {
             return Err(SplitError::Outside);
@@ -139,19 +155,20 @@ impl Split {
     }
 
     /// Returns whether a directory was found at an offset.
-    fn has_seen(&self, at: u64) -> bool {
-        self.seen.iter().any(|it| *it == at)
+    fn has_seen(&self, at: u64) -> bool
+        ensures { result ≡ is_among at self.now.seen }
+    {
+        self.seen.as_slice().contains(&at)
     }
 
     /// Pays for what is read or compared.
-    pub(crate) fn pay(&mut self, count: u64) -> Result<(), SplitError>
-        ensures { Reads self.old self.new }
+    pub(crate) fn pay(&mut self, count: u64) -> Result<Paid, SplitError>
+        ensures paid { IfOk result (λ paid. (paid ≡ count) × Costs count self.old self.new) }
+        ensures unchanged { OnErr result (self.new ≡ self.old) }
+        ensures spent { (result ≡ Err SplitError.Spent) ↔ (self.old.left < count) }
+        ensures only_spent { IsOkUnless result SplitError.Spent }
     {
-        if count > self.left {
-            return Err(SplitError::Spent);
-        }
-        self.left -= count;
-        Ok(())
+        self.left.pay(count).ok_or(SplitError::Spent)
     }
 
     /// Reads the number of at most eight bytes at an offset; `None` if the file doesn't have them.
@@ -161,15 +178,17 @@ impl Split {
         offset: u64,
         count: usize,
     ) -> Result<Option<u64>, SplitError>
-        ensures { Reads self.old self.new }
+        ensures found { IfOk result (λ found. IsNone found ↔ (self.old.size - offset < min count 8)) }
+        ensures paid { OnOk result (Costs (cost_of_number self.old.size offset count) self.old self.new) }
+        ensures why { IfErr result (StopsReading (cost_of_number self.old.size offset count) self.old self.new) }
     {
         let mut digits = [0u8; 8];
         let count = count.min(8);
-        if offset.saturating_add(count as u64) > self.size {
+        if self.size.saturating_sub(offset) < count as u64 {
             return Ok(None);
         }
-        self.pay(count as u64)?;
-        source.read_range(offset, &mut digits[..count])?;
+        let paid = self.pay(count as u64)?;
+        source.read_range(paid, offset, &mut digits[..count])?;
         Ok(Some(self.form.number(&digits[..count])))
     }
 
@@ -181,15 +200,17 @@ impl Split {
         count: u64,
         out: &mut Vec<u8>,
     ) -> Result<(), SplitError>
-        ensures { Reads self.old self.new }
+        ensures paid { OnOk result (Costs count self.old self.new) }
+        ensures length { OnOk result (length out.new.items ≡ length out.old.items + count) }
+        ensures why { IfErr result (StopsAdding count self.old self.new) }
     {
-        self.pay(count)?;
+        let paid = self.pay(count)?;
         let before = out.len();
         let Some(length) = before.checked_add(count as usize) else {
             return Err(SplitError::OutOfMemory);
         };
         out.resize(length, 0)?;
-        source.read_range(offset, &mut out[before..])?;
+        source.read_range(paid, offset, &mut out[before..])?;
         Ok(())
     }
 }
