@@ -55,10 +55,7 @@ pub found_kept : (columns : ℕ) (bytes : List ℕ) (old new : List Guess) (form
     → IsFound columns bytes old form → IsFound columns bytes new form
 found_kept columns bytes old new form kept found begins takes = kept _ _ (found begins takes)
 
--- A guess that is placed among others is among them, and they still are.
-pub placed : (guesses : List Guess) (place : ℕ) (guess : Guess) → Contains (insert guesses place guess) guess
-placed guesses place guess = Contains-append_right (take place guesses) (guess ∷ drop place guesses) guess (0, omega arith, refl)
-
+-- A guess stays where another one is placed among them.
 moved : (guesses : List Guess) (place : ℕ) (guess other : Guess) → Contains guesses other
     → Contains (insert guesses place guess) other
 moved guesses place guess other has =

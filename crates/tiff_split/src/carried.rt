@@ -203,7 +203,7 @@ impl Split {
         width: usize,
         numbers: &mut Vec<u64>,
     ) -> Result<(), AllocError>
-        requires { 0 < width }
+        requires { (0 < width) × (width ≤ 8) }
     {
         for digits in bytes.chunks_exact(width) {
             numbers.push(self.form.number(digits))?;
