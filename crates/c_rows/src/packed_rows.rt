@@ -286,7 +286,7 @@ impl<'a> PackedRows<'a> {
     }
 
     /// Packs a row for which there is room, and that isn't cleared first, after the white rows that aren't written.
-    #[inline(always)]
+    #[inline(never)]
     fn pack_next(&mut self, changes: &[u32])
         requires changes { AreChanges self.old.columns changes.now }
         requires room { self.old.start + (self.old.columns + 7) / 8 ≤ length self.old.bitmap.now }
@@ -325,7 +325,7 @@ impl<'a> PackedRows<'a> {
     }
 
     /// Clears the white rows that aren't written, and the next row with them, and paints that by its black runs.
-    #[inline(always)]
+    #[inline(never)]
     fn paint_next(&mut self, changes: &[u32])
         requires changes { AreChanges self.old.columns changes.now }
         requires room { self.old.start + (self.old.columns + 7) / 8 ≤ length self.old.bitmap.now }
@@ -344,30 +344,21 @@ impl<'a> PackedRows<'a> {
         self.go_on(changes);
     }
 
-    /// Packs a white row that doesn't wait, or refuses it.
+    /// Fills a white row for which there is room, after the white rows that aren't written.
     #[inline(never)]
-    fn push_white(&mut self) -> hayro_ccitt::Result<()>
-        ensures taken { OnOk result (packing_up_to self.new.layout self.new.start self.new.written self.new.bitmap.now
-            self.new.changes self.new.bitmap.ghost_name ≡ with_packed self.old.columns (packing_up_to self.old.layout
-            self.old.start self.old.written self.old.bitmap.now self.old.changes self.old.bitmap.ghost_name) []) }
-        ensures not_refused { OnOk result (self.new.has_refused ≡ self.old.has_refused) }
-        ensures kept { OnErr result (packing_up_to self.new.layout self.new.start self.new.written self.new.bitmap.now
-            self.new.changes self.new.bitmap.ghost_name ≡ packing_up_to self.old.layout self.old.start self.old.written
-            self.old.bitmap.now self.old.changes self.old.bitmap.ghost_name) }
-        ensures refused { OnErr result (self.new.has_refused ≡ true) }
-        ensures only_refused { IsOkUnless result DecodeError.Refused }
+    fn fill_next(&mut self)
+        requires room { self.old.start + (self.old.columns + 7) / 8 ≤ length self.old.bitmap.now }
+        ensures meaning { packing_up_to self.new.layout self.new.start self.new.written self.new.bitmap.now self.new.changes
+            self.new.bitmap.ghost_name ≡ with_packed self.old.columns (packing_up_to self.old.layout self.old.start
+            self.old.written self.old.bitmap.now self.old.changes self.old.bitmap.ghost_name) [] }
         ensures columns { self.new.columns ≡ self.old.columns }
+        ensures has_refused { self.new.has_refused ≡ self.old.has_refused }
     {
-        if self.bitmap.len() < self.start.saturating_add(self.bytes) {
-            self.has_refused = true;
-            return Err(DecodeError::Refused);
-        }
         self.write_white();
         let end = self.start + self.bytes;
         let white = white_byte(self.layout.black_is_0);
         fill_bytes(&mut self.bitmap[self.start..end], white);
         self.go_on(&[]);
-        Ok(())
     }
 
     /// Returns whether a row was refused.
@@ -394,20 +385,18 @@ impl Decoder for PackedRows<'_> {
 
     #[inline(always)]
     fn push_row(&mut self, changes: &[u32]) -> hayro_ccitt::Result<()> {
-        if changes.is_empty() {
-            if self.start < self.waits_until {
-                self.start += self.bytes;
-                self.changes = counted(self.changes, changes);
-                return Ok(());
-            }
-            return self.push_white();
+        if changes.is_empty() && self.start < self.waits_until {
+            self.start += self.bytes;
+            self.changes = counted(self.changes, changes);
+            return Ok(());
         }
-        let bytes = self.bytes;
-        if self.bitmap.len() < self.start.saturating_add(bytes) {
+        if self.bitmap.len() < self.start.saturating_add(self.bytes) {
             self.has_refused = true;
             return Err(DecodeError::Refused);
         }
-        if changes.len() <= self.few {
+        if changes.is_empty() {
+            self.fill_next();
+        } else if changes.len() <= self.few {
             self.paint_next(changes);
         } else {
             self.pack_next(changes);

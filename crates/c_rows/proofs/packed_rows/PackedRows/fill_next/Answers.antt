@@ -2,10 +2,10 @@ use Rattle.std.proofs.Common.{◌≡◌, ◌+◌, ◌-◌, ◌≤◌, ◌∙◌,
 use Rattle.std.proofs.lemmas.List.{length-drop, length-take}
 use Rattle.c_rows.specs.Packing.{bytes_of_row}
 use Rattle.c_rows.proofs.WhiteRows.{packed_after, same_up_to, white_bytes}
-use Rattle.c_rows.proofs.packed_rows.PackedRows.push_white.Goals as goal
+use Rattle.c_rows.proofs.packed_rows.PackedRows.fill_next.Goals as goal
 
-pub returns-clause-taken : goal.returns-clause-taken
-returns-clause-taken c =
+pub returns-clause-meaning : goal.returns-clause-meaning
+returns-clause-meaning c =
     let s = c.write_white.new.self in
     let same = c.write_white.ensures in
     let on = c.go_on.ensures in
@@ -14,16 +14,7 @@ returns-clause-taken c =
     let row : List ℕ = c.fill_bytes.new.bytes in
     let bytes : s.bytes ≡ bytes_of_row s.columns = omega (arith, s.whole) in
     let room : s.start + s.bytes ≤ length s.bitmap.now =
-    omega (
-      arith,
-      c.saturating_add.ensures,
-      c.if-self-saturating_add.false,
-      c.args.self.now.whole,
-      s.whole,
-      same.shape.columns,
-      same.start,
-      same.size,
-    ) in
+    omega (arith, s.whole, c.requires.room, same.shape.columns, same.start, same.size) in
     let long : length old ≡ bytes_of_row s.columns =
     omega (arith, length-take (end - s.start) (drop s.start s.bitmap.now), length-drop s.start s.bitmap.now, bytes, room) in
     same_up_to _ s.layout _ _ _ _ _ _ _ _ _ s.bitmap.ghost_name on.shape.layout on.start (on.written ∙ on.start) on.memory
