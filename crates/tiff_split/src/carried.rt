@@ -8,7 +8,6 @@ use crate::error::SplitError;
 use crate::ranges::Ranges;
 use crate::split::{Split, Table};
 use std::alloc::{AllocError, Global};
-use tiff_read::bytes_of_kind;
 
 /// An entry of a page that is carried along.
 #[derive(Drop)]
@@ -117,32 +116,6 @@ impl Split {
         }
         entries.sort_unstable();
         Ok(entries)
-    }
-
-    /// Returns the entry of these bytes at a place of the file. It has no values if the file doesn't have them all, or if their type isn't
-    /// known.
-    fn entry_at(&self, place: u64, bytes: &[u8]) -> Option<Entry> {
-        let offset_bytes = self.form.offset_bytes();
-        let [a, b, c, d, rest @ ..] = bytes else {
-            return None;
-        };
-        let (count, word) = rest.split_at_checked(offset_bytes)?;
-        let kind = self.form.short(*c, *d);
-        let count = self.form.number(count);
-        let size = count.saturating_mul(bytes_of_kind(kind));
-        let offset = if size <= offset_bytes as u64 {
-            place.saturating_add(4 + offset_bytes as u64)
-        } else {
-            self.form.number(word)
-        };
-        let is_whole = offset.saturating_add(size) <= self.size;
-        Some(Entry {
-            tag: self.form.short(*a, *b),
-            kind,
-            count: if is_whole && size > 0 { count } else { 0 },
-            size: if is_whole { size } else { 0 },
-            offset,
-        })
     }
 
     /// Adds an entry with its values to a page.

@@ -70,16 +70,27 @@ impl Split {
     fn keep(&self, place: u64, bytes: &[u8], entries: &mut Vec<Entry>) -> Result<(), SplitError>
         ensures { IfErr result StopsPage }
     {
-        let offset_bytes = self.form.offset_bytes();
-        let [a, b, c, d, rest @ ..] = bytes else {
+        let Some(entry) = self.entry_at(place, bytes) else {
             return Ok(());
         };
-        let tag = self.form.short(*a, *b);
-        if !is_kept(tag)
-            || rest.len() != 2 * offset_bytes
-            || entries.iter().any(|it| it.tag == tag)
-        {
+        if !is_kept(entry.tag) || entries.iter().any(|it| it.tag == entry.tag) {
             return Ok(());
+        }
+        if entries.push(entry).is_err() {
+            return Err(SplitError::OutOfMemory);
+        }
+        Ok(())
+    }
+
+    /// Returns the entry of these bytes at a place of the file. It has no values if the file doesn't have them all, or if their type isn't
+    /// known.
+    pub(crate) fn entry_at(&self, place: u64, bytes: &[u8]) -> Option<Entry> {
+        let offset_bytes = self.form.offset_bytes();
+        let [a, b, c, d, rest @ ..] = bytes else {
+            return None;
+        };
+        if rest.len() != 2 * offset_bytes {
+            return None;
         }
         let kind = self.form.short(*c, *d);
         let (count, word) = rest.split_at(offset_bytes);
@@ -91,17 +102,13 @@ impl Split {
             self.form.number(word)
         };
         let is_whole = bytes_of_kind(kind) > 0 && offset.saturating_add(size) <= self.size;
-        let entry = Entry {
-            tag,
+        Some(Entry {
+            tag: self.form.short(*a, *b),
             kind,
             count: if is_whole { count } else { 0 },
             size: if is_whole { size } else { 0 },
             offset,
-        };
-        if entries.push(entry).is_err() {
-            return Err(SplitError::OutOfMemory);
-        }
-        Ok(())
+        })
     }
 }
 
