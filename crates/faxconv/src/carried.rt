@@ -18,24 +18,36 @@ impl<'a, 'b, 'c> Run<'a, 'b, 'c> {
         carrier: &mut Carrier,
         source: &R,
     ) -> Result<Entry<'d>, AllocError> {
-        let is_tiff = matches!(self.target_of_pages(), Some(Target::Tiff));
-        let why = match entry.content {
-            Content::Refused(why) if is_tiff => why,
-            content => return Ok(Entry { content, ..entry }),
-        };
+        if !matches!(self.target_of_pages(), Some(Target::Tiff)) {
+            return Ok(entry);
+        }
         let alloc = self.rt.alloc();
-        let content = match carrier.page(source, entry.number) {
-            Ok(Ok(page)) => {
-                let told = text_of_carried(alloc, why.as_str(), &page)?;
-                Content::Carried(page, told)
-            }
-            Ok(Err(other)) => Content::Refused(format!(in alloc;
-                "{why}, and can't be carried along: {other}"
-            )?),
-            Err(SplitError::OutOfMemory) => return Err(AllocError),
-            Err(_) => Content::Refused(why),
+        let Entry {
+            number,
+            image,
+            content,
+            note,
+        } = entry;
+        let content = match content {
+            Content::Refused(why) => match carrier.page(source, number) {
+                Ok(Ok(page)) => {
+                    let told = text_of_carried(alloc, why.as_str(), &page)?;
+                    Content::Carried(page, told)
+                }
+                Ok(Err(other)) => Content::Refused(format!(in alloc;
+                    "{why}, and can't be carried along: {other}"
+                )?),
+                Err(SplitError::OutOfMemory) => return Err(AllocError),
+                Err(_) => Content::Refused(why),
+            },
+            other => other,
         };
-        Ok(Entry { content, ..entry })
+        Ok(Entry {
+            number,
+            image,
+            content,
+            note,
+        })
     }
 
     /// Tells that a page isn't decoded, and adds it to the document.
