@@ -116,14 +116,14 @@ def lines_of_code(folder):
 
 
 def the_package_is_clean():
-    """It has at most 580 lines of code by hand, and what reads files 370, each file says where it comes from, and rustfmt, clippy and rustdoc find nothing, with
+    """It has at most 585 lines of code by hand, and what reads files 370, each file says where it comes from, and rustfmt, clippy and rustdoc find nothing, with
     and without std."""
     if lacks_tools("the erased package"):
         return
     make_package()
     of_files = sum(1 for _ in lines_of_code("release/erased/files"))
     by_hand = sum(1 for _ in lines_of_code("release/erased")) - of_files
-    assert by_hand <= 580 and of_files <= 370, (by_hand, of_files)
+    assert by_hand <= 585 and of_files <= 370, (by_hand, of_files)
     files = 0
     for folder, _, names in (found for of in ("src", "c/src", "files/src", "programs/src") for found in os.walk(f"{PACKAGE}/{of}")):
         for name in names:

@@ -42,6 +42,12 @@ impl<T> Vec<T> {
         Ok(())
     }
 
+    pub fn insert(&mut self, place: usize, item: T) -> Result<(), AllocError> {
+        self.reserve(1)?;
+        self.0.insert(place, item);
+        Ok(())
+    }
+
     /// Adds an item. It is proved of each call that there is room for it, so that this allocates nothing.
     #[inline(always)]
     pub fn push_reserved(&mut self, item: T) {
