@@ -90,7 +90,7 @@ def rows_in_pieces():
 PIECES = {"changes": 1.14, "packed": 1.10, "next_changes": 1.07, "next_packed": 1.05}
 FEW_RUNS = {
     "blank": {"changes": 1.47, "packed": 1.25, "next_changes": 0.2, "next_packed": 0.2},
-    "borders": {"changes": 1.45, "packed": 1.33, "next_changes": 1.03, "next_packed": 1.01},
+    "borders": {"changes": 1.45, "packed": 1.33, "next_changes": 1.04, "next_packed": 1.03},
 }
 BYTES = {("blank", 256): 7.7, ("text", 300): 7.4, ("dither", 10): 8.45}
 # the place of a reader, and of single bytes, among the ways of measured_pages.c
