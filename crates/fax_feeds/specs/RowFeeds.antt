@@ -162,12 +162,13 @@ IsOpenAt true AfterRow ctx next = gap_is_settled ctx.held.settings ctx.held.take
 IsOpenAt true AtEnd ctx next = ⊥
 IsOpenAt true (AtFault error) ctx next = ⊥
 
--- Of a gap that begins these bits some were looked at before, and so many more now, each counted once: as far as is needed to
--- know that nothing that follows changes it, or all there are. None are at a line, nor in data that is finished.
+-- Of a gap that begins these bits some were looked at before, and so many more now, each counted once but for sixteen: as far as
+-- is
+-- needed to know that nothing that follows changes it, or all there are. None are at a line, nor in data that is finished.
 pub record LooksAhead (is_last at_line : Bool) (looked : ℕ) (gap : Bits) (counted : ℕ) : Type 0 where
   pub line : at_line ≡ true → counted ≡ 0
   pub finished : is_last ≡ true → counted ≡ 0
-  pub within : 0 < counted → counted + looked ≤ length gap
+  pub within : 0 < counted → counted + looked ≤ length gap + 16
 
 -- the line that is here
 abbrev pub line_of_feed : Feeding → Line
@@ -233,7 +234,7 @@ pub record DrawsRow (old new : Feeding) : Type 0 where
       → drop new.place new.kept ++ more ≡ fill ++ replicate 11 false ++ true ∷ after
       → start + length (changes new.ctx.held.reference) ≤ new.dropped + new.place + length fill + 13))
 
--- How a call goes on in the data, and what it counts for that: where a gap is passed, no more than twelve bits beyond it were
+-- How a call goes on in the data, and what it counts for that: where a gap is passed, no more than sixteen bits beyond it were
 -- looked at; the changes of a row are no more than the words of its line, and one; and the lists of changes have no more room
 -- than before, or than a row needs.
 pub record CallGoesOn (old new : Feeding) (answer : Result Fed DecodeError) (gap extra : ℕ) : Type 0 where
@@ -242,7 +243,7 @@ pub record CallGoesOn (old new : Feeding) (answer : Result Fed DecodeError) (gap
   pub draws : answer ≡ Ok Fed.Row → DrawsRow old new
   pub onward : ended new.rows.stand ≡ None → old.dropped + old.place ≤ new.dropped + new.place
   pub near : old.begun ≡ true → old.finished ≡ false → ended new.rows.stand ≡ None
-      → gap + old.looked + (old.dropped + old.place) ≤ new.dropped + new.place + new.looked + 12
+      → gap + old.looked + (old.dropped + old.place) ≤ new.dropped + new.place + new.looked + 16
   pub stays : HasNone answer → (old.begun && is_at_line old.rows.stand) ≡ true → new.place ≡ old.place
   -- what a line yields that was left before
   pub row_is : answer ≡ Ok Fed.Row → (old.begun && is_at_line old.rows.stand) ≡ true
@@ -289,7 +290,7 @@ pub record FeedsNext (whole : Bits) (tried : ℕ) (old new : Feeding) (answer : 
   pub line_extra : ℕ
   pub extra_is : extra ≡ gap + line_extra
   pub looks : LooksAhead old.finished (old.begun && is_at_line old.rows.stand) old.looked (drop old.place old.kept) gap
-  pub looked : answer ≡ Ok Fed.NeedsMore → is_at_line new.rows.stand ≡ false → gap + old.looked ≡ new.looked
+  pub looked : answer ≡ Ok Fed.NeedsMore → is_at_line new.rows.stand ≡ false → gap + old.looked ≤ new.looked + 16
   pub line_work : LineWork old new answer line_extra
   pub goes_on : CallGoesOn old new answer gap extra
 
@@ -342,8 +343,8 @@ pub record ComesOn (is_last : Bool) (gap_start : ℕ) (rows kept : RowState) (lo
   pub looked : answer ≡ Ok None → (extra + look.bits ≡ kept_look.bits)
       × IsSeen (rules_for true old.held) kept_look (here before)
   pub none_looked : answer ≢ Ok None → kept_look ≡ nothing_seen
-  -- of a gap that is passed no more than twelve bits beyond its end were looked at
-  pub near : answer ≢ Ok None → is_last ≡ false → extra + look.bits + before.place ≤ after.place + 12
+  -- of a gap that is passed no more than sixteen bits beyond its end were looked at
+  pub near : answer ≢ Ok None → is_last ≡ false → extra + look.bits + before.place ≤ after.place + 16
   pub counts : old.ticks + extra ≤ new.ticks
   pub onward : answer ≡ Ok (Some true) → before.place ≤ after.place
   pub at_line : is_at_line rows.stand ≡ true → (after ≡ before) × (new.held ≡ old.held)
@@ -408,7 +409,7 @@ pub record ReachesLine (old new : Feeding) (extra : ℕ) : Type 0 where
   pub counts : old.ctx.ticks + extra ≤ new.ctx.ticks
   pub onward : old.dropped + old.place ≤ new.dropped + new.place
   pub near : old.begun ≡ true → old.finished ≡ false
-      → extra + old.looked + (old.dropped + old.place) ≤ new.dropped + new.place + 12
+      → extra + old.looked + (old.dropped + old.place) ≤ new.dropped + new.place + 16
   pub past_eol : old.finished ≡ false → old.begun ≡ true → is_at_line old.rows.stand ≡ false → old.ctx.held.has_eols ≡ true
       → PassesEol (drop old.place old.kept) (old.dropped + old.place) (new.dropped + new.place)
   pub at_line : (old.begun && is_at_line old.rows.stand) ≡ true
@@ -421,7 +422,7 @@ pub record ReachesLine (old new : Feeding) (extra : ℕ) : Type 0 where
 pub record Begins (old new : Feeding) (answer : Bool) : Type 0 where
   pub extra : ℕ
   pub looks : LooksAhead old.finished false old.looked (drop old.place old.kept) extra
-  pub looked : answer ≡ false → extra + old.looked ≡ new.looked
+  pub looked : answer ≡ false → extra + old.looked ≤ new.looked + 16
   pub keeps : KeepsBits old new
   pub begun : new.begun ≡ answer
   pub within : new.place ≤ length new.kept
@@ -441,7 +442,7 @@ pub record Begins (old new : Feeding) (answer : Bool) : Type 0 where
 pub record ComesInFeed (old new : Feeding) (answer : Result (Option Bool) DecodeError) : Type 0 where
   pub extra : ℕ
   pub looks : LooksAhead old.finished (is_at_line old.rows.stand) old.looked (drop old.place old.kept) extra
-  pub looked : answer ≡ Ok None → extra + old.looked ≡ new.looked
+  pub looked : answer ≡ Ok None → extra + old.looked ≤ new.looked + 16
   pub keeps : KeepsBits old new
   pub begun : new.begun ≡ true
   pub within : new.place ≤ length new.kept

@@ -145,7 +145,7 @@ fn front_waits(
 }
 
 /// Returns whether a line is here after a gap that was passed.
-fn of_settled_gap(line: Result<bool>) -> Result<Option<bool>>
+pub(crate) fn of_settled_gap(line: Result<bool>) -> Result<Option<bool>>
     ensures { result ≡ of_settled_gap line }
 {
     match line {
@@ -288,7 +288,7 @@ fn can_take_row(ctx: &DecoderContext) -> bool
 /// Passes the gap before the next line, which begins at this offset of the data, if no data that follows can change it.
 /// Returns whether there is a line after it, or `None` if more data is needed.
 #[inline(always)]
-fn pass_settled_gap(
+pub(crate) fn pass_settled_gap(
     rows: &mut RowState,
     ctx: &mut DecoderContext,
     look: &mut GapLook,

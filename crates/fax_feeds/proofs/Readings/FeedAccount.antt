@@ -55,13 +55,13 @@ pub record RowsPaid (drawn : ℕ) (feed : Feeding) : Type 0 where
   pub most : drawn ≤ fed_bits feed
   pub after : IsAfter drawn feed
 
--- What so many calls counted for gaps: the bits of gaps, those before the first line twice, and twelve bits a call.
+-- What so many calls counted for gaps: the bits of gaps, those before the first line twice, and sixteen bits a call.
 pub record GapsPaid (calls gaps : ℕ) (feed : Feeding) : Type 0 where
   pub first : ℕ
   pub first_most : first ≤ fed_bits feed
-  pub most : gaps ≤ first + fed_bits feed + 12 * calls
-  pub here : ended feed.rows.stand ≡ None → feed.finished ≡ false → gaps ≤ first + offset feed + feed.looked + 12 * calls
-  pub unbegun : feed.begun ≡ false → (gaps ≤ feed.looked + 12 * calls) × (first ≡ 0)
+  pub most : gaps ≤ first + fed_bits feed + 16 * calls
+  pub here : ended feed.rows.stand ≡ None → feed.finished ≡ false → gaps ≤ first + offset feed + feed.looked + 16 * calls
+  pub unbegun : feed.begun ≡ false → (gaps ≤ feed.looked + 16 * calls) × (first ≡ 0)
 
 -- What they counted for lines that were left, of which so much in calls that failed for memory: the bits that were known when
 -- lines were short, those that were known when such lines were read, the changes of the rows, and a few ticks a call. Before a

@@ -310,10 +310,10 @@ module _ {whole : Bits} {calls lost tried : ℕ} {old new : Feeding} {answer : R
   here_within : length (drop old.place old.kept) + offset old ≡ fed_bits old
   here_within = omega (arith, length-drop old.place old.kept, lines.within)
 
-  gap_begun : old.begun ≡ true → paid.gaps + next.gap ≤ gaps.first + fed_bits old + 12 * calls
+  gap_begun : old.begun ≡ true → paid.gaps + next.gap ≤ gaps.first + fed_bits old + 16 * calls + 16
   gap_begun begun = grind (arith, common_steps, cases_lt, gap_unfinished, here_within)
 
-  gap_unbegun : old.begun ≡ false → paid.gaps + next.gap ≤ fed_bits old + 12 * calls
+  gap_unbegun : old.begun ≡ false → paid.gaps + next.gap ≤ fed_bits old + 16 * calls + 16
   gap_unbegun unbegun = grind (arith, common_steps, cases_lt, here_within)
 
   pub gaps_step : (b n : Bool) → old.begun ≡ b → new.begun ≡ n → GapsPaid (calls + 1) (paid.gaps + next.gap) new

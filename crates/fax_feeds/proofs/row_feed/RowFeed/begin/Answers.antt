@@ -114,7 +114,7 @@ returns-clause-begins c =
       looks = record {
         line = λ e. absurd (false≢true e);
         finished = λ e. omega (arith, c.front_waits.ensures.unlooked e);
-        within = λ some. front_within at;
+        within = λ some. omega (arith, front_within at);
       };
       looked = λ e. cc;
       keeps = record { order = refl; finished = refl; kept = refl; dropped = refl; room = refl };

@@ -1,0 +1,119 @@
+-- A gap waits exactly while its bits are counted: until then data that follows can change it.
+use Rattle.fax_rows.proofs.Names.{◌≡◌, ◌∙◌, ap, sym, true, false, Bool, Bits, DecodeSettings, EncodingMode, refl, arith}
+use Rattle.fax_rows.proofs.Names.{Group3_1D, Group3_2D, Group4, ◌||◌}
+use Rattle.std.proofs.Common.{◌++◌, ◌∷◌, ◌<◌, [], None, Some, leb, replicate, zero, suc, ℕ}
+use Rattle.std.proofs.lemmas.Bool.{false≢true, lt-ltb}
+use Rattle.std.proofs.lemmas.Grind.{common_steps}
+use Rattle.fax_bits.specs.Ones.{holds_one}
+use Rattle.fax_reading.proofs.GapsContinued.ContinuedEols.{after_first_tag, following_one, last_tag_tested}
+use Rattle.fax_reading.specs.GapsContinued.{eols_are_settled, eols_here_are_settled, gap_is_settled}
+use Rattle.fax_rows.proofs.Readings.GapsCounted.{Lawful, stands}
+use Rattle.fax_rows.proofs.Readings.GapsEnded.{found_at_end}
+use Rattle.fax_rows.specs.declared.gap_count.GapCount.{GapCount}
+use Rattle.fax_reading.specs.PlainReading.{misses_eol}
+use Rattle.fax_rows.proofs.Readings.GapsEnded.{found_at_one}
+use Rattle.fax_rows.specs.GapsCounted.{can_be_tag, one_counted}
+use Rattle.fax_rows.specs.GapsCounted.{behind_tag, counted_by, ends_at_two, eols_of_count, has_tags, left_before, none_counted}
+
+-- zeros alone hold no one
+zeros_hold_none : (n : ℕ) → holds_one (replicate n false ++ []) ≡ false
+zeros_hold_none zero = refl
+zeros_hold_none (suc n) = zeros_hold_none n
+
+zeros_follow : (n : ℕ) → following_one (replicate n false ++ []) ≡ replicate n false ++ []
+zeros_follow zero = refl
+zeros_follow (suc n) = refl
+
+untagged_open : (tags : Bool) (tag : Bool) (n : ℕ) → (tag ≡ true → tags ≡ true) → tags ≡ false
+    → holds_one (behind_tag tag (replicate n false ++ [])) ≡ false
+untagged_open tags true n lawful none = absurd (false≢true (sym none ∙ lawful refl))
+untagged_open tags false n lawful none = zeros_hold_none n
+
+-- after the tag nothing but zeros is left
+tagged_open : (eols : ℕ) (tag : Bool) (n : ℕ) → (tag ≡ true → 0 < eols)
+    → holds_one (after_first_tag (eols, behind_tag tag (replicate n false ++ []))) ≡ false
+tagged_open zero true n lawful = absurd (omega (arith, lawful refl))
+tagged_open zero false n lawful = zeros_hold_none n
+tagged_open (suc eols) true n lawful = zeros_hold_none n
+tagged_open (suc eols) false n lawful = ap holds_one (zeros_follow n) ∙ zeros_hold_none n
+
+few_open : (n : ℕ) → n < 2 → leb 2 n ≡ false
+few_open zero few = refl
+few_open (suc zero) few = refl
+few_open (suc (suc n)) few = absurd (omega (arith, few))
+
+-- the EOLs that were counted aren't settled
+open_by : (encoding : EncodingMode) (block : Bool) (count : GapCount) → Lawful encoding block count
+    → eols_are_settled encoding block (eols_of_count encoding count []) ≡ false
+open_by Group3_1D block count lawful = untagged_open false count.tag count.zeros (λ t. (lawful.tag t).0) refl
+open_by Group3_2D block count lawful =
+    ap holds_one (last_tag_tested (count.eols, left_before count []))
+    ∙ tagged_open count.eols count.tag count.zeros (λ t. (lawful.tag t).1)
+open_by Group4 false count lawful = untagged_open false count.tag count.zeros (λ t. (lawful.tag t).0) refl
+open_by Group4 true count lawful =
+    ap (λ (b : Bool). b || holds_one (left_before count [])) (few_open count.eols (lawful.few refl))
+    ∙ untagged_open false count.tag count.zeros (λ t. (lawful.tag t).0) refl
+
+-- so those are that all bits were counted of
+pub counted_eols_are_open : (settings : DecodeSettings) (gone : Bits) (count : GapCount)
+    → counted_by settings none_counted gone ≡ Some count → eols_here_are_settled settings gone ≡ false
+counted_eols_are_open settings gone count is =
+    ap (eols_are_settled settings.encoding settings.end_of_block) (found_at_end settings gone count is)
+    ∙ open_by settings.encoding settings.end_of_block count (stands settings 0 false gone [] count is).1
+
+-- Data that follows can change a gap whose bits were all counted.
+pub counted_is_open : (settings : DecodeSettings) (taken : ℕ) (sought : Bool) (gone : Bits) (count : GapCount)
+    → counted_by settings none_counted gone ≡ Some count → gap_is_settled settings taken sought gone ≡ false
+counted_is_open settings taken sought gone count is =
+    let open_here = counted_eols_are_open settings gone count is in rw (open_here, gap_is_settled) refl
+
+-- ---- A one that is counted no longer ends it
+
+one_after_zeros : (n : ℕ) (rest : Bits) → holds_one (replicate n false ++ true ∷ rest) ≡ true
+one_after_zeros zero rest = refl
+one_after_zeros (suc n) rest = one_after_zeros n rest
+
+one_left : (tag : Bool) (n : ℕ) (rest : Bits) → holds_one (behind_tag tag (replicate n false ++ true ∷ rest)) ≡ true
+one_left true n rest = refl
+one_left false n rest = one_after_zeros n rest
+
+-- it isn't a tag
+tagged_one : (count : GapCount) (rest : Bits) → can_be_tag true count ≡ false
+    → holds_one (after_first_tag (count.eols, left_before count (true ∷ rest))) ≡ true
+tagged_one count rest other = by_count count.eols count.tag count.zeros refl refl refl
+  where
+    by_count : (eols : ℕ) (tag : Bool) (n : ℕ) → count.eols ≡ eols → count.tag ≡ tag → count.zeros ≡ n
+        → holds_one (after_first_tag (eols, behind_tag tag (replicate n false ++ true ∷ rest))) ≡ true
+    by_count zero tag n e t z = one_left tag n rest
+    by_count (suc eols) true n e t z = one_after_zeros n rest
+    by_count (suc eols) false (suc n) e t z = one_after_zeros n rest
+    by_count (suc eols) false zero e t z =
+        absurd (false≢true (sym other ∙ rw (e, t, z, lt-ltb 0 (suc eols) (omega arith)) refl))
+
+settled_by : (encoding : EncodingMode) (block : Bool) (count : GapCount) (rest : Bits)
+    → can_be_tag (has_tags encoding) count ≡ false → eols_are_settled encoding block (eols_of_count encoding count (true ∷ rest))
+    ≡ true
+settled_by Group3_1D block count rest other = one_left count.tag count.zeros rest
+settled_by Group3_2D block count rest other =
+    ap holds_one (last_tag_tested (count.eols, left_before count (true ∷ rest))) ∙ tagged_one count rest other
+settled_by Group4 false count rest other = one_left count.tag count.zeros rest
+settled_by Group4 true count rest other = grind (arith, common_steps, one_left)
+
+-- No data that follows changes a gap that such a one ends, where no EOL is missed.
+pub ended_is_settled : (settings : DecodeSettings) (taken : ℕ) (sought : Bool) (gone rest : Bits) (count : GapCount)
+    → counted_by settings none_counted gone ≡ Some count → leb 11 count.zeros ≡ false
+    → one_counted (has_tags settings.encoding) (ends_at_two settings.encoding settings.end_of_block) count ≡ None
+    → misses_eol settings taken sought (gone ++ true ∷ rest) ≡ false
+    → gap_is_settled settings taken sought (gone ++ true ∷ rest) ≡ true
+ended_is_settled settings taken sought gone rest count is few none whole =
+    let settled_here : eols_here_are_settled settings (gone ++ true ∷ rest) ≡ true =
+    ap (eols_are_settled settings.encoding settings.end_of_block) (found_at_one settings gone count is [] rest count refl few
+    none)
+    ∙ settled_by settings.encoding settings.end_of_block count rest
+    (no_tag_counted (can_be_tag (has_tags settings.encoding) count) refl) in
+    rw (settled_here, whole, gap_is_settled) refl
+  where
+    no_tag_counted : (can : Bool) → can_be_tag (has_tags settings.encoding) count ≡ can
+        → can_be_tag (has_tags settings.encoding) count ≡ false
+    no_tag_counted false e = e
+    no_tag_counted true e = let never = rw (few, e, one_counted) at none in absurd cc
