@@ -20,6 +20,7 @@ ghost use Rattle.fax_reading.specs.Rows.{AreChanges, changes};
 ghost use Rattle.fax_lines.specs.SinkStates.{state_of};
 ghost use Rattle.fax_rows.specs.WhiteLines.{AreKnown};
 
+use crate::counted_gaps::{GapSoFar, come_to_counted_line, no_gap};
 use crate::gap_look::{
     GapLook, GapRules, GapStage, first_rules, is_settled_at_once, rules_after_row,
 };
@@ -31,10 +32,13 @@ use fax_bits::codes::Color;
 use fax_bits::{DecodeError, DecodeSettings, EncodingMode, Result};
 use fax_lines::Decoder;
 use fax_lines::context::{DecoderContext, begin_line, reference_row};
+use fax_rows::front_count::{pass_front, step_at_front};
+use fax_rows::gap_count::{GapCount, GapStep};
 use fax_rows::push_rows::{WhiteLinesAhead, push_white_rows};
 use fax_rows::row_reader::{RowState, Stand, first_stand, has_ended, is_at_line};
 use fax_rows::rows::try_row;
 use fax_rows::white_lines::{WhiteLines, no_white_lines, repeats_white};
+use fax_rows::zeros_last::{pass_to_zeros, try_zeros};
 use std::alloc::Global;
 use std::marker::Model;
 use std::mem;
@@ -313,6 +317,12 @@ pub(crate) fn pass_settled_gap(
     of_settled_gap(rows.pass_gap_here(ctx, reader, gap_start))
 }
 
+/// Returns how many bits are left of what was counted: a tag of one, and zeros.
+fn bits_left(count: &GapCount) -> usize {
+    let tags = if count.tag { 1 } else { 0 };
+    count.zeros.saturating_add(tags)
+}
+
 /// Reads the line here, which begins at this offset of the data, and returns true, if no data that follows can change it;
 /// otherwise it is left, and false is returned. After an allocation failure it is left too.
 #[inline(always)]
@@ -379,8 +389,8 @@ pub struct RowFeed {
     /// How many bits came before them.
     dropped: usize,
     place: usize,
-    /// How far the gap that is next was looked at.
-    look: GapLook,
+    /// What is known of the gap that is next.
+    gap: GapSoFar,
     /// Where the line here goes on that was found to be short, or `None` at its start, or where no line is known to be here.
     part: Option<KeptPart>,
     /// How many bits of that line were read.
@@ -427,7 +437,7 @@ impl RowFeed {
             data: Vec::new(alloc),
             dropped: 0,
             place: 0,
-            look: GapLook::new(),
+            gap: no_gap(),
             part: None,
             line_read: 0,
             tried: usize::MAX,
@@ -441,12 +451,31 @@ impl RowFeed {
         ensures none_kept { (self.old.part ≡ None) × (self.new.part ≡ None) }
     {
         let mut reader = placed_at(&self.data, self.order, self.place);
-        if front_waits(&mut self.ctx, &mut self.look, &reader, self.is_last) {
-            return false;
+        if self.ctx.settings().columns == 0 {
+            self.rows.stand = first_stand(&mut self.ctx, &mut reader);
+            self.begun = true;
+            return true;
         }
-        self.look = GapLook::new();
-        self.rows.stand = first_stand(&mut self.ctx, &mut reader);
-        self.place = reader.bit_pos();
+        let step = step_at_front(&mut self.ctx, &mut self.gap.count, &mut reader, self.is_last);
+        let place = reader.bit_pos();
+        let line = match step {
+            GapStep::Waits => {
+                self.gap.passed = self.gap.passed.saturating_add(place - self.place);
+                self.place = place;
+                return false;
+            }
+            GapStep::Zeros | GapStep::Missed => {
+                self.gap.at_zeros = true;
+                self.gap.passed = bits_left(&self.gap.count);
+                pass_front(&mut self.ctx, self.gap.count.eols, false)
+            }
+            GapStep::Passed(line) => {
+                self.gap = no_gap();
+                line
+            }
+        };
+        self.place = place;
+        self.rows.stand = if line { Stand::AtLine } else { Stand::AtEnd };
         self.begun = true;
         true
     }
@@ -702,19 +731,27 @@ impl RowFeed {
         requires none_kept { self.old.part ≡ None }
         ensures { FeedsRow self.old self.new result }
     {
+        if self.gap.at_zeros {
+            return self.read_zeros();
+        }
         let mut reader = placed_at(&self.data, self.order, self.place);
-        let gap_start = self.dropped + self.place;
-        let line = pass_settled_gap(
-            &mut self.rows,
-            &mut self.ctx,
-            &mut self.look,
-            &mut reader,
-            self.is_last,
-            gap_start,
-        );
-        self.place = reader.bit_pos();
-        if !is_some_line(&line) {
-            return fed_without_row(line);
+        if !is_at_line(self.rows.stand) {
+            let line = come_to_counted_line(
+                &mut self.rows,
+                &mut self.ctx,
+                &mut self.gap,
+                &mut reader,
+                self.is_last,
+                self.dropped,
+            );
+            self.place = reader.bit_pos();
+            if !is_some_line(&line) {
+                return fed_without_row(line);
+            }
+            if self.gap.at_zeros {
+                return self.read_zeros();
+            }
+            self.gap = no_gap();
         }
         if !can_take_row(&self.ctx) {
             return Err(DecodeError::UnexpectedEof);
@@ -732,6 +769,32 @@ impl RowFeed {
         if is_unsettled(&row) {
             self.keep_part();
         }
+        fed_row(row)
+    }
+
+    /// Reads the row of the line that the zeros begin with which the data ends, or passes the gap before it.
+    #[cold]
+    #[inline(never)]
+    fn read_zeros(&mut self) -> Result<Fed> {
+        let start = (self.dropped + self.place).saturating_sub(self.gap.passed);
+        if !is_at_line(self.rows.stand) {
+            self.gap.count.eols = 0;
+            if !pass_to_zeros(&mut self.rows, &mut self.ctx, &mut self.gap.count, start)? {
+                return Ok(Fed::End);
+            }
+        }
+        if !can_take_row(&self.ctx) {
+            return Err(DecodeError::UnexpectedEof);
+        }
+        begin_line(&mut self.ctx);
+        let damaged_rows = self.ctx.damaged_rows();
+        let cut_rows = self.ctx.cut_rows();
+        let row = try_zeros(&mut self.ctx, self.gap.count.tag, self.gap.count.zeros);
+        if is_unread(&row) {
+            return fed_row(row);
+        }
+        let line = line_answer(&row);
+        self.rows.note_line(&self.ctx, &line, start, damaged_rows, cut_rows);
         fed_row(row)
     }
 
@@ -1088,7 +1151,7 @@ impl RowFeed {
     pub fn bytes_read(&self) -> usize
         ensures { result ≡ (self.now.dropped + self.now.place + 7) / 8 }
     {
-        (self.dropped + self.place + 7) / 8
+        ((self.dropped + self.place).saturating_sub(self.gap.passed) + 7) / 8
     }
 
     /// Returns the bytes that were fed and aren't consumed; of a byte that is partly read nothing is left. At the end of the
