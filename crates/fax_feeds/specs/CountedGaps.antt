@@ -8,11 +8,14 @@ use Rattle.fax_reading.specs.Context.{Context}
 use Rattle.fax_rows.specs.declared.gap_count.GapCount.{GapCount}
 use Rattle.fax_rows.specs.declared.gap_count.GapStep.{GapStep}
 use Rattle.fax_rows.specs.declared.row_reader.RowState.{RowState}
-use Rattle.fax_rows.specs.GapsCounted.{StandsInGap, StepLeaves, StepSays, left_before, none_counted}
-use Rattle.fax_rows.specs.RowsRead.{IsStanding, ReachesNextLine, seen}
+use Rattle.fax_rows.specs.GapsCounted.{CountsEol, StandsInGap, StaysCounted, StepLeaves, StepSays, left_before}
+use Rattle.fax_rows.specs.RowsRead.{IsStanding, ReachesNextLine, is_at_line, seen}
 use Rattle.fax_feeds.specs.declared.counted_gaps.GapSoFar.{GapSoFar}
 use Rattle.fax_feeds.specs.GapsSeen.{IsSeen, nothing_seen, rules_for}
-use Rattle.fax_feeds.specs.RowFeeds.{Feeding, LieIn, fed_bits}
+use Rattle.fax_bits.specs.declared.settings.EncodingMode.TheVariants.{Group3_2D}
+use Rattle.fax_bits.specs.declared.error.DecodeError.TheVariants.{InvalidCode}
+use Rattle.std.specs.Prelude.{◌*◌, ◌≢◌, IfErr}
+use Rattle.fax_feeds.specs.RowFeeds.{LieIn, PassesEol, no_gap}
 
 -- What a call leaves that goes on in a gap after a row, of which this was counted: each bit that is looked at is a tick, and
 -- few of them are beyond where the call came.
@@ -27,15 +30,15 @@ pub record CountsOn (is_last : Bool) (rows kept : RowState) (count next : GapCou
   pub same_bits : after.bits ≡ before.bits
   pub within : after.place ≤ length after.bits
   pub says : StepSays is_last rows kept next step
+  pub stays : step ≡ GapStep.Waits → StaysCounted count next (here before) (here after)
+  pub eol : step ≡ GapStep.Passed true → is_last ≡ false → old.held.has_eols ≡ true
+      → CountsEol old.held.settings count (here before) (here after)
+  pub line : step ≡ GapStep.Passed true → is_at_line kept.stand ≡ true
   pub leaves : (from : ℕ) (whole : Bits) (dropped : ℕ) → LieIn whole dropped is_last before.bits
       → (in_gap : StandsInGap from rows old whole (dropped + before.place) count)
       → StepLeaves step (from + extra) rows kept new whole in_gap.start dropped next before after
 
 -- ---- The gap before the next line
-
--- nothing is known of a gap that begins
-abbrev pub no_gap : GapSoFar
-no_gap = record { count = none_counted; passed = 0; at_zeros = false; look = nothing_seen }
 
 -- The reading is after a row, in the gap of which this is known: up to this offset it was counted.
 pub record StandsSoFar (from : ℕ) (rows : RowState) (ctx : Context) (whole : Bits) (at : ℕ) (gap : GapSoFar) : Type 0 where
@@ -54,11 +57,12 @@ pub record ComesSoFar (from : ℕ) (rows kept : RowState) (old new : Context) (w
     (answer : Result Bool DecodeError) : Type 0 where
   pub place : ℕ
   pub place_is : place + gap.passed ≡ at
+  pub onward : answer ≡ Ok true → start ≤ place
   pub stands : IsStanding from kept new (record { bits = whole; place = place })
   pub reaches : ReachesNextLine (seen rows old (record { bits = whole; place = start }))
       (seen kept new (record { bits = whole; place = place })) answer
-  pub zeros : gap.at_zeros ≡ true → drop place whole ≡ left_before gap.count []
-  pub none : gap.at_zeros ≡ false → gap.passed ≡ 0
+  pub zeros : gap.at_zeros ≡ true → (drop place whole ≡ left_before gap.count [])
+      × (gap.count.tag ≡ true → new.held.settings.encoding ≡ Group3_2D)
 
 abbrev pub CameSoFar : Result (Option Bool) DecodeError → ℕ → RowState → RowState → Context → Context → Bits → ℕ → ℕ → GapSoFar
     → BitsAt → Type 0
@@ -69,44 +73,48 @@ CameSoFar (Ok (Some line)) from rows kept old new whole start at gap after =
 CameSoFar (Err error) from rows kept old new whole start at gap after =
     ComesSoFar from rows kept old new whole start at gap (Err error)
 
+-- How far a call looks that passes the gap up to a line, of which so many bits were counted before this offset: where more may
+-- come, no more than twice the bits of the gap and sixteen. An EOL is among them, if EOLs are sought (T.4, 4.1.2).
+pub record PassesNear (is_last : Bool) (start at place extra : ℕ) (gap next : GapSoFar) (old : Context) (known : Bits)
+    : Type 0 where
+  pub near : is_last ≡ false → extra + gap.look.bits + 2 * at ≤ 2 * place + 16
+  pub last : is_last ≡ true → extra + 2 * start ≤ 2 * place + next.passed + 16
+  pub past_eol : is_last ≡ false → old.held.has_eols ≡ true → PassesEol known start place
+
+-- what is known of the gap stays so: it waits, and can be counted on; or it was passed, and it is known only where zeros end the
+-- data
+pub record StaysKnown (is_last : Bool) (gap next : GapSoFar) (before after : Bits) (answer : Result (Option Bool) DecodeError)
+    : Type 0 where
+  pub waits : answer ≡ Ok None → StaysCounted gap.count next.count before after × (next.at_zeros ≡ false)
+  pub passed : answer ≢ Ok None → next.at_zeros ≡ false → next ≡ no_gap
+  pub zeros : next.at_zeros ≡ true → (is_last ≡ true) × (16 ≤ next.count.zeros) × (next.look ≡ nothing_seen)
+  -- where an EOL is missing, the gap begins here
+  pub missed : 0 < next.look.bits → next ≡ record no_gap { look = next.look }
+
 -- What a call leaves that passes the gap after a row, of which this was known, if no data that follows can change it, whatever
--- the
--- data is.
+-- the data is.
 pub record ComesCounted (is_last : Bool) (dropped : ℕ) (rows kept : RowState) (gap next : GapSoFar) (old new : Context)
     (before after : BitsAt) (answer : Result (Option Bool) DecodeError) : Type 0 where
   pub extra : ℕ
   pub counts : old.ticks + extra ≤ new.ticks
   pub space : new.space ≡ old.space
+  pub frame : new.held ≡ record old.held { has_eols = new.held.has_eols; repairs = new.held.repairs }
   pub same_bits : after.bits ≡ before.bits
   pub within : after.place ≤ length after.bits
+  pub onward : before.place ≤ after.place
+  pub line : answer ≡ Ok (Some true) → is_at_line kept.stand ≡ true
+  pub only_code : IfErr answer (λ e. e ≡ InvalidCode)
   -- where it waits, but sixteen of the bits that were counted are those up to here, or were looked at from here on
   pub near : answer ≡ Ok None → extra + gap.look.bits + before.place ≤ after.place + next.look.bits + 16
+  -- no more were looked at than there are, and sixteen
+  pub looks : 0 < extra → extra + gap.look.bits + before.place ≤ length before.bits + 16
   pub waits : answer ≡ Ok None → (new.held ≡ old.held) × (new.ticks ≡ old.ticks + extra) × (is_last ≡ false)
   pub seen : answer ≡ Ok None → IsSeen (rules_for true old.held) next.look (here after)
-  -- where an EOL is missing, the gap begins here
-  pub missed : 0 < next.look.bits → next ≡ record no_gap { look = next.look }
+  pub known : StaysKnown is_last gap next (here before) (here after) answer
   pub leaves : (from : ℕ) (whole : Bits) → LieIn whole dropped is_last before.bits
       → (stands : StandsSoFar from rows old whole (dropped + before.place) gap)
       → CameSoFar answer (from + extra) rows kept old new whole stands.in_gap.start (dropped + after.place) next after
-
--- ---- A feed that is within a gap
-
--- The feed with all bits of some data that were fed, from an offset at or before the gap's start on, where it is; so much is
--- known of the gap.
-abbrev pub completed : Bits → ℕ → GapSoFar → Feeding → Feeding
-completed whole base gap feed = record feed {
-  dropped = base;
-  kept = take (fed_bits feed - base) (drop base whole);
-  place = feed.dropped + feed.place - gap.passed - base;
-  looked = gap.passed + gap.look.bits;
-}
-
--- It is a reading of these bits after a row, of whose gap the first bits were counted, and aren't kept.
-pub record IsWithinGap (whole : Bits) (tried base : ℕ) (gap : GapSoFar) (feed : Feeding) : Type 0 where
-  pub fit : length whole + 64 < 2 ^ 64
-  pub lie : LieIn whole feed.dropped feed.finished feed.kept
-  pub begun : feed.begun ≡ true
-  pub within : feed.place ≤ length feed.kept
-  pub looked : gap.look.bits + feed.place ≤ length feed.kept
-  pub stands : StandsSoFar tried feed.rows feed.ctx whole (feed.dropped + feed.place) gap
-  pub before : base ≤ stands.in_gap.start
+  pub passes : (from : ℕ) (whole : Bits) → LieIn whole dropped is_last before.bits
+      → (stands : StandsSoFar from rows old whole (dropped + before.place) gap) → answer ≡ Ok (Some true)
+      → PassesNear is_last stands.in_gap.start (dropped + before.place) (dropped + after.place - next.passed) extra gap next old
+      (stands.in_gap.gone ++ here before)

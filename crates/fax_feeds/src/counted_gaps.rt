@@ -3,7 +3,8 @@
 ghost use Rattle.std.specs.Prelude.{◌≡◌, ◌+◌, ◌<◌, ◌^◌, false, true, length};
 ghost use Rattle.fax_bits.specs.Bits.{here};
 ghost use Rattle.fax_rows.specs.GapsCounted.{CanGoOn};
-ghost use Rattle.fax_feeds.specs.CountedGaps.{ComesCounted, CountsOn, no_gap};
+ghost use Rattle.fax_feeds.specs.CountedGaps.{ComesCounted, CountsOn};
+ghost use Rattle.fax_feeds.specs.RowFeeds.{no_gap};
 ghost use Rattle.fax_feeds.specs.GapsSeen.{IsSeen, rules_for};
 
 use crate::gap_look::{GapLook, is_settled_at_once, rules_after_row};

@@ -133,6 +133,11 @@ pub record CanGoOn (count : GapCount) (here : Bits) : Type 0 where
   pub tidy : IsTidy count
   pub fits : count.eols + count.zeros + length here + 1 < 2 ^ 64
 
+-- the next bits can still be counted, whatever data follows: no more was counted than the bits that were passed
+pub record StaysCounted (old new : GapCount) (before after : Bits) : Type 0 where
+  pub tidy : IsTidy new
+  pub most : new.eols + new.zeros + length after ≤ old.eols + old.zeros + length before
+
 -- The bits here were counted, but for few, and those can be of the gap too: data that follows can change it.
 pub record StaysOpen (settings : DecodeSettings) (old new : GapCount) (before after : Bits) : Type 0 where
   pub first : Bits
@@ -172,6 +177,16 @@ abbrev pub past_eols : EncodingMode → ℕ × Bits → ℕ × Bits
 past_eols Group3_2D found = pass_last_tag found
 past_eols Group3_1D found = found
 past_eols Group4 found = found
+
+-- among the bits that were passed an EOL was counted
+pub record CountsEol (settings : DecodeSettings) (count : GapCount) (before after : Bits) : Type 0 where
+  pub first : Bits
+  pub rest : Bits
+  pub are : before ≡ first ++ rest
+  pub mid : GapCount
+  pub is : counted_by settings count first ≡ Some mid
+  pub some : 0 < mid.eols
+  pub onward : length after ≤ length rest
 
 -- ---- Where a reading is whose gap was counted
 

@@ -1,7 +1,7 @@
 -- The zeros with which the data ends, of which only the number is kept: the gap before them, and the line that they begin: not
 -- part of the trusted specification.
 use Rattle.std.specs.Prelude.{◌≡◌, ◌≤◌, ◌&&◌, ℕ, Bool, true, false, [], ◌++◌, drop, length, nat_le, if◌then◌else◌, replicate}
-use Rattle.std.specs.Prelude.{Result, Ok, Err}
+use Rattle.std.specs.Prelude.{◌+◌, Result, Ok, Err}
 use Rattle.fax_bits.specs.Bits.{Bits, BitsAt}
 use Rattle.fax_bits.specs.declared.error.DecodeError.{DecodeError}
 use Rattle.fax_bits.specs.declared.error.DecodeError.TheVariants.{InvalidCode}
@@ -45,3 +45,9 @@ pub record PassesZeros (from : ℕ) (rows kept : RowState) (old new : Context) (
   pub stands : IsStanding from kept new (record { bits = whole; place = place })
   pub reaches : ReachesNextLine (seen rows old (record { bits = whole; place = start }))
       (seen kept new (record { bits = whole; place = place })) answer
+
+-- A row is read at most, and the settings are the same, whatever the zeros are.
+pub record CountsZeros (old new : Context) (answer : Result Bool DecodeError) : Type 0 where
+  pub settings : new.held.settings ≡ old.held.settings
+  pub taken : answer ≡ Ok true → new.held.taken ≡ old.held.taken + 1
+  pub width : answer ≡ Ok true → length new.held.reference ≡ old.held.settings.columns

@@ -5,8 +5,8 @@ ghost use Rattle.std.specs.Prelude.{true, length, None, Some, Ok, not, ℕ};
 ghost use Rattle.fax_bits.specs.Bits.{Bits, here};
 ghost use Rattle.fax_reading.specs.PlainReading.{at_end, is_over, limit_met};
 ghost use Rattle.fax_lines.specs.Counting.{OnlyCounts};
-ghost use Rattle.fax_rows.specs.GapsCounted.{CountsTo, EndsAtOne, EndsAtTwo, CanGoOn, StaysOpen, counted, ends_at_two, has_tags};
-ghost use Rattle.fax_rows.specs.GapsCounted.{left_before, one_counted, past_eols, StepSays, StepsInGap, to_last_eol};
+ghost use Rattle.fax_rows.specs.GapsCounted.{CountsEol, CountsTo, EndsAtOne, EndsAtTwo, CanGoOn, StaysOpen, counted, ends_at_two, has_tags};
+ghost use Rattle.fax_rows.specs.GapsCounted.{left_before, one_counted, past_eols, StaysCounted, StepSays, StepsInGap, to_last_eol};
 ghost use Rattle.fax_rows.specs.RowsTried.{rows_after_gap};
 
 use crate::row_reader::{RowState, Stand};
@@ -138,6 +138,7 @@ pub fn count_gap(
     ensures open { result ≡ GapEnd.Open → StaysOpen settings count.old count.new (here reader.old) (here reader.new) }
     ensures ends { result ≡ GapEnd.AtOne → EndsAtOne settings count.old count.new (here reader.old) (here reader.new) }
     ensures two { result ≡ GapEnd.AtTwo → EndsAtTwo settings count.old count.new (here reader.old) (here reader.new) }
+    ensures stays { result ≡ GapEnd.Open → StaysCounted count.old count.new (here reader.old) (here reader.new) }
     ensures same_bits { reader.new.bits ≡ reader.old.bits }
     ensures counts { ticks.old ≤ ticks.new }
     ensures work { ticks.new + length (here reader.new) ≤ ticks.old + length (here reader.old) + 16 }
@@ -198,6 +199,7 @@ pub fn pass_counted(
     ensures eols { past_eols ctx.now.held.settings.encoding (eols, here reader.old) ≡ (eols, here reader.new) }
     ensures over { is_over ctx.now.held.settings ctx.now.held.taken (eols, here reader.new) ≡ not result }
     ensures kept { (place : ℕ) → rows.new ≡ rows_after_gap rows.old (Ok (not result)) place ctx.now ctx.now }
+    ensures line { result ≡ true → rows.new.stand ≡ Stand.AtLine }
     ensures same_bits { reader.new.bits ≡ reader.old.bits }
     ensures onward { reader.old.place ≤ reader.new.place }
     ensures within { reader.new.place ≤ length reader.new.bits }
@@ -248,6 +250,10 @@ pub fn step_in_gap(
     ensures moves { (reader.old.place ≤ reader.new.place) × (reader.new.place ≤ length reader.new.bits) }
     ensures only_ticks { OnlyCounts ctx.old ctx.new }
     ensures says { StepSays is_last rows.old rows.new count.new result }
+    ensures stays { result ≡ GapStep.Waits → StaysCounted count.old count.new (here reader.old) (here reader.new) }
+    ensures eol { result ≡ GapStep.Passed true → is_last ≡ false → ctx.old.held.has_eols ≡ true
+        → CountsEol ctx.old.held.settings count.old (here reader.old) (here reader.new) }
+    ensures line { result ≡ GapStep.Passed true → rows.new.stand ≡ Stand.AtLine }
     ensures work { ctx.new.ticks + reader.old.place ≤ ctx.old.ticks + reader.new.place + 16 }
 {
     let _start = reader.bit_pos();

@@ -1,13 +1,13 @@
 //! A gap that ends with the zeros with which the data ends, and the line that begins with them, where only their number is kept.
 
-ghost use Rattle.std.specs.Prelude.{◌≡◌, ◌≤◌, ◌<◌, ◌-◌, ◌+◌, ◌^◌, true, false, not, None, Ok, ℕ, [], drop};
+ghost use Rattle.std.specs.Prelude.{◌≡◌, ◌≤◌, ◌<◌, ◌-◌, ◌+◌, ◌^◌, true, false, not, None, IfErr, Ok, ℕ, [], drop};
 ghost use Rattle.fax_bits.specs.Bits.{Bits, bits_of};
 ghost use Rattle.fax_bits.specs.EndOfLine.{next_eol};
 ghost use Rattle.fax_reading.specs.PlainReading.{at_end, is_over, misses_eol};
 ghost use Rattle.fax_rows.specs.RowsTried.{PassesGap, TriesRow, rows_after_gap};
 ghost use Rattle.fax_rows.specs.TakenRows.{CanTakeRow};
 ghost use Rattle.fax_rows.specs.RowsRead.{line_after};
-ghost use Rattle.fax_rows.specs.ZerosLast.{EndsInZeros, PassesZeros, given_up, zeros_at, zeros_passed};
+ghost use Rattle.fax_rows.specs.ZerosLast.{CountsZeros, EndsInZeros, PassesZeros, given_up, zeros_at, zeros_passed};
 
 use crate::counts::count_missed_eol;
 use crate::gap_count::{GapCount, ends_image, has_tags, lacks_eol};
@@ -25,6 +25,9 @@ fn give_up_eols(rows: &mut RowState, ctx: &mut DecoderContext, gap_start: usize)
         → PassesGap ctx.old ctx.new (given_up ctx.old.held.settings.strict) start start }
     ensures kept { rows.new ≡ rows_after_gap rows.old (given_up ctx.old.held.settings.strict) gap_start ctx.old ctx.new }
     ensures line { result ≡ line_after (given_up ctx.old.held.settings.strict) }
+    ensures stand { result ≡ Ok true → rows.new.stand ≡ Stand.AtLine }
+    ensures only_code { IfErr result (λ e. e ≡ DecodeError.InvalidCode) }
+    ensures frame { ctx.new.held ≡ record ctx.old.held { has_eols = ctx.new.held.has_eols; repairs = ctx.new.held.repairs } }
     ensures counts { ctx.new.ticks ≡ ctx.old.ticks }
     ensures space { ctx.new.space ≡ ctx.old.space }
 {
@@ -49,6 +52,7 @@ fn pass_counted_zeros(rows: &mut RowState, ctx: &DecoderContext, count: &mut Gap
         → is_over ctx.now.held.settings ctx.now.held.taken (count.old.eols, rest) ≡ not result }
     ensures kept { (place : ℕ) → rows.new ≡ rows_after_gap rows.old (Ok (not result)) place ctx.now ctx.now }
     ensures count { count.new ≡ zeros_passed ctx.now.held.settings.encoding count.old }
+    ensures stand { result ≡ true → rows.new.stand ≡ Stand.AtLine }
 {
     if count.eols >= 6 && has_tags(ctx.settings()) {
         count.tag = false;
@@ -76,6 +80,9 @@ pub fn pass_to_zeros(
         → (count.old.eols ≡ 0 → start ≡ gap_start)
         → PassesZeros from rows.old rows.new ctx.old ctx.new whole start count.new result }
     ensures count { count.new ≡ zeros_passed ctx.old.held.settings.encoding count.old }
+    ensures stand { result ≡ Ok true → rows.new.stand ≡ Stand.AtLine }
+    ensures only_code { IfErr result (λ e. e ≡ DecodeError.InvalidCode) }
+    ensures frame { ctx.new.held ≡ record ctx.old.held { has_eols = ctx.new.held.has_eols; repairs = ctx.new.held.repairs } }
     ensures counts { ctx.new.ticks ≡ ctx.old.ticks }
     ensures space { ctx.new.space ≡ ctx.old.space }
 {
@@ -115,6 +122,7 @@ pub fn try_zeros(ctx: &mut DecoderContext, tag: bool, zeros: usize) -> Result<bo
     requires begun { ctx.old.held.front ≡ [] }
     ensures row { 0 < ctx.old.held.settings.columns → (tag ≡ true → ctx.old.held.settings.encoding ≡ EncodingMode.Group3_2D)
         → TriesRow true ctx.old ctx.new result (zeros_at tag zeros) (zeros_at tag zeros) }
+    ensures counts { CountsZeros ctx.old ctx.new result }
 {
     // Twelve to nineteen bits decide it, before which there are whole bytes of zeros.
     let tags = if tag { 1 } else { 0 };

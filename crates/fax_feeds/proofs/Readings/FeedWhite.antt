@@ -15,7 +15,7 @@ use Rattle.fax_feeds.proofs.Readings.LooksKept.{fresh_look}
 use Rattle.fax_rows.proofs.Readings.RowsAgain.{gap_width, line_passed, white_reads, white_stands}
 use Rattle.fax_feeds.proofs.Readings.RowsFed.{from_place, place_within}
 use Rattle.fax_feeds.specs.GapsSeen.{nothing_seen}
-use Rattle.fax_feeds.specs.RowFeeds.{DrawsRow, FeedsNext, FeedsRow, IsFeedOf, PassesEol, StandsIn}
+use Rattle.fax_feeds.specs.RowFeeds.{DrawsRow, FeedsPlainly, FeedsRow, IsPlainFeedOf, PassesEol, StandsIn}
 use Rattle.fax_feeds.specs.RowFeeds.{fed_over, feeding_of}
 use Rattle.fax_rows.specs.WhiteRows.{TakesWhite}
 use Rattle.fax_rows.specs.WhiteLines.{AreWhiteLine, IsWhiteLine, MayFollow, PassesLine, bits_of_word, eol_before}
@@ -99,7 +99,7 @@ module _ {f : Inside} {before after : BitsAt} {rows : RowState} {ctx : Context} 
     drawn = inl (omega (arith, no_changes, gap_in_word, place_after));
   }
 
-  module _ {whole : Bits} {tried : ℕ} (feed : IsFeedOf whole tried (feeding_of f)) where
+  module _ {whole : Bits} {tried : ℕ} (feed : IsPlainFeedOf whole tried (feeding_of f)) where
     abbrev at_whole : BitsAt
     at_whole = record { bits = whole; place = f.dropped + f.place }
 
@@ -138,7 +138,7 @@ module _ {f : Inside} {before after : BitsAt} {rows : RowState} {ctx : Context} 
         }) x next_whole) (Ok true)) (sym takes.new_is)
         (white_reads tried f.rows f.ctx at_whole white_stood following lines follow takes.unmet next_whole whole_passes))
 
-    white_fed : IsFeedOf whole (tried + 0) (feeding_of (past_line f ctx rows place))
+    white_fed : IsPlainFeedOf whole (tried + 0) (feeding_of (past_line f ctx rows place))
     white_fed =
         let none : tried + 0 ≡ tried = omega arith in
         record {
@@ -162,7 +162,7 @@ module _ {f : Inside} {before after : BitsAt} {rows : RowState} {ctx : Context} 
     not_at_line true e = false≢true (sym (ap is_at_line following) ∙ e)
     not_at_line false e = false≢true e
 
-    white_feeds : FeedsNext whole tried (feeding_of f) (feeding_of (past_line f ctx rows place)) (Ok Fed.Row)
+    white_feeds : FeedsPlainly whole tried (feeding_of f) (feeding_of (past_line f ctx rows place)) (Ok Fed.Row)
     white_feeds = record {
       row = λ e. white_next;
       end = λ e. cc;

@@ -6,7 +6,7 @@ use Rattle.std.proofs.Math.Seq.{drop-append_seam, length-take-le}
 use Rattle.std.proofs.lemmas.List.{take-append-drop}
 use Rattle.fax_feeds.specs.declared.counted_gaps.GapSoFar.{GapSoFar}
 use Rattle.fax_feeds.specs.CountedGaps.{IsWithinGap, completed}
-use Rattle.fax_feeds.specs.RowFeeds.{Feeding, IsFeedOf, LieIn, StandsIn, fed_bits}
+use Rattle.fax_feeds.specs.RowFeeds.{Feeding, IsPlainFeedOf, LieIn, StandsIn, fed_bits}
 use Rattle.fax_feeds.proofs.Readings.RowsFed.{from_place, place_within}
 
 pub take_length : (first rest : Bits) → take (length first) (first ++ rest) ≡ first
@@ -91,7 +91,7 @@ module _ {whole : Bits} {tried base : ℕ} {gap : GapSoFar} {feed : Feeding} (is
   full_fed = omega (arith, ap length kept_is, length-append first known, first_long, known_long, is.before)
 
   -- It is a reading of the data too.
-  pub full_is_fed : IsFeedOf whole tried full
+  pub full_is_fed : IsPlainFeedOf whole tried full
   full_is_fed = record {
     fit = is.fit;
     lie = record {

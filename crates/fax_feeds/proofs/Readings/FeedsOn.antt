@@ -20,10 +20,10 @@ use Rattle.fax_reading.specs.Answers.{HasBlack, PaintsBlack}
 use Rattle.fax_reading.specs.Continuations.{is_short}
 use Rattle.fax_reading.specs.GapsContinued.{gap_is_settled}
 use Rattle.fax_rows.specs.RowsTried.{CanCome, IsUnread, StandsFirst, TriesRow, front_is_settled}
-use Rattle.fax_feeds.specs.RowFeeds.{ComesInFeed, ComesOn, Feeding, IsFeedOf, KeepsBits, LieIn, ReadsInFeed, StandsIn}
+use Rattle.fax_feeds.specs.RowFeeds.{ComesInFeed, ComesOn, Feeding, IsPlainFeedOf, KeepsBits, LieIn, ReadsInFeed, StandsIn}
 use Rattle.fax_feeds.specs.RowFeeds.{HasNone, LooksAhead, TriesLine, came, fed_over}
 use Rattle.fax_feeds.specs.declared.gap_look.GapLook.{GapLook}
-use Rattle.fax_feeds.specs.RowFeeds.{ComeNext, DropsRead, FeedsNext, IsAtFront, IsOpenAt, StaysThere, fed_without_row}
+use Rattle.fax_feeds.specs.RowFeeds.{ComeNext, DropsRead, FeedsPlainly, IsAtFront, IsOpenAt, StaysThere, fed_without_row}
 use Rattle.fax_feeds.specs.RowFeeds.{LineWork, fed_bits, fed_row, is_unread, line_first, paid_by}
 use Rattle.fax_feeds.proofs.Names.{changes}
 use Rattle.fax_reading.proofs.Work.WordsPay.{found_within}
@@ -67,7 +67,7 @@ module _ (old new : Feeding) (before after : BitsAt) (before_is : before ≡ rec
   starts = ap (λ (n : ℕ). old.dropped + n) (sym (ap (λ (b : BitsAt). b.place) before_is))
 
   -- where the reading is in the whole data
-  module _ {whole : Bits} {tried : ℕ} (feed : IsFeedOf whole tried old) where
+  module _ {whole : Bits} {tried : ℕ} (feed : IsPlainFeedOf whole tried old) where
     pub lies : LieIn whole old.dropped old.finished before.bits
     lies = subst (λ (b : Bits). LieIn whole old.dropped old.finished b) (sym (ap (λ (b : BitsAt). b.bits) before_is)) feed.lie
 
@@ -76,7 +76,7 @@ module _ (old new : Feeding) (before after : BitsAt) (before_is : before ≡ rec
 
     pub stays_fed : (more : ℕ)
         → IsStanding (tried + more) new.rows new.ctx (record { bits = whole; place = old.dropped + after.place })
-        → IsFeedOf whole (tried + more) new
+        → IsPlainFeedOf whole (tried + more) new
     stays_fed more stands = grind (arith, common_steps)
 
   place_is : old.dropped + after.place ≡ new.dropped + new.place
@@ -180,7 +180,7 @@ module _ (old new : Feeding) (before after : BitsAt) (before_is : before ≡ rec
     no_more : CanCome old.finished []
     no_more = record { bytes = refl; none = λ e. refl }
 
-    module _ {whole : Bits} {tried : ℕ} (feed : IsFeedOf whole tried old) where
+    module _ {whole : Bits} {tried : ℕ} (feed : IsPlainFeedOf whole tried old) where
       same : mid.held ≡ old.ctx.held
       same = grind (arith, common_steps, begun_is, at_line_stands, stood)
 
@@ -215,7 +215,7 @@ module _ (old new : Feeding) (before after : BitsAt) (before_is : before ≡ rec
           (black_goes_on old.ctx.held.settings old.ctx.held.reference (here before) lie.more black)))
 
       line_stays_fed : (b : Bool) → is_unread answer ≡ b
-          → IsFeedOf whole (tried + cond b (new.ctx.ticks - old.ctx.ticks) 0) new
+          → IsPlainFeedOf whole (tried + cond b (new.ctx.ticks - old.ctx.ticks) 0) new
       line_stays_fed true left_so =
           let left = left_is answer left_so in
           let more = new.ctx.ticks - old.ctx.ticks in
@@ -344,7 +344,7 @@ module _ (old new : Feeding) (mid : Context) (before after : BitsAt) (stand : St
     (at_line : is_some (ended stand) ≡ false → is_at_line stand ≡ true)
     (settled : (old.finished ≡ true)
     ⊎ (front_is_settled mid.held.settings before.bits ≡ true))
-    {whole : Bits} {tried : ℕ} (feed : IsFeedOf whole tried old) (front : IsAtFront tried old.rows old.ctx
+    {whole : Bits} {tried : ℕ} (feed : IsPlainFeedOf whole tried old) (front : IsAtFront tried old.rows old.ctx
     (old.dropped + old.place)) where
   abbrev lie : LieIn whole old.dropped old.finished old.kept
   lie = feed.lie
@@ -377,7 +377,7 @@ module _ (old new : Feeding) (mid : Context) (before after : BitsAt) (stand : St
   front_stood : IsStanding (tried + more) new.rows new.ctx (record { bits = whole; place = new.dropped + new.place })
   front_stood = grind (arith, common_steps, rows_now, place_now, whole_is, front_standing)
 
-  pub front_fed : IsFeedOf whole (tried + more) new
+  pub front_fed : IsPlainFeedOf whole (tried + more) new
   front_fed = grind (arith, common_steps, front_stood)
 
   none_before : old.ctx.held.taken ≡ 0
@@ -405,10 +405,10 @@ none_after (Err error) other reached = grind (arith, common_steps)
 
 -- a line was reached, and the call went on from there
 pub feeds_on : {whole : Bits} {tried : ℕ} (more : ℕ) {old mid new : Feeding} {answer : Result Fed DecodeError}
-    → LooksAhead old.finished (old.begun && is_at_line old.rows.stand) old.looked (drop old.place old.kept) more
+    → LooksAhead (old.begun && is_at_line old.rows.stand) old.looked (drop old.place old.kept) more
     → old.part ≡ None → mid.part ≡ None → mid.begun ≡ true
     → ReachesNextLine (fed_over whole old) (fed_over whole mid) (Ok true) → ReachesLine old mid more
-    → FeedsNext whole (tried + more) mid new answer → FeedsNext whole tried old new answer
+    → FeedsPlainly whole (tried + more) mid new answer → FeedsPlainly whole tried old new answer
 feeds_on {whole} {tried} more {old} {mid} {new} {answer} looks unkept none begun reached reaches next = record {
   row = λ e. reads_on (fed_over whole old) (fed_over whole mid) (fed_over whole new) (Ok true) reached (next.row e);
   end = λ e. reads_on (fed_over whole old) (fed_over whole mid) (fed_over whole new) (Ok false) reached (next.end e);
@@ -458,7 +458,7 @@ feeds_on {whole} {tried} more {old} {mid} {new} {answer} looks unkept none begun
     failed_at_once = λ e kept. next.line_work.failed_at_once e none;
   };
   stands = let same : (tried + more) + next.extra ≡ tried + (more + next.extra) = omega arith in
-      subst (λ (n : ℕ). IsFeedOf whole n new) same next.stands;
+      subst (λ (n : ℕ). IsPlainFeedOf whole n new) same next.stands;
   gap = more;
   looks = looks;
   looked = λ e away.
@@ -561,12 +561,12 @@ next_is : {old new : Feeding} → KeepsBits old new → new.place ≡ old.place 
 next_is {old} {new} keeps place = ap (λ (n : ℕ). drop n old.kept) (sym place) ∙ ap (drop new.place) (sym keeps.kept)
 
 -- at a line no gap is looked at
-pub none_looked : (finished line : Bool) (looked : ℕ) (gap : Bits) → LooksAhead finished line looked gap 0
+pub none_looked : (finished line : Bool) (looked : ℕ) (gap : Bits) → LooksAhead line looked gap 0
 none_looked finished line looked gap = grind (arith, common_steps)
 
 -- once begun
 looks_begun : (begun : Bool) {finished line : Bool} {looked counted : ℕ} {gap : Bits} → begun ≡ true
-    → LooksAhead finished line looked gap counted → LooksAhead finished (begun && line) looked gap counted
+    → LooksAhead line looked gap counted → LooksAhead (begun && line) looked gap counted
 looks_begun true is looks = looks
 looks_begun false is looks = absurd (false≢true is)
 
@@ -589,7 +589,7 @@ fault_ends : {old new : RowsRead} {error : DecodeError} → ReadsNext old new (E
 fault_ends reads unended = let never = sym reads.error.0 ∙ unended in cc
 
 line_onward : {whole : Bits} {tried : ℕ} {old new : Feeding} (answer : Result Bool DecodeError) → ReadsInFeed old new answer
-    → IsFeedOf whole tried old → ended new.rows.stand ≡ None → old.place ≤ new.place
+    → IsPlainFeedOf whole tried old → ended new.rows.stand ≡ None → old.place ≤ new.place
 line_onward {whole} {tried} {old} {new} (Ok true) reads feed unended = (reads.row_is whole tried refl feed).1
 line_onward {whole} {tried} {old} {new} (Ok false) reads feed unended = omega (arith, (reads.left refl).1)
 line_onward {whole} {tried} {old} {new} (Err error) reads feed unended = by_left (is_unread (Err error)) refl
@@ -600,7 +600,7 @@ line_onward {whole} {tried} {old} {new} (Err error) reads feed unended = by_left
 
 -- the row of a line has no more changes than the line's bits pay
 line_draws : {whole : Bits} {tried : ℕ} {old new : Feeding} (answer : Result Bool DecodeError) → ReadsInFeed old new answer
-    → old.begun ≡ true → is_at_line old.rows.stand ≡ true → IsFeedOf whole tried old → answer ≡ Ok true → DrawsRow old new
+    → old.begun ≡ true → is_at_line old.rows.stand ≡ true → IsPlainFeedOf whole tried old → answer ≡ Ok true → DrawsRow old new
 line_draws {whole} {tried} {old} {new} answer reads begun line feed e =
     let held = old.ctx.held in
     let row = reads.row_is whole tried e feed in
@@ -627,7 +627,7 @@ line_draws {whole} {tried} {old} {new} answer reads begun line feed e =
     following = length-drop new.place new.kept
 
 line_goes_on : {whole : Bits} {tried : ℕ} {old new : Feeding} (answer : Result Bool DecodeError)
-    → (reads : ReadsInFeed old new answer) → old.begun ≡ true → is_at_line old.rows.stand ≡ true → IsFeedOf whole tried old
+    → (reads : ReadsInFeed old new answer) → old.begun ≡ true → is_at_line old.rows.stand ≡ true → IsPlainFeedOf whole tried old
     → CallGoesOn old new (fed_row answer) 0 reads.extra
 line_goes_on {whole} {tried} {old} {new} answer reads begun line feed = record {
   counts = reads.counted;
@@ -683,7 +683,7 @@ line_fault (Err error) reads = reads
 pub line_feeds : {whole : Bits} {tried : ℕ} {old new : Feeding} (answer : Result Bool DecodeError) → ReadsInFeed old new answer
     → (answer ≡ Ok false → old.part ≡ None → new.part ≡ None → (new.ctx.ticks ≡ old.ctx.ticks)
     ⊎ ((old.tried_at ≢ new.dropped + new.place) × (new.tried_at ≡ new.dropped + new.place))) → old.begun ≡ true
-    → is_at_line old.rows.stand ≡ true → IsFeedOf whole tried old → FeedsNext whole tried old new
+    → is_at_line old.rows.stand ≡ true → IsPlainFeedOf whole tried old → FeedsPlainly whole tried old new
     (fed_row answer)
 line_feeds {whole} {tried} {old} {new} answer reads unread begun line feed = record {
   row = λ e. row_of_line_read answer (line_was_read answer e) (λ whole_line. reads.reads whole tried whole_line feed);
@@ -735,10 +735,10 @@ gap_end (Err error) other e reached = absurd cc
 -- the reading ends before a line
 over_feeds : {whole : Bits} {tried : ℕ} {old new : Feeding} (answer : Result (Option Bool) DecodeError) (more : ℕ)
     → answer ≢ Ok None → answer ≢ Ok (Some true) → answer ≢ Err OutOfMemory
-    → ReachesNextLine (fed_over whole old) (fed_over whole new) (came answer) → IsFeedOf whole (tried + more) new
-    → LooksAhead old.finished (old.begun && is_at_line old.rows.stand) old.looked (drop old.place old.kept) more
+    → ReachesNextLine (fed_over whole old) (fed_over whole new) (came answer) → IsPlainFeedOf whole (tried + more) new
+    → LooksAhead (old.begun && is_at_line old.rows.stand) old.looked (drop old.place old.kept) more
     → old.part ≡ None → CallGoesOn old new (fed_without_row answer) more more
-    → FeedsNext whole tried old new (fed_without_row answer)
+    → FeedsPlainly whole tried old new (fed_without_row answer)
 over_feeds {whole} {tried} {old} {new} answer more waits line memory reached stands looks unkept goes_on = record {
   row = λ e. absurd (none_row answer e);
   end = λ e. gap_end answer line e reached;
@@ -762,8 +762,8 @@ over_feeds {whole} {tried} {old} {new} answer more waits line memory reached sta
 pub gap_feeds : {whole : Bits} {tried : ℕ} {old new : Feeding} (answer : Result (Option Bool) DecodeError)
     → ComesInFeed old new answer
     → answer ≢ Ok (Some true) → old.begun ≡ true → ended old.rows.stand ≡ None → old.part ≡ None → new.part ≡ None
-    → IsFeedOf whole tried old
-    → FeedsNext whole tried old new (fed_without_row answer)
+    → IsPlainFeedOf whole tried old
+    → FeedsPlainly whole tried old new (fed_without_row answer)
 gap_feeds {whole} {tried} {old} {new} (Ok None) comes other begun unended unkept none feed =
     let w = comes.waits refl in
     record {
@@ -797,7 +797,7 @@ gap_feeds {whole} {tried} {old} {new} (Err error) comes other begun unended unke
 
 -- there is room for the row of a line
 pub row_fits : {whole : Bits} {tried : ℕ} {feed : Feeding} → feed.begun ≡ true → is_at_line feed.rows.stand ≡ true
-    → IsFeedOf whole tried feed → (feed.ctx.held.taken + 1 < 2 ^ 64) × (feed.ctx.held.repairs.rows ≤ feed.ctx.held.taken)
+    → IsPlainFeedOf whole tried feed → (feed.ctx.held.taken + 1 < 2 ^ 64) × (feed.ctx.held.repairs.rows ≤ feed.ctx.held.taken)
 row_fits {whole} {tried} {feed} begun line is = grind (arith, common_steps, few, at_line_stands)
 
 pub first_line_is : (stand : Stand) {old new : RowsRead} → is_some (ended stand) ≡ false → ReachesNextLine old new
@@ -812,8 +812,8 @@ first_line_is (AtFault error) is reached = absurd cc
 pub reached_here : {whole : Bits} {tried : ℕ} {old mid new : Feeding} {answer : Result Fed DecodeError}
     (line : Result (Option Bool) DecodeError) → (comes : ComesInFeed old mid line) → line ≡ Ok (Some true)
     → old.part ≡ None → mid.part ≡ None
-    → ((tried : ℕ) → IsFeedOf whole tried mid → FeedsNext whole tried mid new answer) → old.begun ≡ true
-    → IsFeedOf whole tried old → FeedsNext whole tried old new answer
+    → ((tried : ℕ) → IsPlainFeedOf whole tried mid → FeedsPlainly whole tried mid new answer) → old.begun ≡ true
+    → IsPlainFeedOf whole tried old → FeedsPlainly whole tried old new answer
 reached_here {whole} {tried} {old} {mid} {new} line comes is unkept none reads begun feed =
     let some : line ≢ Ok None = λ none. let never = sym is ∙ none in absurd cc in
     let reached = subst (λ (r : Result (Option Bool) DecodeError). ReachesNextLine (fed_over whole old) (fed_over whole mid)
@@ -824,7 +824,7 @@ reached_here {whole} {tried} {old} {mid} {new} line comes is unkept none reads b
 
 -- nothing has begun
 pub unbegun_looks : (begun line : Bool) {finished : Bool} {looked counted : ℕ} {gap : Bits} → begun ≡ false
-    → LooksAhead finished false looked gap counted → LooksAhead finished (begun && line) looked gap counted
+    → LooksAhead false looked gap counted → LooksAhead (begun && line) looked gap counted
 unbegun_looks false line is looks = looks
 unbegun_looks true line is looks = absurd (false≢true (sym is))
 
@@ -839,7 +839,7 @@ not_begun true line is e = false≢true (sym is)
 
 -- what is before the first line waits for more data
 pub front_waits_feeds : {whole : Bits} {tried : ℕ} {old new : Feeding} → Begins old new false → old.begun ≡ false
-    → old.part ≡ None → new.part ≡ None → IsFeedOf whole tried old → FeedsNext whole tried old new (Ok Fed.NeedsMore)
+    → old.part ≡ None → new.part ≡ None → IsPlainFeedOf whole tried old → FeedsPlainly whole tried old new (Ok Fed.NeedsMore)
 front_waits_feeds {whole} {tried} {old} {new} begins unbegun unkept none feed =
     let w = begins.waits refl in
     let front = at_front old.begun tried old.rows old.ctx
@@ -876,8 +876,8 @@ first_line_ends (AtFault error) is unfailed = absurd (unfailed error refl)
 
 -- the reading ends there
 pub front_ends_feeds : {whole : Bits} {tried : ℕ} {old new : Feeding} → Begins old new true → old.begun ≡ false
-    → old.part ≡ None → new.part ≡ None → is_some (ended new.rows.stand) ≡ true → IsFeedOf whole tried old
-    → FeedsNext whole tried old new (Ok Fed.End)
+    → old.part ≡ None → new.part ≡ None → is_some (ended new.rows.stand) ≡ true → IsPlainFeedOf whole tried old
+    → FeedsPlainly whole tried old new (Ok Fed.End)
 front_ends_feeds {whole} {tried} {old} {new} begins unbegun unkept none over feed =
     let reached = subst (ReachesNextLine (fed_over whole old) (fed_over whole new))
     (first_line_ends new.rows.stand over (begins.unfailed refl)) (begins.passes whole tried refl feed) in
@@ -898,8 +898,8 @@ bits-dropped order (suc bytes) (byte ∷ items) =
     ∙ ap (λ (n : ℕ). drop n (bits_in order (byte ∷ items))) (sym next)
 
 -- the reading is the same without the bytes that were read
-pub drops_read : {whole : Bits} {tried : ℕ} {old new : Feeding} → DropsRead old new → IsFeedOf whole tried old
-    → IsFeedOf whole tried new
+pub drops_read : {whole : Bits} {tried : ℕ} {old new : Feeding} → DropsRead old new → IsPlainFeedOf whole tried old
+    → IsPlainFeedOf whole tried new
 drops_read {whole} {tried} {old} {new} drops feed =
     let lie = feed.lie in
     let enough : 8 * drops.bytes ≤ length old.kept = omega (arith, drops.read, drops.within) in
@@ -918,9 +918,9 @@ drops_read {whole} {tried} {old} {new} drops feed =
 
 -- more bits are kept
 pub feeds_more : {whole : Bits} {tried : ℕ} {old new : Feeding} (next : Bits) (room : ℕ)
-    → new ≡ record old { kept = old.kept ++ next; room = room } → old.finished ≡ false → IsFeedOf whole tried old
-    → ComeNext whole old next → IsFeedOf whole tried new
-feeds_more {whole} {tried} {old} {new} next room is unfinished feed come = subst (IsFeedOf whole tried) (sym is) (record {
+    → new ≡ record old { kept = old.kept ++ next; room = room } → old.finished ≡ false → IsPlainFeedOf whole tried old
+    → ComeNext whole old next → IsPlainFeedOf whole tried new
+feeds_more {whole} {tried} {old} {new} next room is unfinished feed come = subst (IsPlainFeedOf whole tried) (sym is) (record {
   fit = feed.fit;
   lie = record {
     within = feed.lie.within;
@@ -946,9 +946,9 @@ come_next {whole} {old} {new} drops come = grind (arith, common_steps, drops_non
 
 -- the data is finished
 pub feed_finished : {whole : Bits} {tried : ℕ} {old new : Feeding} → new ≡ record old { finished = true }
-    → IsFeedOf whole tried old
-    → length whole ≡ old.dropped + length old.kept → IsFeedOf whole tried new
-feed_finished {whole} {tried} {old} {new} is feed all = subst (IsFeedOf whole tried) (sym is) (record {
+    → IsPlainFeedOf whole tried old
+    → length whole ≡ old.dropped + length old.kept → IsPlainFeedOf whole tried new
+feed_finished {whole} {tried} {old} {new} is feed all = subst (IsPlainFeedOf whole tried) (sym is) (record {
   fit = feed.fit;
   lie = record {
     within = feed.lie.within;

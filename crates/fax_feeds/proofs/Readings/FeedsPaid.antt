@@ -12,7 +12,7 @@ use Rattle.fax_reading.specs.Continuations.{is_short}
 use Rattle.fax_feeds.specs.declared.line_parts.KeptPart.{KeptPart}
 use Rattle.fax_feeds.specs.declared.row_feed.Fed.{Fed}
 use Rattle.fax_rows.specs.declared.row_reader.RowState.{RowState}
-use Rattle.fax_feeds.specs.RowFeeds.{CallGoesOn, Feeding, FeedsNext, HasNone, HoldsMore, IsFeedOf, IsOpenAt, KeepsBits}
+use Rattle.fax_feeds.specs.RowFeeds.{CallGoesOn, Feeding, FeedsPlainly, HasNone, HoldsMore, IsPlainFeedOf, IsOpenAt, KeepsBits}
 use Rattle.fax_feeds.specs.RowFeeds.{DrawsRow, StandsIn, TriesFirst}
 use Rattle.fax_feeds.specs.RowFeeds.{fed_bits, fed_over, most_for_line, paid_by, paid_for_line}
 use Rattle.fax_feeds.proofs.Names.{IfErr}
@@ -226,7 +226,7 @@ finished_paid {calls} {lost} {tried} {old} {new} is paid =
 
 -- ---- Before the first call
 
-pub begun_paid : (whole : Bits) (feed : Feeding) → IsFeedOf whole 0 feed → feed.begun ≡ false → feed.looked ≡ 0
+pub begun_paid : (whole : Bits) (feed : Feeding) → IsPlainFeedOf whole 0 feed → feed.begun ≡ false → feed.looked ≡ 0
     → feed.part ≡ None → FeedIsPaid 0 0 0 feed
 begun_paid whole feed is unbegun unlooked unkept =
     let front = subst (λ (b : Bool). StandsIn b 0 feed.rows feed.ctx (record
@@ -286,7 +286,7 @@ record RowAdds (before drawn : ℕ) (new : Feeding) : Type 0 where
 
 module _ {whole : Bits} {calls lost tried : ℕ} {old new : Feeding} {answer : Result Fed DecodeError}
     (unended : ended old.rows.stand ≡ None) (keeps : KeepsBits old new) (paid : FeedIsPaid calls lost tried old)
-    (next : FeedsNext whole tried old new answer) where
+    (next : FeedsPlainly whole tried old new answer) where
   abbrev goes : CallGoesOn old new answer next.gap next.extra
   goes = next.goes_on
 
@@ -829,7 +829,7 @@ module _ {whole : Bits} {calls lost tried : ℕ} {old new : Feeding} {answer : R
 -- ---- All calls
 
 -- what the plain reading counts
-plain_most : {whole : Bits} {tried : ℕ} {feed : Feeding} → IsFeedOf whole tried feed
+plain_most : {whole : Bits} {tried : ℕ} {feed : Feeding} → IsPlainFeedOf whole tried feed
     → feed.ctx.ticks ≤ tried + 36 * length whole + 14
 plain_most {whole} {tried} {feed} is = by_begun feed.begun is.stands
   where
@@ -844,7 +844,7 @@ plain_most {whole} {tried} {feed} is = by_begun feed.begun is.stands
     by_begun false front = omega (arith, front.ticks)
 
 -- no more bits were fed than the whole data has
-fed_within : {whole : Bits} {tried : ℕ} {feed : Feeding} → IsFeedOf whole tried feed → fed_bits feed ≤ length whole
+fed_within : {whole : Bits} {tried : ℕ} {feed : Feeding} → IsPlainFeedOf whole tried feed → fed_bits feed ≤ length whole
 fed_within {whole} {tried} {feed} is = omega (
   arith,
   is.lie.within,

@@ -5,7 +5,7 @@ use Rattle.fax_feeds.proofs.Names.{line_here, DecodeError, RowsRead, IfErr-weake
 use Rattle.fax_reading.specs.Continuations.{is_short}
 use Rattle.fax_feeds.specs.declared.line_parts.KeptPart.{KeptPart}
 use Rattle.fax_feeds.specs.declared.row_feed.Fed.{Fed}
-use Rattle.fax_feeds.specs.RowFeeds.{Feeding, FeedsNext, FeedsRow, IsFeedOf, KeepsBits, PartIsKept, StaysShort, StaysThere}
+use Rattle.fax_feeds.specs.RowFeeds.{Feeding, FeedsPlainly, FeedsRow, IsPlainFeedOf, KeepsBits, PartIsKept, StaysShort, StaysThere}
 use Rattle.fax_feeds.specs.RowFeeds.{fed_over, line_of_feed, most_for_line, paid_for_line}
 use Rattle.fax_feeds.proofs.Readings.FeedsOn.{line_feeds, at_line_unended}
 use Rattle.fax_feeds.proofs.Readings.FeedsPaid.{open_at_line}
@@ -26,7 +26,7 @@ stays_there old new ticks le stays = grind (arith, common_steps)
 
 -- a line that is settled isn't waited for
 line_is_read : {whole : Bits} {tried : ℕ} {old next : Feeding} → old.begun ≡ true → is_at_line old.rows.stand ≡ true
-    → KeepsBits old next → FeedsNext whole tried old next (Ok Fed.NeedsMore)
+    → KeepsBits old next → FeedsPlainly whole tried old next (Ok Fed.NeedsMore)
     → (old.finished ≡ true) ⊎ (is_short (line_of_feed old) ≡ false) → ⊥
 line_is_read {old = old} {next = next} begun line keeps n (inl finished) =
     false≢true (sym (n.unsettled refl).0 ∙ keeps.finished ∙ finished)
@@ -45,7 +45,7 @@ line_is_read {old = old} {next = next} begun line keeps n (inr whole) =
 -- A call that reads the next row leaves the same where the line was read on before.
 next_later : {whole : Bits} {tried : ℕ} {old next : Feeding} (more read : ℕ) (answer : Result Fed DecodeError) → old.part ≢ None
     → more + paid_for_line old ≤ most_for_line old + 4 → (answer ≡ Ok Fed.NeedsMore → ⊥)
-    → FeedsNext whole (tried + more) (later old more read) next answer → FeedsNext whole tried old next answer
+    → FeedsPlainly whole (tried + more) (later old more read) next answer → FeedsPlainly whole tried old next answer
 next_later {whole} {tried} {old} {next} more read answer some paid settled n =
     let work = n.line_work in
     let on = n.goes_on in
@@ -62,7 +62,7 @@ next_later {whole} {tried} {old} {next} more read answer some paid settled n =
       memory = n.memory;
       paints = n.paints;
       extra = more + n.extra;
-      stands = subst (λ (m : ℕ). IsFeedOf whole m next) (omega arith) n.stands;
+      stands = subst (λ (m : ℕ). IsPlainFeedOf whole m next) (omega arith) n.stands;
       gap = n.gap;
       line_extra = more + n.line_extra;
       extra_is = omega (arith, n.extra_is);
@@ -151,12 +151,12 @@ module _ {old mid : Feeding} (begun : old.begun ≡ true) (line : is_at_line old
     pub row_after_line : FeedsRow old next answer
     row_after_line = record {
       reads = λ whole tried unended feed.
-          let fed : IsFeedOf whole (tried + more) (later old more mid.line_read) =
-          subst (IsFeedOf whole (tried + more)) mid_is (scanned_fed stays.scans begun feed) in
+          let fed : IsPlainFeedOf whole (tried + more) (later old more mid.line_read) =
+          subst (IsPlainFeedOf whole (tried + more)) mid_is (scanned_fed stays.scans begun feed) in
           let n = later_row.reads whole (tried + more) unended fed in
           next_later more mid.line_read answer some (omega (arith, stays.most, stays.scans.counts))
           (λ e. line_is_read begun line later_row.keeps
-          (subst (FeedsNext whole (tried + more) (later old more mid.line_read) next) e n) (stays.settled refl some)) n;
+          (subst (FeedsPlainly whole (tried + more) (later old more mid.line_read) next) e n) (stays.settled refl some)) n;
       keeps = let keeps = later_row.keeps in record {
         order = keeps.order;
         finished = keeps.finished;

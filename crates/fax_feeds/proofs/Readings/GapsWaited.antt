@@ -7,7 +7,7 @@ use Rattle.fax_rows.specs.declared.row_reader.RowState.{RowState}
 use Rattle.fax_feeds.specs.declared.row_feed.Fed.{Fed}
 use Rattle.fax_feeds.specs.declared.counted_gaps.GapSoFar.{GapSoFar}
 use Rattle.fax_feeds.specs.CountedGaps.{IsWithinGap, completed}
-use Rattle.fax_feeds.specs.RowFeeds.{ComesInFeed, Feeding, FeedsNext, IsFeedOf, KeepsBits, StandsIn, fed_bits}
+use Rattle.fax_feeds.specs.RowFeeds.{ComesInFeed, Feeding, FeedsPlainly, IsPlainFeedOf, KeepsBits, StandsIn, fed_bits}
 use Rattle.fax_feeds.proofs.Readings.FeedsCompleted.{full_fed, full_gap, full_is_fed, full_place}
 use Rattle.fax_feeds.proofs.Readings.FeedsOn.{gap_feeds}
 use Rattle.fax_feeds.proofs.Readings.RowsFed.{stands_later}
@@ -106,7 +106,7 @@ module _ (whole : Bits) (tried extra base : ℕ) (gap next : GapSoFar) (old new 
     waiting = λ other_whole other_tried e fed. waits_later other_whole other_tried fed;
   }
     where
-      waits_later : (other : Bits) (more : ℕ) → IsFeedOf other more full_old → IsFeedOf other (more + extra) full_new
+      waits_later : (other : Bits) (more : ℕ) → IsPlainFeedOf other more full_old → IsPlainFeedOf other (more + extra) full_new
       waits_later other more fed = record {
         fit = fed.fit;
         lie = record {
@@ -127,5 +127,5 @@ module _ (whole : Bits) (tried extra base : ℕ) (gap next : GapSoFar) (old new 
       }
 
   -- The call leaves a reading of the data, in which more is needed.
-  pub counted_waits : FeedsNext whole tried full_old full_new (Ok Fed.NeedsMore)
+  pub counted_waits : FeedsPlainly whole tried full_old full_new (Ok Fed.NeedsMore)
   counted_waits = gap_feeds (Ok None) waits_in_feed (λ e. cc) was.begun (ap ended after) part unkept (full_is_fed was)

@@ -5,12 +5,12 @@ use Rattle.std.proofs.Math.Seq.{drop-append_seam, length-take-le}
 use Rattle.std.proofs.lemmas.List.{take-append-drop}
 use Rattle.fax_feeds.specs.declared.counted_gaps.GapSoFar.{GapSoFar}
 use Rattle.fax_feeds.specs.CountedGaps.{IsWithinGap, StandsSoFar, completed}
-use Rattle.fax_feeds.specs.RowFeeds.{Feeding, IsFeedOf, LieIn, StandsIn, fed_bits}
+use Rattle.fax_feeds.specs.RowFeeds.{Feeding, IsPlainFeedOf, LieIn, StandsIn, fed_bits}
 use Rattle.fax_feeds.proofs.Readings.FeedsCompleted.{first, first_long, full_place, kept_is, known, take_length}
 use Rattle.fax_feeds.proofs.Readings.RowsFed.{from_place, place_within}
 
 module _ (whole : Bits) (tried base : ℕ) (gap : GapSoFar) (feed : Feeding) (is : IsWithinGap whole tried base gap feed)
-    (deep : base ≤ feed.dropped) (other : Bits) (more : ℕ) (fed : IsFeedOf other more (completed whole base gap feed)) where
+    (deep : base ≤ feed.dropped) (other : Bits) (more : ℕ) (fed : IsPlainFeedOf other more (completed whole base gap feed)) where
   abbrev full : Feeding
   full = completed whole base gap feed
 

@@ -3,13 +3,15 @@ use Rattle.fax_rows.proofs.Names.{◌≡◌, ◌∙◌, ◌+◌, ◌≤◌, ◌�
 use Rattle.fax_rows.proofs.Names.{length, drop, true, false, ℕ, Bool, Bits, inl, inr}
 use Rattle.fax_rows.proofs.Names.{append_assoc, drop-drop, length-append, length-drop, refl, DecodeSettings}
 use Rattle.std.proofs.Common.{◌&&◌, eqb, ltb, not, ◌++◌, ◌∷◌, [], None, Some, Option, append-nil, leb, replicate, ◌-◌, ◌<◌}
-use Rattle.std.proofs.lemmas.Bool.{and_parts, eqb-true, leb-true, not-true}
+use Rattle.std.proofs.Common.{zero, suc}
+use Rattle.std.proofs.lemmas.Bool.{and_parts, eqb-true, leb-true, ltb-true, not-true}
 use Rattle.std.proofs.lemmas.List.{length-replicate}
+use Rattle.fax_rows.proofs.Names.{common_steps}
 use Rattle.std.proofs.Math.Seq.{drop-append_seam, drop-length}
 use Rattle.fax_rows.proofs.Readings.GapsCounted.{counted_then, zero_alike}
 use Rattle.fax_rows.specs.declared.gap_count.GapCount.{GapCount}
 use Rattle.fax_rows.specs.GapsCounted.{CountsTo, EndsAtOne, StaysOpen, counted_by, ends_at_two, has_tags}
-use Rattle.fax_rows.specs.GapsCounted.{IsTidy, behind_tag, can_be_tag, counted, eol_counted, eol_more, left_before, one_counted}
+use Rattle.fax_rows.specs.GapsCounted.{IsTidy, StaysCounted, behind_tag, can_be_tag, counted, eol_counted, eol_more, left_before, one_counted}
 use Rattle.fax_rows.specs.GapsCounted.{tag_more, to_last_eol, zero_more}
 
 module _ (tags two : Bool) where
@@ -273,3 +275,50 @@ module _ (settings : DecodeSettings) (tags two : Bool) (tags_are : has_tags sett
           few = few_not end.zeros few;
           none = none_by none;
         }
+
+-- a one is counted once
+one_most : (tags two : Bool) (count next : GapCount) → one_counted tags two count ≡ Some next
+    → next.eols + next.zeros ≤ count.eols + count.zeros + 1
+one_most tags two count next is = grind (arith, common_steps)
+
+-- no more is counted than there are bits
+few_by_bits : (tags two : Bool) (count : GapCount) (bits : Bits) (end : GapCount) → counted tags two count bits ≡ Some end
+    → end.eols + end.zeros ≤ count.eols + count.zeros + length bits
+few_by_bits tags two count [] end is =
+    let same : count ≡ end = cc in omega (arith, ap (λ (n : GapCount). n.eols + n.zeros) same)
+few_by_bits tags two count (false ∷ bits) end is = omega (arith, few_by_bits tags two (zero_more count) bits end is)
+few_by_bits tags two count (true ∷ bits) end is =
+    by_one (λ next then. few_by_bits tags two next bits end then) (one_counted tags two count) refl
+  where
+    by_one : ((next : GapCount) → counted tags two next bits ≡ Some end
+        → end.eols + end.zeros ≤ next.eols + next.zeros + length bits) → (o : Option GapCount)
+        → one_counted tags two count ≡ o → end.eols + end.zeros ≤ count.eols + count.zeros + length (true ∷ bits)
+    by_one on None e = let never : ◌≡◌ {A = Option GapCount} None (Some end) = rw (e, counted) at is in absurd cc
+    by_one on (Some next) e =
+        let then : counted tags two next bits ≡ Some end = rw (e, counted) at is in
+        omega (arith, on next then, one_most tags two count next e)
+
+-- the count stays one that can go on
+pub stays_counted : (settings : DecodeSettings) {old new : GapCount} {before after : Bits}
+    → StaysOpen settings old new before after → StaysCounted old new before after
+stays_counted settings {old} {new} {before} {after} waits = record {
+  tidy = waits.tidy;
+  most = omega (
+    arith,
+    few_by_bits (has_tags settings.encoding) (ends_at_two settings.encoding settings.end_of_block) old waits.first new
+        waits.is,
+    ap length waits.are,
+    length-append waits.first after,
+  );
+}
+
+-- the second of two EOLs that end the data follows one
+pub eol_before_two : (tags two : Bool) (count : GapCount) → 11 ≤ count.zeros → one_counted tags two count ≡ None
+    → 0 < count.eols
+eol_before_two tags two count enough none = grind (arith, common_steps, and_parts, ltb-true)
+
+-- where none is missing and the image goes on, one was counted
+pub some_counted : (eols : ℕ) (sought over : Bool) → (eqb eols 0 && sought && not over) ≡ false → sought ≡ true → over ≡ false
+    → 0 < eols
+some_counted zero sought over whole is more = absurd cc
+some_counted (suc n) sought over whole is more = omega arith

@@ -17,7 +17,9 @@ use Rattle.fax_rows.proofs.Readings.GapsEnded.{left_settles, zeros_split}
 use Rattle.fax_rows.proofs.Readings.GapsStood.{before_split}
 use Rattle.fax_rows.specs.GapsCounted.{behind_tag}
 use Rattle.fax_rows.specs.RowsTried.{CanCome, ReadsRow, TriesRow}
-use Rattle.fax_rows.specs.ZerosLast.{zeros_at}
+use Rattle.fax_rows.specs.ZerosLast.{CountsZeros, zeros_at}
+use Rattle.fax_bits.proofs.ErrorKinds.{by_kind}
+use Rattle.fax_rows.proofs.Names.{Held}
 
 -- ---- It is broken at its first word
 
@@ -193,3 +195,28 @@ module _ (old new : Context) (answer : Result Bool DecodeError) (before after : 
           → ReadsRow old new (Err e) (all ++ more) (all ++ more))
       by_answer (Ok read) e_is = tt
       by_answer (Err e) e_is = λ fault more come. with_none (Err e) more come (failed_all e e_is fault)
+
+-- ---- Whatever the zeros are
+
+-- a row is counted at most
+pub zeros_counted : (old new : Context) (answer : Result Bool DecodeError) (before after : BitsAt)
+    → TriesRow false old new answer before after → CountsZeros old new answer
+zeros_counted old new answer before after tries = record {
+  settings = by_answer answer tries;
+  taken = λ e. ap (λ (h : Held). h.taken) (tries.read e [] no_more).row.taken.held;
+  width = λ e. (tries.read e [] no_more).width;
+}
+  where
+    -- no bits follow
+    no_more : CanCome false []
+    no_more = record { bytes = refl; none = λ e. refl }
+
+    by_answer : (said : Result Bool DecodeError) → TriesRow false old new said before after
+        → new.held.settings ≡ old.held.settings
+    by_answer (Ok true) tried = ap (λ (h : Held). h.settings) (tried.read refl [] no_more).row.taken.held
+    by_answer (Ok false) tried = ap (λ (h : Held). h.settings) (tried.left refl)
+    by_answer (Err error) tried = by_kind (λ (e : DecodeError). TriesRow false old new (Err e) before after
+        → new.held.settings ≡ old.held.settings)
+        (λ e fault tried. ap (λ (h : Held). h.settings) (tried.failed fault [] no_more).row.held)
+        (λ tried. ap (λ (h : Held). h.settings) (tried.left refl))
+        (λ tried. absurd (tried.not_refused refl)) error tried

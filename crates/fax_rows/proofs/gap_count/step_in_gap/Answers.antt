@@ -3,7 +3,11 @@ use Rattle.fax_rows.proofs.Names.{common_steps, length, drop, here, true, false,
 use Rattle.fax_rows.specs.RowsTried.{rows_after_gap}
 use Rattle.std.proofs.Common.{◌+◌, ◌<◌}
 use Rattle.fax_rows.proofs.Names.{Bits, BitsAt, Context, DecodeSettings, Held, Ok, eqb, limit_met, at_end, is_over}
-use Rattle.std.proofs.Common.{◌&&◌, not}
+use Rattle.std.proofs.Common.{◌&&◌, ◌∷◌, not}
+use Rattle.std.proofs.lemmas.Bool.{or_cases}
+use Rattle.fax_rows.proofs.Names.{length-drop}
+use Rattle.fax_rows.proofs.Readings.GapsTidy.{eol_before_two, some_counted}
+use Rattle.fax_rows.specs.GapsCounted.{ends_at_two, has_tags}
 use Rattle.fax_rows.specs.declared.gap_count.GapEnd.TheVariants.{AtOne, AtTwo, Open}
 use Rattle.fax_rows.specs.declared.row_reader.RowState.{RowState}
 use Rattle.fax_rows.specs.GapsCounted.{EndsAtOne, EndsAtTwo, EndsWithZeros, StaysOpen, WaitsInGap, past_eols}
@@ -195,3 +199,55 @@ returns-in-AtTwo-clause-steps c from whole more dropped lies none in_gap =
     (at_within at kept line after 2 same within) (kept_here at kept line after 2 same within call.ensures.kept)
     (is_at_two at c.in-AtTwo.is) (past_here at kept line after 2 same within call.ensures.eols)
     (over_here at kept line after 2 same within call.ensures.over)
+
+-- an EOL was counted
+pub returns-else-lacks_eol-2-clause-eol : goal.returns-else-lacks_eol-2-clause-eol
+returns-else-lacks_eol-2-clause-eol c e unfinished sought =
+    let at = (goal.at.returns-else-lacks_eol-2-clause-eol c).After-bit_pos-end in
+    let call = c.pass_counted-in-AtOne in
+    let ends = is_at_one at c.in-AtOne.is in
+    let line : call.result ≡ true = cc in
+    let unmet : limit_met c.args.ctx.now.held.settings c.args.ctx.now.held.taken ≡ false =
+    grind (arith, common_steps, call.ensures.over, or_cases) in
+    record {
+      first = ends.first;
+      rest = drop (to at) (bits at);
+      are = ends.are;
+      mid = c.count_gap-end.new.count;
+      is = ends.is;
+      some = some_counted c.count_gap-end.new.count.eols c.args.ctx.now.held.has_eols
+          (limit_met c.args.ctx.now.held.settings c.args.ctx.now.held.taken)
+          (ap (lacks_by at) (sym (held_same at)) ∙ sym c.lacks_eol-in-AtOne.ensures ∙ c.if-lacks_eol-2.false) sought unmet;
+      onward = omega (
+        arith,
+        call.ensures.onward,
+        ap length call.ensures.same_bits,
+        ap length c.count_gap-end.ensures.same_bits,
+        length-drop (to at) (bits at),
+        length-drop call.new.reader.place call.new.reader.bits,
+      );
+    }
+
+pub returns-in-AtTwo-clause-eol : goal.returns-in-AtTwo-clause-eol
+returns-in-AtTwo-clause-eol c e unfinished sought =
+    let at = (goal.at.returns-in-AtTwo-clause-eol c).After-bit_pos-end in
+    let call = c.pass_counted-in-AtTwo in
+    let ends = is_at_two at c.in-AtTwo.is in
+    record {
+      first = ends.first;
+      rest = true ∷ drop (to at) (bits at);
+      are = ends.are;
+      mid = c.count_gap-end.new.count;
+      is = ends.is;
+      some = eol_before_two (has_tags c.args.ctx.now.held.settings.encoding)
+          (ends_at_two c.args.ctx.now.held.settings.encoding c.args.ctx.now.held.settings.end_of_block)
+          c.count_gap-end.new.count ends.enough ends.none;
+      onward = omega (
+        arith,
+        call.ensures.onward,
+        ap length call.ensures.same_bits,
+        ap length c.count_gap-end.ensures.same_bits,
+        length-drop (to at) (bits at),
+        length-drop call.new.reader.place call.new.reader.bits,
+      );
+    }

@@ -14,7 +14,7 @@ use Rattle.std.proofs.lemmas.List.{drop-append-le}
 use Rattle.std.proofs.lemmas.List.Concat.{flat_map-append}
 use Rattle.fax_bits.specs.declared.bit_reader.BitOrder.{BitOrder}
 use Rattle.fax_bits.specs.Bits.{bits_of_byte}
-use Rattle.fax_feeds.specs.RowFeeds.{Feeding, IsFeedOf, fed_bits, feeding_of}
+use Rattle.fax_feeds.specs.RowFeeds.{Feeding, IsPlainFeedOf, fed_bits, feeding_of}
 use Rattle.fax_bits.proofs.BitReading.BitLists.{length-bits_in}
 use Rattle.fax_feeds.proofs.row_feed.RowFeed.feed_all.Goals.{then-bytes-kept-via-then-bytes-kept}
 use Rattle.fax_feeds.proofs.row_feed.RowFeed.feed_all.Goals.{then-bytes-kept-via-else-bytes-kept+then-self-kept}
@@ -36,7 +36,7 @@ returns-in_err-append-clause-refused c =
     let inside = c.self.inside in
     let same = same_bytes_and_room (feeding_of inside) inside.order c.in_err-append.ensures.items c.in_err-append.ensures.left
     ∙ c.self.view_is in
-    rw answer.1 (λ whole tried feed. subst (IsFeedOf whole tried) (sym same) (drops_read c.drop_read.ensures feed))
+    rw answer.1 (λ whole tried feed. subst (IsPlainFeedOf whole tried) (sym same) (drops_read c.drop_read.ensures feed))
 
 pub returns-clause-fed : goal.returns-clause-fed
 returns-clause-fed c whole tried feed come =
