@@ -411,7 +411,7 @@ came (Err error) = Err error
 
 -- Of a gap that begins these bits some were looked at before, and so many more now, each counted once: as far as is needed to
 -- know that nothing that follows changes it, or all there are. None are at a line, nor in data that is finished.
-pub record LooksOn (is_last at_line : Bool) (looked : ℕ) (gap : Bits) (counted : ℕ) : Type 0 where
+pub record LooksUpTo (is_last at_line : Bool) (looked : ℕ) (gap : Bits) (counted : ℕ) : Type 0 where
   pub line : at_line ≡ true → counted ≡ 0
   pub finished : is_last ≡ true → counted ≡ 0
   pub within : 0 < counted → counted + looked ≤ length gap
@@ -420,7 +420,7 @@ pub record LooksOn (is_last at_line : Bool) (looked : ℕ) (gap : Bits) (counted
 pub record ComesOn (is_last : Bool) (gap_start : ℕ) (rows kept : RowState) (look kept_look : GapLook) (old new : Context)
     (before after : BitsAt) (answer : Result (Option Bool) DecodeError) : Type 0 where
   pub extra : ℕ
-  pub looks : LooksOn is_last (is_at_line rows.stand) look.bits (here before) extra
+  pub looks : LooksUpTo is_last (is_at_line rows.stand) look.bits (here before) extra
   pub looked : answer ≡ Ok None → (extra + look.bits ≡ kept_look.bits)
       × IsSeen (rules_for true old.held) kept_look (here before)
   pub none_looked : answer ≢ Ok None → kept_look ≡ nothing_seen

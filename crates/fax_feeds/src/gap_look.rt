@@ -61,17 +61,6 @@ pub(crate) fn rules_after_row(ctx: &DecoderContext) -> GapRules
     }
 }
 
-/// Returns what the look at what is before the first line depends on: there EOLs have no tags (T.4, 4.1.2).
-pub(crate) fn first_rules(settings: DecodeSettings) -> GapRules
-    ensures { result ≡ first_rules settings.encoding settings.end_of_block }
-{
-    GapRules {
-        has_tags: false,
-        ends_at_two: settings.encoding == EncodingMode::Group4 && settings.end_of_block,
-        seeks: false,
-    }
-}
-
 /// Returns whether nothing that follows can change the gap.
 fn is_settled(stage: GapStage) -> bool
     ensures { result ≡ is_settled stage }

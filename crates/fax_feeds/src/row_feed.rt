@@ -9,7 +9,8 @@ ghost use Rattle.fax_reading.specs.GapsContinued.{gap_is_settled};
 ghost use Rattle.fax_feeds.specs.GapsSeen.{CountsLooks, IsSeen, is_settled, nothing_seen, rules_for, stage_following};
 ghost use Rattle.fax_rows.specs.RowsRead.{at_end_of_rows, ended, is_at_line};
 ghost use Rattle.fax_rows.specs.RowsTried.{IsUnread, front_is_settled};
-ghost use Rattle.fax_feeds.specs.RowFeeds.{Begins, ComeNext, ComesInFeed, DropsRead, ReadsInFeed, ComesOn, FeedsNext};
+ghost use Rattle.fax_feeds.specs.RowFeeds.{BeginsCounted, ComeNext, ComesOn, DropsRead, FeedsNext, FeedsPlainly, KeepsFront};
+ghost use Rattle.fax_feeds.specs.RowFeeds.{IsPlainFeedOf, ReadsInFeed, no_gap, offset_of};
 ghost use Rattle.fax_feeds.specs.RowFeeds.{IsFeedOf, KeepsBits, TriesLine, fed_bits, fed_end, fed_row, fed_without_row};
 ghost use Rattle.fax_feeds.specs.RowFeeds.{is_unread};
 ghost use Rattle.fax_feeds.specs.RowFeeds.{HoldsMore, KeepsPart, LineGoesOn, Scans, ScansLine, StaysShort, line_answer};
@@ -20,9 +21,9 @@ ghost use Rattle.fax_reading.specs.Rows.{AreChanges, changes};
 ghost use Rattle.fax_lines.specs.SinkStates.{state_of};
 ghost use Rattle.fax_rows.specs.WhiteLines.{AreKnown};
 
-use crate::counted_gaps::{GapSoFar, come_to_counted_line, no_gap};
+use crate::counted_gaps::{GapSoFar, come_to_counted_line, come_to_first_line, no_gap};
 use crate::gap_look::{
-    GapLook, GapRules, GapStage, first_rules, is_settled_at_once, rules_after_row,
+    GapLook, GapRules, GapStage, is_settled_at_once, rules_after_row,
 };
 use crate::line_parts::{KeptPart, begin_part, continue_line, continue_runs, is_1d, is_in_1d_run};
 use fax_bits::bit_reader::{
@@ -32,8 +33,6 @@ use fax_bits::codes::Color;
 use fax_bits::{DecodeError, DecodeSettings, EncodingMode, Result};
 use fax_lines::Decoder;
 use fax_lines::context::{DecoderContext, begin_line, reference_row};
-use fax_rows::front_count::{pass_front, step_at_front};
-use fax_rows::gap_count::{GapCount, GapStep};
 use fax_rows::push_rows::{WhiteLinesAhead, push_white_rows};
 use fax_rows::row_reader::{RowState, Stand, first_stand, has_ended, is_at_line};
 use fax_rows::rows::try_row;
@@ -122,29 +121,6 @@ fn gap_waits(
     ensures space { ctx.new.space ≡ ctx.old.space }
 {
     let rules = rules_after_row(ctx);
-    look_waits(ctx, look, &rules, reader, is_last)
-}
-
-/// Looks on at what is before the first line, and returns whether it must wait for more data.
-fn front_waits(
-    ctx: &mut DecoderContext,
-    look: &mut GapLook,
-    reader: &BitReader<'_>,
-    is_last: bool,
-) -> bool
-    requires seen { IsSeen (rules_for false ctx.old.held) look.old (here reader.now) }
-    ensures waits { result ≡ (not is_last && not (front_is_settled ctx.old.held.settings (here reader.now))) }
-    ensures held { ctx.new.held ≡ ctx.old.held }
-    ensures looked { CountsLooks look.old look.new ctx.old.ticks ctx.new.ticks }
-    ensures onward { look.old.bits ≤ look.new.bits }
-    ensures unlooked { is_last ≡ true → ctx.new.ticks ≡ ctx.old.ticks }
-    ensures seen { IsSeen (rules_for false ctx.old.held) look.new (here reader.now) }
-    ensures space { ctx.new.space ≡ ctx.old.space }
-{
-    if ctx.settings().columns == 0 {
-        return false; // There is no line.
-    }
-    let rules = first_rules(ctx.settings());
     look_waits(ctx, look, &rules, reader, is_last)
 }
 
@@ -317,12 +293,6 @@ pub(crate) fn pass_settled_gap(
     of_settled_gap(rows.pass_gap_here(ctx, reader, gap_start))
 }
 
-/// Returns how many bits are left of what was counted: a tag of one, and zeros.
-fn bits_left(count: &GapCount) -> usize {
-    let tags = if count.tag { 1 } else { 0 };
-    count.zeros.saturating_add(tags)
-}
-
 /// Reads the line here, which begins at this offset of the data, and returns true, if no data that follows can change it;
 /// otherwise it is left, and false is returned. After an allocation failure it is left too.
 #[inline(always)]
@@ -384,7 +354,7 @@ pub struct RowFeed {
     /// Whether what is before the first line was passed.
     begun: bool,
     is_last: bool,
-    /// The bytes that are still needed, and those of the line or gap that is next.
+    /// The bytes that are still needed, and those of the line that is next.
     data: Vec<u8>,
     /// How many bits came before them.
     dropped: usize,
@@ -424,7 +394,7 @@ impl RowFeed {
         ensures order { IfOk result (λ feed. feed.order ≡ order) }
         ensures none_fed { IfOk result (λ feed. (feed.kept ≡ []) × (feed.dropped ≡ 0) × (feed.finished ≡ false)) }
         ensures no_room { IfOk result (λ feed. feed.room ≡ 0) }
-        ensures none_read { IfOk result (λ feed. (feed.ctx.held.taken ≡ 0) × (feed.begun ≡ false) × (feed.looked ≡ 0)
+        ensures none_read { IfOk result (λ feed. (feed.ctx.held.taken ≡ 0) × (feed.begun ≡ false) × (feed.gap ≡ no_gap)
             × (feed.part ≡ None)) }
         ensures only_memory { IsOkUnless result DecodeError.OutOfMemory }
     {
@@ -447,34 +417,22 @@ impl RowFeed {
     /// Passes what is before the first line, if no data that follows can change it, and returns whether it was passed.
     fn begin(&mut self) -> bool
         requires { self.old.begun ≡ false }
-        ensures begins { Begins self.old self.new result }
-        ensures none_kept { (self.old.part ≡ None) × (self.new.part ≡ None) }
+        ensures begins { (whole : Bits) (tried : ℕ) → IsFeedOf whole tried self.old
+            → BeginsCounted whole tried self.old self.new result }
+        ensures keeps { KeepsFront self.old self.new result }
     {
         let mut reader = placed_at(&self.data, self.order, self.place);
         if self.ctx.settings().columns == 0 {
             self.rows.stand = first_stand(&mut self.ctx, &mut reader);
+            self.place = reader.bit_pos();
             self.begun = true;
             return true;
         }
-        let step = step_at_front(&mut self.ctx, &mut self.gap.count, &mut reader, self.is_last);
-        let place = reader.bit_pos();
-        let line = match step {
-            GapStep::Waits => {
-                self.gap.passed = self.gap.passed.saturating_add(place - self.place);
-                self.place = place;
-                return false;
-            }
-            GapStep::Zeros | GapStep::Missed => {
-                self.gap.at_zeros = true;
-                self.gap.passed = bits_left(&self.gap.count);
-                pass_front(&mut self.ctx, self.gap.count.eols, false)
-            }
-            GapStep::Passed(line) => {
-                self.gap = no_gap();
-                line
-            }
+        let line = come_to_first_line(&mut self.ctx, &mut self.gap, &mut reader, self.is_last);
+        self.place = reader.bit_pos();
+        let Some(line) = line else {
+            return false;
         };
-        self.place = place;
         self.rows.stand = if line { Stand::AtLine } else { Stand::AtEnd };
         self.begun = true;
         true
@@ -706,8 +664,8 @@ impl RowFeed {
     fn read_here(&mut self) -> Result<Fed>
         requires begun { self.old.begun ≡ true }
         requires line { is_at_line self.old.rows.stand ≡ true }
-        ensures reads { (whole : Bits) (tried : ℕ) → IsFeedOf whole tried self.old
-            → FeedsNext whole tried self.old self.new result }
+        ensures reads { (whole : Bits) (tried : ℕ) → IsPlainFeedOf whole tried self.old
+            → FeedsPlainly whole tried self.old self.new result }
         ensures keeps { KeepsBits self.old self.new }
         ensures counts { CountsRow self.old self.new result }
         ensures waits { result ≡ Ok Fed.NeedsMore → self.old.part ≢ None → Scans self.old self.new }
@@ -735,23 +693,20 @@ impl RowFeed {
             return self.read_zeros();
         }
         let mut reader = placed_at(&self.data, self.order, self.place);
-        if !is_at_line(self.rows.stand) {
-            let line = come_to_counted_line(
-                &mut self.rows,
-                &mut self.ctx,
-                &mut self.gap,
-                &mut reader,
-                self.is_last,
-                self.dropped,
-            );
-            self.place = reader.bit_pos();
-            if !is_some_line(&line) {
-                return fed_without_row(line);
-            }
-            if self.gap.at_zeros {
-                return self.read_zeros();
-            }
-            self.gap = no_gap();
+        let line = come_to_counted_line(
+            &mut self.rows,
+            &mut self.ctx,
+            &mut self.gap,
+            &mut reader,
+            self.is_last,
+            self.dropped,
+        );
+        self.place = reader.bit_pos();
+        if !is_some_line(&line) {
+            return fed_without_row(line);
+        }
+        if self.gap.at_zeros {
+            return self.read_zeros();
         }
         if !can_take_row(&self.ctx) {
             return Err(DecodeError::UnexpectedEof);
@@ -772,20 +727,20 @@ impl RowFeed {
         fed_row(row)
     }
 
-    /// Reads the row of the line that the zeros begin with which the data ends, or passes the gap before it.
+    /// Reads the row of the line that the zeros begin with which the data ends, if no more rows than can be counted were read.
     #[cold]
     #[inline(never)]
-    fn read_zeros(&mut self) -> Result<Fed> {
-        let start = (self.dropped + self.place).saturating_sub(self.gap.passed);
-        if !is_at_line(self.rows.stand) {
-            self.gap.count.eols = 0;
-            if !pass_to_zeros(&mut self.rows, &mut self.ctx, &mut self.gap.count, start)? {
-                return Ok(Fed::End);
-            }
-        }
+    fn read_line_of_zeros(&mut self) -> Result<Fed>
+        requires begun { self.old.begun ≡ true }
+        requires line { is_at_line self.old.rows.stand ≡ true }
+        requires none_kept { self.old.part ≡ None }
+        requires zeros { self.old.gap.at_zeros ≡ true }
+        ensures { FeedsRow self.old self.new result }
+    {
         if !can_take_row(&self.ctx) {
             return Err(DecodeError::UnexpectedEof);
         }
+        let start = (self.dropped + self.place).saturating_sub(self.gap.passed);
         begin_line(&mut self.ctx);
         let damaged_rows = self.ctx.damaged_rows();
         let cut_rows = self.ctx.cut_rows();
@@ -796,6 +751,29 @@ impl RowFeed {
         let line = line_answer(&row);
         self.rows.note_line(&self.ctx, &line, start, damaged_rows, cut_rows);
         fed_row(row)
+    }
+
+    /// Reads the row of the line that the zeros begin with which the data ends, after the gap before it, if there is one.
+    #[cold]
+    #[inline(never)]
+    fn read_zeros(&mut self) -> Result<Fed>
+        requires begun { self.old.begun ≡ true }
+        requires unended { ended self.old.rows.stand ≡ None }
+        requires none_kept { self.old.part ≡ None }
+        requires zeros { self.old.gap.at_zeros ≡ true }
+        ensures { FeedsRow self.old self.new result }
+    {
+        if is_at_line(self.rows.stand) {
+            return self.read_line_of_zeros();
+        }
+        let start = (self.dropped + self.place).saturating_sub(self.gap.passed);
+        self.gap.count.eols = 0;
+        let passed = pass_to_zeros(&mut self.rows, &mut self.ctx, &mut self.gap.count, start);
+        let line = of_settled_gap(passed);
+        if !is_some_line(&line) {
+            return fed_without_row(line);
+        }
+        self.read_line_of_zeros()
     }
 
     /// Reads the first row, after what is before it.
@@ -883,7 +861,7 @@ impl RowFeed {
     fn push_white<D: Decoder>(&mut self, lines: &mut WhiteLines, decoder: &mut D) -> Result<()>
         requires known { AreKnown self.old.ctx.held.settings lines.old }
         requires after { (self.old.begun ≡ true) × (self.old.rows.stand ≡ Stand.AfterRow) × (self.old.part ≡ None) }
-        requires unlooked { self.old.looked ≡ 0 }
+        requires unlooked { self.old.gap ≡ no_gap }
         ensures width { D.width decoder.new ≡ D.width decoder.old }
         ensures known { AreKnown self.old.ctx.held.settings lines.new }
         ensures passes { OnOk result (PassesRows (D.step (D.width decoder.old)) (D.meaning decoder.old) (D.meaning decoder.new)
@@ -1149,7 +1127,7 @@ impl RowFeed {
 
     /// Returns the number of bytes consumed so far, as `RowReader::bytes_read` does.
     pub fn bytes_read(&self) -> usize
-        ensures { result ≡ (self.now.dropped + self.now.place + 7) / 8 }
+        ensures { result ≡ (offset_of self.now + 7) / 8 }
     {
         ((self.dropped + self.place).saturating_sub(self.gap.passed) + 7) / 8
     }
