@@ -11,7 +11,7 @@ use Rattle.fax_rows.specs.RowsTried.{front_is_settled}
 use Rattle.fax_rows.specs.declared.gap_count.GapCount.{GapCount}
 use Rattle.fax_rows.specs.declared.gap_count.GapStep.{GapStep}
 use Rattle.fax_rows.specs.declared.row_reader.RowState.{RowState}
-use Rattle.fax_rows.specs.GapsCounted.{CountsEol, StandsInGap, StaysCounted, StepLeaves, StepSays, left_before}
+use Rattle.fax_rows.specs.GapsCounted.{CountsEol, IsTidy, StandsInGap, StaysCounted, StepLeaves, StepSays, left_before}
 use Rattle.fax_rows.specs.RowsRead.{IsStanding, ReachesNextLine, is_at_line, seen}
 use Rattle.fax_feeds.specs.declared.counted_gaps.GapSoFar.{GapSoFar}
 use Rattle.fax_feeds.specs.GapsSeen.{IsSeen, nothing_seen, rules_for}
@@ -88,7 +88,8 @@ pub record PassesNear (is_last : Bool) (rows : RowState) (start at place extra :
 -- data
 pub record StaysKnown (is_last : Bool) (gap next : GapSoFar) (before after : Bits) (answer : Result (Option Bool) DecodeError)
     : Type 0 where
-  pub waits : answer ≡ Ok None → StaysCounted gap.count next.count before after × (next.at_zeros ≡ false)
+  pub waits : answer ≡ Ok None → IsTidy next.count × (next.at_zeros ≡ false)
+      × (next.count.eols + next.count.zeros + length after ≤ gap.count.eols + gap.count.zeros + length before)
   pub passed : answer ≢ Ok None → next.at_zeros ≡ false → next ≡ no_gap
   pub zeros : next.at_zeros ≡ true → (is_last ≡ true) × (16 ≤ next.count.zeros) × (next.look ≡ nothing_seen)
   -- where an EOL is missing, the gap begins here

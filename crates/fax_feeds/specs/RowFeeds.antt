@@ -125,6 +125,7 @@ pub record IsKept (f : Inside) : Type 0 where
   pub line : is_at_line f.rows.stand ≡ true → f.gap.at_zeros ≡ false → f.gap ≡ no_gap
   pub counted : IsCounted f.gap (f.dropped + f.place)
   pub unkept : f.gap.at_zeros ≡ true → f.part ≡ None
+  pub last : f.gap.at_zeros ≡ true → f.is_last ≡ true
   pub part : PartIsKept f.part f.begun f.rows.stand f.ctx.held (drop f.place (bits_in f.order f.«data».items)) f.line_read
 
 -- how many bits were fed

@@ -4,7 +4,7 @@ ghost use Rattle.std.specs.Prelude.{◌≡◌, ◌≤◌, ◌+◌, false, true, 
 ghost use Rattle.fax_bits.specs.Bits.{here};
 ghost use Rattle.fax_bits.specs.EndOfLine.{after_eol};
 ghost use Rattle.fax_reading.specs.GapsContinued.{after_line_tag, holds_one};
-ghost use Rattle.fax_feeds.specs.GapsSeen.{LooksOn, first_rules, is_settled, nothing_seen, rules_after_row, stage_after};
+ghost use Rattle.fax_feeds.specs.GapsSeen.{LooksOn, is_settled, nothing_seen, rules_after_row, stage_after};
 ghost use Rattle.fax_feeds.specs.GapsSeen.{stage_following};
 
 use fax_bits::bit_reader::{BitReader, copy};

@@ -133,10 +133,11 @@ pub record CanGoOn (count : GapCount) (here : Bits) : Type 0 where
   pub tidy : IsTidy count
   pub fits : count.eols + count.zeros + length here + 1 < 2 ^ 64
 
--- the next bits can still be counted, whatever data follows: no more was counted than the bits that were passed
+-- The next bits can still be counted, whatever data follows: no more was counted than the bits that were passed, and few weren't.
 pub record StaysCounted (old new : GapCount) (before after : Bits) : Type 0 where
   pub tidy : IsTidy new
   pub most : new.eols + new.zeros + length after ≤ old.eols + old.zeros + length before
+  pub few : length after ≤ 16
 
 -- The bits here were counted, but for few, and those can be of the gap too: data that follows can change it.
 pub record StaysOpen (settings : DecodeSettings) (old new : GapCount) (before after : Bits) : Type 0 where

@@ -1,108 +1,111 @@
--- A feed that is within a gap, with all bits of the gap.
+-- A feed with all bits that were fed, where the reading is.
 use Rattle.fax_feeds.proofs.Names.{◌≡◌, ◌∙◌, ◌+◌, ◌-◌, ◌≤◌, ◌++◌, ap, sym, subst}
-use Rattle.fax_feeds.proofs.Names.{arith, length, drop, take, ℕ, Bool, [], ◌∷◌, refl}
+use Rattle.fax_feeds.proofs.Names.{arith, length, drop, take, ℕ, Bool, true, false, [], ◌∷◌, refl, Some, Group3_2D}
 use Rattle.fax_feeds.proofs.Names.{Bits, length-drop, length-append, drop-drop, append_assoc, IsStanding}
-use Rattle.std.proofs.Math.Seq.{drop-append_seam, length-take-le}
-use Rattle.std.proofs.lemmas.List.{take-append-drop}
+use Rattle.std.proofs.Math.Seq.{drop-length, length-take-le}
+use Rattle.std.proofs.lemmas.List.{drop-take, take-append-drop}
 use Rattle.fax_feeds.specs.declared.counted_gaps.GapSoFar.{GapSoFar}
-use Rattle.fax_feeds.specs.CountedGaps.{IsWithinGap, completed}
-use Rattle.fax_feeds.specs.RowFeeds.{Feeding, IsPlainFeedOf, LieIn, StandsIn, fed_bits}
+use Rattle.fax_rows.specs.GapsCounted.{counted_by, left_before, none_counted}
+use Rattle.fax_feeds.specs.RowFeeds.{Feeding, IsFeedOf, IsPlainFeedOf, KnowsGap, LieIn, StandsIn, completed, fed_bits, gap_rules}
+use Rattle.fax_feeds.specs.RowFeeds.{no_gap, offset_of}
 use Rattle.fax_feeds.proofs.Readings.RowsFed.{from_place, place_within}
 
 pub take_length : (first rest : Bits) → take (length first) (first ++ rest) ≡ first
 take_length [] rest = refl
 take_length (bit ∷ first) rest = ap (λ (b : Bits). bit ∷ b) (take_length first rest)
 
-module _ {whole : Bits} {tried base : ℕ} {gap : GapSoFar} {feed : Feeding} (is : IsWithinGap whole tried base gap feed) where
-  abbrev lie : LieIn whole feed.dropped feed.finished feed.kept
-  lie = is.lie
+-- the bits from an offset on that are known
+pub known_from : (whole known more : Bits) (start fed : ℕ) → drop start whole ≡ known ++ more → fed ≡ start + length known
+    → drop start (take fed whole) ≡ known
+known_from whole known more start fed are is =
+    ap (λ (n : ℕ). drop start (take n whole)) is ∙ drop-take start (length known) whole ∙ ap (take (length known)) are
+    ∙ take_length known more
 
-  abbrev start : ℕ
-  start = is.stands.in_gap.start
+module _ {whole : Bits} {tried : ℕ} {feed : Feeding} (fed : IsFeedOf whole tried feed) (within : feed.place ≤ length feed.kept)
+  where
+    abbrev lie : LieIn whole feed.dropped feed.finished feed.kept
+    lie = fed.lie
 
-  abbrev at : ℕ
-  at = feed.dropped + feed.place
+    abbrev here : Bits
+    here = drop feed.place feed.kept
 
-  abbrev full : Feeding
-  full = completed whole base gap feed
+    pub at_within : feed.dropped + feed.place ≤ length whole
+    at_within = place_within lie feed.place within
 
-  at_within : at ≤ length whole
-  at_within = place_within lie feed.place is.within
+    pub known_bits : drop (offset_of feed) whole ≡ (fed.known.gone ++ here) ++ lie.more
+    known_bits = fed.known.are ∙ ap (λ (b : Bits). fed.known.gone ++ b) (from_place lie feed.place within)
+        ∙ sym (append_assoc fed.known.gone here lie.more)
 
-  fed_within : fed_bits feed ≤ length whole
-  fed_within = omega (arith, lie.within, ap length lie.bits, length-append feed.kept lie.more, length-drop feed.dropped whole)
+    pub known_long : fed_bits feed ≡ offset_of feed + length (fed.known.gone ++ here)
+    known_long = omega (
+      arith,
+      within,
+      fed.known.place,
+      length-append fed.known.gone here,
+      length-drop feed.place feed.kept,
+    )
 
-  pub at_start : start ≡ at - gap.passed
-  at_start = omega (arith, is.stands.passed)
+    pub full_gap : drop (offset_of feed) (take (fed_bits feed) whole) ≡ fed.known.gone ++ here
+    full_gap = known_from whole (fed.known.gone ++ here) lie.more (offset_of feed) (fed_bits feed) known_bits known_long
 
-  -- the bits of the gap that are known
-  pub gap_bits : drop start whole ≡ (is.stands.in_gap.gone ++ drop feed.place feed.kept) ++ lie.more
-  gap_bits = is.stands.in_gap.are ∙ ap (λ (b : Bits). is.stands.in_gap.gone ++ b) (from_place lie feed.place is.within)
-      ∙ sym (append_assoc is.stands.in_gap.gone (drop feed.place feed.kept) lie.more)
+    pub fed_within : fed_bits feed ≤ length whole
+    fed_within = omega (
+      arith,
+      lie.within,
+      ap length lie.bits,
+      length-append feed.kept lie.more,
+      length-drop feed.dropped whole,
+    )
 
-  pub known_long : start + length (is.stands.in_gap.gone ++ drop feed.place feed.kept) ≡ fed_bits feed
-  known_long = omega (
-    arith,
-    is.within,
-    is.stands.in_gap.place,
-    length-append is.stands.in_gap.gone (drop feed.place feed.kept),
-    length-drop feed.place feed.kept,
-  )
+    pub full_long : length (take (fed_bits feed) whole) ≡ fed_bits feed
+    full_long = length-take-le (fed_bits feed) whole fed_within
 
-  -- those before it, from the offset on
-  before_start : drop base whole ≡ take (start - base) (drop base whole)
-      ++ ((is.stands.in_gap.gone ++ drop feed.place feed.kept) ++ lie.more)
-  before_start =
-      let there : drop (start - base) (drop base whole) ≡ drop start whole =
-      drop-drop (start - base) base whole ∙ ap (λ (n : ℕ). drop n whole) (omega (arith, is.before)) in
-      sym (take-append-drop (start - base) (drop base whole))
-      ∙ ap (λ (b : Bits). take (start - base) (drop base whole) ++ b) (there ∙ gap_bits)
+    pub gap_long : length (drop (offset_of feed) (take (fed_bits feed) whole)) + offset_of feed ≡ fed_bits feed
+    gap_long = omega (arith, length-drop (offset_of feed) (take (fed_bits feed) whole), full_long, known_long)
 
-  abbrev pub first : Bits
-  first = take (start - base) (drop base whole)
+    pub rest_is : drop (fed_bits feed) whole ≡ lie.more
+    rest_is = from_place lie (length feed.kept) (omega arith) ∙ ap (λ (b : Bits). b ++ lie.more) (drop-length feed.kept)
 
-  abbrev pub known : Bits
-  known = is.stands.in_gap.gone ++ drop feed.place feed.kept
+    -- it is a reading of the data too
+    pub full_is_plain : IsPlainFeedOf whole tried (completed whole feed)
+    full_is_plain = record {
+      fit = fed.fit;
+      lie = record {
+        within = omega arith;
+        more = lie.more;
+        bits = sym (take-append-drop (fed_bits feed) whole) ∙ ap (λ (b : Bits). take (fed_bits feed) whole ++ b) rest_is;
+        can_come = lie.can_come;
+      };
+      stands = subst (λ (n : ℕ). StandsIn feed.begun tried feed.rows feed.ctx (record { bits = whole; place = n }))
+          (omega arith) fed.stands;
+    }
 
-  pub first_long : length first ≡ start - base
-  first_long = length-take-le (start - base) (drop base whole)
-      (omega (arith, is.before, at_start, at_within, length-drop base whole))
+-- what is known of a gap that was passed
+pub knows_passed : (whole : Bits) (feed : Feeding) → feed.gap.passed ≤ feed.dropped + feed.place
+    → feed.dropped + feed.place ≤ length whole → (feed.gap.at_zeros ≡ false → feed.gap ≡ no_gap)
+    → (feed.gap.at_zeros ≡ true
+    → (feed.finished ≡ true) × (drop (offset_of feed) whole ≡ left_before feed.gap.count [])
+    × (feed.gap.count.tag ≡ true → feed.ctx.held.settings.encoding ≡ Group3_2D)) → KnowsGap whole feed
+knows_passed whole feed few within none zeros =
+    let gap : Bits = drop (offset_of feed) whole in
+    let long : length (take feed.gap.passed gap) ≡ feed.gap.passed =
+    length-take-le feed.gap.passed gap (omega (arith, few, within, length-drop (offset_of feed) whole)) in
+    record {
+      gone = take feed.gap.passed gap;
+      are = sym (take-append-drop feed.gap.passed gap)
+          ∙ ap (λ (b : Bits). take feed.gap.passed gap ++ b) (drop-drop feed.gap.passed (offset_of feed) whole
+          ∙ ap (λ (n : ℕ). drop n whole) (omega (arith, few)));
+      place = omega (arith, few, long);
+      long = long;
+      counted = λ e.
+          ap (λ (g : GapSoFar). counted_by (gap_rules feed.begun feed.ctx.held.settings) none_counted (take g.passed gap)) (none e)
+          ∙ ap (λ (g : GapSoFar). Some g.count) (sym (none e));
+      zeros = zeros;
+    }
 
-  all_known : drop base whole ≡ (first ++ known) ++ lie.more
-  all_known = before_start ∙ sym (append_assoc first known lie.more)
-
-  pub kept_is : full.kept ≡ first ++ known
-  kept_is =
-      let long : fed_bits feed - base ≡ length (first ++ known) =
-      omega (arith, known_long, first_long, is.before, length-append first known) in
-      ap (λ (b : Bits). take (fed_bits feed - base) b) all_known
-      ∙ ap (λ (n : ℕ). take n ((first ++ known) ++ lie.more)) long ∙ take_length (first ++ known) lie.more
-
-  -- from where it is on they are the bits of the gap
-  pub full_gap : drop full.place full.kept ≡ is.stands.in_gap.gone ++ drop feed.place feed.kept
-  full_gap =
-      let here : full.place ≡ length first = omega (arith, at_start, first_long) in
-      ap (λ (n : ℕ). drop n full.kept) here ∙ ap (drop (length first)) kept_is ∙ drop-append_seam first known
-
-  pub full_place : full.dropped + full.place ≡ start
-  full_place = omega (arith, at_start, is.before)
-
-  pub full_fed : fed_bits full ≡ fed_bits feed
-  full_fed = omega (arith, ap length kept_is, length-append first known, first_long, known_long, is.before)
-
-  -- It is a reading of the data too.
-  pub full_is_fed : IsPlainFeedOf whole tried full
-  full_is_fed = record {
-    fit = is.fit;
-    lie = record {
-      within = omega (arith, is.before, at_start, at_within);
-      more = lie.more;
-      bits = all_known ∙ ap (λ (b : Bits). b ++ lie.more) (sym kept_is);
-      can_come = lie.can_come;
-    };
-    stands = subst (λ (b : Bool). StandsIn b tried feed.rows feed.ctx
-        (record { bits = whole; place = full.dropped + full.place }))
-        (sym is.begun)
-        (subst (λ (n : ℕ). IsStanding tried feed.rows feed.ctx (record { bits = whole; place = n })) (sym full_place)
-        is.stands.in_gap.stands);
-  }
+-- nothing is known of a gap that begins here
+pub knows_none : (whole : Bits) (feed : Feeding) → feed.dropped + feed.place ≤ length whole → feed.gap ≡ no_gap
+    → KnowsGap whole feed
+knows_none whole feed within is =
+    knows_passed whole feed (omega (arith, ap (λ (g : GapSoFar). g.passed) is)) within (λ e. is)
+    (λ zeros. absurd (false≢true (sym (ap (λ (g : GapSoFar). g.at_zeros) is) ∙ zeros)))

@@ -310,6 +310,7 @@ stays_counted settings {old} {new} {before} {after} waits = record {
     ap length waits.are,
     length-append waits.first after,
   );
+  few = waits.few;
 }
 
 -- the second of two EOLs that end the data follows one
