@@ -8,6 +8,7 @@ pub mod FeedsCounted
 pub mod FeedsOn
 pub mod FeedsPaid
 pub mod FeedsWait
+pub mod FrontsSoFar
 pub mod GapsCountedOn
 pub mod GapsNear
 pub mod GapsSoFar

@@ -105,7 +105,6 @@ pub record ComesCounted (is_last : Bool) (dropped : ℕ) (rows kept : RowState) 
   pub frame : new.held ≡ record old.held { has_eols = new.held.has_eols; repairs = new.held.repairs }
   pub same_bits : after.bits ≡ before.bits
   pub within : after.place ≤ length after.bits
-  pub onward : before.place ≤ after.place
   pub line : answer ≡ Ok (Some true) → is_at_line kept.stand ≡ true
   -- at a line there is no gap
   pub at_line : is_at_line rows.stand ≡ true → (answer ≡ Ok (Some true)) × (after ≡ before) × (new.held ≡ old.held)
@@ -157,6 +156,6 @@ pub record ComesFirst (is_last : Bool) (gap next : GapSoFar) (old new : Context)
   pub near : new.ticks + before.place ≤ old.ticks + after.place + 16
   pub waits : answer ≡ None → (new.held ≡ old.held) × (is_last ≡ false)
   pub known : StaysKnown is_last gap next (here before) (here after) (Ok answer)
-  pub leaves : (whole : Bits) (dropped : ℕ) → LieIn whole dropped is_last before.bits
+  pub leaves : (whole : Bits) (dropped : ℕ) → length whole < 2 ^ 64 → LieIn whole dropped is_last before.bits
       → CountsFront old.held.settings whole (dropped + before.place) gap.count → gap.passed ≡ dropped + before.place
       → CameFirst answer old new whole (dropped + after.place) next after

@@ -314,6 +314,8 @@ pub record CallGoesOn (old new : Feeding) (answer : Result Fed DecodeError) (gap
       → gap + old.looked + 2 * (old.dropped + old.place) ≤ 2 * (new.dropped + new.place) + new.looked + 16
   pub last : old.begun ≡ true → old.finished ≡ true → ended new.rows.stand ≡ None
       → gap + zeros_left old + 2 * (old.dropped + old.place) ≤ 2 * (new.dropped + new.place) + zeros_left new + 16
+  -- a line that is read leaves what is known of zeros with which the data ends
+  pub zeros : ended new.rows.stand ≡ None → (old.begun && is_at_line old.rows.stand) ≡ true → zeros_left new ≡ zeros_left old
   pub stays : HasNone answer → (old.begun && is_at_line old.rows.stand) ≡ true → new.place ≡ old.place
   -- what a line yields that was left before
   pub row_is : answer ≡ Ok Fed.Row → (old.begun && is_at_line old.rows.stand) ≡ true
@@ -498,6 +500,7 @@ pub record ReachesLine (old new : Feeding) (extra : ℕ) : Type 0 where
       → PassesEol (drop old.place old.kept) (old.dropped + old.place) (new.dropped + new.place)
   pub at_line : (old.begun && is_at_line old.rows.stand) ≡ true
       → (new.place ≡ old.place) × (new.ctx.held ≡ old.ctx.held) × (new.kept ≡ old.kept)
+  pub zeros : (old.begun && is_at_line old.rows.stand) ≡ true → zeros_left new ≡ zeros_left old
   pub tried : new.tried_at ≡ old.tried_at
   pub space : new.ctx.space ≡ old.ctx.space
   pub settings : new.ctx.held.settings ≡ old.ctx.held.settings

@@ -13,7 +13,7 @@ use Rattle.fax_feeds.specs.RowFeeds.{PassesEol, completed, fed_bits, fed_over, g
 use Rattle.fax_feeds.proofs.Readings.FeedsCompleted.{at_within, full_gap, full_is_plain, full_long, gap_long, known_long}
 use Rattle.fax_feeds.proofs.Readings.FeedsCompleted.{knows_passed}
 use Rattle.fax_feeds.proofs.Readings.RowsFed.{place_within}
-use Rattle.std.proofs.Common.{◌<◌}
+use Rattle.std.proofs.Common.{◌<◌, cond}
 
 -- The parts of a counted call that a feed makes.
 pub record IsCountedBy (whole : Bits) (tried : ℕ) (old new : Feeding) (before after : BitsAt) : Type 0 where
@@ -298,6 +298,9 @@ module _ {whole : Bits} {tried : ℕ} {old new : Feeding} {before after : BitsAt
               at_line.2,
               same_full,
             );
+        zeros = λ both.
+            let at_line = on.at_line (and_parts old.begun (is_at_line old.rows.stand) both).1 in
+            ap (λ (g : GapSoFar). cond g.at_zeros g.passed 0) at_line.4;
         tried = by.tried_at;
         space = on.space;
         settings = ap (λ (h : Held). h.settings) on.frame;

@@ -1,4 +1,4 @@
-use Rattle.fax_feeds.proofs.Names.{◌≡◌, ◌-◌, ◌+◌, arith}
+use Rattle.fax_feeds.proofs.Names.{◌≡◌, ◌-◌, ◌+◌, ap, arith, is_at_line}
 use Rattle.fax_feeds.proofs.Readings.GapsCountedOn.{lies_at, step_later}
 use Rattle.fax_feeds.proofs.counted_gaps.count_on_in_gap.Goals as goal
 
@@ -19,6 +19,9 @@ returns c =
       same_bits = c.step_in_gap.ensures.same_bits;
       within = c.step_in_gap.ensures.moves.1;
       says = c.step_in_gap.ensures.says;
+      stays = c.step_in_gap.ensures.stays;
+      eol = c.step_in_gap.ensures.eol;
+      line = λ e. ap is_at_line (c.step_in_gap.ensures.line e);
       leaves = λ from whole dropped lie in_gap.
           step_later from extra c.args.rows.now old new whole same.held ticks c.step_in_gap.result
           c.step_in_gap.new.rows in_gap.start dropped c.step_in_gap.new.count c.args.reader.now c.step_in_gap.new.reader
