@@ -5,6 +5,7 @@ pub mod FeedTurns
 pub mod FeedWhite
 pub mod FeedsCompleted
 pub mod FeedsCounted
+pub mod FeedsFramed
 pub mod FeedsOn
 pub mod FeedsPaid
 pub mod FeedsWait

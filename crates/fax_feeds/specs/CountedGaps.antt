@@ -114,7 +114,7 @@ pub record ComesCounted (is_last : Bool) (dropped : ℕ) (rows kept : RowState) 
   pub near : answer ≡ Ok None → extra + gap.look.bits + before.place ≤ after.place + next.look.bits + 16
   -- no more were looked at than there are, and sixteen
   pub looks : 0 < extra → extra + gap.look.bits + before.place ≤ length before.bits + 16
-  pub waits : answer ≡ Ok None → (new.held ≡ old.held) × (new.ticks ≡ old.ticks + extra) × (is_last ≡ false)
+  pub waits : answer ≡ Ok None → (new.held ≡ old.held) × (new.ticks ≡ old.ticks + extra) × (is_last ≡ false) × (kept ≡ rows)
   pub seen : answer ≡ Ok None → IsSeen (rules_for true old.held) next.look (here after)
   pub known : StaysKnown is_last gap next (here before) (here after) answer
   pub leaves : (from : ℕ) (whole : Bits) → LieIn whole dropped is_last before.bits

@@ -103,7 +103,7 @@ no_gap = record { count = none_counted; passed = 0; at_zeros = false; look = not
 pub record IsCounted (gap : GapSoFar) (at : ℕ) : Type 0 where
   pub tidy : gap.at_zeros ≡ false → IsTidy gap.count
   pub few : gap.at_zeros ≡ false → gap.count.eols + gap.count.zeros ≤ at
-  pub zeros : gap.at_zeros ≡ true → 16 ≤ gap.count.zeros
+  pub zeros : gap.at_zeros ≡ true → (16 ≤ gap.count.zeros) × (gap.look ≡ nothing_seen)
   pub missed : 0 < gap.look.bits → gap ≡ record no_gap { look = gap.look }
 
 -- nothing was read yet

@@ -20,6 +20,7 @@ ghost use Rattle.fax_feeds.specs.RowFeeds.{CountsRow, Feeding, FeedsRow, PassesR
 ghost use Rattle.fax_reading.specs.Rows.{AreChanges, changes};
 ghost use Rattle.fax_lines.specs.SinkStates.{state_of};
 ghost use Rattle.fax_rows.specs.WhiteLines.{AreKnown};
+ghost use Rattle.fax_rows.specs.ZerosLast.{CountsZeros, zeros_at};
 
 use crate::counted_gaps::{GapSoFar, come_to_counted_line, come_to_first_line, no_gap};
 use crate::gap_look::{
@@ -33,6 +34,7 @@ use fax_bits::codes::Color;
 use fax_bits::{DecodeError, DecodeSettings, EncodingMode, Result};
 use fax_lines::Decoder;
 use fax_lines::context::{DecoderContext, begin_line, reference_row};
+use fax_rows::gap_count::GapCount;
 use fax_rows::push_rows::{WhiteLinesAhead, push_white_rows};
 use fax_rows::row_reader::{RowState, Stand, first_stand, has_ended, is_at_line};
 use fax_rows::rows::try_row;
@@ -324,6 +326,36 @@ fn try_line(
     row
 }
 
+/// Reads the line here, which begins at this offset of the data, and which is the last bits of it: a tag of one, if it was counted,
+/// and zeros. Returns true; after an allocation failure it is left.
+fn try_line_of_zeros(
+    rows: &mut RowState,
+    ctx: &mut DecoderContext,
+    count: &GapCount,
+    line_start: usize,
+) -> Result<bool>
+    requires rows { ctx.old.held.taken + 1 < 2 ^ 64 }
+    requires damaged { ctx.old.held.repairs.rows ≤ ctx.old.held.taken }
+    requires begun { ctx.old.held.front ≡ [] }
+    requires enough { 16 ≤ count.now.zeros }
+    ensures tries { 0 < ctx.old.held.settings.columns
+        → (count.now.tag ≡ true → ctx.old.held.settings.encoding ≡ EncodingMode.Group3_2D)
+        → TriesLine true line_start rows.old rows.new ctx.old ctx.new (zeros_at count.now.tag count.now.zeros)
+        (zeros_at count.now.tag count.now.zeros) result }
+    ensures counts { CountsZeros ctx.old ctx.new result }
+    ensures stand { result ≡ Ok true → rows.new.stand ≡ Stand.AfterRow }
+{
+    let damaged_rows = ctx.damaged_rows();
+    let cut_rows = ctx.cut_rows();
+    let row = try_zeros(ctx, count.tag, count.zeros);
+    if is_unread(&row) {
+        return row;
+    }
+    let line = line_answer(&row);
+    rows.note_line(ctx, &line, line_start, damaged_rows, cut_rows);
+    row
+}
+
 /// Reads the rows of an image from data that comes in pieces, each as soon as no data that follows can change its line.
 ///
 /// It keeps the bits that weren't read, and after [`feed`](RowFeed::feed) fewer than eight before them. After [`Fed::NeedsMore`]
@@ -446,6 +478,7 @@ impl RowFeed {
         requires damaged { self.old.ctx.held.repairs.rows ≤ self.old.ctx.held.taken }
         requires line { is_at_line self.old.rows.stand ≡ true }
         requires none_kept { self.old.part ≡ None }
+        requires gap { self.old.gap ≡ no_gap }
         ensures reads { ReadsInFeed self.old self.new result }
         ensures none_kept { self.new.part ≡ None }
         ensures no_tag { self.old.ctx.held.settings.encoding ≡ EncodingMode.Group3_2D
@@ -470,6 +503,7 @@ impl RowFeed {
     /// the part from which it goes on is kept.
     #[inline(always)]
     fn go_on_from(&mut self, part: KeptPart, read: usize) -> bool
+        requires gap { self.old.gap.at_zeros ≡ false }
         requires part { LineGoesOn self.old.begun self.old.rows.stand self.old.ctx.held (drop self.old.place self.old.kept) read
             part }
         ensures scans { ScansLine part.passed read self.old self.new result }
@@ -621,6 +655,7 @@ impl RowFeed {
         requires begun { self.old.begun ≡ true }
         requires line { is_at_line self.old.rows.stand ≡ true }
         requires none_drawn { redrawn self.old.ctx.held [] Color.White ≡ self.old.ctx.held }
+        requires gap { self.old.gap.at_zeros ≡ false }
         ensures { KeepsPart self.old self.new }
     {
         let line_start = self.dropped + self.place;
@@ -647,6 +682,7 @@ impl RowFeed {
         requires damaged { self.old.ctx.held.repairs.rows ≤ self.old.ctx.held.taken }
         requires line { is_at_line self.old.rows.stand ≡ true }
         requires none_kept { self.old.part ≡ None }
+        requires gap { self.old.gap ≡ no_gap }
         ensures reads { ReadsInFeed self.old self.new result }
         ensures unread { result ≡ Ok false → self.new.part ≡ None
             → (self.new.ctx.ticks ≡ self.old.ctx.ticks) ⊎ ((self.old.tried_at ≢ self.new.dropped + self.new.place)
@@ -664,6 +700,8 @@ impl RowFeed {
     fn read_here(&mut self) -> Result<Fed>
         requires begun { self.old.begun ≡ true }
         requires line { is_at_line self.old.rows.stand ≡ true }
+        requires gap { self.old.gap ≡ no_gap }
+        ensures gap { self.new.gap ≡ self.old.gap }
         ensures reads { (whole : Bits) (tried : ℕ) → IsPlainFeedOf whole tried self.old
             → FeedsPlainly whole tried self.old self.new result }
         ensures keeps { KeepsBits self.old self.new }
@@ -742,14 +780,7 @@ impl RowFeed {
         }
         let start = (self.dropped + self.place).saturating_sub(self.gap.passed);
         begin_line(&mut self.ctx);
-        let damaged_rows = self.ctx.damaged_rows();
-        let cut_rows = self.ctx.cut_rows();
-        let row = try_zeros(&mut self.ctx, self.gap.count.tag, self.gap.count.zeros);
-        if is_unread(&row) {
-            return fed_row(row);
-        }
-        let line = line_answer(&row);
-        self.rows.note_line(&self.ctx, &line, start, damaged_rows, cut_rows);
+        let row = try_line_of_zeros(&mut self.rows, &mut self.ctx, &self.gap.count, start);
         fed_row(row)
     }
 

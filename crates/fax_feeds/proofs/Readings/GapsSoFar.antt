@@ -359,7 +359,7 @@ module _ {is_last : Bool} {dropped gap_start : ℕ} {rows kept : RowState} {gap 
     only_code = on.only_code;
     near = λ e. omega (arith, (on.looked e).0, ap (λ (b : BitsAt). b.place) (waits_there e), ap (λ (l : GapLook). l.bits) look_is);
     looks = λ some. omega (arith, on.looks.within some, within, length-drop before.place before.bits);
-    waits = λ e. let waits = on.waits e in (waits.0, waits.1, waits.4);
+    waits = λ e. let waits = on.waits e in (waits.0, waits.1, waits.4, waits.2);
     seen = λ e. subst (λ (l : GapLook). IsSeen (rules_for true old.held) l (here after)) (sym look_is)
         (subst (λ (b : BitsAt). IsSeen (rules_for true old.held) look (here b)) (sym (waits_there e)) (on.looked e).1);
     known = record {
@@ -516,7 +516,7 @@ module _ {is_last : Bool} {dropped gap_start : ℕ} {rows kept : RowState} {gap 
       length-drop to.place to.bits,
       ap length first.same_bits,
     );
-    waits = λ e. let waits = on.waits e in (waits.0 ∙ first.held, omega (arith, first.ticks, waits.1), waits.4);
+    waits = λ e. let waits = on.waits e in (waits.0 ∙ first.held, omega (arith, first.ticks, waits.1), waits.4, waits.2);
     seen = λ e. subst (λ (l : GapLook). IsSeen (rules_for true old.held) l (here after)) (sym missed_look)
         (subst (λ (h : Held). IsSeen (rules_for true h) look (here after)) first.held
         (subst (λ (b : BitsAt). IsSeen (rules_for true mid.held) look (here b)) (sym (missed_waits e)) (on.looked e).1));

@@ -4,7 +4,8 @@ use Rattle.fax_feeds.proofs.Names.{◌≡◌, ◌∙◌, ◌++◌, ◌∷◌, []
 use Rattle.fax_feeds.proofs.Names.{◌+◌, ◌<◌, ◌≤◌, Bool, true, false, Result, DecodeError, arith}
 use Rattle.std.specs.Prelude.{◌^◌}
 use Rattle.fax_feeds.specs.RowFeeds.{CountsRow, Feeding, FeedsRow, FeedsRows, KeepsBits, PassesRows, ReadsInFeed, fed_row}
-use Rattle.fax_feeds.specs.RowFeeds.{PushesRows, last_left, rows_left}
+use Rattle.fax_feeds.proofs.Names.{DecodeSettings}
+use Rattle.fax_feeds.specs.RowFeeds.{PushesRows, no_gap, last_left, rows_left}
 use Rattle.fax_reading.specs.Decoding.{SinkState}
 use Rattle.fax_bits.specs.declared.error.DecodeError.TheVariants.{Refused}
 use Rattle.fax_feeds.specs.declared.row_feed.Fed.{Fed}
@@ -17,8 +18,21 @@ line_was_read (Err error) e = absurd cc
 -- a row is counted whose line is read after a gap
 pub counts_row : {old mid new : Feeding} (answer : Result Bool DecodeError)
     → mid.ctx.held.settings ≡ old.ctx.held.settings → mid.ctx.held.taken ≡ old.ctx.held.taken
-    → mid.ctx.held.taken + 1 < 2 ^ 64 → mid.looked ≡ 0 → ReadsInFeed mid new answer → CountsRow old new (fed_row answer)
+    → mid.ctx.held.taken + 1 < 2 ^ 64 → (mid.gap.at_zeros ≡ false → mid.gap ≡ no_gap) → ReadsInFeed mid new answer
+    → CountsRow old new (fed_row answer)
 counts_row answer settings taken room unlooked reads = grind (arith, common_steps, line_was_read)
+
+-- after a gap
+pub counts_on : {old mid new : Feeding} (answer : Result Fed DecodeError)
+    → mid.ctx.held.settings ≡ old.ctx.held.settings → mid.ctx.held.taken ≡ old.ctx.held.taken → CountsRow mid new answer
+    → CountsRow old new answer
+counts_on answer settings taken counts = record {
+  settings = counts.settings ∙ settings;
+  taken = λ e. ((counts.taken e).0 ∙ ap (λ (n : ℕ). n + 1) taken, (counts.taken e).1);
+  width = λ e. counts.width e ∙ ap (λ (s : DecodeSettings). s.columns) settings;
+  stands = counts.stands;
+  unlooked = counts.unlooked;
+}
 
 -- some rows were read, and then others
 all_read : (old : Feeding) (first then : List Feeding) → FeedsRows old first → FeedsRows (last_left old first) then

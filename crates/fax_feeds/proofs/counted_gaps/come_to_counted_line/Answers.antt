@@ -92,7 +92,12 @@ returns-in-Waits c =
       only_code = tt;
       near = λ e. omega (arith, on.near, c.if-gap-gt0.false);
       looks = λ some. omega (arith, on.near, on.within, ap length on.same_bits, c.if-gap-gt0.false);
-      waits = λ e. (on.held, on.ticks, goes_on c.args.is_last (λ last. on.says.waits last c.in-Waits.is));
+      waits = λ e. (
+        on.held,
+        on.ticks,
+        goes_on c.args.is_last (λ last. on.says.waits last c.in-Waits.is),
+        kept_by at GapStep.Waits c.in-Waits.is,
+      );
       seen = λ e. fresh_look (rules_for true c.args.ctx.now.held) (here step.new.reader)
           (unseen c.args.ctx.now.held c.args.gap.now.look (here before) c.requires.seen (omega (arith, c.if-gap-gt0.false)));
       known = record {
