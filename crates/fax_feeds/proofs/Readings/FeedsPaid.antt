@@ -84,7 +84,7 @@ none_or_some (Some part) = inr (λ e. cc)
 
 -- ---- More data
 
-module _ {next : Bits} {old new : Feeding} (holds : HoldsMore next old new) where
+module _ {next : Bits} {old new : Feeding} (holds : KnowsMore next old new) where
   drop_is : drop new.place new.kept ≡ drop old.place old.kept ++ next
   drop_is = holds.unread
 
@@ -160,8 +160,18 @@ module _ {next : Bits} {old new : Feeding} (holds : HoldsMore next old new) wher
             holds.place,
             holds.looked,
           );
+          last = gaps.last;
+          last_most = omega (arith, gaps.last_most, holds.fed);
+          none_last = λ unfinished. gaps.none_last (sym holds.reading.2 ∙ unfinished);
+          there = λ unended finished begun. omega (
+            arith,
+            gaps.there (sym (ap (λ (r : RowState). ended r.stand) holds.reading.1) ∙ unended)
+                (sym holds.reading.2 ∙ finished) (sym holds.begun ∙ begun),
+            holds.place,
+          );
           unbegun = λ e.
-              let was = gaps.unbegun (sym holds.begun ∙ e) in (omega (arith, was.0, holds.looked), was.1);
+              let was = gaps.unbegun (sym holds.begun ∙ e) in
+              (omega (arith, was.0, holds.looked), was.1, omega (arith, was.2, holds.fed));
         };
         lines_paid = record {
           known = lines.known;
@@ -195,6 +205,31 @@ finished_passed : (known : ℕ) (feed : Feeding) (part : Option KeptPart) → Is
 finished_passed known feed None was = λ unended unfinished. absurd (false≢true (sym unfinished))
 finished_passed known feed (Some part) was = finished_short known feed was
 
+finished_gaps : {calls gaps : ℕ} {feed : Feeding} (b : Bool) → feed.finished ≡ b → GapsPaid calls gaps feed
+    → GapsPaid calls gaps (record feed { finished = true })
+finished_gaps true was paid = record {
+  first = paid.first;
+  first_most = paid.first_most;
+  last = paid.last;
+  last_most = paid.last_most;
+  none_last = λ unfinished. absurd (false≢true (sym unfinished));
+  most = paid.most;
+  here = λ unended unfinished. absurd (false≢true (sym unfinished));
+  there = λ unended finished begun. paid.there unended was begun;
+  unbegun = paid.unbegun;
+}
+finished_gaps {feed = feed} false was paid = record {
+  first = paid.first;
+  first_most = paid.first_most;
+  last = fed_bits feed;
+  last_most = omega arith;
+  none_last = λ unfinished. absurd (false≢true (sym unfinished));
+  most = omega (arith, paid.most, paid.none_last was);
+  here = λ unended unfinished. absurd (false≢true (sym unfinished));
+  there = λ unended finished begun. omega (arith, paid.most, paid.none_last was);
+  unbegun = paid.unbegun;
+}
+
 pub finished_paid : {calls lost tried : ℕ} {old new : Feeding} → new ≡ record old { finished = true }
     → FeedIsPaid calls lost tried old → FeedIsPaid calls lost tried new
 finished_paid {calls} {lost} {tried} {old} {new} is paid =
@@ -220,7 +255,7 @@ finished_paid {calls} {lost} {tried} {old} {new} is paid =
           })
         ];
       };
-      gaps_paid = grind (arith, common_steps, gaps, false≢true);
+      gaps_paid = finished_gaps old.finished refl gaps;
       lines_paid = grind (arith, common_steps, lines, false≢true, finished_passed);
     })
 
@@ -250,7 +285,7 @@ begun_paid whole feed is unbegun unlooked unkept =
           left = λ unended unfinished. omega (arith, white);
         });
       };
-      gaps_paid = grind (arith, common_steps);
+      gaps_paid = grind (arith, common_steps, unlooked);
       lines_paid = record {
         known = 0;
         read = 0;
@@ -304,28 +339,66 @@ module _ {whole : Bits} {calls lost tried : ℕ} {old new : Feeding} {answer : R
 
   -- ---- Gaps
 
-  gap_unfinished : 0 < next.gap → old.finished ≡ false
-  gap_unfinished some = false_from_ne_true old.finished (λ e. absurd (omega (arith, some, next.looks.finished e)))
-
   here_within : length (drop old.place old.kept) + offset old ≡ fed_bits old
   here_within = omega (arith, length-drop old.place old.kept, lines.within)
 
-  gap_begun : old.begun ≡ true → paid.gaps + next.gap ≤ gaps.first + fed_bits old + 16 * calls + 16
-  gap_begun begun = grind (arith, common_steps, cases_lt, gap_unfinished, here_within)
+  gap_begun : old.begun ≡ true → paid.gaps + next.gap ≤ gaps.first + gaps.last + fed_bits old + 16 * calls + 16
+  gap_begun begun = elim (cases_lt 0 next.gap) [
+    | inl some ↦ by_finished old.finished refl (next.looks.within some)
+    | inr none ↦ omega (arith, gaps.most, none)
+  ]
+    where
+      by_finished : (b : Bool) → old.finished ≡ b → next.gap + old.looked ≤ length (drop old.place old.kept) + 16
+          → paid.gaps + next.gap ≤ gaps.first + gaps.last + fed_bits old + 16 * calls + 16
+      by_finished true over most = omega (arith, gaps.there unended over begun, most, here_within)
+      by_finished false still most = omega (arith, gaps.here unended still, most, here_within)
 
   gap_unbegun : old.begun ≡ false → paid.gaps + next.gap ≤ fed_bits old + 16 * calls + 16
-  gap_unbegun unbegun = grind (arith, common_steps, cases_lt, here_within)
+  gap_unbegun unbegun = elim (cases_lt 0 next.gap) [
+    | inl some ↦ omega (arith, (gaps.unbegun unbegun).0, next.looks.within some, here_within)
+    | inr none ↦ omega (arith, (gaps.unbegun unbegun).2, none)
+  ]
 
   pub gaps_step : (b n : Bool) → old.begun ≡ b → new.begun ≡ n → GapsPaid (calls + 1) (paid.gaps + next.gap) new
-  gaps_step true n begun is = grind (arith, common_steps, false≢true, gaps, same_fed, gap_begun, still_unfinished, goes)
+  gaps_step true n begun is = record {
+    first = gaps.first;
+    first_most = omega (arith, gaps.first_most, same_fed);
+    last = gaps.last;
+    last_most = omega (arith, gaps.last_most, same_fed);
+    none_last = λ unfinished. gaps.none_last (still_unfinished unfinished);
+    most = omega (arith, gap_begun begun, same_fed);
+    here = λ still unfinished.
+        omega (arith, gaps.here unended (still_unfinished unfinished), goes.near begun (still_unfinished unfinished) still);
+    there = λ still finished now.
+        let was : old.finished ≡ true = sym keeps.finished ∙ finished in
+        omega (arith, gaps.there unended was begun, goes.near_last begun was still);
+    unbegun = λ e. absurd (false≢true (sym (goes.unbegun e).0 ∙ begun));
+  }
   gaps_step false true unbegun is = record {
     first = fed_bits old;
     first_most = omega (arith, same_fed);
+    last = gaps.last;
+    last_most = omega (arith, gaps.last_most, same_fed);
+    none_last = λ unfinished. gaps.none_last (still_unfinished unfinished);
     most = omega (arith, gap_unbegun unbegun, same_fed);
     here = λ still unfinished. omega (arith, gap_unbegun unbegun);
+    there = λ still finished now. omega (arith, gap_unbegun unbegun);
     unbegun = λ e. absurd (false≢true (sym e ∙ is));
   }
-  gaps_step false false unbegun is = grind (arith, common_steps, goes, gap_unbegun, same_fed, gaps)
+  gaps_step false false unbegun is = record {
+    first = gaps.first;
+    first_most = omega (arith, gaps.first_most, same_fed);
+    last = gaps.last;
+    last_most = omega (arith, gaps.last_most, same_fed);
+    none_last = λ unfinished. gaps.none_last (still_unfinished unfinished);
+    most = omega (arith, gap_unbegun unbegun, same_fed);
+    here = λ still unfinished. omega (arith, waited);
+    there = λ still finished now. absurd (false≢true (sym is ∙ now));
+    unbegun = λ e. (waited, (gaps.unbegun unbegun).1, omega (arith, gap_unbegun unbegun, same_fed));
+  }
+    where
+      waited : paid.gaps + next.gap ≤ new.looked + 16 * (calls + 1)
+      waited = omega (arith, (gaps.unbegun unbegun).0, next.looked (goes.unbegun is).1 (goes.unbegun is).2)
 
   -- ---- Where the next line begins
 
@@ -858,24 +931,28 @@ lines_in_all : {calls lost drawn lines : ℕ} {feed : Feeding} → (paid : Lines
 lines_in_all {calls} {lost} {drawn} {lines} {feed} paid = grind (arith, common_steps, none_or_some, none_paid, length-drop)
 
 -- what was called is paid
-history_paid : {calls lost tried : ℕ} {feed : Feeding} → IsHistory calls lost tried feed → FeedIsPaid calls lost tried feed
-history_paid (IsHistory.opens {feed} whole is unbegun unlooked unkept) = begun_paid whole feed is unbegun unlooked unkept
-history_paid (IsHistory.feeds next before holds) = more_paid holds (history_paid before)
-history_paid (IsHistory.finishes before is) = finished_paid is (history_paid before)
-history_paid (IsHistory.reads whole before unended keeps next other) =
-    reads_paid unended keeps (history_paid before) next other
-history_paid (IsHistory.fails whole before unended keeps next) = fails_paid unended keeps (history_paid before) next refl
+history_paid : {whole : Bits} {calls lost tried : ℕ} {feed : Feeding} → IsHistory whole calls lost tried feed
+    → FeedIsPaid calls lost tried (completed whole feed)
+history_paid (IsHistory.opens {feed} is unbegun none unkept) =
+    begun_paid _ (completed _ feed) (completed_fed is) unbegun (ap (λ (g : GapSoFar). g.passed + g.look.bits) none) unkept
+history_paid (IsHistory.feeds next before was is holds) = more_paid (knows_more holds was is) (history_paid before)
+history_paid (IsHistory.finishes before is) = finished_paid (ap (completed _) is) (history_paid before)
+history_paid (IsHistory.reads before unended keeps next other) =
+    reads_paid unended (keeps_completed keeps) (history_paid before) next other
+history_paid (IsHistory.fails before unended keeps next) = fails_paid unended (keeps_completed keeps) (history_paid before) next refl
 
 pub feeds_are_paid : FeedsArePaid
 feeds_are_paid calls lost tried whole feed history is =
     let paid = history_paid history in
+    let all = completed_fed is in
     omega (
       arith,
-      plain_most is,
-      fed_within is,
+      plain_most all,
+      fed_within all,
       paid.sum,
       paid.gaps_paid.most,
       paid.gaps_paid.first_most,
+      paid.gaps_paid.last_most,
       lines_in_all paid.lines_paid,
       paid.firsts_paid.most,
       paid.firsts_paid.known_most,
