@@ -1,9 +1,11 @@
 pub mod BitsHeld
 pub mod BlackGoesOn
+pub mod CompletedOn
 pub mod FeedAccount
 pub mod FeedTurns
 pub mod FeedWhite
 pub mod FeedsCompleted
+pub mod FeedsHeld
 pub mod FeedsOn
 pub mod FeedsPaid
 pub mod FeedsWait

@@ -5,7 +5,7 @@ use Rattle.fax_bits.specs.declared.error.DecodeError.{DecodeError}
 use Rattle.fax_bits.specs.declared.error.DecodeError.TheVariants.{OutOfMemory}
 use Rattle.fax_feeds.specs.declared.row_feed.Fed.{Fed}
 use Rattle.fax_bits.specs.Bits.{Bits}
-use Rattle.fax_feeds.specs.RowFeeds.{Feeding, FeedsNext, HoldsMore, IsFeedOf, KeepsBits}
+use Rattle.fax_feeds.specs.RowFeeds.{Feeding, FeedsNext, HoldsMore, IsFeedOf, KeepsBits, no_gap}
 use Rattle.fax_reading.specs.Rows.{changes}
 use Rattle.fax_rows.specs.RowsRead.{ended}
 
