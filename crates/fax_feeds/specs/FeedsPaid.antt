@@ -5,7 +5,7 @@ use Rattle.fax_bits.specs.declared.error.DecodeError.{DecodeError}
 use Rattle.fax_bits.specs.declared.error.DecodeError.TheVariants.{OutOfMemory}
 use Rattle.fax_feeds.specs.declared.row_feed.Fed.{Fed}
 use Rattle.fax_bits.specs.Bits.{Bits}
-use Rattle.fax_feeds.specs.RowFeeds.{Feeding, FeedsNext, HoldsMore, IsFeedOf, KeepsBits, no_gap}
+use Rattle.fax_feeds.specs.RowFeeds.{Feeding, FeedsNext, HoldsMore, IsFeedOf, KeepsBits, completed}
 use Rattle.fax_reading.specs.Rows.{changes}
 use Rattle.fax_rows.specs.RowsRead.{ended}
 
@@ -22,20 +22,20 @@ cost_of_failure feed = 3 * changes_of feed + 12 * length (drop feed.place feed.k
 -- What became of a feed of some data: bytes were fed, the data may have been finished, and so many calls read the next row. Those
 -- that failed for memory cost so much more, and this much was counted for what was tried and left.
 pub data IsHistory (whole : Bits) : ℕ → ℕ → ℕ → Feeding → Type 0 where
-  opens : {feed : Feeding} → IsFeedOf whole 0 feed → feed.begun ≡ false → feed.gap ≡ no_gap → feed.part ≡ None
+  opens : {feed : Feeding} → IsFeedOf whole 0 feed → feed.begun ≡ false → feed.looked ≡ 0 → feed.part ≡ None
       → IsHistory whole 0 0 0 feed
   feeds : {calls lost tried : ℕ} {old new : Feeding} (next : Bits) → IsHistory whole calls lost tried old
-      → IsFeedOf whole tried old → IsFeedOf whole tried new → HoldsMore next old new → IsHistory whole calls lost tried new
+      → HoldsMore next old new → IsFeedOf whole tried new → IsHistory whole calls lost tried new
   finishes : {calls lost tried : ℕ} {old new : Feeding} → IsHistory whole calls lost tried old
-      → new ≡ record old { finished = true } → IsHistory whole calls lost tried new
+      → new ≡ record old { finished = true } → IsFeedOf whole tried new → IsHistory whole calls lost tried new
   reads : {calls lost tried : ℕ} {old new : Feeding} {answer : Result Fed DecodeError}
       → IsHistory whole calls lost tried old → ended old.rows.stand ≡ None → KeepsBits old new
-      → (next : FeedsNext whole tried (completed whole old) (completed whole new) answer) → answer ≢ Err OutOfMemory
-      → IsHistory whole (calls + 1) lost (tried + next.extra) new
+      → (next : FeedsNext whole tried old new answer) → answer ≢ Err OutOfMemory
+      → IsHistory whole (calls + 1) lost (tried + next.plainly.extra) new
   fails : {calls lost tried : ℕ} {old new : Feeding}
       → IsHistory whole calls lost tried old → ended old.rows.stand ≡ None → KeepsBits old new
-      → (next : FeedsNext whole tried (completed whole old) (completed whole new) (Err OutOfMemory))
-      → IsHistory whole (calls + 1) (lost + cost_of_failure (completed whole new)) (tried + next.extra) new
+      → (next : FeedsNext whole tried old new (Err OutOfMemory))
+      → IsHistory whole (calls + 1) (lost + cost_of_failure (completed whole new)) (tried + next.plainly.extra) new
 
 -- ---- The law
 

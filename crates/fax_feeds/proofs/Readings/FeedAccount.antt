@@ -5,7 +5,7 @@ use Rattle.fax_feeds.specs.declared.line_parts.KeptPart.{KeptPart}
 use Rattle.fax_bits.specs.Bits.{Bits}
 use Rattle.fax_reading.specs.Continuations.{is_short}
 use Rattle.fax_reading.specs.PlainReading.{line_here}
-use Rattle.fax_feeds.specs.RowFeeds.{Feeding, fed_bits, most_for_line, paid_for_line}
+use Rattle.fax_feeds.specs.RowFeeds.{Feeding, fed_bits, most_for_line, paid_for_line, zeros_left}
 use Rattle.fax_feeds.specs.FeedsPaid.{changes_of}
 use Rattle.fax_rows.specs.RowsRead.{ended, is_at_line}
 
@@ -55,18 +55,19 @@ pub record RowsPaid (drawn : ℕ) (feed : Feeding) : Type 0 where
   pub most : drawn ≤ fed_bits feed
   pub after : IsAfter drawn feed
 
--- What so many calls counted for gaps: the bits of gaps, those before the first line twice, those known where the data was
--- finished once more, and sixteen bits a call.
+-- What so many calls counted for gaps: the bits of gaps twice, those before the first line once more, twice those known where
+-- the data was finished, and sixteen bits a call.
 pub record GapsPaid (calls gaps : ℕ) (feed : Feeding) : Type 0 where
   pub first : ℕ
   pub first_most : first ≤ fed_bits feed
   pub last : ℕ
-  pub last_most : last ≤ fed_bits feed
+  pub last_most : last ≤ 2 * fed_bits feed
   pub none_last : feed.finished ≡ false → last ≡ 0
-  pub most : gaps ≤ first + last + fed_bits feed + 16 * calls
-  pub here : ended feed.rows.stand ≡ None → feed.finished ≡ false → gaps ≤ first + offset feed + feed.looked + 16 * calls
+  pub most : gaps ≤ first + last + 2 * fed_bits feed + 16 * calls
+  pub here : ended feed.rows.stand ≡ None → feed.finished ≡ false
+      → gaps ≤ first + 2 * offset feed + feed.looked + 16 * calls
   pub there : ended feed.rows.stand ≡ None → feed.finished ≡ true → feed.begun ≡ true
-      → gaps ≤ first + last + offset feed + 16 * calls
+      → gaps ≤ first + last + 2 * offset feed + zeros_left feed + 16 * calls
   pub unbegun : feed.begun ≡ false → (gaps ≤ feed.looked + 16 * calls) × (first ≡ 0) × (gaps ≤ fed_bits feed + 16 * calls)
 
 -- What they counted for lines that were left, of which so much in calls that failed for memory: the bits that were known when
@@ -118,6 +119,7 @@ pub record KnowsMore (next : Bits) (old new : Feeding) : Type 0 where
   pub place : new.dropped + new.place ≡ old.dropped + old.place
   pub begun : new.begun ≡ old.begun
   pub looked : new.looked ≡ old.looked
+  pub gap : new.gap ≡ old.gap
   pub part : new.part ≡ old.part
   pub line_read : new.line_read ≡ old.line_read
   pub tried_at : new.tried_at ≡ old.tried_at
