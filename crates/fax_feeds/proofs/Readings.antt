@@ -1,19 +1,21 @@
 pub mod BitsHeld
 pub mod BlackGoesOn
+pub mod CompletedOn
 pub mod FeedAccount
 pub mod FeedTurns
 pub mod FeedWhite
 pub mod FeedsCompleted
 pub mod FeedsCounted
 pub mod FeedsFramed
+pub mod FeedsHeld
 pub mod FeedsOn
 pub mod FeedsPaid
 pub mod FeedsWait
 pub mod FrontsSoFar
 pub mod GapsCountedOn
 pub mod GapsNear
-pub mod GapsSoFar
 pub mod GapsSeen
+pub mod GapsSoFar
 pub mod LooksKept
 pub mod OpenBits
 pub mod PartsFed
@@ -22,3 +24,4 @@ pub mod RowsDrawn
 pub mod RowsFed
 pub mod RowsPassed
 pub mod WhiteRowsFed
+pub mod ZerosFed

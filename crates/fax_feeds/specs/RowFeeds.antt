@@ -659,8 +659,8 @@ fed_without_row (Err error) = Err error
 -- What a call leaves that reads the next row: of whatever data those fed are a beginning, the next row of the plain reading, its
 -- end or its fault, or nothing is read; and after the end nothing changes. What is kept of the data stays.
 pub record FeedsRow (old new : Feeding) (answer : Result Fed DecodeError) : Type 0 where
-  pub reads : (whole : Bits) (tried : ℕ) → ended old.rows.stand ≡ None → IsPlainFeedOf whole tried old
-      → FeedsPlainly whole tried old new answer
+  pub reads : (whole : Bits) (tried : ℕ) → ended old.rows.stand ≡ None → IsFeedOf whole tried old
+      → FeedsNext whole tried old new answer
   pub keeps : KeepsBits old new
   pub over : (end : Result (Unit {0}) DecodeError) → ended old.rows.stand ≡ Some end → (new ≡ old) × (answer ≡ fed_end end)
   pub counts : CountsRow old new answer

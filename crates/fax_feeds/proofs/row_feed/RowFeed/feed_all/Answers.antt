@@ -7,14 +7,14 @@ use Rattle.fax_feeds.proofs.Names.{Err, Result, ◌+◌, ◌<◌, arith, length,
 use Rattle.std.specs.Prelude.{◌^◌}
 use Rattle.fax_feeds.proofs.Readings.BitsHeld.{holds_more, holds_none}
 use Rattle.fax_feeds.proofs.Names.{drop, length-append}
-use Rattle.fax_feeds.proofs.Readings.FeedsOn.{come_next, drops_none_fed, drops_read, feeds_more}
+use Rattle.fax_feeds.proofs.Readings.FeedsHeld.{come_next, drops_none_fed, drops_read, feeds_more}
 use Rattle.fax_feeds.proofs.Readings.LooksKept.{seen_more, seen_there}
 use Rattle.fax_feeds.proofs.Readings.PartsFed.{kept_longer}
 use Rattle.std.proofs.lemmas.List.{drop-append-le}
 use Rattle.std.proofs.lemmas.List.Concat.{flat_map-append}
 use Rattle.fax_bits.specs.declared.bit_reader.BitOrder.{BitOrder}
 use Rattle.fax_bits.specs.Bits.{bits_of_byte}
-use Rattle.fax_feeds.specs.RowFeeds.{Feeding, IsPlainFeedOf, fed_bits, feeding_of}
+use Rattle.fax_feeds.specs.RowFeeds.{Feeding, IsFeedOf, fed_bits, feeding_of}
 use Rattle.fax_bits.proofs.BitReading.BitLists.{length-bits_in}
 use Rattle.fax_feeds.proofs.row_feed.RowFeed.feed_all.Goals.{then-bytes-kept-via-then-bytes-kept}
 use Rattle.fax_feeds.proofs.row_feed.RowFeed.feed_all.Goals.{then-bytes-kept-via-else-bytes-kept+then-self-kept}
@@ -36,7 +36,7 @@ returns-in_err-append-clause-refused c =
     let inside = c.self.inside in
     let same = same_bytes_and_room (feeding_of inside) inside.order c.in_err-append.ensures.items c.in_err-append.ensures.left
     ∙ c.self.view_is in
-    rw answer.1 (λ whole tried feed. subst (IsPlainFeedOf whole tried) (sym same) (drops_read c.drop_read.ensures feed))
+    rw answer.1 (λ whole tried feed. subst (IsFeedOf whole tried) (sym same) (drops_read c.drop_read.ensures feed))
 
 pub returns-clause-fed : goal.returns-clause-fed
 returns-clause-fed c whole tried feed come =
@@ -119,15 +119,14 @@ invariant_of-self-2 c =
     record {
       within = omega (arith, longer, old.within);
       fit = grind (arith, common_steps);
-      fresh = old.fresh;
-      start = old.start;
-      unended = old.unended;
-      rows = old.rows;
+      unbegun = λ e. grind (arith, common_steps, old.unbegun e);
       seen = seen_there (ap (drop inside.place) (sym (ap (bits_in inside.order) items
           ∙ flat_map-append (bits_of_byte inside.order) inside.«data».items c.args.bytes.now)))
           (seen_more inside.place (bits_in inside.order inside.«data».items) (bits_in inside.order c.args.bytes.now)
           (omega (arith, old.within, length-bits_in inside.order inside.«data».items)) old.seen);
       line = old.line;
+      counted = old.counted;
+      unkept = old.unkept;
       part = grind (arith, common_steps, drop-append-le, length-bits_in, flat_map-append, kept_longer);
     }
 
