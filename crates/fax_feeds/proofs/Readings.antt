@@ -11,6 +11,7 @@ pub mod FeedsHeld
 pub mod FeedsOn
 pub mod FeedsPaid
 pub mod FeedsWait
+pub mod FrontsFed
 pub mod FrontsSoFar
 pub mod GapsCountedOn
 pub mod GapsNear
@@ -25,3 +26,4 @@ pub mod RowsFed
 pub mod RowsPassed
 pub mod WhiteRowsFed
 pub mod ZerosFed
+pub mod ZerosRead

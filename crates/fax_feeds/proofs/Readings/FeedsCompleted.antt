@@ -21,11 +21,40 @@ known_from whole known more start fed are is =
     ap (λ (n : ℕ). drop start (take n whole)) is ∙ drop-take start (length known) whole ∙ ap (take (length known)) are
     ∙ take_length known more
 
-module _ {whole : Bits} {tried : ℕ} {feed : Feeding} (fed : IsFeedOf whole tried feed) (within : feed.place ≤ length feed.kept)
-  where
-    abbrev lie : LieIn whole feed.dropped feed.finished feed.kept
-    lie = fed.lie
+module _ {whole : Bits} {tried : ℕ} {feed : Feeding} (fed : IsFeedOf whole tried feed) where
+  abbrev lie : LieIn whole feed.dropped feed.finished feed.kept
+  lie = fed.lie
 
+  pub fed_within : fed_bits feed ≤ length whole
+  fed_within = omega (
+    arith,
+    lie.within,
+    ap length lie.bits,
+    length-append feed.kept lie.more,
+    length-drop feed.dropped whole,
+  )
+
+  pub full_long : length (take (fed_bits feed) whole) ≡ fed_bits feed
+  full_long = length-take-le (fed_bits feed) whole fed_within
+
+  pub rest_is : drop (fed_bits feed) whole ≡ lie.more
+  rest_is = from_place lie (length feed.kept) (omega arith) ∙ ap (λ (b : Bits). b ++ lie.more) (drop-length feed.kept)
+
+  -- it is a reading of the data too
+  pub full_is_plain : IsPlainFeedOf whole tried (completed whole feed)
+  full_is_plain = record {
+    fit = fed.fit;
+    lie = record {
+      within = omega arith;
+      more = lie.more;
+      bits = sym (take-append-drop (fed_bits feed) whole) ∙ ap (λ (b : Bits). take (fed_bits feed) whole ++ b) rest_is;
+      can_come = lie.can_come;
+    };
+    stands = subst (λ (n : ℕ). StandsIn feed.begun tried feed.rows feed.ctx (record { bits = whole; place = n }))
+        (omega arith) fed.stands;
+  }
+
+  module _ (within : feed.place ≤ length feed.kept) where
     abbrev here : Bits
     here = drop feed.place feed.kept
 
@@ -48,37 +77,8 @@ module _ {whole : Bits} {tried : ℕ} {feed : Feeding} (fed : IsFeedOf whole tri
     pub full_gap : drop (offset_of feed) (take (fed_bits feed) whole) ≡ fed.known.gone ++ here
     full_gap = known_from whole (fed.known.gone ++ here) lie.more (offset_of feed) (fed_bits feed) known_bits known_long
 
-    pub fed_within : fed_bits feed ≤ length whole
-    fed_within = omega (
-      arith,
-      lie.within,
-      ap length lie.bits,
-      length-append feed.kept lie.more,
-      length-drop feed.dropped whole,
-    )
-
-    pub full_long : length (take (fed_bits feed) whole) ≡ fed_bits feed
-    full_long = length-take-le (fed_bits feed) whole fed_within
-
     pub gap_long : length (drop (offset_of feed) (take (fed_bits feed) whole)) + offset_of feed ≡ fed_bits feed
     gap_long = omega (arith, length-drop (offset_of feed) (take (fed_bits feed) whole), full_long, known_long)
-
-    pub rest_is : drop (fed_bits feed) whole ≡ lie.more
-    rest_is = from_place lie (length feed.kept) (omega arith) ∙ ap (λ (b : Bits). b ++ lie.more) (drop-length feed.kept)
-
-    -- it is a reading of the data too
-    pub full_is_plain : IsPlainFeedOf whole tried (completed whole feed)
-    full_is_plain = record {
-      fit = fed.fit;
-      lie = record {
-        within = omega arith;
-        more = lie.more;
-        bits = sym (take-append-drop (fed_bits feed) whole) ∙ ap (λ (b : Bits). take (fed_bits feed) whole ++ b) rest_is;
-        can_come = lie.can_come;
-      };
-      stands = subst (λ (n : ℕ). StandsIn feed.begun tried feed.rows feed.ctx (record { bits = whole; place = n }))
-          (omega arith) fed.stands;
-    }
 
 -- what is known of a gap that was passed
 pub knows_passed : (whole : Bits) (feed : Feeding) → feed.gap.passed ≤ feed.dropped + feed.place

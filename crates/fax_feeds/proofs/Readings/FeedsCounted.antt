@@ -183,7 +183,7 @@ module _ {whole : Bits} {tried : ℕ} {old new : Feeding} {before after : BitsAt
             );
             keeps = keeps_full;
             begun = by.still;
-            within = omega (arith, full_long fed by.within, same_fed, ap length same_full, new_within, at_new);
+            within = omega (arith, full_long fed, same_fed, ap length same_full, new_within, at_new);
             space = on.space;
             waits = λ e. (
               held,
@@ -197,7 +197,7 @@ module _ {whole : Bits} {tried : ℕ} {old new : Feeding} {before after : BitsAt
                   (sym held) ∙ waits.0.unsettled,
             );
             comes = λ other. absurd (other needs);
-            stands = full_is_plain waits_fed new_within;
+            stands = full_is_plain waits_fed;
             line = λ e. let never = sym needs ∙ e in absurd cc;
             counts = on.counts;
             reaches = λ e. let never = sym needs ∙ e in absurd cc;
@@ -315,11 +315,11 @@ module _ {whole : Bits} {tried : ℕ} {old new : Feeding} {before after : BitsAt
         looked = λ e. absurd (passed e);
         keeps = keeps_full;
         begun = by.still;
-        within = omega (arith, full_long fed by.within, same_fed, ap length same_full, new_within, at_new);
+        within = omega (arith, full_long fed, same_fed, ap length same_full, new_within, at_new);
         space = on.space;
         waits = λ e. absurd (passed e);
         comes = λ other. passed_reaches;
-        stands = full_is_plain passed_fed new_within;
+        stands = full_is_plain passed_fed;
         line = on.line;
         counts = on.counts;
         reaches = passes_line;

@@ -206,4 +206,4 @@ framed {whole} {tried} {old} {new} next fed now within within_new none none_new 
     ∙ ap (λ (b : Bits). b ++ drop old.place old.kept) (no_bits fed.known.gone (omega (arith, fed.known.long, none))))
     (full_gap now within_new
     ∙ ap (λ (b : Bits). b ++ drop new.place new.kept) (no_bits now.known.gone (omega (arith, now.known.long, none_new))))
-    (full_long now within_new) within_new keeps.dropped (full_is_plain now within_new)
+    (full_long now) within_new keeps.dropped (full_is_plain now)

@@ -816,3 +816,9 @@ front_ends_feeds {whole} {tried} {old} {new} begins unbegun unkept none over =
     over_feeds (Ok (Some false)) begins.extra (λ e. cc) (λ e. cc) (λ e. cc) reached begins.stands
     (unbegun_looks old.begun (is_at_line old.rows.stand) unbegun begins.looks) unkept
     (grind (arith, common_steps, gap_ended, begins.reaches refl, reached.end refl))
+
+pub unended_stand : (stand : Stand) → is_some (ended stand) ≡ false → ended stand ≡ None
+unended_stand AtLine is = refl
+unended_stand AfterRow is = refl
+unended_stand AtEnd is = absurd cc
+unended_stand (AtFault error) is = absurd cc

@@ -59,7 +59,7 @@ module _ {whole : Bits} {tried : ℕ} {feed : Feeding} (at : IsAtZeros whole tri
   full_here =
       let all : take (fed_bits feed) whole ≡ whole =
       ap (λ (b : Bits). take (fed_bits feed) whole ++ b) (sym none_follow)
-      ∙ sym (full_is_plain at.fed at.within).lie.bits in
+      ∙ sym (full_is_plain at.fed).lie.bits in
       ap (drop (offset_of feed)) (sym (append-nil (take (fed_bits feed) whole)) ∙ all) ∙ zeros_are.1
 
   -- ---- The line
@@ -126,7 +126,7 @@ module _ {whole : Bits} {tried : ℕ} {feed : Feeding} (at : IsAtZeros whole tri
 
     stood_after : IsPlainFeedOf whole (tried + alone_feeds.extra) (completed whole after)
     stood_after =
-        let full = full_is_plain at.fed at.within in
+        let full = full_is_plain at.fed in
         record {
           fit = full.fit;
           lie = full.lie;
@@ -138,7 +138,7 @@ module _ {whole : Bits} {tried : ℕ} {feed : Feeding} (at : IsAtZeros whole tri
     zeros_line = subst (λ (f : Feeding). FeedsPlainly whole tried (completed whole feed) (completed whole f) (fed_row answer))
         (sym new_is)
         (moved alone_feeds (take (fed_bits feed) whole) (take (fed_bits feed) whole) (offset_of feed) (offset_of feed)
-        (omega arith) (omega arith) full_here full_here (omega (arith, full_long at.fed at.within, all_fed)) (omega arith) refl
+        (omega arith) (omega arith) full_here full_here (omega (arith, full_long at.fed, all_fed)) (omega arith) refl
         stood_after)
 
     -- the zeros are next as before
@@ -259,11 +259,11 @@ module _ {whole : Bits} {tried : ℕ} {feed : Feeding} (at : IsAtZeros whole tri
         looked = λ e. absurd (some passed e);
         keeps = record { order = refl; finished = refl; kept = refl; dropped = refl; room = refl };
         begun = at.begun;
-        within = omega (arith, full_long at.fed at.within, all_fed);
+        within = omega (arith, full_long at.fed, all_fed);
         space = space;
         waits = λ e. absurd (some passed e);
         comes = λ other. reaches_mid;
-        stands = full_is_plain mid_fed at.within;
+        stands = full_is_plain mid_fed;
         line = λ e. stand (line_is passed e);
         counts = omega (arith, ticks);
         reaches = λ e. record {
