@@ -152,6 +152,7 @@ module _ {whole : Bits} {tried : ℕ} {old new : Feeding} {before after : BitsAt
         ∙ ap (λ (n : ℕ). drop n new.kept) (sym by.ends)
 
     full_here : drop (offset_of old) (take (fed_bits old) whole) ≡ stands_now.in_gap.gone ++ here after
+    unfolding waits_fed
     full_here = ap (λ (n : ℕ). drop n (take (fed_bits old) whole)) (sym same_offset)
         ∙ ap (λ (b : Bits). drop (offset_of new) b) (sym same_full) ∙ full_gap waits_fed new_within
         ∙ ap (λ (b : Bits). stands_now.in_gap.gone ++ b) (sym here_after)
@@ -248,6 +249,7 @@ module _ {whole : Bits} {tried : ℕ} {old new : Feeding} {before after : BitsAt
     module _ (line : answer ≡ Ok (Some true)) where
       near : PassesNear old.finished old.rows (offset_of old) at (old.dropped + after.place - new.gap.passed) on.extra old.gap
           new.gap old.ctx (fed.known.gone ++ here before)
+      unfolding there
       near = on.passes tried whole lies there line
 
       onward : offset_of old ≤ offset_of new
@@ -334,6 +336,7 @@ pub counted_comes : {whole : Bits} {tried : ℕ} {old new : Feeding} {before aft
     (on : ComesCounted old.finished old.dropped old.rows new.rows old.gap new.gap old.ctx new.ctx before after answer)
     → (comes : ComesInFeed whole tried (completed whole old) (completed whole new) answer)
     × IsFeedOf whole (tried + comes.extra) new
+unfolding there
 counted_comes {whole} {tried} by (Ok None) on =
     waits_in_feed by on (on.leaves tried whole (lies by on) (there by on)) refl
 counted_comes {whole} {tried} by (Ok (Some line)) on =

@@ -206,15 +206,16 @@ some_zeros n more enough =
       fill = replicate (n - 11) false;
       after = more;
       are = ap (λ (m : ℕ). replicate m false ++ true ∷ more) sum
-          ∙ ap (λ (b : Bits). b ++ true ∷ more) (sym (replicate-append-replicate (n - 11) 11 false))
-          ∙ append_assoc (replicate (n - 11) false) (replicate 11 false) (true ∷ more);
+          ∙ ap (λ (b : Bits). b ++ true ∷ more) (sym (replicate-append-replicate (n - 11) 11 false));
     }
 
 behind : (first : Bits) {bits : Bits} → HasEol bits → HasEol (first ++ bits)
 behind first has = record {
   fill = first ++ has.fill;
   after = has.after;
-  are = ap (λ (b : Bits). first ++ b) has.are ∙ sym (append_assoc first has.fill (replicate 11 false ++ true ∷ has.after));
+  are = ap (λ (b : Bits). first ++ b) has.are
+      ∙ sym (append_assoc first (has.fill ++ replicate 11 false) (true ∷ has.after))
+      ∙ ap (λ (b : Bits). b ++ true ∷ has.after) (sym (append_assoc first has.fill (replicate 11 false)));
 }
 
 counted_eol : (tags two : Bool) (count : GapCount) (bits : Bits) (end : GapCount) → counted tags two count bits ≡ Some end
@@ -229,6 +230,10 @@ counted_eol tags two count (true ∷ bits) end is more =
       | inl few ↦ by_one (λ next then. counted_eol tags two next bits end then) (one_counted tags two count) refl few
     ]
   where
+    one_few : (tags two : Bool) (count next : GapCount) → count.zeros < 11 → one_counted tags two count ≡ Some next
+        → next ≡ tag_more count
+    one_few tags two count next few e = grind (arith, common_steps, leb-true)
+
     by_one : ((next : GapCount) → counted tags two next bits ≡ Some end → next.eols < end.eols
         → HasEol (replicate next.zeros false ++ bits)) → (o : Option GapCount) → one_counted tags two count ≡ o → count.zeros < 11
         → HasEol (replicate count.zeros false ++ true ∷ bits)
@@ -239,10 +244,6 @@ counted_eol tags two count (true ∷ bits) end is more =
         let none : next.zeros ≡ 0 = ap (λ (n : GapCount). n.zeros) tag in
         let there = on next then (omega (arith, more, ap (λ (n : GapCount). n.eols) tag)) in
         behind (replicate count.zeros false) (behind (true ∷ []) (subst (λ (n : ℕ). HasEol (replicate n false ++ bits)) none there))
-
-    one_few : (tags two : Bool) (count next : GapCount) → count.zeros < 11 → one_counted tags two count ≡ Some next
-        → next ≡ tag_more count
-    one_few tags two count next few e = grind (arith, common_steps, leb-true)
 
 -- so many bits before others
 pub eol_passed : (settings : DecodeSettings) (gone : Bits) (count : GapCount) (before after : Bits) (start : ℕ)
@@ -259,12 +260,14 @@ eol_passed settings gone count before after start is eol =
       after = has.after ++ eol.rest;
       place = ap (λ (b : Bits). gone ++ b) eol.are ∙ sym (append_assoc gone eol.first eol.rest)
           ∙ ap (λ (b : Bits). b ++ eol.rest) has.are
-          ∙ append_assoc has.fill (replicate 11 false ++ true ∷ has.after) eol.rest;
+          ∙ append_assoc (has.fill ++ replicate 11 false) (true ∷ has.after) eol.rest;
       passed = omega (
         arith,
         ap length has.are,
         length-append gone eol.first,
-        length-append has.fill (replicate 11 false ++ true ∷ has.after),
+        length-append (has.fill ++ replicate 11 false) (true ∷ has.after),
+        length-append has.fill (replicate 11 false),
+        length-replicate 11 false,
         ap length eol.are,
         length-append eol.first eol.rest,
         eol.onward,
@@ -287,12 +290,12 @@ pub settled_code : (r : Result Bool DecodeError) → IfErr r (λ e. e ≡ Invali
 settled_code (Ok line) code = tt
 settled_code (Err error) code = code
 
-no_bits : (bits : Bits) → length bits ≡ 0 → bits ≡ []
+pub no_bits : (bits : Bits) → length bits ≡ 0 → bits ≡ []
 no_bits [] none = refl
 no_bits (bit ∷ bits) none = absurd (omega (arith, none))
 
 -- the gap is looked at as a whole
-module _ {is_last : Bool} {dropped gap_start : ℕ} {rows kept : RowState} {gap next : GapSoFar} {old new : Context}
+module _ (dropped : ℕ) {is_last : Bool} {gap_start : ℕ} {rows kept : RowState} {gap next : GapSoFar} {old new : Context}
     {before after : BitsAt} (look : GapLook) (gap_is : gap ≡ record no_gap { look = gap.look })
     (next_is : next ≡ record no_gap { look = look }) (starts : gap_start ≡ dropped + before.place)
     (within : before.place ≤ length before.bits) (no_line : is_at_line rows.stand ≡ false)
@@ -394,7 +397,7 @@ eols_sought settings taken false bits misses =
     none_missed false b c = refl
 
 -- a step found that its EOL is missing, and it is looked at as a whole from where it begins
-module _ {is_last : Bool} {dropped gap_start : ℕ} {rows kept : RowState} {gap next : GapSoFar} {count : GapCount}
+module _ (dropped : ℕ) (gap : GapSoFar) {is_last : Bool} {gap_start : ℕ} {rows kept : RowState} {next : GapSoFar} {count : GapCount}
     {old mid new : Context} {before to after : BitsAt} (look : GapLook) (unlooked : gap.look.bits ≤ 0)
     (next_is : next ≡ record no_gap { look = look }) (starts : gap_start ≡ dropped + to.place)
     (no_line : is_at_line rows.stand ≡ false) (answer : Result (Option Bool) DecodeError)

@@ -15,7 +15,9 @@ use Rattle.fax_feeds.specs.declared.counted_gaps.GapSoFar.{GapSoFar}
 use Rattle.fax_feeds.specs.RowFeeds.{ComesInFeed, Feeding, FeedsPlainly, IsFeedOf, IsPlainFeedOf, KeepsBits, KnowsGap, LieIn}
 use Rattle.fax_feeds.specs.RowFeeds.{ReadsInFeed, StandsIn, TriesLine, came, completed, fed_bits, fed_over, fed_row, offset_of}
 use Rattle.fax_feeds.specs.RowFeeds.{of_settled_gap}
-use Rattle.fax_feeds.proofs.Readings.FeedsCompleted.{at_within, full_is_plain, full_long, gap_long, known_bits, known_long}
+use Rattle.fax_feeds.proofs.Readings.FeedsCompleted.{at_within, full_is_plain, full_long, known_bits, known_long, rest_is}
+use Rattle.fax_feeds.proofs.Names.{length-append}
+use Rattle.std.proofs.lemmas.List.{take-append-drop}
 use Rattle.fax_feeds.proofs.Readings.FeedsFramed.{moved}
 use Rattle.fax_feeds.proofs.Readings.FeedsOn.{feed_reads, line_feeds}
 
@@ -58,9 +60,10 @@ module _ {whole : Bits} {tried : ℕ} {feed : Feeding} (at : IsAtZeros whole tri
   pub full_here : drop (offset_of feed) (take (fed_bits feed) whole) ≡ left
   full_here =
       let all : take (fed_bits feed) whole ≡ whole =
-      ap (λ (b : Bits). take (fed_bits feed) whole ++ b) (sym none_follow)
-      ∙ sym (full_is_plain at.fed).lie.bits in
-      ap (drop (offset_of feed)) (sym (append-nil (take (fed_bits feed) whole)) ∙ all) ∙ zeros_are.1
+      sym (append-nil (take (fed_bits feed) whole))
+      ∙ ap (λ (b : Bits). take (fed_bits feed) whole ++ b) (sym (rest_is at.fed ∙ none_follow))
+      ∙ take-append-drop (fed_bits feed) whole in
+      ap (drop (offset_of feed)) all ∙ zeros_are.1
 
   -- ---- The line
 

@@ -6,7 +6,8 @@ use Rattle.fax_feeds.proofs.Names.{DecodeError, bits_in, is_at_line, ended, redr
 use Rattle.std.specs.Prelude.{◌^◌}
 use Rattle.fax_feeds.proofs.Readings.FeedTurns.{within_bits}
 use Rattle.fax_feeds.proofs.Readings.FeedsFramed.{next_of}
-use Rattle.fax_feeds.proofs.Readings.FeedsOn.{at_line_unended, gap_feeds, none_row, reached_here}
+use Rattle.fax_feeds.proofs.Readings.FeedsOn.{at_line_unended, gap_feeds, none_row, reached_here, row_fits}
+use Rattle.fax_feeds.proofs.Readings.FeedsCompleted.{full_is_plain}
 use Rattle.fax_feeds.proofs.Readings.LooksKept.{fresh_look}
 use Rattle.fax_feeds.proofs.Readings.PartsFed.{none_kept}
 use Rattle.fax_feeds.proofs.Readings.RowsPassed.{counts_on, line_was_read}
@@ -94,6 +95,24 @@ zeros_line_row {f} {begin} {ctx} {rows} {answer} keeps line frame width tries co
     width = λ e. counts.width (line_was_read answer e) ∙ ap (λ (c : Context). c.held.settings.columns) frame;
     stands = λ e. (keeps.begun, stand (line_was_read answer e), keeps.none);
     unlooked = λ e more. absurd (false≢true (sym more ∙ keeps.zeros));
+  };
+}
+
+-- no more rows can be counted: these are rows of no data
+pub zeros_full : {f : Inside} → KeepsZeros f → is_at_line f.rows.stand ≡ true
+    → (f.ctx.held.taken + 1 < 2 ^ 64 → f.ctx.held.repairs.rows ≤ f.ctx.held.taken → ⊥) → (error : DecodeError)
+    → FeedsRow (feeding_of f) (feeding_of f) (Err error)
+zeros_full {f} keeps line full error = record {
+  reads = λ whole tried _ fed.
+      let fits = row_fits keeps.begun line (full_is_plain fed) in absurd (full fits.0 fits.1);
+  keeps = record { order = refl; finished = refl; kept = refl; dropped = refl; room = refl };
+  over = λ end e. let never = sym (at_line_unended f.rows.stand line) ∙ e in absurd cc;
+  counts = record {
+    settings = refl;
+    taken = λ e. cc;
+    stands = λ e. cc;
+    width = λ e. cc;
+    unlooked = λ e. cc;
   };
 }
 

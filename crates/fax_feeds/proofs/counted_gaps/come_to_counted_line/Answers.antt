@@ -316,7 +316,7 @@ pub returns-then-gap-gt0 : goal.returns-then-gap-gt0
 returns-then-gap-gt0 c =
     let call = c.pass_settled_gap in
     let known = c.requires.missed (omega (arith, c.if-gap-gt0.true)) in
-    settled_counts call.new.look known (ap (λ (g : GapSoFar). record g { look = call.new.look }) known)
+    settled_counts c.args.dropped call.new.look known (ap (λ (g : GapSoFar). record g { look = call.new.look }) known)
     (omega (arith, c.bit_pos-before.ensures.place))
     (omega (arith, c.bit_pos-before.ensures.place, c.bit_pos-before.ensures.within))
     (sym c.is_at_line.ensures ∙ c.if-is_at_line.false) call.result call.ensures
@@ -325,7 +325,7 @@ pub returns-then-is_settled_at_once : goal.returns-then-is_settled_at_once
 returns-then-is_settled_at_once c =
     let call = c.pass_settled_gap-then-is_settled_at_once in
     let known = c.nothing_counted.ensures c.if-nothing_counted.true in
-    settled_counts call.new.look known (ap (λ (g : GapSoFar). record g { look = call.new.look }) known)
+    settled_counts c.args.dropped call.new.look known (ap (λ (g : GapSoFar). record g { look = call.new.look }) known)
     (omega (arith, c.bit_pos-before.ensures.place))
     (omega (arith, c.bit_pos-before.ensures.place, c.bit_pos-before.ensures.within))
     (sym c.is_at_line.ensures ∙ c.if-is_at_line.false) call.result call.ensures
@@ -346,6 +346,6 @@ returns-in-Missed c =
     (subst (λ (l : GapLook). ComesOn c.args.is_last (c.args.dropped + c.bit_pos-place.result) step.new.rows call.new.rows l
     call.new.look step.new.ctx call.new.ctx step.new.reader call.new.reader call.result)
     (ap (λ (g : GapSoFar). g.look) c.no_gap-in-Missed.ensures) call.ensures) in
-    missed_counts call.new.look (omega (arith, c.if-gap-gt0.false))
+    missed_counts c.args.dropped c.args.gap.now call.new.look (omega (arith, c.if-gap-gt0.false))
     (ap (λ (g : GapSoFar). record g { look = call.new.look }) c.no_gap-in-Missed.ensures)
     (omega (arith, c.bit_pos-place.ensures.place)) (away at) call.result first on
