@@ -1,6 +1,6 @@
 -- A feed with all bits that were fed, where the reading is.
 use Rattle.fax_feeds.proofs.Names.{◌≡◌, ◌∙◌, ◌+◌, ◌-◌, ◌≤◌, ◌++◌, ap, sym, subst}
-use Rattle.fax_feeds.proofs.Names.{arith, length, drop, take, ℕ, Bool, true, false, [], ◌∷◌, refl, Some, Group3_2D}
+use Rattle.fax_feeds.proofs.Names.{arith, length, drop, take, ℕ, Bool, true, false, [], ◌∷◌, refl, Some, Group3_2D, false≢true}
 use Rattle.fax_feeds.proofs.Names.{Bits, length-drop, length-append, drop-drop, append_assoc, IsStanding}
 use Rattle.std.proofs.Math.Seq.{drop-length, length-take-le}
 use Rattle.std.proofs.lemmas.List.{drop-take, take-append-drop}

@@ -11,10 +11,10 @@ use Rattle.fax_feeds.proofs.Readings.CompletedOn.{keeps_completed}
 use Rattle.fax_feeds.proofs.Readings.FeedsCompleted.{full_gap}
 use Rattle.fax_feeds.proofs.Readings.FeedsFramed.{fed_of, framed, next_of, plain_of}
 use Rattle.fax_feeds.proofs.Readings.FeedsOn.{line_feeds, at_line_unended}
-use Rattle.fax_feeds.proofs.Readings.GapsSoFar.{no_bits}
+use Rattle.std.proofs.lemmas.List.{nil_from_length}
 use Rattle.fax_feeds.proofs.Names.{◌++◌, length, take}
 use Rattle.fax_feeds.specs.declared.counted_gaps.GapSoFar.{GapSoFar}
-use Rattle.fax_feeds.specs.RowFeeds.{FeedsNext, IsFeedOf, completed, fed_bits, no_gap, offset_of}
+use Rattle.fax_feeds.specs.RowFeeds.{IsFeedOf, completed, fed_bits, no_gap, offset_of}
 use Rattle.fax_feeds.proofs.Readings.FeedsPaid.{open_at_line}
 use Rattle.fax_feeds.proofs.Readings.PartsFed.{later_next, scanned_fed, stays_short}
 
@@ -97,6 +97,8 @@ next_later {whole} {tried} {old} {next} more read answer some paid settled n =
         };
         onward = on.onward;
         near = on.near;
+        last = on.last;
+        zeros = on.zeros;
         stays = on.stays;
         row_is = on.row_is;
         past_eol = on.past_eol;
@@ -114,18 +116,15 @@ next_later {whole} {tried} {old} {next} more read answer some paid settled n =
 
 module _ {old mid : Feeding} (begun : old.begun ≡ true) (line : is_at_line old.rows.stand ≡ true) (unknown : old.gap ≡ no_gap)
     (within : old.place ≤ length old.kept) where
-  none_passed : old.gap.passed ≡ 0
-  none_passed = ap (λ (g : GapSoFar). g.passed) unknown
-
   -- the line still is short
   pub row_waits : StaysShort old mid true → FeedsRow old mid (Ok Fed.NeedsMore)
   row_waits stays = record {
     reads = λ whole tried unended feed.
         let reads = stays_short stays begun in
         let next = line_feeds (Ok false) reads (λ e none still. absurd (false≢true (sym (stays.unkept none).0))) begun line
-        (plain_of feed none_passed) in
+        (plain_of feed (ap (λ (g : GapSoFar). g.passed) unknown)) in
         let now = fed_of next.stands (reads.gap ∙ unknown) reads.within in
-        next_of (framed next feed now within reads.within none_passed (ap (λ (g : GapSoFar). g.passed) (reads.gap ∙ unknown))
+        next_of (framed next feed now within reads.within (ap (λ (g : GapSoFar). g.passed) unknown) (ap (λ (g : GapSoFar). g.passed) (reads.gap ∙ unknown))
         reads.keeps) now.known now.lie;
     keeps = (stays_short stays begun).keeps;
     over = λ end e. absurd (let never = sym (at_line_unended old.rows.stand line) ∙ e in cc);
@@ -161,11 +160,11 @@ module _ {old mid : Feeding} (begun : old.begun ≡ true) (line : is_at_line old
         }) (omega (arith, stays.scans.counts))
         ∙ ap (λ (n : ℕ). record (later old more mid.line_read) { tried_at = n }) stays.tried
 
-    settled_there : {whole : Bits} → drop (offset_of old) (take (fed_bits old) whole) ≡ drop old.place old.kept
+    settled_there : (whole : Bits) → drop (offset_of old) (take (fed_bits old) whole) ≡ drop old.place old.kept
         → (old.finished ≡ true) ⊎ (is_short (line_of_feed old) ≡ false)
         → (old.finished ≡ true) ⊎ (is_short (line_of_feed (completed whole old)) ≡ false)
-    settled_there here (inl finished) = inl finished
-    settled_there here (inr settled) = inr (ap (λ (b : Bits). is_short (line_here old.ctx.held.settings old.ctx.held.reference b))
+    settled_there whole here (inl finished) = inl finished
+    settled_there whole here (inr settled) = inr (ap (λ (b : Bits). is_short (line_here old.ctx.held.settings old.ctx.held.reference b))
         here ∙ settled)
 
     later_row : FeedsRow (later old more mid.line_read) next answer
@@ -178,20 +177,17 @@ module _ {old mid : Feeding} (begun : old.begun ≡ true) (line : is_at_line old
           let mid_within : mid.place ≤ length mid.kept =
           omega (arith, within, ap (λ (f : Feeding). f.place) frame, ap (λ (f : Feeding). length f.kept) frame) in
           let fed : IsFeedOf whole (tried + more) (later old more mid.line_read) =
-          subst (IsFeedOf whole (tried + more)) mid_is (fed_of (scanned_fed stays.scans begun (plain_of feed none_passed))
+          subst (IsFeedOf whole (tried + more)) mid_is (fed_of (scanned_fed stays.scans begun (plain_of feed (ap (λ (g : GapSoFar). g.passed) unknown)))
           (ap (λ (f : Feeding). f.gap) frame ∙ unknown) mid_within) in
           let n = later_row.reads whole (tried + more) unended fed in
           let here : drop (offset_of old) (take (fed_bits old) whole) ≡ drop old.place old.kept = full_gap feed within
           ∙ ap (λ (b : Bits). b ++ drop old.place old.kept)
-          (no_bits feed.known.gone (omega (arith, feed.known.long, none_passed))) in
-          record {
-            plainly = next_later {old = completed whole old} {next = completed whole next} more mid.line_read answer some
-                (omega (arith, stays.most, stays.scans.counts, ap length here))
-                (λ e. line_is_read begun line (keeps_completed whole later_row.keeps)
-                (subst (FeedsPlainly whole (tried + more) (later (completed whole old) more mid.line_read) (completed whole next))
-                e n.plainly) (settled_there here (stays.settled refl some))) n.plainly;
-            stands = subst (λ (m : ℕ). IsFeedOf whole m next) (omega arith) n.stands;
-          };
+          (nil_from_length feed.known.gone (omega (arith, feed.known.long, (ap (λ (g : GapSoFar). g.passed) unknown)))) in
+          next_of (next_later {old = completed whole old} {next = completed whole next} more mid.line_read answer some
+          (omega (arith, stays.most, stays.scans.counts, ap length here))
+          (λ e. line_is_read begun line (keeps_completed whole later_row.keeps)
+          (subst (FeedsPlainly whole (tried + more) (later (completed whole old) more mid.line_read) (completed whole next))
+          e n.plainly) (settled_there whole here (stays.settled refl some))) n.plainly) n.stands.known n.stands.lie;
       keeps = let keeps = later_row.keeps in record {
         order = keeps.order;
         finished = keeps.finished;

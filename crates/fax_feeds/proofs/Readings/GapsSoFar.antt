@@ -287,7 +287,7 @@ pub settled_code : (r : Result Bool DecodeError) → IfErr r (λ e. e ≡ Invali
 settled_code (Ok line) code = tt
 settled_code (Err error) code = code
 
-no_bits : (bits : Bits) → length bits ≡ 0 → bits ≡ []
+pub no_bits : (bits : Bits) → length bits ≡ 0 → bits ≡ []
 no_bits [] none = refl
 no_bits (bit ∷ bits) none = absurd (omega (arith, none))
 

@@ -1,5 +1,5 @@
 use Rattle.fax_feeds.proofs.Names.{common_steps}
-use Rattle.fax_feeds.proofs.Names.{◌≡◌, ◌≢◌, arith, sym, subst, true, None, is_at_line}
+use Rattle.fax_feeds.proofs.Names.{◌≡◌, ◌≢◌, ◌≤◌, arith, sym, subst, true, None, is_at_line}
 use Rattle.fax_feeds.specs.RowFeeds.{Feeding, StaysShort, no_gap}
 use Rattle.std.proofs.lemmas.Bool.{false_from_ne_true}
 use Rattle.fax_bits.proofs.BitReading.BitLists.{length-bits_in}
