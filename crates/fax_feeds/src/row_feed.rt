@@ -892,7 +892,7 @@ impl RowFeed {
     fn push_white<D: Decoder>(&mut self, lines: &mut WhiteLines, decoder: &mut D) -> Result<()>
         requires known { AreKnown self.old.ctx.held.settings lines.old }
         requires after { (self.old.begun ≡ true) × (self.old.rows.stand ≡ Stand.AfterRow) × (self.old.part ≡ None) }
-        requires unlooked { self.old.gap ≡ no_gap }
+        requires unlooked { self.old.gap.at_zeros ≡ false → self.old.gap ≡ no_gap }
         ensures width { D.width decoder.new ≡ D.width decoder.old }
         ensures known { AreKnown self.old.ctx.held.settings lines.new }
         ensures passes { OnOk result (PassesRows (D.step (D.width decoder.old)) (D.meaning decoder.old) (D.meaning decoder.new)
@@ -901,8 +901,8 @@ impl RowFeed {
             (state_of D.Decoder decoder.old) (state_of D.Decoder decoder.new) self.old self.new (Err e)) }
     {
         let repeats = repeats_white(&self.ctx, lines);
-        if !repeats {
-            return Ok(());
+        if !repeats || self.gap.at_zeros {
+            return Ok(()); // No bits of zeros with which the data ends are kept.
         }
         let mut reader = placed_at(&self.data, self.order, self.place);
         let white = WhiteLinesAhead {

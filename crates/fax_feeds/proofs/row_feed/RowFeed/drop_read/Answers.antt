@@ -58,6 +58,7 @@ invariant_of-self c =
       line = old.line;
       counted = subst (IsCounted inside.gap) (omega arith) old.counted;
       unkept = old.unkept;
+      last = old.last;
       part = grind (arith, common_steps);
     }
 

@@ -127,6 +127,7 @@ invariant_of-self-2 c =
       line = old.line;
       counted = old.counted;
       unkept = old.unkept;
+      last = old.last;
       part = grind (arith, common_steps, drop-append-le, length-bits_in, flat_map-append, kept_longer);
     }
 
