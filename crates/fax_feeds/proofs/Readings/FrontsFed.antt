@@ -219,7 +219,7 @@ module _ {f : Inside} {before after : BitsAt} {ctx : Context} {gap : GapSoFar} {
             (record { bits = whole; place = n })) (sym passed_at) stood;
         known = knows_passed whole (feeding_of passed) (omega (arith, first.place_is, there))
             (place_within fed.lie place after_within)
-            (on.known.passed (λ none. let never : Some line ≡ None = sym is ∙ some_of none in cc))
+            (on.known.passed (λ none. let never : Some line ≡ None = sym is ∙ some_of answer none in cc))
             (λ zeros. (
               (on.known.zeros zeros).0,
               ap (λ (n : ℕ). drop n whole) passed_at ∙ (first.zeros zeros).0,
@@ -227,9 +227,9 @@ module _ {f : Inside} {before after : BitsAt} {ctx : Context} {gap : GapSoFar} {
             ));
       }
         where
-          some_of : {o : Option Bool} → Ok o ≡ Ok None → o ≡ None
-          some_of {None} e = refl
-          some_of {Some b} e = absurd cc
+          some_of : (o : Option Bool) → ◌≡◌ {A = Result (Option Bool) DecodeError} (Ok o) (Ok None) → o ≡ None
+          some_of None e = refl
+          some_of (Some b) e = absurd cc
 
       place_of : (n : ℕ) → 0 + n ≡ n
       place_of n = omega arith

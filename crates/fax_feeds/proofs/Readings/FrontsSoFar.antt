@@ -35,22 +35,23 @@ passes_by_held old mid new whole next line same passes =
       counts = now.counts;
     }
 
+-- only whether EOLs are sought
+record ChangesLittle (mid new : Context) : Type 0 where
+  ticks : new.ticks ≡ mid.ticks
+  space : new.space ≡ mid.space
+  taken : new.held.taken ≡ mid.held.taken
+  settings : new.held.settings ≡ mid.held.settings
+
 -- what passing it changes, where its EOLs were counted
-module _ {old mid new : Context} {eols : ℕ} {line : Bool} (same : mid.held ≡ old.held) (took : TakesNoRow old mid)
+module _ {old mid new : Context} (eols : ℕ) {line : Bool} (same : mid.held ≡ old.held) (took : TakesNoRow old mid)
     (four : mid.held.settings.encoding ≡ Group4 → (new ≡ mid)
     × ((rest : Bits) → false ≡ at_end rest → is_over mid.held.settings mid.held.taken (eols, rest) ≡ not line))
     (three : mid.held.settings.encoding ≢ Group4 → (line ≡ true)
     × (new ≡ record mid { held = record mid.held { has_eols = ltb 0 eols || mid.held.settings.end_of_line } })) where
-  record ChangesLittle : Type 0 where
-    ticks : new.ticks ≡ mid.ticks
-    space : new.space ≡ mid.space
-    taken : new.held.taken ≡ mid.held.taken
-    settings : new.held.settings ≡ mid.held.settings
-
-  changes_little : ChangesLittle
+  changes_little : ChangesLittle mid new
   changes_little = by_encoding mid.held.settings.encoding refl
     where
-      by_three : mid.held.settings.encoding ≢ Group4 → ChangesLittle
+      by_three : mid.held.settings.encoding ≢ Group4 → ChangesLittle mid new
       by_three other =
           let is = (three other).1 in
           record {
@@ -60,7 +61,7 @@ module _ {old mid new : Context} {eols : ℕ} {line : Bool} (same : mid.held ≡
             settings = ap (λ (c : Context). c.held.settings) is;
           }
 
-      by_encoding : (encoding : EncodingMode) → mid.held.settings.encoding ≡ encoding → ChangesLittle
+      by_encoding : (encoding : EncodingMode) → mid.held.settings.encoding ≡ encoding → ChangesLittle mid new
       by_encoding Group4 e =
           let is = (four e).0 in
           record {

@@ -134,6 +134,10 @@ returns-in-Waits c =
           );
     }
 
+line_of : (line : Bool) → ◌≡◌ {A = Result (Option Bool) DecodeError} (Ok (Some line)) (Ok (Some true)) → line ≡ true
+line_of true e = refl
+line_of false e = absurd cc
+
 pub returns-in-Passed : goal.returns-in-Passed
 returns-in-Passed c =
     let at = (goal.at.returns-in-Passed c).After-bit_pos-place in
@@ -146,8 +150,9 @@ returns-in-Passed c =
     subst (λ (s : GapStep). StepLeaves s (from + on.extra) c.args.rows.now step.new.rows step.new.ctx whole
     stands.in_gap.start c.args.dropped step.new.count before step.new.reader) c.in-Passed.is
     (on.leaves from whole c.args.dropped lie stands.in_gap) in
-    let passed_true : Ok (Some c.in-Passed.line) ≡ Ok (Some true) → step.result ≡ GapStep.Passed true =
-    λ e. c.in-Passed.is ∙ ap (λ (b : Bool). GapStep.Passed b) (line_of e) in
+    let passed_true : ◌≡◌ {A = Result (Option Bool) DecodeError} (Ok (Some c.in-Passed.line)) (Ok (Some true))
+    → step.result ≡ GapStep.Passed true =
+    λ e. c.in-Passed.is ∙ ap (λ (b : Bool). GapStep.Passed b) (line_of c.in-Passed.line e) in
     record {
       extra = on.extra;
       counts = omega (arith, on.ticks);
@@ -203,10 +208,6 @@ returns-in-Passed c =
             zeros = λ e. absurd (false≢true (sym (ap (λ (g : GapSoFar). g.at_zeros) c.no_gap.ensures) ∙ e));
           };
     }
-  where
-    line_of : {line : Bool} → Ok (Some line) ≡ Ok (Some true) → line ≡ true
-    line_of {true} e = refl
-    line_of {false} e = cc
 
 pub returns-in-Zeros : goal.returns-in-Zeros
 returns-in-Zeros c =

@@ -7,6 +7,7 @@ use Rattle.fax_rows.specs.FrontsCounted.{CountsFront, FrontLeaves, StaysUnless}
 use Rattle.fax_rows.specs.GapsCounted.{left_before}
 use Rattle.std.specs.Prelude.{◌^◌}
 use Rattle.fax_feeds.specs.declared.counted_gaps.GapSoFar.{GapSoFar}
+use Rattle.fax_feeds.specs.declared.gap_look.GapLook.{GapLook}
 use Rattle.fax_feeds.specs.RowFeeds.{LieIn, no_gap}
 use Rattle.fax_feeds.proofs.Readings.FrontsSoFar.{front_takes, front_ticks, zeros_first, zeros_within}
 use Rattle.fax_feeds.proofs.Readings.GapsCountedOn.{lies_at}
@@ -110,14 +111,14 @@ returns-in-Zeros c =
     let call = c.pass_front in
     let same = stays_unless at GapStep.Zeros c.in-Zeros.is in
     let last = step.ensures.waits.1 c.in-Zeros.is in
-    let takes = front_takes same step.ensures.kept.1 call.ensures.group4 call.ensures.group3 in
+    let takes = front_takes step.new.count.eols same step.ensures.kept.1 call.ensures.group4 call.ensures.group3 in
     let to = step.new.reader.place in
     record {
       takes = takes;
       same_bits = step.ensures.moves.0;
       within = step.ensures.moves.2;
       onward = step.ensures.moves.1;
-      near = omega (arith, step.ensures.work, front_ticks same step.ensures.kept.1 call.ensures.group4 call.ensures.group3);
+      near = omega (arith, step.ensures.work, front_ticks step.new.count.eols same step.ensures.kept.1 call.ensures.group4 call.ensures.group3);
       waits = λ e. cc;
       known = record {
         waits = λ e. cc;
@@ -133,10 +134,8 @@ returns-in-Zeros c =
           let within = place_within lie to (to_within at) in
           let left : length (left_before step.new.count []) < 2 ^ 64 =
           omega (arith, fit, zeros_within ends none_left) in
-          zeros_first same step.ensures.kept.1 call.ensures.group4 call.ensures.group3 whole (dropped + to)
+          zeros_first step.new.count.eols same step.ensures.kept.1 call.ensures.group4 call.ensures.group3 whole (dropped + to)
           (record { count = step.new.count; passed = c.bits_left-gap.result; at_zeros = true; look = c.args.gap.now.look }) refl
           ends none_left within c.requires.fresh c.requires.wide (c.bits_left-gap.ensures left);
     }
 
-pub returns-in-Missed : goal.returns-in-Missed
-returns-in-Missed c = absurd (c.step_at_front-step.ensures.unmissed c.in-Missed.is)

@@ -1,6 +1,8 @@
 use Rattle.fax_feeds.proofs.Names.{common_steps}
 use Rattle.fax_feeds.proofs.Names.{◌≡◌, ◌≢◌, ◌∙◌, ap, sym, subst, arith, false≢true, false, true, BitsAt, bits_in}
-use Rattle.fax_feeds.proofs.Names.{None}
+use Rattle.fax_feeds.proofs.Names.{None, Held, White, [], length, redrawn}
+use Rattle.fax_bits.proofs.BitReading.BitLists.{length-bits_in}
+use Rattle.fax_rows.specs.RowsTried.{IsUnread}
 use Rattle.fax_feeds.proofs.Names.{Context, Ok, is_at_line, drop, ended, refl}
 use Rattle.fax_feeds.proofs.Readings.FeedTurns.{IsReadBy, full_row, gap_read_by, gap_row, line_read_by, line_row}
 use Rattle.fax_feeds.proofs.Readings.FeedTurns.{can_go_on, past_gap, past_line, seen_by, turn_reads, zeros_row}
@@ -39,7 +41,24 @@ come_to_counted_line-line-requires-clause-line c = λ line. c.self.invariant.lin
 
 pub come_to_counted_line-line-requires-clause-on : goal.come_to_counted_line-line-requires-clause-on
 come_to_counted_line-line-requires-clause-on c =
-    can_go_on c.self.invariant c.if-self.false (ap (λ (b : BitsAt). drop b.place b.bits) (grind (arith, common_steps)))
+    let is : c.placed_at-reader.result ≡ record {
+      bits = bits_in c.self.inside.order c.self.inside.«data».items;
+      place = c.self.inside.place;
+    } = grind (arith, common_steps) in
+    can_go_on c.self.invariant c.if-self.false (ap (λ (b : BitsAt). drop b.place b.bits) is)
+
+pub come_to_counted_line-line-requires-clause-fits : goal.come_to_counted_line-line-requires-clause-fits
+come_to_counted_line-line-requires-clause-fits c =
+    let is : c.placed_at-reader.result ≡ record {
+      bits = bits_in c.self.inside.order c.self.inside.«data».items;
+      place = c.self.inside.place;
+    } = grind (arith, common_steps) in
+    omega (
+      arith,
+      c.self.invariant.fit,
+      ap (λ (b : BitsAt). length b.bits) is,
+      length-bits_in c.self.inside.order c.self.inside.«data».items,
+    )
 
 pub invariant_of-self : goal.invariant_of-self
 invariant_of-self c = (gap_kept (goal.at.invariant_of-self c).After-is_some_line).kept
@@ -53,8 +72,8 @@ returns-then-not-is_some_line c =
 
 -- ---- Zeros with which the data ends
 
-pub invariant_of-self-2 : goal.invariant_of-self-2
-invariant_of-self-2 c = (gap_kept (goal.at.invariant_of-self-2 c).After-is_some_line).kept
+pub invariant_of-self-then-self-2 : goal.invariant_of-self-then-self-2
+invariant_of-self-then-self-2 c = (gap_kept (goal.at.invariant_of-self-then-self-2 c).After-is_some_line).kept
 
 pub returns-then-self-2 : goal.returns-then-self-2
 returns-then-self-2 c =
@@ -62,8 +81,7 @@ returns-then-self-2 c =
     rw (← c.self.view_is)
     (zeros_row (feed_by here) c.bit_pos-self-inside.ensures.place c.if-self.false c.come_to_counted_line-line.ensures
     (unended_feed here) (c.is_some_line.ensures.here c.if-not-is_some_line.false)
-    (subst (λ (f : Feeding). FeedsRow f c.read_zeros-2.new.self c.read_zeros-2.result) (sym c.self-2.view_is)
-    c.read_zeros-2.ensures))
+    c.read_zeros-then-self-2.ensures)
 
 -- ---- The line
 
@@ -106,6 +124,13 @@ module _ (c : After-is_unsettled) where
   line_reads : ReadsInFeed (feeding_of (after_gap here_gap)) (feeding_of following_line) c.try_line-row.result
   line_reads = turn_reads (gap_kept here_gap) unknown line_is_at c.bit_pos-self-inside-2.ensures.place
       c.begin_line.ensures.frame c.try_line-row.ensures.tries c.begin_line.ensures.width
+
+pub keep_part-requires-clause-none_drawn : goal.keep_part-requires-clause-none_drawn
+keep_part-requires-clause-none_drawn c =
+    let at = (goal.at.keep_part-requires-clause-none_drawn c).After-is_unsettled in
+    let short = c.is_unsettled.ensures.short c.if-is_unsettled.true in
+    let held = ((line_reads at).left (subst IsUnread (sym short) refl)).2 in
+    ap (λ (h : Held). redrawn h [] White) held ∙ sym held
 
 pub invariant_of-self-then-is_unsettled : goal.invariant_of-self-then-is_unsettled
 invariant_of-self-then-is_unsettled c = (line_kept (goal.at.invariant_of-self-then-is_unsettled c).After-is_unsettled).kept
