@@ -156,6 +156,9 @@ pub record ComesFirst (is_last : Bool) (gap next : GapSoFar) (old new : Context)
   pub near : new.ticks + before.place ≤ old.ticks + after.place + 16
   pub waits : answer ≡ None → (new.held ≡ old.held) × (is_last ≡ false)
   pub known : StaysKnown is_last gap next (here before) (here after) (Ok answer)
+  pub unlooked : next.look ≡ nothing_seen
+  pub passed : answer ≡ None → gap.passed + after.place < 2 ^ 64 + before.place
+      → next.passed + before.place ≡ gap.passed + after.place
   pub leaves : (whole : Bits) (dropped : ℕ) → length whole < 2 ^ 64 → LieIn whole dropped is_last before.bits
       → CountsFront old.held.settings whole (dropped + before.place) gap.count → gap.passed ≡ dropped + before.place
       → CameFirst answer old new whole (dropped + after.place) next after

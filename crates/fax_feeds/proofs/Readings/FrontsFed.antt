@@ -17,6 +17,10 @@ use Rattle.fax_rows.specs.declared.row_reader.RowState.{RowState}
 use Rattle.fax_rows.specs.FrontsCounted.{CountsFront, PassesFront}
 use Rattle.fax_rows.specs.RowsTried.{StandsFirst, TakesNone, front_is_settled}
 use Rattle.fax_feeds.specs.declared.counted_gaps.GapSoFar.{GapSoFar}
+use Rattle.fax_feeds.specs.declared.gap_look.GapLook.{GapLook}
+use Rattle.fax_feeds.proofs.Readings.LooksKept.{fresh_look, none_counted_of, passed_lawful}
+use Rattle.fax_feeds.proofs.Readings.PartsFed.{none_kept, unbegun_none}
+use Rattle.fax_feeds.specs.RowFeeds.{IsUnbegun}
 use Rattle.fax_feeds.specs.declared.row_feed.RowFeed.TheInside.{Inside}
 use Rattle.fax_feeds.specs.CountedGaps.{ComesFirst, PassesFirst, WaitsFirst}
 use Rattle.fax_feeds.specs.RowFeeds.{Begins, BeginsCounted, Feeding, IsAtFront, IsFeedOf, IsKept, KeepsBits, KnowsGap, LieIn}
@@ -86,7 +90,7 @@ module _ {f : Inside} {before after : BitsAt} {ctx : Context} {gap : GapSoFar} {
   none_looked = ap (λ (l : GapLook). l.bits) (by.kept.unbegun by.unbegun).unlooked
 
   module _ {whole : Bits} {tried : ℕ} (fed : IsFeedOf whole tried (feeding_of f)) where
-    leaves : CameFirst answer f.ctx ctx whole (f.dropped + after.place) gap after
+    pub leaves : CameFirst answer f.ctx ctx whole (f.dropped + after.place) gap after
     leaves = on.leaves whole f.dropped (omega (arith, fed.fit)) (lies by fed) (counts_front by fed)
         (omega (arith, passed_all by fed, at_before))
 
@@ -152,6 +156,7 @@ module _ {f : Inside} {before after : BitsAt} {ctx : Context} {gap : GapSoFar} {
           ∙ ap (λ (n : ℕ). drop n (bits_in f.order f.«data».items)) (sym there)
 
       all_here : take (fed_bits (feeding_of f)) whole ≡ waits.stands.gone ++ here after
+      unfolding waiting_fed
       all_here = ap (λ (n : ℕ). drop n (take (fed_bits (feeding_of f)) whole)) (sym none_before)
           ∙ full_gap waiting_fed after_within ∙ ap (λ (b : Bits). waits.stands.gone ++ b) (sym here_after)
 
@@ -182,6 +187,80 @@ module _ {f : Inside} {before after : BitsAt} {ctx : Context} {gap : GapSoFar} {
         };
         stands = waiting_fed;
       }
+
+  -- what is so of every feed stays so
+  pub waiting_kept : answer ≡ None → 0 < f.ctx.held.settings.columns → IsKept (record f { ctx = ctx; gap = gap; place = place })
+  waiting_kept is wide =
+      let kept = by.kept in
+      let was = kept.unbegun by.unbegun in
+      let waits = on.known.waits (ap (λ (o : Option Bool). Ok o) is) in
+      let held = (on.waits is).0 in
+      let after_at = after_within in
+      record {
+        within = omega (arith, after_at, length-bits_in f.order f.«data».items);
+        fit = kept.fit;
+        unbegun = λ e. record {
+          fresh = held ∙ was.fresh ∙ ap (λ (h : Held). fresh h.settings) (sym held);
+          start = omega (
+            arith,
+            on.passed is (omega (arith, was.start, at_before, there, after_at, kept.fit, length-bits_in f.order f.«data».items)),
+            was.start,
+            at_before,
+            there,
+          );
+          unended = was.unended;
+          rows = was.rows;
+          unlooked = on.unlooked;
+          some_follow = waits.1;
+          narrow = λ none. absurd (omega (arith, wide, none, ap (λ (h : Held). h.settings.columns) held));
+        };
+        seen = fresh_look _ _ on.unlooked;
+        line = λ line more. absurd (false≢true (sym was.rows ∙ line));
+        counted = record {
+          tidy = λ more. waits.0;
+          few = λ more. omega (
+            arith,
+            kept.counted.few was.some_follow,
+            waits.2,
+            at_before,
+            there,
+            within_bits kept,
+            ap length bits_before,
+            on.within,
+            ap length on.same_bits,
+            length-drop before.place before.bits,
+            length-drop after.place after.bits,
+          );
+          zeros = λ zeros. absurd (false≢true (sym waits.1 ∙ zeros));
+          missed = λ some. absurd (omega (arith, some, ap (λ (l : GapLook). l.bits) on.unlooked));
+        };
+        unkept = λ zeros. absurd (false≢true (sym waits.1 ∙ zeros));
+        last = λ zeros. absurd (false≢true (sym waits.1 ∙ zeros));
+        part = none_kept f.part _ _ _ _ _ _ _ _ _ (unbegun_none f.part _ _ _ _ _ by.unbegun kept.part) kept.part;
+      }
+
+  pub passed_kept : (stand : Stand) → answer ≢ None
+      → IsKept (record f { ctx = ctx; gap = gap; place = place; rows = record f.rows { stand = stand }; begun = true })
+  passed_kept stand some =
+      let kept = by.kept in
+      let none = unbegun_none f.part _ _ _ _ _ by.unbegun kept.part in
+      let lawful = passed_lawful {at = f.dropped + place} {rows = record f.rows { stand = stand }} {held = ctx.held}
+      (λ e. some (some_answer answer e)) on.known in
+      record {
+        within = omega (arith, after_within, length-bits_in f.order f.«data».items);
+        fit = kept.fit;
+        unbegun = λ e. absurd (false≢true (sym e));
+        seen = fresh_look _ _ on.unlooked;
+        line = lawful.line;
+        counted = lawful.counted;
+        unkept = λ zeros. none;
+        last = lawful.last;
+        part = none_kept f.part _ _ _ _ _ _ _ _ _ none kept.part;
+      }
+    where
+      some_answer : (o : Option Bool) → ◌≡◌ {A = Result (Option Bool) DecodeError} (Ok o) (Ok None) → o ≡ None
+      some_answer None e = refl
+      some_answer (Some b) e = absurd cc
 
   -- it is passed
   module _ (line : Bool) (stand : Stand) (stand_is : stand ≡ stand_after (Ok (not line))) (is : answer ≡ Some line) where
@@ -311,6 +390,21 @@ module _ {f : Inside} {before after : BitsAt} {ctx : Context} {place : ℕ} {sta
     ap (λ (b : BitsAt). length b.bits) by.is,
   )
 
+  pub narrow_kept : IsKept ended_feed
+  narrow_kept =
+      let kept = by.kept in
+      record {
+        within = omega (arith, narrow_within, length-bits_in f.order f.«data».items);
+        fit = kept.fit;
+        unbegun = λ e. absurd (false≢true (sym e));
+        seen = fresh_look _ _ (ap (λ (g : GapSoFar). g.look) none_known);
+        line = λ line more. none_known;
+        counted = none_counted_of none_known;
+        unkept = λ zeros. absurd (false≢true (sym (ap (λ (g : GapSoFar). g.at_zeros) none_known) ∙ zeros));
+        last = λ zeros. absurd (false≢true (sym (ap (λ (g : GapSoFar). g.at_zeros) none_known) ∙ zeros));
+        part = none_kept f.part _ _ _ _ _ _ _ _ _ (unbegun_none f.part _ _ _ _ _ by.unbegun kept.part) kept.part;
+      }
+
   none_taken : ctx.held.taken ≡ f.ctx.held.taken
   none_taken = takes.none_taken
       ∙ sym (ap (λ (h : Held). h.taken) (by.kept.unbegun by.unbegun).fresh)
@@ -320,7 +414,9 @@ module _ {f : Inside} {before after : BitsAt} {ctx : Context} {place : ℕ} {sta
 
   module _ {whole : Bits} {tried : ℕ} (fed : IsFeedOf whole tried (feeding_of f)) where
     whole_is : whole ≡ before.bits ++ fed.lie.more
-    whole_is = ap (λ (n : ℕ). drop n whole) (omega (arith, narrow_place)) ∙ fed.lie.bits
+    whole_is =
+        let none : 0 ≡ f.dropped = omega (arith, narrow_place) in
+        ap (λ (n : ℕ). drop n whole) none ∙ fed.lie.bits
         ∙ ap (λ (b : BitsAt). b.bits ++ fed.lie.more) (sym by.is)
 
     with_more : (more : Bits) → before.bits ++ (fed.lie.more ++ more) ≡ whole ++ more

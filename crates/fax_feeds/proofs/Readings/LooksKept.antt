@@ -65,7 +65,7 @@ pub record IsLawfulGap (is_last : Bool) (at : ℕ) (rows : RowState) (held : Hel
   pub last : gap.at_zeros ≡ true → is_last ≡ true
 
 -- a gap that was passed
-passed_lawful : {is_last : Bool} {at : ℕ} {rows : RowState} {held : Held} {gap next : GapSoFar} {before here : Bits}
+pub passed_lawful : {is_last : Bool} {at : ℕ} {rows : RowState} {held : Held} {gap next : GapSoFar} {before here : Bits}
     {answer : Result (Option Bool) DecodeError} → answer ≢ Ok None → StaysKnown is_last gap next before here answer
     → IsLawfulGap is_last at rows held next here
 passed_lawful {is_last} {at} {rows} {held} {gap} {next} {before} {here} some known = by_zeros next.at_zeros refl

@@ -5,6 +5,8 @@ use Rattle.fax_feeds.specs.GapsSeen.{IsSeen, rules_for}
 use Rattle.fax_feeds.specs.declared.line_parts.KeptPart.{KeptPart}
 use Rattle.fax_feeds.specs.declared.row_feed.RowFeed.TheInside.{Inside}
 use Rattle.fax_feeds.specs.LineParts.{ContinuesLine}
+use Rattle.fax_feeds.specs.RowFeeds.{no_gap}
+use Rattle.fax_feeds.proofs.Names.{◌≢◌, is_at_line}
 use Rattle.fax_feeds.specs.RowFeeds.{Feeding, IsKept, LineGoesOn, PartIsKept, ScansLine, feeding_of, StaysShort}
 use Rattle.fax_bits.proofs.BitReading.BitLists.{length-bits_in}
 use Rattle.fax_feeds.proofs.Readings.PartsFed.{part_reached, scans_short, scans_whole, read_within, stays_by}
@@ -27,6 +29,16 @@ part_follows f part held is = by_zeros f.gap.at_zeros refl
     by_zeros : (b : Bool) → f.gap.at_zeros ≡ b → b ≡ false
     by_zeros false e = refl
     by_zeros true e = let never : Some part ≡ None = sym is ∙ held.unkept e in absurd cc
+
+-- a part that is kept is that of a line here, of which no gap is known
+pub part_is_at_line : (f : Inside) → IsKept f → f.part ≢ None → (is_at_line f.rows.stand ≡ true) × (f.gap ≡ no_gap)
+part_is_at_line f held some = by_part f.part refl held.part
+  where
+    by_part : (part : Option KeptPart) → f.part ≡ part
+        → PartIsKept part f.begun f.rows.stand f.ctx.held (drop f.place (bits_in f.order f.«data».items)) f.line_read
+        → (is_at_line f.rows.stand ≡ true) × (f.gap ≡ no_gap)
+    by_part None is kept = absurd (some is)
+    by_part (Some part) is kept = (kept.at_line, held.line kept.at_line (part_follows f part held is))
 
 module _ {f : Inside} {now : Context} {part next : KeptPart} {read : ℕ} {before after : BitsAt} {short : Bool}
     (held : IsKept f) (before_is : before ≡ record { bits = bits_in f.order f.«data».items; place = f.place + read })

@@ -1,6 +1,6 @@
 use Rattle.fax_feeds.proofs.Names.{◌≡◌, ◌≢◌, ◌∙◌, ◌+◌, ◌≤◌, ◌<◌, ◌++◌, [], ap, sym, subst, refl, arith, length, drop}
 use Rattle.fax_feeds.proofs.Names.{true, false, not, ℕ, Bool, Ok, Some, None, Bits, Context, DecodeSettings, Held, here, false≢true}
-use Rattle.fax_feeds.proofs.Names.{length-drop}
+use Rattle.fax_feeds.proofs.Names.{length-drop, ◌⊎◌, inl, inr}
 use Rattle.fax_rows.specs.declared.gap_count.GapCount.{GapCount}
 use Rattle.fax_rows.specs.declared.gap_count.GapStep.{GapStep}
 use Rattle.fax_rows.specs.FrontsCounted.{CountsFront, FrontLeaves, StaysUnless}
@@ -18,6 +18,10 @@ use Rattle.fax_feeds.proofs.counted_gaps.come_to_first_line.Goals as goal
 goes_on : (is_last : Bool) → (is_last ≡ true → ⊥) → is_last ≡ false
 goes_on true never = absurd (never refl)
 goes_on false never = refl
+
+zeros_is : {step : GapStep} → step ≢ GapStep.Missed → (step ≡ GapStep.Zeros) ⊎ (step ≡ GapStep.Missed) → step ≡ GapStep.Zeros
+zeros_is other (inl is) = is
+zeros_is other (inr is) = absurd (other is)
 
 module _ (c : After-bit_pos-place) where
   begun : c.args.reader.now.place ≤ length c.args.reader.now.bits
@@ -59,6 +63,15 @@ returns-in-Waits c =
         zeros = λ zeros. absurd (false≢true (sym c.requires.some ∙ zeros));
         missed = λ some. absurd (omega (arith, some, ap (λ (l : GapLook). l.bits) c.requires.unlooked));
       };
+      unlooked = c.requires.unlooked;
+      passed = λ e fit. omega (
+        arith,
+        c.saturating_add-gap.ensures,
+        c.bit_pos-before.ensures.place,
+        c.bit_pos-place.ensures.place,
+        step.ensures.moves.1,
+        fit,
+      );
       leaves = λ whole dropped fit lie front passed.
           let leaves = leaves_by at GapStep.Waits c.in-Waits.is whole dropped lie front in
           record {
@@ -95,6 +108,8 @@ returns-in-Passed c =
         zeros = λ zeros. absurd (false≢true (sym (ap (λ (g : GapSoFar). g.at_zeros) c.no_gap.ensures) ∙ zeros));
         missed = λ some. absurd (omega (arith, some, ap (λ (g : GapSoFar). g.look.bits) c.no_gap.ensures));
       };
+      unlooked = ap (λ (g : GapSoFar). g.look) c.no_gap.ensures;
+      passed = λ e. cc;
       leaves = λ whole dropped fit lie front passed. record {
         place = dropped + step.new.reader.place;
         place_is = omega (arith, none);
@@ -109,8 +124,8 @@ returns-in-Zeros c =
     let at = (goal.at.returns-in-Zeros c).After-bit_pos-place in
     let step = c.step_at_front-step in
     let call = c.pass_front in
-    let same = stays_unless at GapStep.Zeros c.in-Zeros.is in
-    let last = step.ensures.waits.1 c.in-Zeros.is in
+    let same = stays_unless at GapStep.Zeros (zeros_is c.step_at_front-step.ensures.unmissed c.in-Zeros.is) in
+    let last = step.ensures.waits.1 (zeros_is c.step_at_front-step.ensures.unmissed c.in-Zeros.is) in
     let takes = front_takes step.new.count.eols same step.ensures.kept.1 call.ensures.group4 call.ensures.group3 in
     let to = step.new.reader.place in
     record {
@@ -123,11 +138,13 @@ returns-in-Zeros c =
       known = record {
         waits = λ e. cc;
         passed = λ other zeros. absurd (false≢true (sym zeros));
-        zeros = λ zeros. (last, step.ensures.zeros c.in-Zeros.is, c.requires.unlooked);
+        zeros = λ zeros. (last, step.ensures.zeros (zeros_is c.step_at_front-step.ensures.unmissed c.in-Zeros.is), c.requires.unlooked);
         missed = λ some. absurd (omega (arith, some, ap (λ (l : GapLook). l.bits) c.requires.unlooked));
       };
+      unlooked = c.requires.unlooked;
+      passed = λ e. cc;
       leaves = λ whole dropped fit lie front passed.
-          let ends = leaves_by at GapStep.Zeros c.in-Zeros.is whole dropped lie front in
+          let ends = leaves_by at GapStep.Zeros (zeros_is c.step_at_front-step.ensures.unmissed c.in-Zeros.is) whole dropped lie front in
           let none_left : drop (dropped + to) whole ≡ [] =
           from_place lie to (to_within at) ∙ ap (λ (b : Bits). drop to b ++ lie.more) (sym step.ensures.moves.0)
           ∙ ap (λ (b : Bits). b ++ lie.more) ends.none_left ∙ lie.can_come.none last in
