@@ -134,6 +134,11 @@ returns-in-Waits c =
           );
     }
 
+-- the line that is said to be here is
+line_of : {line : Bool} → ◌≡◌ {A = Result (Option Bool) DecodeError} (Ok (Some line)) (Ok (Some true)) → line ≡ true
+line_of {true} e = refl
+line_of {false} e = cc
+
 pub returns-in-Passed : goal.returns-in-Passed
 returns-in-Passed c =
     let at = (goal.at.returns-in-Passed c).After-bit_pos-place in
@@ -203,10 +208,6 @@ returns-in-Passed c =
             zeros = λ e. absurd (false≢true (sym (ap (λ (g : GapSoFar). g.at_zeros) c.no_gap.ensures) ∙ e));
           };
     }
-  where
-    line_of : {line : Bool} → Ok (Some line) ≡ Ok (Some true) → line ≡ true
-    line_of {true} e = refl
-    line_of {false} e = cc
 
 pub returns-in-Zeros : goal.returns-in-Zeros
 returns-in-Zeros c =
