@@ -136,8 +136,8 @@ returns-in-Waits c =
 
 -- the line that is said to be here is
 line_of : {line : Bool} → ◌≡◌ {A = Result (Option Bool) DecodeError} (Ok (Some line)) (Ok (Some true)) → line ≡ true
-line_of {true} e = refl
-line_of {false} e = cc
+line_of {line = true} e = refl
+line_of {line = false} e = cc
 
 pub returns-in-Passed : goal.returns-in-Passed
 returns-in-Passed c =
