@@ -1,5 +1,5 @@
 -- How few bits of the data a feed keeps, and for how few bytes it has room.
-use Rattle.std.specs.Prelude.{◌≡◌, ◌≤◌, ◌<◌, ◌+◌, ◌*◌, ℕ, Bool, true, false, [], ◌∷◌, ◌++◌, drop, length, replicate}
+use Rattle.std.specs.Prelude.{◌≡◌, ◌≤◌, ◌<◌, ◌+◌, ◌*◌, ℕ, Bool, true, false, [], ◌∷◌, ◌++◌, drop, length, replicate, take}
 use Rattle.std.specs.Prelude.{Result, Ok, Err}
 use Rattle.fax_bits.specs.declared.settings.DecodeSettings.{DecodeSettings}
 use Rattle.fax_bits.specs.declared.error.DecodeError.{DecodeError}
@@ -13,7 +13,7 @@ use Rattle.fax_reading.specs.Lines.{Line}
 use Rattle.fax_reading.specs.PlainReading.{Gap, Move, Progress, first_gap, gap_after_row, line_here, line_of_turn, move_on}
 use Rattle.fax_reading.specs.PlainReading.{row_before, row_of_line}
 use Rattle.fax_bits.specs.Repetition.{Reaches, Turn}
-use Rattle.fax_feeds.specs.RowFeeds.{Feeding, FeedsNext, FeedsRow, HoldsMore, IsFeedOf, IsOpenAt}
+use Rattle.fax_feeds.specs.RowFeeds.{Feeding, FeedsNext, FeedsRow, HoldsMore, IsFeedOf, IsOpenAt, fed_bits, offset_of}
 use Rattle.fax_reading.specs.Rows.{Row}
 
 -- ---- Bits that are needed
@@ -95,13 +95,13 @@ pub data IsFedInTurn (whole : Bits) (piece : ℕ) : Feeding → Type 0 where
 
 -- ---- The law
 
--- After a call that needs more, each bit that is kept from the next one on is needed for the line or the gap that is next. Of
+-- After a call that needs more, each bit that was fed from the line or the gap that is next on is needed for it. Of
 -- such bits few aren't part of it. So where each piece is fed after such a call, a feed keeps no more bits than those for which
 -- the longest line or gap so far, or the one that is next, is open, those of a piece, and seven; and it has room for no more than
 -- twice as many.
 pub record FeedsKeepLittle : Type 0 where
   pub needed : (whole : Bits) (tried : ℕ) (old new : Feeding) → FeedsNext whole tried old new (Ok Fed.NeedsMore)
-      → AreNeeded new.begun new.rows.stand new.ctx (drop new.place new.kept)
+      → AreNeeded new.begun new.rows.stand new.ctx (drop (offset_of new) (take (fed_bits new) whole))
   pub read : OpenBitsAreRead
   pub kept : (whole : Bits) (most piece : ℕ) (feed : Feeding) → IsFedInTurn whole piece feed
       → AreOpenFor most feed.ctx.held.taken feed.ctx.held.settings whole

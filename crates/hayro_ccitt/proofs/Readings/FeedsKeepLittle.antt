@@ -9,7 +9,9 @@ use Rattle.hayro_ccitt.specs.Continuations.{is_short, line_before}
 use Rattle.fax_feeds.specs.FeedsKeepLittle.{AreNeeded, AreOpenFor, FeedsKeepLittle, IsFedInTurn}
 use Rattle.hayro_ccitt.specs.GapsContinued.{first_gap_is_settled, gap_is_settled}
 use Rattle.hayro_ccitt.specs.Lines.{Line}
-use Rattle.fax_feeds.specs.RowFeeds.{CountsRow, Feeding, FeedsNext, FeedsRow, HoldsMore, IsFeedOf, IsOpenAt, StandsIn, fed_end}
+use Rattle.fax_feeds.specs.RowFeeds.{CountsRow, Feeding, FeedsNext, FeedsPlainly, FeedsRow, HoldsMore, IsFeedOf, IsOpenAt}
+use Rattle.fax_feeds.specs.RowFeeds.{IsPlainFeedOf, StandsIn, fed_end}
+use Rattle.fax_feeds.proofs.Readings.FeedsCompleted.{full_gap}
 use Rattle.fax_feeds.specs.declared.row_feed.Fed.{Fed}
 use Rattle.fax_feeds.proofs.Readings.OpenBits.{first_gap_is_open, open_bits_are_read, open_front_before, open_gap_before}
 use Rattle.fax_feeds.proofs.Readings.RowsFed.{from_place}
@@ -37,14 +39,14 @@ open_before_it true AfterRow ctx first rest waits =
 open_before_it true AtEnd ctx first rest waits = absurd waits
 open_before_it true (AtFault error) ctx first rest waits = absurd waits
 
-kept_is_needed : {whole : Bits} {tried : ℕ} {old new : Feeding} → FeedsNext whole tried old new (Ok Fed.NeedsMore)
+kept_is_needed : {whole : Bits} {tried : ℕ} {old new : Feeding} → FeedsPlainly whole tried old new (Ok Fed.NeedsMore)
     → AreNeeded new.begun new.rows.stand new.ctx (drop new.place new.kept)
 kept_is_needed {new = new} next first rest is = open_before_it new.begun new.rows.stand new.ctx first rest
     (subst (IsOpenAt new.begun new.rows.stand new.ctx) is (next.unsettled refl).1)
 
 -- ---- No more is open than of a line or a gap of the data
 
-module _ {whole : Bits} {tried most : ℕ} {feed : Feeding} (stands : IsFeedOf whole tried feed)
+module _ {whole : Bits} {tried most : ℕ} {feed : Feeding} (stands : IsPlainFeedOf whole tried feed)
     (known : AreOpenFor most feed.ctx.held.taken feed.ctx.held.settings whole)
     (within : feed.place ≤ length feed.kept) where
   abbrev settings : DecodeSettings
@@ -115,7 +117,7 @@ call_goes_on {whole} {tried} {old} {new} answer call stands = by_end (ended old.
     by_end : (end : Option (Result (Unit {0}) DecodeError)) → ended old.rows.stand ≡ end → GoesOn whole old new
     by_end None unended =
         let next = call.reads whole tried unended stands in
-        record { tried = tried + next.extra; stands = next.stands; onward = rows_onward answer next call.counts }
+        record { tried = tried + next.plainly.extra; stands = next.stands; onward = rows_onward answer next call.counts }
     by_end (Some end) over =
         let same = (call.over end over).0 in
         record {
@@ -198,14 +200,21 @@ module _ (whole : Bits) (most piece : ℕ) where
       let before = keeps_few old was in
       let needs = call.reads whole before.tried (unended call) before.stands in
       record {
-        tried = before.tried + needs.extra;
-        stands = stays (before.tried + needs.extra) needs.stands;
+        tried = before.tried + needs.plainly.extra;
+        stands = stays (before.tried + needs.plainly.extra) needs.stands;
         few = λ known.
             let known_mid = subst (λ (c : Context). KnownFor c.held.taken c.held.settings) holds.reading.0 known in
             holds_within holds
             (same_within call.keeps.kept call.keeps.room (before.few (known_before
             (rows_onward (Ok Fed.NeedsMore) needs call.counts) call.counts.settings known_mid)))
-            (omega (arith, short, fed_most holds, open_most needs.stands known_mid holds.within (needs.unsettled refl).1));
+            (omega (
+              arith,
+              short,
+              fed_most holds,
+              open_most needs.plainly.stands known_mid needs.plainly.goes_on.within (needs.plainly.unsettled refl).1,
+              ap length (full_gap needs.stands holds.within),
+              length-append needs.stands.known.gone (drop mid.place mid.kept),
+            ));
       }
   keeps_few feed (IsFedInTurn.finishes {old = old} was is stays) =
       let before = keeps_few old was in
@@ -219,7 +228,7 @@ module _ (whole : Bits) (most piece : ℕ) where
 -- the law
 pub feeds_keep_little : FeedsKeepLittle
 feeds_keep_little = record {
-  needed = λ whole tried old new next. kept_is_needed next;
+  needed = λ whole tried old new next. kept_is_needed next.plainly;
   read = open_bits_are_read;
   kept = λ whole most piece feed turn. (keeps_few whole most piece feed turn).few;
 }
