@@ -23,9 +23,7 @@ ghost use Rattle.fax_rows.specs.WhiteLines.{AreKnown};
 ghost use Rattle.fax_rows.specs.ZerosLast.{CountsZeros, zeros_at};
 
 use crate::counted_gaps::{GapSoFar, come_to_counted_line, come_to_first_line, no_gap};
-use crate::gap_look::{
-    GapLook, GapRules, GapStage, is_settled_at_once, rules_after_row,
-};
+use crate::gap_look::{GapLook, GapRules, GapStage, is_settled_at_once, rules_after_row};
 use crate::line_parts::{KeptPart, begin_part, continue_line, continue_runs, is_1d, is_in_1d_run};
 use fax_bits::bit_reader::{
     BitOrder, BitReader, at_bit, placed_at, scanner_at, scanner_near_end, scanner_of_last,

@@ -1,5 +1,6 @@
 -- A feed with all bits of the data that were fed, where more are.
-use Rattle.fax_feeds.proofs.Names.{common_steps, ◌≡◌, ◌∙◌, ◌+◌, ◌-◌, ◌≤◌, ◌++◌, ap, sym, subst, arith, length, drop, take, ℕ, true, refl}
+use Rattle.fax_feeds.proofs.Names.{common_steps, ◌≡◌, ◌∙◌, ◌+◌, ◌-◌, ◌≤◌, ◌++◌, ap, sym, subst}
+use Rattle.fax_feeds.proofs.Names.{arith, length, drop, take, ℕ, true, refl}
 use Rattle.std.specs.Prelude.{if◌then◌else◌}
 use Rattle.fax_feeds.proofs.Names.{Bool, false, Bits, [], ◌∷◌, length-append, length-drop, append_assoc}
 use Rattle.std.proofs.Math.Seq.{drop-length, length-take-le}
@@ -8,11 +9,8 @@ use Rattle.fax_feeds.specs.RowFeeds.{Feeding, HoldsMore, IsFeedOf, IsPlainFeedOf
 use Rattle.fax_feeds.specs.RowFeeds.{offset_of, zeros_left}
 use Rattle.fax_feeds.specs.declared.counted_gaps.GapSoFar.{GapSoFar}
 use Rattle.fax_feeds.proofs.Readings.FeedAccount.{KnowsMore}
+use Rattle.fax_feeds.proofs.Readings.FeedsCompleted.{take_length}
 use Rattle.fax_feeds.proofs.Readings.RowsFed.{from_place}
-
-take_length : (first rest : Bits) → take (length first) (first ++ rest) ≡ first
-take_length [] rest = refl
-take_length (bit ∷ first) rest = ap (λ (b : Bits). bit ∷ b) (take_length first rest)
 
 -- the bits up to an offset, and some more
 take_past : (whole first rest : Bits) (at : ℕ) → at ≤ length whole → drop at whole ≡ first ++ rest
@@ -145,8 +143,8 @@ module _ {whole : Bits} {tried : ℕ} {feed : Feeding} (is : IsFeedOf whole trie
         fed_long,
       )
 
-  pub few_zeros : zeros_left (completed whole feed) ≤ length (drop (completed whole feed).place (completed whole feed).kept)
-  few_zeros = by_zeros feed.gap.at_zeros refl
+  pub zeros_known : zeros_left (completed whole feed) ≤ length (drop (completed whole feed).place (completed whole feed).kept)
+  zeros_known = by_zeros feed.gap.at_zeros refl
     where
       by_zeros : (b : Bool) → feed.gap.at_zeros ≡ b → (if b then feed.gap.passed else 0)
           ≤ length (drop (offset_of feed) (take (fed_bits feed) whole))

@@ -215,11 +215,11 @@ module _ {f : Inside} {before after : BitsAt} {rows : RowState} {ctx : Context} 
   pub white_read_by : IsReadBy (past_line f ctx rows place) after
   white_read_by = read_on_by by there (ap (λ (b : BitsAt). b.bits) takes.passes.moved_on)
       (omega (arith, within_kept, after_bits)) (record {
-    seen = fresh_look _ _ (ap (λ (g : GapSoFar). g.look) fresh);
-    line = λ line follows. fresh;
-    counted = none_counted_of fresh;
-    last = λ zeros. absurd (false≢true (sym (ap (λ (g : GapSoFar). g.at_zeros) fresh) ∙ zeros));
-  })
+        seen = fresh_look _ _ (ap (λ (g : GapSoFar). g.look) fresh);
+        line = λ line follows. fresh;
+        counted = none_counted_of fresh;
+        last = λ zeros. absurd (false≢true (sym (ap (λ (g : GapSoFar). g.at_zeros) fresh) ∙ zeros));
+      })
     where
       after_bits : length after.bits ≡ length kept_bits
       after_bits = ap (λ (b : BitsAt). length b.bits) kept_passes.moved_on

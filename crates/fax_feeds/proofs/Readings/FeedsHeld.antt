@@ -1,5 +1,6 @@
 -- Rows from data that comes in pieces: a feed of which bytes are dropped, and to which bytes are fed.
-use Rattle.fax_feeds.proofs.Names.{common_steps, ◌≡◌, ◌∙◌, ◌+◌, ◌-◌, ◌*◌, ◌≤◌, ◌++◌, ℕ, Bool, true, false, Ok, Some, sym, ap, subst}
+use Rattle.fax_feeds.proofs.Names.{common_steps, ◌≡◌, ◌∙◌, ◌+◌, ◌-◌, ◌*◌, ◌≤◌, ◌++◌, ℕ, Bool, true, false}
+use Rattle.fax_feeds.proofs.Names.{sym, ap, subst}
 use Rattle.fax_feeds.proofs.Names.{arith, drop, length, length-append, length-drop, append_assoc, false≢true, zero, suc, [], ◌∷◌}
 use Rattle.fax_feeds.proofs.Names.{Bits, BitsAt, Context, bits_in, List, refl}
 use Rattle.std.proofs.Math.Seq.{drop-append-add, drop-length, drop-nil}
@@ -11,7 +12,8 @@ use Rattle.fax_rows.specs.RowsTried.{CanCome}
 use Rattle.fax_rows.specs.GapsCounted.{counted_by, left_before, none_counted}
 use Rattle.fax_rows.specs.declared.row_reader.RowState.{RowState}
 use Rattle.fax_feeds.specs.declared.counted_gaps.GapSoFar.{GapSoFar}
-use Rattle.fax_feeds.specs.RowFeeds.{ComeNext, DropsRead, Feeding, IsFeedOf, KnowsGap, LieIn, StandsIn, fed_bits, gap_rules, offset_of}
+use Rattle.fax_feeds.specs.RowFeeds.{ComeNext, DropsRead, Feeding, IsFeedOf, KnowsGap, LieIn, StandsIn}
+use Rattle.fax_feeds.specs.RowFeeds.{fed_bits, gap_rules, offset_of}
 use Rattle.fax_feeds.proofs.Readings.RowsFed.{from_place, place_within}
 
 -- the bits of bytes, without those of the first ones
@@ -73,7 +75,8 @@ pub feeds_more : {whole : Bits} {tried : ℕ} {old new : Feeding} (next : Bits) 
     → new ≡ record old { kept = old.kept ++ next; room = room } → old.finished ≡ false → IsFeedOf whole tried old
     → ComeNext whole old next → IsFeedOf whole tried new
 feeds_more {whole} {tried} {old} {new} next room is unfinished feed come =
-    subst (IsFeedOf whole tried) (sym is) (held_on (record old { kept = old.kept ++ next; room = room }) refl refl refl refl refl (λ last. last) feed (record {
+    subst (IsFeedOf whole tried) (sym is) (held_on (record old { kept = old.kept ++ next; room = room }) refl refl refl refl refl
+    (λ last. last) feed (record {
       within = feed.lie.within;
       more = come.rest;
       bits = feed.lie.bits ∙ ap (λ (b : Bits). old.kept ++ b) (sym rest_is ∙ come.bits) ∙ sym
@@ -98,7 +101,8 @@ pub feed_finished : {whole : Bits} {tried : ℕ} {old new : Feeding} → new ≡
     → IsFeedOf whole tried old
     → length whole ≡ old.dropped + length old.kept → IsFeedOf whole tried new
 feed_finished {whole} {tried} {old} {new} is feed all =
-    subst (IsFeedOf whole tried) (sym is) (held_on (record old { finished = true }) refl refl refl refl refl (λ last. refl) feed (record {
+    subst (IsFeedOf whole tried) (sym is) (held_on (record old { finished = true }) refl refl refl refl refl (λ last. refl) feed
+    (record {
       within = feed.lie.within;
       more = feed.lie.more;
       bits = feed.lie.bits;

@@ -16,10 +16,11 @@ use Rattle.fax_feeds.specs.RowFeeds.{CallGoesOn, Feeding, FeedsPlainly, HasNone,
 use Rattle.fax_feeds.specs.RowFeeds.{DrawsRow, StandsIn, TriesFirst}
 use Rattle.fax_feeds.specs.RowFeeds.{completed, fed_bits, fed_over, most_for_line, paid_by, paid_for_line, zeros_left}
 use Rattle.fax_feeds.specs.declared.counted_gaps.GapSoFar.{GapSoFar}
-use Rattle.fax_feeds.proofs.Readings.CompletedOn.{completed_fed, few_zeros, keeps_completed, knows_more}
+use Rattle.fax_feeds.proofs.Readings.CompletedOn.{completed_fed, zeros_known, keeps_completed, knows_more}
 use Rattle.std.specs.Prelude.{if◌then◌else◌}
 use Rattle.fax_feeds.proofs.Names.{IfErr}
-use Rattle.fax_feeds.proofs.Readings.FeedAccount.{FeedIsPaid, FirstsPaid, GapsPaid, IsAfter, IsPassed, KnowsMore, LinesPaid, RowsPaid}
+use Rattle.fax_feeds.proofs.Readings.FeedAccount.{FeedIsPaid, FirstsPaid, GapsPaid, IsAfter, IsPassed, KnowsMore, LinesPaid}
+use Rattle.fax_feeds.proofs.Readings.FeedAccount.{RowsPaid}
 use Rattle.fax_feeds.proofs.Readings.FeedAccount.{SeeksEol, WasShort, WasTried, offset}
 use Rattle.fax_feeds.specs.FeedsPaid.{FeedsArePaid, IsHistory, changes_of, cost_of_failure}
 use Rattle.fax_feeds.proofs.Readings.FeedsOn.{none_paid}
@@ -935,8 +936,8 @@ plain_most {whole} {tried} {feed} is = by_begun feed.begun is.stands
     by_begun false front = omega (arith, front.ticks)
 
 -- no more bits were fed than the whole data has
-fed_within : {whole : Bits} {tried : ℕ} {feed : Feeding} → IsPlainFeedOf whole tried feed → fed_bits feed ≤ length whole
-fed_within {whole} {tried} {feed} is = omega (
+plain_within : {whole : Bits} {tried : ℕ} {feed : Feeding} → IsPlainFeedOf whole tried feed → fed_bits feed ≤ length whole
+plain_within {whole} {tried} {feed} is = omega (
   arith,
   is.lie.within,
   ap length is.lie.bits,
@@ -965,9 +966,9 @@ history_paid {whole = whole} (IsHistory.opens {feed} is unbegun unlooked unkept)
 history_paid (IsHistory.feeds next before holds is) = more_paid (knows_more holds (history_fed before) is) (history_paid before)
 history_paid {whole = whole} (IsHistory.finishes before is fed) = finished_paid (ap (completed whole) is) (history_paid before)
 history_paid (IsHistory.reads before unended keeps next other) =
-    reads_paid unended (keeps_completed _ keeps) (few_zeros (history_fed before)) (history_paid before) next.plainly other
+    reads_paid unended (keeps_completed _ keeps) (zeros_known (history_fed before)) (history_paid before) next.plainly other
 history_paid (IsHistory.fails before unended keeps next) =
-    fails_paid unended (keeps_completed _ keeps) (few_zeros (history_fed before)) (history_paid before) next.plainly refl
+    fails_paid unended (keeps_completed _ keeps) (zeros_known (history_fed before)) (history_paid before) next.plainly refl
 
 pub feeds_are_paid : FeedsArePaid
 feeds_are_paid calls lost tried whole feed history is =
@@ -976,7 +977,7 @@ feeds_are_paid calls lost tried whole feed history is =
     omega (
       arith,
       plain_most all,
-      fed_within all,
+      plain_within all,
       paid.sum,
       paid.gaps_paid.most,
       paid.gaps_paid.first_most,

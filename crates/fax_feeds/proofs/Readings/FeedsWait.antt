@@ -5,7 +5,8 @@ use Rattle.fax_feeds.proofs.Names.{line_here, DecodeError, RowsRead, IfErr-weake
 use Rattle.fax_reading.specs.Continuations.{is_short}
 use Rattle.fax_feeds.specs.declared.line_parts.KeptPart.{KeptPart}
 use Rattle.fax_feeds.specs.declared.row_feed.Fed.{Fed}
-use Rattle.fax_feeds.specs.RowFeeds.{Feeding, FeedsPlainly, FeedsRow, IsPlainFeedOf, KeepsBits, PartIsKept, StaysShort, StaysThere}
+use Rattle.fax_feeds.specs.RowFeeds.{Feeding, FeedsPlainly, FeedsRow, IsPlainFeedOf, KeepsBits, PartIsKept, StaysShort}
+use Rattle.fax_feeds.specs.RowFeeds.{StaysThere}
 use Rattle.fax_feeds.specs.RowFeeds.{fed_over, line_of_feed, most_for_line, paid_for_line}
 use Rattle.fax_feeds.proofs.Readings.CompletedOn.{keeps_completed}
 use Rattle.fax_feeds.proofs.Readings.FeedsCompleted.{full_gap}
@@ -124,8 +125,8 @@ module _ {old mid : Feeding} (begun : old.begun ≡ true) (line : is_at_line old
         let next = line_feeds (Ok false) reads (λ e none still. absurd (false≢true (sym (stays.unkept none).0))) begun line
         (plain_of feed (ap (λ (g : GapSoFar). g.passed) unknown)) in
         let now = fed_of next.stands (reads.gap ∙ unknown) reads.within in
-        next_of (framed next feed now within reads.within (ap (λ (g : GapSoFar). g.passed) unknown) (ap (λ (g : GapSoFar). g.passed) (reads.gap ∙ unknown))
-        reads.keeps) now.known now.lie;
+        next_of (framed next feed now within reads.within (ap (λ (g : GapSoFar). g.passed) unknown)
+        (ap (λ (g : GapSoFar). g.passed) (reads.gap ∙ unknown)) reads.keeps) now.known now.lie;
     keeps = (stays_short stays begun).keeps;
     over = λ end e. absurd (let never = sym (at_line_unended old.rows.stand line) ∙ e in cc);
     counts = record {
@@ -164,7 +165,8 @@ module _ {old mid : Feeding} (begun : old.begun ≡ true) (line : is_at_line old
         → (old.finished ≡ true) ⊎ (is_short (line_of_feed old) ≡ false)
         → (old.finished ≡ true) ⊎ (is_short (line_of_feed (completed whole old)) ≡ false)
     settled_there whole here (inl finished) = inl finished
-    settled_there whole here (inr settled) = inr (ap (λ (b : Bits). is_short (line_here old.ctx.held.settings old.ctx.held.reference b))
+    settled_there whole here (inr settled) = inr (ap (λ (b : Bits). is_short (line_here old.ctx.held.settings
+        old.ctx.held.reference b))
         here ∙ settled)
 
     later_row : FeedsRow (later old more mid.line_read) next answer
@@ -177,7 +179,8 @@ module _ {old mid : Feeding} (begun : old.begun ≡ true) (line : is_at_line old
           let mid_within : mid.place ≤ length mid.kept =
           omega (arith, within, ap (λ (f : Feeding). f.place) frame, ap (λ (f : Feeding). length f.kept) frame) in
           let fed : IsFeedOf whole (tried + more) (later old more mid.line_read) =
-          subst (IsFeedOf whole (tried + more)) mid_is (fed_of (scanned_fed stays.scans begun (plain_of feed (ap (λ (g : GapSoFar). g.passed) unknown)))
+          subst (IsFeedOf whole (tried + more)) mid_is (fed_of (scanned_fed stays.scans begun
+          (plain_of feed (ap (λ (g : GapSoFar). g.passed) unknown)))
           (ap (λ (f : Feeding). f.gap) frame ∙ unknown) mid_within) in
           let n = later_row.reads whole (tried + more) unended fed in
           let here : drop (offset_of old) (take (fed_bits old) whole) ≡ drop old.place old.kept = full_gap feed within
