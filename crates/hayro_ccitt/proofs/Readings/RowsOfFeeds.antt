@@ -3,7 +3,8 @@ use Rattle.hayro_ccitt.proofs.Names.{common_steps}
 use Rattle.hayro_ccitt.proofs.Names.{◌≡◌, ◌≢◌, ◌∙◌, ◌∷◌, [], refl, sym, ap, subst, ℕ, List, Ok, Err, meaning_after}
 use Rattle.hayro_ccitt.proofs.Names.{◌+◌, ◌<◌, ◌≤◌, inl, inr, Result, None, DecodeError, DecodeSettings, arith, plain}
 use Rattle.hayro_ccitt.proofs.Names.{Bits, SinkState, IsFault, HasEnded, HasFailed, OutOfMemory, Refused, ended}
-use Rattle.hayro_ccitt.proofs.Names.{drop, length, take}
+use Rattle.hayro_ccitt.proofs.Names.{Row, drop, get_or, length, take}
+use Rattle.hayro_ccitt.specs.Rows.{changes}
 use Rattle.std.specs.Prelude.{Bool, IfErr}
 use Rattle.std.proofs.lemmas.List.{drop_more}
 use Rattle.fax_feeds.specs.RowFeeds.{ComesToNoRow, Feeding, FeedsNext, FeedsRows, IsFeedOf, RefusesRow, offset_of}
@@ -51,7 +52,7 @@ have_read whole tried old (new ∷ rows) unended stands reads =
       settings = rest.settings ∙ next.settings;
       taken = omega (arith, rest.taken, more);
       within = λ some. within_rows whole old rows rest next.settings within;
-      are = grind (arith, common_steps, same_rows, drop_more, next);
+      are = grind (arith, common_steps, same_rows, drop_more, next.row refl);
     }
 
 -- ---- A call that reads no row
@@ -127,7 +128,29 @@ module _ {M : Type 0} (whole : Bits) (step : M → List ℕ → M) (before after
   -- or the sink refused the row that is next
   passed_to_refusal : (answer : Result Fed DecodeError) → RefusesRow after mid new answer
       → PassesNextRows whole step before after old new answer
-  passed_to_refusal answer ends = grind (arith, common_steps, passed_rows, refusal_is_no_fault)
+  passed_to_refusal answer ends =
+      let next = ends.call.reads whole read.tried read.unended read.stands in
+      let came = next.plainly.row refl in
+      let more = came.more refl in
+      let row_is = came.row refl
+      ∙ ap (λ (s : DecodeSettings). get_or (plain s whole).rows mid.ctx.held.taken []) read.settings
+      ∙ ap (λ (n : ℕ). get_or (rows_of old whole) n []) read.taken in
+      record {
+        passed = length rows;
+        within = λ some. omega (arith, read.taken, read.within some);
+        meaning = passed_rows;
+        taken = λ other. absurd (other ends.answer_is);
+        refused = λ is. (
+          omega (arith, more.1, read.taken),
+          subst (λ (s : DecodeSettings). new.ctx.held.taken ≤ length (plain s whole).rows) read.settings more.2,
+          subst (λ (r : Row). after.refuses (changes r)) row_is ends.row,
+        );
+        waits = λ is. let never = sym ends.answer_is ∙ is in absurd cc;
+        end = λ is. let never = sym ends.answer_is ∙ is in absurd cc;
+        fault = refusal_is_no_fault _ answer ends.answer_is;
+        tried = read.tried + next.plainly.extra;
+        stands = next.stands;
+      }
 
 pub passes_plain_rows : {S M : Type 0} (meaning : S → M) (has_refused : S → Bool) (refuses : S → List ℕ → Type 0)
     → PassesPlainRows meaning has_refused refuses
