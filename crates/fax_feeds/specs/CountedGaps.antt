@@ -11,7 +11,7 @@ use Rattle.fax_rows.specs.RowsTried.{front_is_settled}
 use Rattle.fax_rows.specs.declared.gap_count.GapCount.{GapCount}
 use Rattle.fax_rows.specs.declared.gap_count.GapStep.{GapStep}
 use Rattle.fax_rows.specs.declared.row_reader.RowState.{RowState}
-use Rattle.fax_rows.specs.GapsCounted.{CountsEol, IsTidy, StandsInGap, StaysCounted, StepLeaves, StepSays, left_before}
+use Rattle.fax_rows.specs.GapsCounted.{CountsEol, IsTidy, KeepsRows, StandsInGap, StepLeaves, StepSays, left_before}
 use Rattle.fax_rows.specs.RowsRead.{IsStanding, ReachesNextLine, is_at_line, seen}
 use Rattle.fax_feeds.specs.declared.counted_gaps.GapSoFar.{GapSoFar}
 use Rattle.fax_feeds.specs.GapsSeen.{IsSeen, nothing_seen, rules_for}
@@ -32,8 +32,8 @@ pub record CountsOn (is_last : Bool) (rows kept : RowState) (count next : GapCou
   pub onward : before.place ≤ after.place
   pub same_bits : after.bits ≡ before.bits
   pub within : after.place ≤ length after.bits
-  pub says : StepSays is_last rows kept next step
-  pub stays : step ≡ GapStep.Waits → StaysCounted count next (here before) (here after)
+  pub says : StepSays is_last count next (here before) (here after) step
+  pub same : KeepsRows step rows kept
   pub eol : step ≡ GapStep.Passed true → is_last ≡ false → old.held.has_eols ≡ true
       → CountsEol old.held.settings count (here before) (here after)
   pub line : step ≡ GapStep.Passed true → is_at_line kept.stand ≡ true

@@ -1,4 +1,4 @@
--- What is before the first line, whose bits are counted as they come: not part of the trusted specification.
+-- What is before the first line, whose bits are counted as they come.
 use Rattle.std.specs.Prelude.{◌≡◌, ◌≤◌, ◌+◌, ℕ, Bool, true, false, not, [], ◌++◌, drop, length, Ok, Some}
 use Rattle.fax_bits.specs.Bits.{Bits, BitsAt, here}
 use Rattle.fax_bits.specs.declared.settings.DecodeSettings.{DecodeSettings}
@@ -19,6 +19,8 @@ front_encoding Group3_2D = Group3_1D
 
 abbrev pub front_rules : DecodeSettings → DecodeSettings
 front_rules settings = record settings { encoding = front_encoding settings.encoding }
+
+-- ---- A step there: not part of the trusted specification
 
 -- The bits of some data up to this offset are before the first line, and this was counted of them.
 pub record CountsFront (settings : DecodeSettings) (whole : Bits) (at : ℕ) (count : GapCount) : Type 0 where
@@ -54,11 +56,11 @@ FrontLeaves GapStep.Zeros old new whole at count after = FrontEndsWithZeros old.
 FrontLeaves GapStep.Missed old new whole at count after = ⊥
 FrontLeaves (GapStep.Passed line) old new whole at count after = PassesFront old new whole at line
 
--- only what was passed changes what the context holds
+-- only what was passed changes what the context holds, and no EOL is missing before the first line
 abbrev pub StaysUnless : GapStep → Context → Context → Type 0
 StaysUnless GapStep.Waits old new = new.held ≡ old.held
 StaysUnless GapStep.Zeros old new = new.held ≡ old.held
-StaysUnless GapStep.Missed old new = new.held ≡ old.held
+StaysUnless GapStep.Missed old new = ⊥
 StaysUnless (GapStep.Passed line) old new = Unit {0}
 
 -- whatever the data is

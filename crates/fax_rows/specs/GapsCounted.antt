@@ -1,4 +1,4 @@
--- A gap whose bits are counted as they come, so that none of them is kept: not part of the trusted specification.
+-- A gap whose bits are counted as they come, so that none of them is kept.
 use Rattle.std.specs.Prelude.{◌≡◌, ◌<◌, ◌+◌, ◌==◌, ℕ, zero, suc, Bool, true, false, [], ◌∷◌, ◌++◌, replicate, nat_le, nat_lt}
 use Rattle.std.specs.Prelude.{◌&&◌}
 use Rattle.std.specs.Prelude.{if◌then◌else◌, Option, Some, None, not}
@@ -16,6 +16,7 @@ use Rattle.fax_rows.specs.declared.gap_count.GapStep.{GapStep}
 use Rattle.fax_rows.specs.RowsRead.{IsStanding, ReachesNextLine, line_after, seen}
 use Rattle.fax_rows.specs.RowsTried.{rows_after_gap}
 use Rattle.fax_rows.specs.declared.row_reader.RowState.{RowState}
+use Rattle.fax_rows.specs.declared.row_reader.Stand.TheVariants.{AtLine}
 
 -- nothing was counted
 abbrev pub none_counted : GapCount
@@ -56,6 +57,36 @@ counted has_tags ends_at_two count (true ∷ here) = elim (one_counted has_tags 
   | Some next ↦ counted has_tags ends_at_two next here
 ]
 
+-- ---- The rules of an encoding
+
+-- tags follow EOLs (T.4, 4.2.2)
+abbrev pub has_tags : EncodingMode → Bool
+has_tags Group3_2D = true
+has_tags Group3_1D = false
+has_tags Group4 = false
+
+-- two EOLs end the data: EOFB (T.6, 2.4.1.1)
+abbrev pub ends_at_two : EncodingMode → Bool → Bool
+ends_at_two Group3_2D end_of_block = false
+ends_at_two Group3_1D end_of_block = false
+ends_at_two Group4 end_of_block = end_of_block
+
+-- bits of data with these settings, counted one after the other
+abbrev pub counted_by : DecodeSettings → GapCount → Bits → Option GapCount
+counted_by settings count here =
+    counted (has_tags settings.encoding) (ends_at_two settings.encoding settings.end_of_block) count here
+
+-- a tag of one before some bits
+abbrev pub behind_tag : Bool → Bits → Bits
+behind_tag true here = true ∷ here
+behind_tag false here = here
+
+-- the bits after the EOLs that were counted: a tag of one, and the zeros, before those that follow
+abbrev pub left_before : GapCount → Bits → Bits
+left_before count here = behind_tag count.tag (replicate count.zeros false ++ here)
+
+-- ---- What was counted, as bits: not part of the trusted specification
+
 -- the first of some bits were counted, up to the rest
 pub record CountsTo (has_tags ends_at_two : Bool) (old new : GapCount) (here rest : Bits) : Type 0 where
   pub first : Bits
@@ -76,39 +107,11 @@ unfoldable pub behind_eols : ℕ → Bits → Bits
 behind_eols zero here = here
 behind_eols (suc n) here = eol_bits ++ behind_eols n here
 
--- a tag of one before some bits
-abbrev pub behind_tag : Bool → Bits → Bits
-behind_tag true here = true ∷ here
-behind_tag false here = here
-
 -- what was counted, as bits, before those that follow
 abbrev pub stand_in : GapCount → Bits → Bits
 stand_in count here = behind_eols count.eols (behind_tag count.tag (replicate count.zeros false ++ here))
 
--- ---- The rules of an encoding
-
--- tags follow EOLs (T.4, 4.2.2)
-abbrev pub has_tags : EncodingMode → Bool
-has_tags Group3_2D = true
-has_tags Group3_1D = false
-has_tags Group4 = false
-
--- two EOLs end the data: EOFB (T.6, 2.4.1.1)
-abbrev pub ends_at_two : EncodingMode → Bool → Bool
-ends_at_two Group3_2D end_of_block = false
-ends_at_two Group3_1D end_of_block = false
-ends_at_two Group4 end_of_block = end_of_block
-
--- bits of data with these settings, counted one after the other
-abbrev pub counted_by : DecodeSettings → GapCount → Bits → Option GapCount
-counted_by settings count here =
-    counted (has_tags settings.encoding) (ends_at_two settings.encoding settings.end_of_block) count here
-
--- ---- A gap that ends
-
--- the bits after the EOLs that were counted: a tag of one, and the zeros, before those that follow
-abbrev pub left_before : GapCount → Bits → Bits
-left_before count here = behind_tag count.tag (replicate count.zeros false ++ here)
+-- ---- A gap that ends: not part of the trusted specification
 
 -- The EOLs of a gap that ends after what was counted, and the bits after them: a tag of one that is the last is that of the next
 -- line, unless the EOLs are RTC (T.4, 4.2.2 and 4.2.4).
@@ -117,7 +120,7 @@ eols_of_count Group3_1D count here = (count.eols, left_before count here)
 eols_of_count Group3_2D count here = pass_last_tag (count.eols, left_before count here)
 eols_of_count Group4 count here = (count.eols, left_before count here)
 
--- ---- What a call leaves that counts the bits of a gap
+-- ---- What a call leaves that counts the bits of a gap: not part of the trusted specification
 
 -- what was counted up to the last EOL
 abbrev pub to_last_eol : GapCount → GapCount
@@ -189,7 +192,7 @@ pub record CountsEol (settings : DecodeSettings) (count : GapCount) (before afte
   pub some : 0 < mid.eols
   pub onward : length after ≤ length rest
 
--- ---- Where a reading is whose gap was counted
+-- ---- Where a reading is whose gap was counted: not part of the trusted specification
 
 -- The reading is after a row. The bits from there up to this offset are of the gap, and this was counted of them.
 pub record StandsInGap (from : ℕ) (rows : RowState) (ctx : Context) (whole : Bits) (at : ℕ) (count : GapCount) : Type 0 where
@@ -212,7 +215,7 @@ pub record PassesCounted (from : ℕ) (rows : RowState) (ctx : Context) (whole :
       (record { bits = whole; place = next }))
       (line_after (Ok (is_over ctx.held.settings ctx.held.taken (count, drop next whole))))
 
--- ---- A step in a gap
+-- ---- A step in a gap: not part of the trusted specification
 
 -- some data has these bits from this offset on, and others after them
 pub record LiesAt (whole : Bits) (dropped : ℕ) (bits more : Bits) : Type 0 where
@@ -247,18 +250,19 @@ pub record LacksEolHere (from : ℕ) (rows : RowState) (ctx : Context) (whole : 
   pub stands : IsStanding from rows ctx (record { bits = whole; place = at })
   pub misses : misses_eol ctx.held.settings ctx.held.taken ctx.held.has_eols (drop at whole) ≡ true
 
--- what is kept between two rows is unchanged, unless the gap is passed
+-- what is kept between two rows is unchanged, unless the gap is passed, to a line or not
 abbrev pub KeepsRows : GapStep → RowState → RowState → Type 0
 KeepsRows GapStep.Waits rows kept = kept ≡ rows
 KeepsRows GapStep.Zeros rows kept = kept ≡ rows
 KeepsRows GapStep.Missed rows kept = kept ≡ rows
-KeepsRows (GapStep.Passed line) rows kept = Unit {0}
+KeepsRows (GapStep.Passed line) rows kept = line ≡ true → kept.stand ≡ AtLine
 
--- what a step says, whatever the data is: it waits only where more data may come, and comes to zeros only where none does
-pub record StepSays (is_last : Bool) (rows kept : RowState) (next : GapCount) (step : GapStep) : Type 0 where
+-- what a step says, whatever the data is: it waits only where more data may come, whose bits can be counted too, and comes to
+-- zeros only where none does
+pub record StepSays (is_last : Bool) (count next : GapCount) (before after : Bits) (step : GapStep) : Type 0 where
   pub waits : is_last ≡ true → step ≢ GapStep.Waits
+  pub stays : step ≡ GapStep.Waits → StaysCounted count next before after
   pub zeros : step ≡ GapStep.Zeros → (is_last ≡ true) × (16 ≤ next.zeros)
-  pub same : KeepsRows step rows kept
 
 -- what became of the gap after a row of some data, which begins at an offset, and of which the bits here are known from another
 -- on

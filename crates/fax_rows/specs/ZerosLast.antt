@@ -18,6 +18,12 @@ abbrev pub given_up : Bool → Result Bool DecodeError
 given_up true = Err InvalidCode
 given_up false = Ok false
 
+-- only whether EOLs are sought changes, and the repairs
+pub record ChangesEols (old new : Context) : Type 0 where
+  pub held : new.held ≡ record old.held { has_eols = new.held.has_eols; repairs = new.held.repairs }
+  pub ticks : new.ticks ≡ old.ticks
+  pub space : new.space ≡ old.space
+
 -- a tag of one, or none, and so many zeros
 abbrev pub zeros_at : Bool → ℕ → BitsAt
 zeros_at tag zeros = record { bits = behind_tag tag (replicate zeros false ++ []); place = 0 }

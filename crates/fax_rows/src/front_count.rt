@@ -5,7 +5,7 @@ ghost use Rattle.fax_bits.specs.Bits.{Bits, here};
 ghost use Rattle.fax_reading.specs.Context.{fresh};
 ghost use Rattle.fax_reading.specs.PlainReading.{at_end, is_over};
 ghost use Rattle.fax_rows.specs.FrontsCounted.{StaysUnless, StepsAtFront, TakesNoRow, front_rules};
-ghost use Rattle.fax_rows.specs.GapsCounted.{CanGoOn, StaysCounted};
+ghost use Rattle.fax_rows.specs.GapsCounted.{CanGoOn, StepSays};
 
 use crate::gap_count::{GapCount, GapEnd, GapStep, count_gap};
 use crate::rows::{is_end_of_block, limit_met};
@@ -57,10 +57,7 @@ pub fn step_at_front(
     ensures moves { (reader.new.bits ≡ reader.old.bits) × (reader.old.place ≤ reader.new.place)
         × (reader.new.place ≤ length reader.new.bits) }
     ensures kept { StaysUnless result ctx.old ctx.new × TakesNoRow ctx.old ctx.new }
-    ensures waits { (is_last ≡ true → result ≢ GapStep.Waits) × (result ≡ GapStep.Zeros → is_last ≡ true) }
-    ensures stays { result ≡ GapStep.Waits → StaysCounted count.old count.new (here reader.old) (here reader.new) }
-    ensures zeros { result ≡ GapStep.Zeros → 16 ≤ count.new.zeros }
-    ensures unmissed { result ≢ GapStep.Missed }
+    ensures says { StepSays is_last count.old count.new (here reader.old) (here reader.new) result }
     ensures work { ctx.new.ticks + reader.old.place ≤ ctx.old.ticks + reader.new.place + 16 }
 {
     let _start = reader.bit_pos();

@@ -5,8 +5,9 @@ ghost use Rattle.std.specs.Prelude.{true, length, None, Some, Ok, not, ℕ};
 ghost use Rattle.fax_bits.specs.Bits.{Bits, here};
 ghost use Rattle.fax_reading.specs.PlainReading.{at_end, is_over, limit_met};
 ghost use Rattle.fax_lines.specs.Counting.{OnlyCounts};
-ghost use Rattle.fax_rows.specs.GapsCounted.{CountsEol, CountsTo, EndsAtOne, EndsAtTwo, CanGoOn, StaysOpen, counted, ends_at_two, has_tags};
-ghost use Rattle.fax_rows.specs.GapsCounted.{left_before, one_counted, past_eols, StaysCounted, StepSays, StepsInGap, to_last_eol};
+ghost use Rattle.fax_rows.specs.GapsCounted.{CanGoOn, CountsEol, CountsTo, EndsAtOne, EndsAtTwo, KeepsRows, StaysOpen, StepSays};
+ghost use Rattle.fax_rows.specs.GapsCounted.{StepsInGap, counted, ends_at_two, has_tags, left_before, one_counted, past_eols};
+ghost use Rattle.fax_rows.specs.GapsCounted.{to_last_eol};
 ghost use Rattle.fax_rows.specs.RowsTried.{rows_after_gap};
 
 use crate::row_reader::{RowState, Stand};
@@ -138,7 +139,6 @@ pub fn count_gap(
     ensures open { result ≡ GapEnd.Open → StaysOpen settings count.old count.new (here reader.old) (here reader.new) }
     ensures ends { result ≡ GapEnd.AtOne → EndsAtOne settings count.old count.new (here reader.old) (here reader.new) }
     ensures two { result ≡ GapEnd.AtTwo → EndsAtTwo settings count.old count.new (here reader.old) (here reader.new) }
-    ensures stays { result ≡ GapEnd.Open → StaysCounted count.old count.new (here reader.old) (here reader.new) }
     ensures same_bits { reader.new.bits ≡ reader.old.bits }
     ensures counts { ticks.old ≤ ticks.new }
     ensures work { ticks.new + length (here reader.new) ≤ ticks.old + length (here reader.old) + 16 }
@@ -246,14 +246,12 @@ pub fn step_in_gap(
     requires on { CanGoOn count.old (here reader.old) }
     requires after { rows.old.stand ≡ Stand.AfterRow }
     ensures steps { StepsInGap is_last rows.old rows.new ctx.old count.old count.new reader.old reader.new result }
-    ensures same_bits { reader.new.bits ≡ reader.old.bits }
-    ensures moves { (reader.old.place ≤ reader.new.place) × (reader.new.place ≤ length reader.new.bits) }
-    ensures only_ticks { OnlyCounts ctx.old ctx.new }
-    ensures says { StepSays is_last rows.old rows.new count.new result }
-    ensures stays { result ≡ GapStep.Waits → StaysCounted count.old count.new (here reader.old) (here reader.new) }
+    ensures moves { (reader.new.bits ≡ reader.old.bits) × (reader.old.place ≤ reader.new.place)
+        × (reader.new.place ≤ length reader.new.bits) }
+    ensures kept { OnlyCounts ctx.old ctx.new × KeepsRows result rows.old rows.new }
+    ensures says { StepSays is_last count.old count.new (here reader.old) (here reader.new) result }
     ensures eol { result ≡ GapStep.Passed true → is_last ≡ false → ctx.old.held.has_eols ≡ true
         → CountsEol ctx.old.held.settings count.old (here reader.old) (here reader.new) }
-    ensures line { result ≡ GapStep.Passed true → rows.new.stand ≡ Stand.AtLine }
     ensures work { ctx.new.ticks + reader.old.place ≤ ctx.old.ticks + reader.new.place + 16 }
 {
     let _start = reader.bit_pos();

@@ -7,7 +7,7 @@ ghost use Rattle.fax_reading.specs.PlainReading.{at_end, is_over, misses_eol};
 ghost use Rattle.fax_rows.specs.RowsTried.{PassesGap, TriesRow, rows_after_gap};
 ghost use Rattle.fax_rows.specs.TakenRows.{CanTakeRow};
 ghost use Rattle.fax_rows.specs.RowsRead.{line_after};
-ghost use Rattle.fax_rows.specs.ZerosLast.{CountsZeros, EndsInZeros, PassesZeros, given_up, zeros_at, zeros_passed};
+ghost use Rattle.fax_rows.specs.ZerosLast.{ChangesEols, CountsZeros, EndsInZeros, PassesZeros, given_up, zeros_at, zeros_passed};
 
 use crate::counts::count_missed_eol;
 use crate::gap_count::{GapCount, ends_image, has_tags, lacks_eol};
@@ -27,9 +27,7 @@ fn give_up_eols(rows: &mut RowState, ctx: &mut DecoderContext, gap_start: usize)
     ensures line { result ≡ line_after (given_up ctx.old.held.settings.strict) }
     ensures stand { result ≡ Ok true → rows.new.stand ≡ Stand.AtLine }
     ensures only_code { IfErr result (λ e. e ≡ DecodeError.InvalidCode) }
-    ensures frame { ctx.new.held ≡ record ctx.old.held { has_eols = ctx.new.held.has_eols; repairs = ctx.new.held.repairs } }
-    ensures counts { ctx.new.ticks ≡ ctx.old.ticks }
-    ensures space { ctx.new.space ≡ ctx.old.space }
+    ensures frame { ChangesEols ctx.old ctx.new }
 {
     let missed_eols = ctx.missed_eols();
     if ctx.settings().strict {
@@ -82,9 +80,7 @@ pub fn pass_to_zeros(
     ensures count { count.new ≡ zeros_passed ctx.old.held.settings.encoding count.old }
     ensures stand { result ≡ Ok true → rows.new.stand ≡ Stand.AtLine }
     ensures only_code { IfErr result (λ e. e ≡ DecodeError.InvalidCode) }
-    ensures frame { ctx.new.held ≡ record ctx.old.held { has_eols = ctx.new.held.has_eols; repairs = ctx.new.held.repairs } }
-    ensures counts { ctx.new.ticks ≡ ctx.old.ticks }
-    ensures space { ctx.new.space ≡ ctx.old.space }
+    ensures frame { ChangesEols ctx.old ctx.new }
 {
     if lacks_eol(ctx, count.eols) {
         return give_up_eols(rows, ctx, gap_start);

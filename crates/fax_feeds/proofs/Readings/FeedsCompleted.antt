@@ -37,8 +37,8 @@ module _ {whole : Bits} {tried : ℕ} {feed : Feeding} (fed : IsFeedOf whole tri
   pub full_long : length (take (fed_bits feed) whole) ≡ fed_bits feed
   full_long = length-take-le (fed_bits feed) whole fed_within
 
-  pub rest_is : drop (fed_bits feed) whole ≡ lie.more
-  rest_is = from_place lie (length feed.kept) (omega arith) ∙ ap (λ (b : Bits). b ++ lie.more) (drop-length feed.kept)
+  pub rest_to_come : drop (fed_bits feed) whole ≡ lie.more
+  rest_to_come = from_place lie (length feed.kept) (omega arith) ∙ ap (λ (b : Bits). b ++ lie.more) (drop-length feed.kept)
 
   -- it is a reading of the data too
   pub full_is_plain : IsPlainFeedOf whole tried (completed whole feed)
@@ -47,7 +47,7 @@ module _ {whole : Bits} {tried : ℕ} {feed : Feeding} (fed : IsFeedOf whole tri
     lie = record {
       within = omega arith;
       more = lie.more;
-      bits = sym (take-append-drop (fed_bits feed) whole) ∙ ap (λ (b : Bits). take (fed_bits feed) whole ++ b) rest_is;
+      bits = sym (take-append-drop (fed_bits feed) whole) ∙ ap (λ (b : Bits). take (fed_bits feed) whole ++ b) rest_to_come;
       can_come = lie.can_come;
     };
     stands = subst (λ (n : ℕ). StandsIn feed.begun tried feed.rows feed.ctx (record { bits = whole; place = n }))

@@ -48,8 +48,8 @@ module _ {f : Inside} {before : BitsAt} (by : IsFrontBy f before) {whole : Bits}
   pub front : IsAtFront tried f.rows f.ctx (offset_of (feeding_of f))
   front = at_front f.begun tried f.rows f.ctx (record { bits = whole; place = offset_of (feeding_of f) }) by.unbegun fed.stands
 
-  pub lies : LieIn whole f.dropped f.is_last before.bits
-  lies = subst (λ (b : BitsAt). LieIn whole f.dropped f.is_last b.bits) (sym by.is) fed.lie
+  pub front_lies : LieIn whole f.dropped f.is_last before.bits
+  front_lies = subst (λ (b : BitsAt). LieIn whole f.dropped f.is_last b.bits) (sym by.is) fed.lie
 
   pub counts_front : CountsFront f.ctx.held.settings whole (f.dropped + before.place) f.gap.count
   counts_front =
@@ -91,7 +91,7 @@ module _ {f : Inside} {before after : BitsAt} {ctx : Context} {gap : GapSoFar} {
 
   module _ {whole : Bits} {tried : ℕ} (fed : IsFeedOf whole tried (feeding_of f)) where
     pub leaves : CameFirst answer f.ctx ctx whole (f.dropped + after.place) gap after
-    leaves = on.leaves whole f.dropped (omega (arith, fed.fit)) (lies by fed) (counts_front by fed)
+    leaves = on.leaves whole f.dropped (omega (arith, fed.fit)) (front_lies by fed) (counts_front by fed)
         (omega (arith, passed_all by fed, at_before))
 
     looks_within : extra + (f.gap.passed + f.gap.look.bits)

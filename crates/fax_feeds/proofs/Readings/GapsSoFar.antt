@@ -131,16 +131,6 @@ came_before (Err error) from rows kept old mid new whole start at gap after held
 
 -- ---- The data ends with zeros
 
-pub tagged_long : (count : GapCount) → count.tag ≡ true → length (left_before count []) ≡ count.zeros + 1
-tagged_long count is =
-    ap (λ (t : Bool). length (behind_tag t (replicate count.zeros false ++ []))) is
-    ∙ omega (arith, length-append (replicate count.zeros false) [], length-replicate count.zeros false)
-
-pub untagged_long : (count : GapCount) → count.tag ≡ false → length (left_before count []) ≡ count.zeros
-untagged_long count is =
-    ap (λ (t : Bool). length (behind_tag t (replicate count.zeros false ++ []))) is
-    ∙ omega (arith, length-append (replicate count.zeros false) [], length-replicate count.zeros false)
-
 pub zeros_come : {from : ℕ} {rows kept : RowState} {old new : Context} {whole : Bits} {start at : ℕ} (gap : GapSoFar)
     (after : BitsAt)
     (answer : Result Bool DecodeError) → PassesZeros from rows kept old new whole start gap.count answer → at ≡ length whole
@@ -246,10 +236,10 @@ counted_eol tags two count (true ∷ bits) end is more =
         behind (replicate count.zeros false) (behind (true ∷ []) (subst (λ (n : ℕ). HasEol (replicate n false ++ bits)) none there))
 
 -- so many bits before others
-pub eol_passed : (settings : DecodeSettings) (gone : Bits) (count : GapCount) (before after : Bits) (start : ℕ)
+pub eol_is_passed : (settings : DecodeSettings) (gone : Bits) (count : GapCount) (before after : Bits) (start : ℕ)
     → counted_by settings none_counted gone ≡ Some count → (eol : CountsEol settings count before after)
     → PassesEol (gone ++ before) start (start + length gone + (length before - length after))
-eol_passed settings gone count before after start is eol =
+eol_is_passed settings gone count before after start is eol =
     let all : counted_by settings none_counted (gone ++ eol.first) ≡ Some eol.mid =
     counted_then (has_tags settings.encoding) (ends_at_two settings.encoding settings.end_of_block) none_counted count gone
     eol.first is ∙ eol.is in

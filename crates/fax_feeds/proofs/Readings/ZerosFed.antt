@@ -15,7 +15,7 @@ use Rattle.fax_feeds.specs.declared.counted_gaps.GapSoFar.{GapSoFar}
 use Rattle.fax_feeds.specs.RowFeeds.{ComesInFeed, Feeding, FeedsPlainly, IsFeedOf, IsPlainFeedOf, KeepsBits, KnowsGap, LieIn}
 use Rattle.fax_feeds.specs.RowFeeds.{ReadsInFeed, StandsIn, TriesLine, came, completed, fed_bits, fed_over, fed_row, offset_of}
 use Rattle.fax_feeds.specs.RowFeeds.{of_settled_gap}
-use Rattle.fax_feeds.proofs.Readings.FeedsCompleted.{at_within, full_is_plain, full_long, known_bits, known_long, rest_is}
+use Rattle.fax_feeds.proofs.Readings.FeedsCompleted.{at_within, full_is_plain, full_long, known_bits, known_long, rest_to_come}
 use Rattle.fax_feeds.proofs.Names.{length-append}
 use Rattle.std.proofs.lemmas.List.{take-append-drop}
 use Rattle.fax_feeds.proofs.Readings.FeedsFramed.{moved}
@@ -37,8 +37,8 @@ module _ {whole : Bits} {tried : ℕ} {feed : Feeding} (at : IsAtZeros whole tri
       × (feed.gap.count.tag ≡ true → feed.ctx.held.settings.encoding ≡ Group3_2D)
   zeros_are = at.fed.known.zeros at.zeros
 
-  pub stood : IsStanding tried feed.rows feed.ctx (record { bits = whole; place = offset_of feed })
-  stood = subst (λ (b : Bool). StandsIn b tried feed.rows feed.ctx (record { bits = whole; place = offset_of feed })) at.begun
+  pub zeros_stood : IsStanding tried feed.rows feed.ctx (record { bits = whole; place = offset_of feed })
+  zeros_stood = subst (λ (b : Bool). StandsIn b tried feed.rows feed.ctx (record { bits = whole; place = offset_of feed })) at.begun
       at.fed.stands
 
   pub start_within : offset_of feed ≤ length whole
@@ -61,7 +61,7 @@ module _ {whole : Bits} {tried : ℕ} {feed : Feeding} (at : IsAtZeros whole tri
   full_here =
       let all : take (fed_bits feed) whole ≡ whole =
       sym (append-nil (take (fed_bits feed) whole))
-      ∙ ap (λ (b : Bits). take (fed_bits feed) whole ++ b) (sym (rest_is at.fed ∙ none_follow))
+      ∙ ap (λ (b : Bits). take (fed_bits feed) whole ++ b) (sym (rest_to_come at.fed ∙ none_follow))
       ∙ take-append-drop (fed_bits feed) whole in
       ap (drop (offset_of feed)) all ∙ zeros_are.1
 
@@ -100,7 +100,7 @@ module _ {whole : Bits} {tried : ℕ} {feed : Feeding} (at : IsAtZeros whole tri
     tried_line : TriesLine zeros_alone.finished (zeros_alone.dropped + zeros_alone.place) feed.rows new.rows begin new.ctx
         (zeros_at feed.gap.count.tag feed.gap.count.zeros) (zeros_at feed.gap.count.tag feed.gap.count.zeros) answer
     tried_line =
-        let wide = (at_line_stands feed.rows.stand feed.ctx.held.settings whole feed.ctx.held (offset_of feed) line stood.0).wide in
+        let wide = (at_line_stands feed.rows.stand feed.ctx.held.settings whole feed.ctx.held (offset_of feed) line zeros_stood.0).wide in
         let settings_are : begin.held.settings ≡ feed.ctx.held.settings = ap (λ (c : Context). c.held.settings) frame in
         let all = tries (subst (λ (s : DecodeSettings). 0 < s.columns) (sym settings_are) wide)
         (λ tag. ap (λ (s : DecodeSettings). s.encoding) settings_are ∙ zeros_are.2 tag) in
@@ -124,9 +124,6 @@ module _ {whole : Bits} {tried : ℕ} {feed : Feeding} (at : IsAtZeros whole tri
     alone_feeds : FeedsPlainly whole tried zeros_alone alone_after (fed_row answer)
     alone_feeds = line_feeds answer reads_alone (λ e kept still. absurd (never_short e)) at.begun line alone_plain
 
-    same_left : drop 0 left ≡ left
-    same_left = refl
-
     stood_after : IsPlainFeedOf whole (tried + alone_feeds.extra) (completed whole after)
     stood_after =
         let full = full_is_plain at.fed in
@@ -145,8 +142,8 @@ module _ {whole : Bits} {tried : ℕ} {feed : Feeding} (at : IsAtZeros whole tri
         stood_after)
 
     -- the zeros are next as before
-    pub zeros_stay : KnowsGap whole new
-    zeros_stay = subst (KnowsGap whole) (sym new_is) (record {
+    pub zeros_stay_known : KnowsGap whole new
+    zeros_stay_known = subst (KnowsGap whole) (sym new_is) (record {
       gone = at.fed.known.gone;
       are = at.fed.known.are;
       place = at.fed.known.place;
@@ -184,7 +181,7 @@ module _ {whole : Bits} {tried : ℕ} {feed : Feeding} (at : IsAtZeros whole tri
 
     passed_here : PassesZeros tried feed.rows new.rows feed.ctx new.ctx whole (offset_of feed)
         (record feed.gap.count { eols = 0 }) passed
-    passed_here = passes (zeros_again stood start_within zeros_are.1 refl)
+    passed_here = passes (zeros_again zeros_stood start_within zeros_are.1 refl)
 
     same_place : passed_here.place ≡ offset_of feed
     same_place = omega (

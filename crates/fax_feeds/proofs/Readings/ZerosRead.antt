@@ -11,7 +11,7 @@ use Rattle.fax_feeds.proofs.Readings.FeedsCompleted.{full_is_plain}
 use Rattle.fax_feeds.proofs.Readings.LooksKept.{fresh_look}
 use Rattle.fax_feeds.proofs.Readings.PartsFed.{none_kept}
 use Rattle.fax_feeds.proofs.Readings.RowsPassed.{counts_on, line_was_read}
-use Rattle.fax_feeds.proofs.Readings.ZerosFed.{IsAtZeros, zeros_come_on, zeros_lie, zeros_line, zeros_stay}
+use Rattle.fax_feeds.proofs.Readings.ZerosFed.{IsAtZeros, zeros_come_on, zeros_lie, zeros_line, zeros_stay_known}
 use Rattle.fax_feeds.specs.GapsSeen.{rules_for}
 use Rattle.fax_feeds.specs.declared.counted_gaps.GapSoFar.{GapSoFar}
 use Rattle.fax_feeds.specs.declared.row_feed.Fed.{Fed}
@@ -83,7 +83,7 @@ pub zeros_line_row : {f : Inside} {begin ctx : Context} {rows : RowState} {answe
 zeros_line_row {f} {begin} {ctx} {rows} {answer} keeps line frame width tries counts stand room = record {
   reads = λ whole tried unended fed.
       let at = at_zeros keeps fed in
-      next_of (zeros_line at line frame width refl tries) (zeros_stay at line frame width refl tries)
+      next_of (zeros_line at line frame width refl tries) (zeros_stay_known at line frame width refl tries)
       (zeros_lie at line frame width refl tries);
   keeps = record { order = refl; finished = refl; kept = refl; dropped = refl; room = refl };
   over = λ end e. let never = sym (at_line_unended f.rows.stand line) ∙ e in absurd cc;

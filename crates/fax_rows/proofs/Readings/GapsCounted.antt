@@ -195,18 +195,6 @@ one_grows tags two count next is = grind (arith, common_steps, and_parts, ltb-tr
 some : (found : ℕ × Bits) → eqb (one_more found).0 0 ≡ false
 some (count, rest) = ne_eqb (suc count) 0 (λ none. omega (arith, none))
 
--- an EOL that is here is counted
-one_here : (encoding : EncodingMode) (block : Bool) (here rest : Bits) → after_eol 0 here ≡ Some rest
-    → eqb (eols_by encoding block here).0 0 ≡ false
-one_here Group3_1D block here rest e =
-    ap (λ (found : ℕ × Bits). eqb found.0 0) (count_all-some counts_plain here rest e) ∙ some (all_eols rest)
-one_here Group3_2D block here rest e =
-    ap (λ (n : ℕ). eqb n 0) (last_tag_count (all_tagged here))
-    ∙ ap (λ (found : ℕ × Bits). eqb found.0 0) (count_all-some counts_tagged here rest e) ∙ some (all_tagged (past_tag rest))
-one_here Group4 false here rest e =
-    ap (λ (found : ℕ × Bits). eqb found.0 0) (count_all-some counts_plain here rest e) ∙ some (all_eols rest)
-one_here Group4 true here rest e = ap (λ (found : ℕ × Bits). eqb found.0 0) (eols-some 1 here rest e) ∙ some (eols 1 rest)
-
 -- EOLs aren't forgotten
 pub eols_grow : (tags two : Bool) (count : GapCount) (bits : Bits) (end : GapCount) → counted tags two count bits ≡ Some end
     → count.eols ≤ end.eols
@@ -241,13 +229,6 @@ zeros_alone tags two count (true ∷ bits) end is none = absurd (by_one (one_cou
         let then : counted tags two next bits ≡ Some end = rw (e, counted) at is in
         omega (arith, eols_grow tags two next bits end then, (one_grows tags two count next e).1, none)
 
--- an EOL that was counted is there
-pub some_there : (encoding : EncodingMode) (block : Bool) (n : ℕ) (here : Bits) → 0 < n
-    → eqb (eols_by encoding block (behind_eols n here)).0 0 ≡ false
-unfolding behind_eols
-some_there encoding block zero here some = absurd (omega (arith, some))
-some_there encoding block (suc n) here some = one_here encoding block (eol_bits ++ behind_eols n here) (behind_eols n here) refl
-
 module _ (settings : DecodeSettings) (taken : ℕ) (sought : Bool) (bits more : Bits) (end : GapCount)
     (is : counted (has_tags settings.encoding) (ends_at_two settings.encoding settings.end_of_block) none_counted bits ≡ Some end)
   where
@@ -258,26 +239,6 @@ module _ (settings : DecodeSettings) (taken : ℕ) (sought : Bool) (bits more : 
     pub same_eols : eols_here settings (bits ++ more) ≡ eols_here settings (stand_in end more)
     unfolding behind_eols
     same_eols = stands.0
-
-    -- where none was counted, the bits are the same
-    same_here : end.eols ≡ 0 → bits ++ more ≡ stand_in end more
-    unfolding behind_eols
-    same_here none =
-        let alone = zeros_alone (has_tags settings.encoding) (ends_at_two settings.encoding settings.end_of_block) none_counted
-        bits end is none in
-        rw (none, alone.0) (alone.1 more)
-
-    -- The gap is that of the counts, whatever follows the bits that were counted (T.4, 4.1.2, 4.2.2 and 4.2.4; T.6, 2.4.1.1).
-    pub counted_gap : gap_after_row settings taken sought (bits ++ more) ≡ gap_after_row settings taken sought (stand_in end more)
-    counted_gap = by_eols end.eols refl
-      where
-        by_eols : (n : ℕ) → end.eols ≡ n
-            → gap_after_row settings taken sought (bits ++ more) ≡ gap_after_row settings taken sought (stand_in end more)
-        by_eols zero e = ap (gap_after_row settings taken sought) (same_here e)
-        by_eols (suc n) e =
-            let there = some_there settings.encoding settings.end_of_block end.eols
-            (behind_tag end.tag (replicate end.zeros false ++ more)) (omega (arith, e)) in
-            grind (arith, common_steps, same_eols, there)
 
 -- ---- Bits that are counted one after the other
 
@@ -307,10 +268,6 @@ counted_zeros tags two count zero = ap (λ (z : ℕ). Some (record { eols = coun
 counted_zeros tags two count (suc n) =
     counted_zeros tags two (zero_more count) n
     ∙ ap (λ (z : ℕ). Some (record { eols = count.eols; tag = count.tag; zeros = z })) (omega arith)
-
--- no bit was counted
-pub none_counted_here : (tags two : Bool) (count : GapCount) (here : Bits) → CountsTo tags two count count here here
-none_counted_here tags two count here = record { first = []; are = refl; is = refl }
 
 -- zeros, up to the end of the bits or to a one
 pub zeros_counted : {tags two : Bool} {old mid : GapCount} {here from : Bits} (n : ℕ) (rest : Bits)

@@ -21,19 +21,6 @@ use Rattle.fax_rows.specs.GapsCounted.{tag_more, zero_more}
 -- ---- It begins, and goes on
 
 module _ {from : ℕ} {rows : RowState} {ctx : Context} {whole : Bits} where
-  -- a gap begins
-  pub gap_begins : (at : ℕ) → at ≤ length whole → IsStanding from rows ctx (record { bits = whole; place = at })
-      → StandsInGap from rows ctx whole at none_counted
-  gap_begins at within stands = record {
-    start = at;
-    gone = [];
-    are = refl;
-    place = omega arith;
-    within = within;
-    is = refl;
-    stands = stands;
-  }
-
   -- more of its bits are counted
   abbrev pub gap_counts : {at : ℕ} {count next : GapCount} (first rest : Bits) → StandsInGap from rows ctx whole at count
       → drop at whole ≡ first ++ rest → counted_by ctx.held.settings count first ≡ Some next
@@ -228,39 +215,3 @@ module _ {from : ℕ} {rows : RowState} {ctx : Context} {whole : Bits} {at : ℕ
               within unended no_line in_gap.stands;
         },
       )
-
--- ---- Before the first line, where EOLs have no tags
-
--- what was counted of the front of the data (T.4, 4.1.2)
-module _ (whole : Bits) (at : ℕ) (count : GapCount) (gone more : Bits) (are : whole ≡ gone ++ more)
-    (is : counted false false none_counted gone ≡ Some count) where
-  -- some data that isn't in two dimensions
-  abbrev plainly : DecodeSettings → DecodeSettings
-  plainly settings = record settings { encoding = Group3_1D }
-
-  front_found : all_eols (gone ++ more) ≡ (count.eols, left_before count more)
-      → (next : ℕ) × (all_eols whole ≡ (count.eols, drop next whole)) × (next ≤ length whole)
-  front_found found =
-      let left = left_of_counted false false none_counted gone count more is in
-      let there : left_before count more ≡ drop (length left.0) whole =
-      sym (drop-append_seam left.0 (left_before count more)) ∙ ap (drop (length left.0)) (sym (are ∙ left.1)) in (
-        length left.0,
-        ap all_eols are ∙ found ∙ ap (λ (b : Bits). (count.eols, b)) there,
-        omega (arith, ap length (are ∙ left.1), length-append left.0 (left_before count more)),
-      )
-
-  pub front_at_one : (settings : DecodeSettings) (rest : Bits) → more ≡ true ∷ rest → leb 11 count.zeros ≡ false
-      → (next : ℕ) × (all_eols whole ≡ (count.eols, drop next whole)) × (next ≤ length whole)
-  front_at_one settings rest here few =
-      front_found (ap (λ (b : Bits). all_eols (gone ++ b)) here
-      ∙ found_at_one (plainly settings) gone count is [] rest count refl few (none_more count.tag few)
-      ∙ ap (λ (b : Bits). (count.eols, left_before count b)) (sym here))
-    where
-      none_more : (tag : Bool) → leb 11 count.zeros ≡ false → one_counted false false count ≡ None
-      none_more tag few = rw (few, one_counted) refl
-
-  pub front_at_end : (settings : DecodeSettings) → more ≡ []
-      → (next : ℕ) × (all_eols whole ≡ (count.eols, drop next whole)) × (next ≤ length whole)
-  front_at_end settings here =
-      front_found (ap (λ (b : Bits). all_eols (gone ++ b)) here ∙ ap all_eols (append-nil gone)
-      ∙ found_at_end (plainly settings) gone count is ∙ ap (λ (b : Bits). (count.eols, left_before count b)) (sym here))

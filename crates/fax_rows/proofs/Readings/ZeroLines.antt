@@ -123,9 +123,6 @@ module _ (old new : Context) (answer : Result Bool DecodeError) (before after : 
     (is : here before ≡ (zeros_at tag m).bits) (wide : 0 < old.held.settings.columns)
     (tagged : tag ≡ true → old.held.settings.encoding ≡ Group3_2D) (enough : 11 ≤ m) (plain : tag ≡ false → 12 ≤ m)
     (bytes : j % 8 ≡ 0) where
-  abbrev now : Bits
-  now = (zeros_at tag m).bits
-
   abbrev all : Bits
   all = (zeros_at tag (m + j)).bits
 
@@ -199,9 +196,9 @@ module _ (old new : Context) (answer : Result Bool DecodeError) (before after : 
 -- ---- Whatever the zeros are
 
 -- a row is counted at most
-pub zeros_counted : (old new : Context) (answer : Result Bool DecodeError) (before after : BitsAt)
+pub zero_line_counts : (old new : Context) (answer : Result Bool DecodeError) (before after : BitsAt)
     → TriesRow false old new answer before after → CountsZeros old new answer
-zeros_counted old new answer before after tries = record {
+zero_line_counts old new answer before after tries = record {
   settings = by_answer answer tries;
   taken = λ e. ap (λ (h : Held). h.taken) (tries.read e [] no_more).row.taken.held;
   width = λ e. (tries.read e [] no_more).width;

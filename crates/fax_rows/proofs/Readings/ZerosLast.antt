@@ -209,9 +209,6 @@ module _ {from : ℕ} {rows : RowState} {ctx : Context} {whole : Bits} {start : 
     pub is_missing : misses_eol settings ctx.held.taken ctx.held.has_eols (drop start whole) ≡ true
     is_missing = misses_is ∙ is
 
-    pub same_left : zeros_passed settings.encoding count ≡ count
-    same_left = rw (no_eols) refl
-
     pub gives_up : (over : Result Bool DecodeError) (new : Context) (kept : RowState)
         → PassesGap ctx new over (drop start whole) (drop start whole) → kept ≡ rows_after_gap rows over start ctx new
         → PassesZeros from rows kept ctx new whole start count (line_after over)

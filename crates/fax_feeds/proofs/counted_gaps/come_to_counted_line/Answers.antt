@@ -11,7 +11,7 @@ use Rattle.fax_feeds.specs.declared.counted_gaps.GapSoFar.{GapSoFar}
 use Rattle.fax_feeds.specs.declared.gap_look.GapLook.{GapLook}
 use Rattle.fax_feeds.specs.CountedGaps.{CameSoFar, ComesCounted, CountsOn, PassesNear, StandsSoFar}
 use Rattle.fax_feeds.specs.GapsSeen.{IsSeen, nothing_seen, rules_for}
-use Rattle.fax_feeds.proofs.Readings.GapsSoFar.{after_row, at_line_counts, came_before, eol_passed, kept_tag, kept_zeros}
+use Rattle.fax_feeds.proofs.Readings.GapsSoFar.{after_row, at_line_counts, came_before, eol_is_passed, kept_tag, kept_zeros}
 use Rattle.fax_feeds.proofs.Readings.GapsSoFar.{missed_counts, reaches_before, same_frame, settled_code, settled_counts}
 use Rattle.fax_feeds.proofs.Readings.GapsSoFar.{tag_counted, unsettled_line, zeros_come}
 use Rattle.fax_feeds.proofs.Readings.LooksKept.{fresh_look, unlooked}
@@ -26,7 +26,7 @@ use Rattle.fax_feeds.proofs.counted_gaps.come_to_counted_line.Goals as goal
 kept_by : (c : After-bit_pos-place) (step : GapStep) → c.count_on_in_gap-step.result ≡ step
     → KeepsRows step c.args.rows.now c.count_on_in_gap-step.new.rows
 kept_by c step is = subst (λ (s : GapStep). KeepsRows s c.args.rows.now c.count_on_in_gap-step.new.rows) is
-    c.count_on_in_gap-step.ensures.says.same
+    c.count_on_in_gap-step.ensures.same
 
 -- a gap is here
 away : (c : After-bit_pos-place) → is_at_line c.args.rows.now.stand ≡ false
@@ -61,10 +61,6 @@ pass_settled_gap-requires-in-Missed-clause-seen c =
 unseen : (held : Held) (look : GapLook) (gap : Bits) → IsSeen (rules_for true held) look gap → look.bits ≤ 0 → look ≡ nothing_seen
 unseen held look gap known none = unlooked known (omega (arith, none))
 
-goes_on : (is_last : Bool) → (is_last ≡ true → ⊥) → is_last ≡ false
-goes_on true never = absurd (never refl)
-goes_on false never = refl
-
 pub returns-then-is_at_line : goal.returns-then-is_at_line
 returns-then-is_at_line c =
     let line = sym c.is_at_line.ensures ∙ c.if-is_at_line.true in
@@ -95,13 +91,13 @@ returns-in-Waits c =
       waits = λ e. (
         on.held,
         on.ticks,
-        goes_on c.args.is_last (λ last. on.says.waits last c.in-Waits.is),
+        false_from_ne_true c.args.is_last (λ last. on.says.waits last c.in-Waits.is),
         kept_by at GapStep.Waits c.in-Waits.is,
       );
       seen = λ e. fresh_look (rules_for true c.args.ctx.now.held) (here step.new.reader)
           (unseen c.args.ctx.now.held c.args.gap.now.look (here before) c.requires.seen (omega (arith, c.if-gap-gt0.false)));
       known = record {
-        waits = λ e. let stays = on.stays c.in-Waits.is in (stays.tidy, c.requires.some, stays.most);
+        waits = λ e. let stays = on.says.stays c.in-Waits.is in (stays.tidy, c.requires.some, stays.most);
         passed = λ other. absurd (other refl);
         zeros = λ zeros. absurd (false≢true (sym c.requires.some ∙ zeros));
         missed = λ some. absurd (omega (arith, some, c.if-gap-gt0.false));
@@ -177,7 +173,7 @@ returns-in-Passed c =
         near = λ more. omega (arith, on.near, on.onward, none, c.if-gap-gt0.false);
         last = λ last. omega (arith, on.near, on.onward, none, stands.passed);
         past_eol = λ more no_line sought.
-            let eol = eol_passed c.args.ctx.now.held.settings stands.in_gap.gone c.args.gap.now.count (here before)
+            let eol = eol_is_passed c.args.ctx.now.held.settings stands.in_gap.gone c.args.gap.now.count (here before)
             (here step.new.reader) stands.in_gap.start stands.in_gap.is (on.eol (passed_true e) more sought) in
             record {
               fill = eol.fill;
@@ -259,7 +255,7 @@ returns-in-Zeros c =
     let left : c.bits_left-gap.result ≡ length (left_before call.new.count []) =
     c.bits_left-gap.ensures (omega (arith, long, all)) in
     let tagged = λ (t : call.new.count.tag ≡ true).
-    ap (λ (h : Held). h.settings.encoding) call.ensures.frame
+    ap (λ (h : Held). h.settings.encoding) call.ensures.frame.held
     ∙ tag_counted mid.held.settings leaves.0.stands.gone step.new.count leaves.0.stands.is
     (kept_tag mid.held.settings.encoding step.new.count (sym (ap (λ (n : GapCount). n.tag) call.ensures.count) ∙ t)) in
     let comes = came_before (of_settled_gap call.result) (from + on.extra) rows call.new.rows old mid call.new.ctx whole start
@@ -271,12 +267,12 @@ returns-in-Zeros c =
     (c.args.dropped + to) next step.new.reader) leaves.1 comes)) in
     record {
       extra = on.extra;
-      counts = omega (arith, on.ticks, call.ensures.counts);
-      space = call.ensures.space ∙ on.space;
+      counts = omega (arith, on.ticks, call.ensures.frame.ticks);
+      space = call.ensures.frame.space ∙ on.space;
       frame = subst (λ (h : Held). call.new.ctx.held ≡ record h {
         has_eols = call.new.ctx.held.has_eols;
         repairs = call.new.ctx.held.repairs;
-      }) on.held call.ensures.frame;
+      }) on.held call.ensures.frame.held;
       same_bits = on.same_bits;
       within = on.within;
       line = λ e. ap is_at_line (call.ensures.stand (unsettled_line call.result (sym c.of_settled_gap.ensures ∙ e)));

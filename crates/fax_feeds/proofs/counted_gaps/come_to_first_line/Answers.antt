@@ -15,14 +15,6 @@ use Rattle.fax_feeds.proofs.Readings.RowsFed.{from_place, place_within}
 use Rattle.fax_feeds.proofs.counted_gaps.come_to_first_line.Goals.{After-bit_pos-place}
 use Rattle.fax_feeds.proofs.counted_gaps.come_to_first_line.Goals as goal
 
-goes_on : (is_last : Bool) → (is_last ≡ true → ⊥) → is_last ≡ false
-goes_on true never = absurd (never refl)
-goes_on false never = refl
-
-zeros_is : {step : GapStep} → step ≢ GapStep.Missed → (step ≡ GapStep.Zeros) ⊎ (step ≡ GapStep.Missed) → step ≡ GapStep.Zeros
-zeros_is other (inl is) = is
-zeros_is other (inr is) = absurd (other is)
-
 module _ (c : After-bit_pos-place) where
   begun : c.args.reader.now.place ≤ length c.args.reader.now.bits
   begun = omega (arith, c.bit_pos-before.ensures.place, c.bit_pos-before.ensures.within)
@@ -30,9 +22,15 @@ module _ (c : After-bit_pos-place) where
   to_within : c.step_at_front-step.new.reader.place ≤ length c.args.reader.now.bits
   to_within = omega (arith, c.step_at_front-step.ensures.moves.2, ap length c.step_at_front-step.ensures.moves.0)
 
-  stays_unless : (step : GapStep) → c.step_at_front-step.result ≡ step → StaysUnless step c.args.ctx.now c.step_at_front-step.new.ctx
+  stays_unless : (step : GapStep) → c.step_at_front-step.result ≡ step
+      → StaysUnless step c.args.ctx.now c.step_at_front-step.new.ctx
   stays_unless step is = subst (λ (s : GapStep). StaysUnless s c.args.ctx.now c.step_at_front-step.new.ctx) is
       c.step_at_front-step.ensures.kept.0
+
+  zeros_is : (c.step_at_front-step.result ≡ GapStep.Zeros) ⊎ (c.step_at_front-step.result ≡ GapStep.Missed)
+      → c.step_at_front-step.result ≡ GapStep.Zeros
+  zeros_is (inl is) = is
+  zeros_is (inr missed) = absurd (stays_unless GapStep.Missed missed)
 
   leaves_by : (step : GapStep) → c.step_at_front-step.result ≡ step → (whole : Bits) (dropped : ℕ)
       → LieIn whole dropped c.args.is_last c.args.reader.now.bits
@@ -55,10 +53,10 @@ returns-in-Waits c =
       near = step.ensures.work;
       waits = λ e. (
         stays_unless at GapStep.Waits c.in-Waits.is,
-        goes_on c.args.is_last (λ last. step.ensures.waits.0 last c.in-Waits.is),
+        false_from_ne_true c.args.is_last (λ last. step.ensures.says.waits last c.in-Waits.is),
       );
       known = record {
-        waits = λ e. let stays = step.ensures.stays c.in-Waits.is in (stays.tidy, c.requires.some, stays.most);
+        waits = λ e. let stays = step.ensures.says.stays c.in-Waits.is in (stays.tidy, c.requires.some, stays.most);
         passed = λ other. absurd (other refl);
         zeros = λ zeros. absurd (false≢true (sym c.requires.some ∙ zeros));
         missed = λ some. absurd (omega (arith, some, ap (λ (l : GapLook). l.bits) c.requires.unlooked));
@@ -124,8 +122,9 @@ returns-in-Zeros c =
     let at = (goal.at.returns-in-Zeros c).After-bit_pos-place in
     let step = c.step_at_front-step in
     let call = c.pass_front in
-    let same = stays_unless at GapStep.Zeros (zeros_is c.step_at_front-step.ensures.unmissed c.in-Zeros.is) in
-    let last = step.ensures.waits.1 (zeros_is c.step_at_front-step.ensures.unmissed c.in-Zeros.is) in
+    let is = zeros_is at c.in-Zeros.is in
+    let same = stays_unless at GapStep.Zeros is in
+    let last = (step.ensures.says.zeros is).0 in
     let takes = front_takes step.new.count.eols same step.ensures.kept.1 call.ensures.group4 call.ensures.group3 in
     let to = step.new.reader.place in
     record {
@@ -138,13 +137,13 @@ returns-in-Zeros c =
       known = record {
         waits = λ e. cc;
         passed = λ other zeros. absurd (false≢true (sym zeros));
-        zeros = λ zeros. (last, step.ensures.zeros (zeros_is c.step_at_front-step.ensures.unmissed c.in-Zeros.is), c.requires.unlooked);
+        zeros = λ zeros. (last, (step.ensures.says.zeros is).1, c.requires.unlooked);
         missed = λ some. absurd (omega (arith, some, ap (λ (l : GapLook). l.bits) c.requires.unlooked));
       };
       unlooked = c.requires.unlooked;
       passed = λ e. cc;
       leaves = λ whole dropped fit lie front passed.
-          let ends = leaves_by at GapStep.Zeros (zeros_is c.step_at_front-step.ensures.unmissed c.in-Zeros.is) whole dropped lie front in
+          let ends = leaves_by at GapStep.Zeros is whole dropped lie front in
           let none_left : drop (dropped + to) whole ≡ [] =
           from_place lie to (to_within at) ∙ ap (λ (b : Bits). drop to b ++ lie.more) (sym step.ensures.moves.0)
           ∙ ap (λ (b : Bits). b ++ lie.more) ends.none_left ∙ lie.can_come.none last in

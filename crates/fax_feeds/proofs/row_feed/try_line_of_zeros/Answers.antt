@@ -25,16 +25,16 @@ returns-then-is_unread-clause-stand c e =
     absurd (none_read c.try_zeros-row.result (left_is c.try_zeros-row.result (sym c.is_unread.ensures ∙ c.if-is_unread.true)) e)
 
 -- what is kept
-kept_after_try : (c : After-note_line) → c.note_line.new.self ≡ rows_after_line c.args.rows.now
+kept_after_zeros : (c : After-note_line) → c.note_line.new.self ≡ rows_after_line c.args.rows.now
     (line_answer c.try_zeros-row.result)
     c.args.line_start c.args.ctx.now.held.repairs.rows c.args.ctx.now.held.repairs.cut c.try_zeros-row.new.ctx.held.repairs
-kept_after_try c = search rules
+kept_after_zeros c = search rules
 
-stands_after : (c : After-note_line) → c.try_zeros-row.result ≡ Ok true → c.note_line.new.self.stand ≡ AfterRow
-stands_after c e = grind (
+stands_after_zeros : (c : After-note_line) → c.try_zeros-row.result ≡ Ok true → c.note_line.new.self.stand ≡ AfterRow
+stands_after_zeros c e = grind (
   arith,
   common_steps,
-  kept_after_try c,
+  kept_after_zeros c,
   read_after c.args.rows.now c.try_zeros-row.result c.args.line_start c.args.ctx.now.held.repairs.rows
       c.args.ctx.now.held.repairs.cut c.try_zeros-row.new.ctx.held.repairs e,
 )
@@ -51,14 +51,14 @@ returns-clause-tries c wide tagged =
       same_bits = refl;
       within = omega arith;
       left = λ is. absurd (left_not answer other is);
-      stand = stands_after at;
+      stand = stands_after_zeros at;
       reads = λ from whole dropped read lie starts there. line_step_reads true c.args.line_start c.args.rows.now
           c.note_line.new.self c.args.ctx.now c.try_zeros-row.new.ctx here here answer row other refl (omega arith) (omega arith)
-          (kept_after_try at) from whole dropped lie starts there;
+          (kept_after_zeros at) from whole dropped lie starts there;
       stands = λ from whole dropped read lie starts there. line_step_stands true c.args.line_start c.args.rows.now
           c.note_line.new.self c.args.ctx.now c.try_zeros-row.new.ctx here here answer row other refl (omega arith) (omega arith)
-          (kept_after_try at) from whole dropped lie starts there;
+          (kept_after_zeros at) from whole dropped lie starts there;
     }
 
 pub returns-clause-stand : goal.returns-clause-stand
-returns-clause-stand c e = stands_after (goal.at.returns-clause-stand c).After-note_line e
+returns-clause-stand c e = stands_after_zeros (goal.at.returns-clause-stand c).After-note_line e

@@ -1,5 +1,5 @@
 use Rattle.fax_rows.proofs.Names.{◌≡◌, ◌∙◌, ◌≤◌, ◌+◌, ap, sym, subst, arith, common_steps, length, drop, here, ℕ}
-use Rattle.fax_rows.proofs.Names.{Bits, DecodeSettings, at_end}
+use Rattle.fax_rows.proofs.Names.{Bits, DecodeSettings, at_end, false≢true}
 use Rattle.std.proofs.Common.{[], ◌++◌, append-nil}
 use Rattle.fax_rows.specs.declared.gap_count.GapEnd.TheVariants.{AtOne, AtTwo, Open}
 use Rattle.fax_rows.specs.FrontsCounted.{FrontEndsWithZeros, WaitsAtFront, front_rules}
@@ -7,6 +7,7 @@ use Rattle.fax_rows.specs.GapsCounted.{EndsAtOne, EndsAtTwo, StaysOpen}
 use Rattle.fax_rows.proofs.Readings.FrontsCounted.{front_last, front_one, front_over}
 use Rattle.fax_rows.proofs.Readings.FrontsCounted.{front_two, front_waits, front_zeros, passes_front}
 use Rattle.fax_rows.proofs.Readings.GapsStepped.{bits_here, here_within}
+use Rattle.fax_rows.proofs.Readings.GapsTidy.{stays_counted}
 use Rattle.fax_rows.proofs.front_count.step_at_front.Goals.{After-bit_pos-end}
 use Rattle.fax_rows.proofs.front_count.step_at_front.Goals as goal
 
@@ -64,6 +65,14 @@ returns-then-not-is_last-clause-steps c whole more dropped lies none front =
     let at = (goal.at.returns-then-not-is_last-clause-steps c).After-bit_pos-end in
     subst (WaitsAtFront (settings at) whole (dropped + to at) c.count_gap-end.new.count) (sym (to_here at))
     (front_waits (settings at) lies (begun at) front (to at) (to_within at) (is_open at c.in-Open.is) c.requires.wide)
+
+pub returns-then-not-is_last-clause-says : goal.returns-then-not-is_last-clause-says
+returns-then-not-is_last-clause-says c =
+    record {
+      waits = λ last. absurd (false≢true (sym c.if-not-is_last.true ∙ last));
+      stays = λ e. stays_counted c.front_rules-rules.result (c.count_gap-end.ensures.«open» c.in-Open.is);
+      zeros = λ e. cc;
+    }
 
 pub returns-then-count-ge16-clause-steps : goal.returns-then-count-ge16-clause-steps
 returns-then-count-ge16-clause-steps c whole more dropped lies none front =

@@ -1,5 +1,5 @@
 use Rattle.fax_rows.proofs.Names.{arith, common_steps, ap, length, length-append, refl, here}
-use Rattle.fax_rows.proofs.Readings.GapsTidy.{all_counted, few_counted, few_within, one_ends, one_left_within, stays_counted}
+use Rattle.fax_rows.proofs.Readings.GapsTidy.{all_counted, few_counted, few_within, one_ends, one_left_within}
 use Rattle.fax_rows.proofs.gap_count.count_gap.Goals as goal
 
 pub go_back_to_eol-requires-clause-after : goal.go_back_to_eol-requires-clause-after
@@ -34,9 +34,3 @@ pub returns-then-count-lt16-clause-onward : goal.returns-then-count-lt16-clause-
 returns-then-count-lt16-clause-onward c =
     let waits = returns-then-count-lt16-clause-open c refl in
     omega (arith, ap length waits.are, length-append waits.first (here c.go_back_to_eol-then-count-lt16.new.reader))
-
-pub returns-then-count-lt16-clause-stays : goal.returns-then-count-lt16-clause-stays
-returns-then-count-lt16-clause-stays c e = stays_counted c.args.settings (returns-then-count-lt16-clause-open c refl)
-
-pub returns-else-count-lt16-clause-stays : goal.returns-else-count-lt16-clause-stays
-returns-else-count-lt16-clause-stays c e = stays_counted c.args.settings (returns-else-count-lt16-clause-open c refl)

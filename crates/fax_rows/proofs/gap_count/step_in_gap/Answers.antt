@@ -1,12 +1,12 @@
 use Rattle.fax_rows.proofs.Names.{◌≡◌, ◌∙◌, ◌≤◌, ap, sym, subst, refl, arith}
-use Rattle.fax_rows.proofs.Names.{common_steps, length, drop, here, true, false, ℕ, Bool}
+use Rattle.fax_rows.proofs.Names.{common_steps, length, drop, here, true, false, false≢true, ℕ, Bool}
 use Rattle.fax_rows.specs.RowsTried.{rows_after_gap}
 use Rattle.std.proofs.Common.{◌+◌, ◌<◌}
 use Rattle.fax_rows.proofs.Names.{Bits, BitsAt, Context, DecodeSettings, Held, Ok, eqb, limit_met, at_end, is_over}
 use Rattle.std.proofs.Common.{◌&&◌, ◌∷◌, not}
 use Rattle.std.proofs.lemmas.Bool.{or_cases}
 use Rattle.fax_rows.proofs.Names.{length-drop}
-use Rattle.fax_rows.proofs.Readings.GapsTidy.{eol_before_two, some_counted}
+use Rattle.fax_rows.proofs.Readings.GapsTidy.{eol_before_two, some_counted, stays_counted}
 use Rattle.fax_rows.specs.GapsCounted.{ends_at_two, has_tags}
 use Rattle.fax_rows.specs.declared.gap_count.GapEnd.TheVariants.{AtOne, AtTwo, Open}
 use Rattle.fax_rows.specs.declared.row_reader.RowState.{RowState}
@@ -199,6 +199,15 @@ returns-in-AtTwo-clause-steps c from whole more dropped lies none in_gap =
     (at_within at kept line after 2 same within) (kept_here at kept line after 2 same within call.ensures.kept)
     (is_at_two at c.in-AtTwo.is) (past_here at kept line after 2 same within call.ensures.eols)
     (over_here at kept line after 2 same within call.ensures.over)
+
+-- the next bits can be counted too
+pub returns-then-not-is_last-clause-says : goal.returns-then-not-is_last-clause-says
+returns-then-not-is_last-clause-says c =
+    record {
+      waits = λ last. absurd (false≢true (sym c.if-not-is_last.true ∙ last));
+      stays = λ e. stays_counted c.settings-settings.result (c.count_gap-end.ensures.«open» c.in-Open.is);
+      zeros = λ e. cc;
+    }
 
 -- an EOL was counted
 pub returns-else-lacks_eol-2-clause-eol : goal.returns-else-lacks_eol-2-clause-eol

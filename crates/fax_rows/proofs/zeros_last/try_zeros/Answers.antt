@@ -1,5 +1,5 @@
 use Rattle.fax_rows.proofs.Names.{◌≡◌, ◌∙◌, ◌+◌, ◌-◌, ◌%◌, ap, sym, subst, arith, here, true, false, false≢true, Bool, ℕ}
-use Rattle.fax_rows.proofs.Readings.ZeroLines.{tries_zeros, zeros_counted}
+use Rattle.fax_rows.proofs.Readings.ZeroLines.{tries_zeros, zero_line_counts}
 use Rattle.fax_rows.specs.RowsTried.{TriesRow}
 use Rattle.fax_rows.specs.ZerosLast.{zeros_at}
 use Rattle.fax_rows.proofs.zeros_last.try_zeros.Goals.{then-tag, else-tag}
@@ -35,6 +35,6 @@ returns c = record {
             call.ensures.put_back tag m (zeros - m) is wide tagged (omega arith) (λ none. omega arith)
             (omega (arith, c.requires.enough)))
       ];
-  counts = zeros_counted c.args.ctx.now c.try_row.new.ctx c.try_row.result c.placed_at-reader.result c.try_row.new.reader
+  counts = zero_line_counts c.args.ctx.now c.try_row.new.ctx c.try_row.result c.placed_at-reader.result c.try_row.new.reader
       c.try_row.ensures.row;
 }

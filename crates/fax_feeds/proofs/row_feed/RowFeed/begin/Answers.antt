@@ -15,8 +15,8 @@ front_by c = record {
   is = grind (arith, common_steps);
 }
 
-columns_are : (c : After-settings) → c.settings.result.columns ≡ c.self.inside.ctx.held.settings.columns
-columns_are c = ap (λ (s : DecodeSettings). s.columns) c.settings.ensures.value
+settings_columns : (c : After-settings) → c.settings.result.columns ≡ c.self.inside.ctx.held.settings.columns
+settings_columns c = ap (λ (s : DecodeSettings). s.columns) c.settings.ensures.value
 
 pub come_to_first_line-line-requires-clause-on : goal.come_to_first_line-line-requires-clause-on
 come_to_first_line-line-requires-clause-on c =
@@ -29,7 +29,7 @@ pub invariant_of-self : goal.invariant_of-self
 invariant_of-self c =
     let at = (goal.at.invariant_of-self c).After-settings in
     let stood = c.first_stand-self-inside in
-    narrow_kept (front_by at) (omega (arith, columns_are at, c.if-settings-eq0.true)) c.bit_pos-self-inside.ensures.place
+    narrow_kept (front_by at) (omega (arith, settings_columns at, c.if-settings-eq0.true)) c.bit_pos-self-inside.ensures.place
     stood.ensures.first stood.ensures.takes_none stood.ensures.unfailed stood.ensures.at_line
 
 pub returns-then-settings-eq0-clause-begins : goal.returns-then-settings-eq0-clause-begins
@@ -37,7 +37,7 @@ returns-then-settings-eq0-clause-begins c =
     let at = (goal.at.returns-then-settings-eq0-clause-begins c).After-settings in
     let stood = c.first_stand-self-inside in
     rw (← c.self.view_is) (λ whole tried fed. narrow_first (front_by at)
-    (omega (arith, columns_are at, c.if-settings-eq0.true)) c.bit_pos-self-inside.ensures.place
+    (omega (arith, settings_columns at, c.if-settings-eq0.true)) c.bit_pos-self-inside.ensures.place
     stood.ensures.first stood.ensures.takes_none stood.ensures.unfailed stood.ensures.at_line fed)
 
 -- ---- It waits
@@ -46,7 +46,7 @@ pub invariant_of-self-in_default : goal.invariant_of-self-in_default
 invariant_of-self-in_default c =
     let at = (goal.at.invariant_of-self-in_default c).After-settings in
     waiting_kept (front_by at) c.bit_pos-self-inside-2.ensures.place c.come_to_first_line-line.ensures c.in_default.is
-    (omega (arith, columns_are at, c.if-settings-eq0.false))
+    (omega (arith, settings_columns at, c.if-settings-eq0.false))
 
 pub returns-in_default-clause-begins : goal.returns-in_default-clause-begins
 returns-in_default-clause-begins c =

@@ -21,8 +21,8 @@ line_is_at : (c : After-try_line-row) → c.placed_at-reader.result
 line_is_at c = grind (arith, common_steps)
 
 -- of the gap after the line nothing is known
-gap_is : (c : After-try_line-row) → c.self.inside.gap ≡ no_gap
-gap_is c = ap (λ (f : Feeding). f.gap) c.self.view_is ∙ c.requires.gap
+no_gap_here : (c : After-try_line-row) → c.self.inside.gap ≡ no_gap
+no_gap_here c = ap (λ (f : Feeding). f.gap) c.self.view_is ∙ c.requires.gap
 
 pub invariant_of-self : goal.invariant_of-self
 invariant_of-self c =
@@ -31,11 +31,11 @@ invariant_of-self c =
       within = grind (arith, common_steps, length-bits_in, line_is_at at);
       fit = c.self.invariant.fit;
       unbegun = λ e. absurd (false≢true (sym e ∙ line_begun at));
-      seen = fresh_look _ _ (ap (λ (g : GapSoFar). g.look) (gap_is at));
-      line = λ e follows. gap_is at;
-      counted = none_counted_of (gap_is at);
-      unkept = λ zeros. absurd (false≢true (sym (ap (λ (g : GapSoFar). g.at_zeros) (gap_is at)) ∙ zeros));
-      last = λ zeros. absurd (false≢true (sym (ap (λ (g : GapSoFar). g.at_zeros) (gap_is at)) ∙ zeros));
+      seen = fresh_look _ _ (ap (λ (g : GapSoFar). g.look) (no_gap_here at));
+      line = λ e follows. no_gap_here at;
+      counted = none_counted_of (no_gap_here at);
+      unkept = λ zeros. absurd (false≢true (sym (ap (λ (g : GapSoFar). g.at_zeros) (no_gap_here at)) ∙ zeros));
+      last = λ zeros. absurd (false≢true (sym (ap (λ (g : GapSoFar). g.at_zeros) (no_gap_here at)) ∙ zeros));
       part = grind (arith, common_steps, none_kept);
     }
 

@@ -41,8 +41,8 @@ returns-then-not-is_some_line c =
     let at = (goal.at.returns-then-not-is_some_line c).After-is_some_line in
     let call = c.pass_to_zeros-passed in
     rw (← c.self.view_is, c.fed_without_row.ensures, c.of_settled_gap-line.ensures)
-    (zeros_gap_row (keeps at) (unended at) (away at) (count_is at) (passes at) call.ensures.frame call.ensures.counts
-    call.ensures.space (λ e. ap is_at_line (call.ensures.stand e)) call.ensures.only_code
+    (zeros_gap_row (keeps at) (unended at) (away at) (count_is at) (passes at) call.ensures.frame.held call.ensures.frame.ticks
+    call.ensures.frame.space (λ e. ap is_at_line (call.ensures.stand e)) call.ensures.only_code
     (λ e. c.is_some_line.ensures.none c.if-not-is_some_line.true (c.of_settled_gap-line.ensures ∙ e)))
 
 pub returns : goal.returns
@@ -51,6 +51,6 @@ returns c =
     let call = c.pass_to_zeros-passed in
     let is = sym c.of_settled_gap-line.ensures ∙ c.is_some_line.ensures.here c.if-not-is_some_line.false in
     rw (← c.self.view_is)
-    (zeros_row_on (keeps at) (unended at) (away at) (count_is at) (passes at) call.ensures.frame call.ensures.counts
-    call.ensures.space (λ e. ap is_at_line (call.ensures.stand e)) call.ensures.only_code is
+    (zeros_row_on (keeps at) (unended at) (away at) (count_is at) (passes at) call.ensures.frame.held call.ensures.frame.ticks
+    call.ensures.frame.space (λ e. ap is_at_line (call.ensures.stand e)) call.ensures.only_code is
     (ap is_at_line (call.ensures.stand (unsettled_line call.result is))) c.read_line_of_zeros-2.ensures)
