@@ -14,6 +14,7 @@ use Rattle.fax_feeds.specs.GapsSeen.{IsSeen, nothing_seen, rules_for}
 use Rattle.fax_feeds.proofs.Readings.GapsSoFar.{after_row, at_line_counts, came_before, eol_is_passed, kept_tag, kept_zeros}
 use Rattle.fax_feeds.proofs.Readings.GapsSoFar.{missed_counts, reaches_before, same_frame, settled_code, settled_counts}
 use Rattle.fax_feeds.proofs.Readings.GapsSoFar.{tag_counted, unsettled_line, zeros_come}
+use Rattle.std.proofs.lemmas.Bool.{false_from_ne_true}
 use Rattle.fax_feeds.proofs.Readings.LooksKept.{fresh_look, unlooked}
 use Rattle.fax_feeds.specs.RowFeeds.{ComesOn, LieIn, no_gap, of_settled_gap}
 use Rattle.fax_rows.specs.ZerosLast.{EndsInZeros, PassesZeros}
