@@ -18,7 +18,7 @@ use Rattle.fax_feeds.specs.GapsSeen.{IsSeen, nothing_seen, rules_for}
 use Rattle.fax_bits.specs.declared.settings.EncodingMode.TheVariants.{Group3_2D}
 use Rattle.fax_bits.specs.declared.error.DecodeError.TheVariants.{InvalidCode}
 use Rattle.std.specs.Prelude.{◌*◌, ◌≢◌, IfErr}
-use Rattle.fax_feeds.specs.RowFeeds.{LieIn, PassesEol, no_gap}
+use Rattle.fax_feeds.specs.RowFeeds.{LacksEol, LieIn, PassesEol, no_gap}
 
 -- What a call leaves that goes on in a gap after a row, of which this was counted: each bit that is looked at is a tick, and
 -- few of them are beyond where the call came.
@@ -47,6 +47,7 @@ pub record CountsOn (is_last : Bool) (rows kept : RowState) (count next : GapCou
 pub record StandsSoFar (from : ℕ) (rows : RowState) (ctx : Context) (whole : Bits) (at : ℕ) (gap : GapSoFar) : Type 0 where
   pub in_gap : StandsInGap from rows ctx whole at gap.count
   pub passed : at ≡ in_gap.start + gap.passed
+  pub missed : 0 < gap.look.bits → LacksEol ctx.held (drop in_gap.start whole)
 
 -- It waits there: data that follows can change the gap (T.4, 4.1.2; T.6, 2.4.1.1).
 pub record WaitsSoFar (from : ℕ) (rows : RowState) (ctx : Context) (whole : Bits) (start at : ℕ) (gap : GapSoFar) (after : Bits)
@@ -90,6 +91,8 @@ pub record StaysKnown (is_last : Bool) (gap next : GapSoFar) (before after : Bit
     : Type 0 where
   pub waits : answer ≡ Ok None → IsTidy next.count × (next.at_zeros ≡ false)
       × (next.count.eols + next.count.zeros + length after ≤ gap.count.eols + gap.count.zeros + length before)
+  -- few bits are left that weren't counted, unless an EOL is missing
+  pub few : answer ≡ Ok None → next.look.bits ≡ 0 → length after ≤ 16
   pub passed : answer ≢ Ok None → next.at_zeros ≡ false → next ≡ no_gap
   pub zeros : next.at_zeros ≡ true → (is_last ≡ true) × (16 ≤ next.count.zeros) × (next.look ≡ nothing_seen)
   -- where an EOL is missing, the gap begins here

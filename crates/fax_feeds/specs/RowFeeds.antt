@@ -28,7 +28,7 @@ use Rattle.fax_rows.specs.FrontsCounted.{front_rules}
 use Rattle.fax_rows.specs.GapsCounted.{IsTidy, counted_by, left_before, none_counted}
 use Rattle.fax_feeds.specs.LineParts.{IsLawfulPart, IsPartOf}
 use Rattle.fax_reading.specs.Lines.{Line}
-use Rattle.fax_reading.specs.PlainReading.{line_here, lines_of, row_of_line}
+use Rattle.fax_reading.specs.PlainReading.{line_here, lines_of, misses_eol, row_of_line}
 use Rattle.fax_reading.specs.Rows.{Row, changes}
 use Rattle.fax_rows.specs.RowsRead.{IsStanding, IsStandingAtLine, ReachesNextLine, ReadsNext, RowsRead, ended, is_at_line}
 use Rattle.fax_rows.specs.RowsRead.{seen}
@@ -178,6 +178,10 @@ abbrev pub gap_rules : Bool → DecodeSettings → DecodeSettings
 gap_rules true settings = settings
 gap_rules false settings = front_rules settings
 
+-- an EOL is missing in the gap that these bits begin (T.4, 4.1.2)
+abbrev pub LacksEol : Held → Bits → Type 0
+LacksEol held gap = misses_eol held.settings held.taken held.has_eols gap ≡ true
+
 -- What is known of the gap is so of these bits: those from where the reading is up to the next bit were counted. Where the data
 -- ends with zeros, the reading is before them, and a tag of one.
 pub record KnowsGap (whole : Bits) (feed : Feeding) : Type 0 where
@@ -190,6 +194,8 @@ pub record KnowsGap (whole : Bits) (feed : Feeding) : Type 0 where
   pub zeros : feed.gap.at_zeros ≡ true
       → (feed.finished ≡ true) × (drop (offset_of feed) whole ≡ left_before feed.gap.count [])
       × (feed.gap.count.tag ≡ true → feed.ctx.held.settings.encoding ≡ Group3_2D)
+  -- its bits are kept and looked at only where an EOL is missing
+  pub missed : 0 < feed.gap.look.bits → (feed.begun ≡ true) × LacksEol feed.ctx.held (drop (offset_of feed) whole)
 
 -- It is a reading of these bits, as above, where the first bits of the gap that is next may have been counted.
 pub record IsFeedOf (whole : Bits) (tried : ℕ) (feed : Feeding) : Type 0 where
@@ -381,13 +387,16 @@ pub record KeepsBits (old new : Feeding) : Type 0 where
   pub room : new.room ≡ old.room
 
 -- What a call that reads the next row leaves, whatever the data is: the settings; and of a row that it is counted, has as many
--- pixels as there are columns, and a gap is next, of which nothing is known unless the data ends with zeros.
+-- pixels as there are columns, and a gap is next, of which nothing is known unless the data ends with zeros. Where a gap waits
+-- whose bits are counted, few are kept from the next one on.
 pub record CountsRow (old new : Feeding) (answer : Result Fed DecodeError) : Type 0 where
   pub settings : new.ctx.held.settings ≡ old.ctx.held.settings
   pub taken : answer ≡ Ok Fed.Row → (new.ctx.held.taken ≡ old.ctx.held.taken + 1) × (new.ctx.held.taken < 2 ^ 64)
   pub width : answer ≡ Ok Fed.Row → length new.ctx.held.reference ≡ old.ctx.held.settings.columns
   pub stands : answer ≡ Ok Fed.Row → (new.begun ≡ true) × (new.rows.stand ≡ AfterRow) × (new.part ≡ None)
   pub unlooked : answer ≡ Ok Fed.Row → new.gap.at_zeros ≡ false → new.gap ≡ no_gap
+  pub few : answer ≡ Ok Fed.NeedsMore → is_at_line new.rows.stand ≡ false → new.gap.look.bits ≡ 0
+      → length new.kept ≤ new.place + 16
 
 -- a short line is read on: nothing changes but the count of work, and what is kept of the line
 pub record Scans (old new : Feeding) : Type 0 where
@@ -425,7 +434,7 @@ pub record ComesOn (is_last : Bool) (gap_start : ℕ) (rows kept : RowState) (lo
   pub extra : ℕ
   pub looks : LooksUpTo is_last (is_at_line rows.stand) look.bits (here before) extra
   pub looked : answer ≡ Ok None → (extra + look.bits ≡ kept_look.bits)
-      × IsSeen (rules_for true old.held) kept_look (here before)
+      × IsSeen (rules_for true old.held) kept_look (here before) × (kept_look.bits ≡ length (here before))
   pub none_looked : answer ≢ Ok None → kept_look ≡ nothing_seen
   -- of a gap that is passed no more than twelve bits beyond its end were looked at
   pub near : answer ≢ Ok None → is_last ≡ false → extra + look.bits + before.place ≤ after.place + 12
@@ -536,6 +545,7 @@ pub record KeepsFront (old new : Feeding) (answer : Bool) : Type 0 where
   pub settings : new.ctx.held.settings ≡ old.ctx.held.settings
   pub taken : new.ctx.held.taken ≡ old.ctx.held.taken
   pub unkept : (old.part ≡ None) × (new.part ≡ None)
+  pub few : answer ≡ false → length new.kept ≤ new.place + 16
 
 -- so is the gap before the next line
 pub record ComesInFeed (whole : Bits) (tried : ℕ) (old new : Feeding) (answer : Result (Option Bool) DecodeError) : Type 0 where

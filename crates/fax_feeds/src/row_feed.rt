@@ -88,12 +88,12 @@ fn look_waits(
 ) -> bool
     requires seen { IsSeen rules.now look.old (here reader.now) }
     ensures waits { result ≡ (not is_last && not (is_settled (stage_following rules.now GapStage.Start 0 (here reader.now)))) }
-    ensures held { ctx.new.held ≡ ctx.old.held }
+    ensures kept { (ctx.new.held ≡ ctx.old.held) × (ctx.new.space ≡ ctx.old.space) }
     ensures looked { CountsLooks look.old look.new ctx.old.ticks ctx.new.ticks }
     ensures onward { look.old.bits ≤ look.new.bits }
+    ensures all { result ≡ true → look.new.bits ≡ length (here reader.now) }
     ensures unlooked { is_last ≡ true → ctx.new.ticks ≡ ctx.old.ticks }
     ensures seen { IsSeen rules.now look.new (here reader.now) }
-    ensures space { ctx.new.space ≡ ctx.old.space }
 {
     if is_last || is_settled_at_once(rules, reader) {
         return false;
@@ -113,12 +113,12 @@ fn gap_waits(
     requires seen { IsSeen (rules_for true ctx.old.held) look.old (here reader.now) }
     ensures waits { result ≡ (not is_last && not (gap_is_settled ctx.old.held.settings ctx.old.held.taken ctx.old.held.has_eols
         (here reader.now))) }
-    ensures held { ctx.new.held ≡ ctx.old.held }
+    ensures kept { (ctx.new.held ≡ ctx.old.held) × (ctx.new.space ≡ ctx.old.space) }
     ensures looked { CountsLooks look.old look.new ctx.old.ticks ctx.new.ticks }
     ensures onward { look.old.bits ≤ look.new.bits }
+    ensures all { result ≡ true → look.new.bits ≡ length (here reader.now) }
     ensures unlooked { is_last ≡ true → ctx.new.ticks ≡ ctx.old.ticks }
     ensures seen { IsSeen (rules_for true ctx.old.held) look.new (here reader.now) }
-    ensures space { ctx.new.space ≡ ctx.old.space }
 {
     let rules = rules_after_row(ctx);
     look_waits(ctx, look, &rules, reader, is_last)
@@ -342,6 +342,7 @@ fn try_line_of_zeros(
         (zeros_at count.now.tag count.now.zeros) result }
     ensures counts { CountsZeros ctx.old ctx.new result }
     ensures stand { result ≡ Ok true → rows.new.stand ≡ Stand.AfterRow }
+    ensures left { result ≡ Ok false → rows.new ≡ rows.old }
 {
     let damaged_rows = ctx.damaged_rows();
     let cut_rows = ctx.cut_rows();

@@ -11,7 +11,7 @@ use Rattle.fax_feeds.proofs.Readings.FeedsFramed.{fed_of, framed, next_of, plain
 use Rattle.fax_feeds.proofs.Readings.FeedsOn.{at_line_unended, feed_reads, gap_feeds, line_feeds, none_row, reached_here, row_fits}
 use Rattle.fax_feeds.proofs.Readings.LooksKept.{IsLawfulGap, counted_lawful, fresh_look, none_counted_of, seen_begun, seen_there}
 use Rattle.fax_feeds.proofs.Readings.PartsFed.{none_kept}
-use Rattle.fax_feeds.proofs.Readings.RowsPassed.{counts_on, counts_row}
+use Rattle.fax_feeds.proofs.Readings.RowsPassed.{counts_on, counts_row, line_was_needed}
 use Rattle.fax_feeds.specs.CountedGaps.{ComesCounted}
 use Rattle.fax_feeds.specs.GapsSeen.{IsSeen, nothing_seen, rules_for}
 use Rattle.fax_feeds.specs.declared.counted_gaps.GapSoFar.{GapSoFar}
@@ -149,6 +149,14 @@ module _ {f : Inside} {before after : BitsAt} {rows : RowState} {ctx : Context} 
       width = λ e. absurd (none_row line e);
       stands = λ e. absurd (none_row line e);
       unlooked = λ e. absurd (none_row line e);
+      few = λ e away none. omega (
+        arith,
+        on.known.few (line_was_needed line e) none,
+        there,
+        ap length on.same_bits,
+        ap (λ (b : BitsAt). length b.bits) by.is,
+        length-drop after.place after.bits,
+      );
     };
   }
 
@@ -168,6 +176,7 @@ module _ {f : Inside} {before after : BitsAt} {rows : RowState} {ctx : Context} 
       stands = λ e. cc;
       width = λ e. cc;
       unlooked = λ e. cc;
+      few = λ e. cc;
     };
   }
 
@@ -194,7 +203,7 @@ module _ {f : Inside} {before after : BitsAt} {rows : RowState} {ctx : Context} 
         keeps = grind (arith, common_steps);
         over = λ end e. let never = sym unended ∙ e in absurd cc;
         counts = counts_row answer (ap (λ (h : Held). h.settings) on.frame) (ap (λ (h : Held). h.taken) on.frame) room
-            (λ follows. none) reads;
+            (λ follows. none) (on.line is) reads;
       }
 
   -- its row is that of zeros with which the data ends

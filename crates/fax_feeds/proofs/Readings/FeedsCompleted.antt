@@ -8,6 +8,8 @@ use Rattle.fax_feeds.specs.declared.counted_gaps.GapSoFar.{GapSoFar}
 use Rattle.fax_rows.specs.GapsCounted.{counted_by, left_before, none_counted}
 use Rattle.fax_feeds.specs.RowFeeds.{Feeding, IsFeedOf, IsPlainFeedOf, KnowsGap, LieIn, StandsIn, completed, fed_bits, gap_rules}
 use Rattle.fax_feeds.specs.RowFeeds.{no_gap, offset_of}
+use Rattle.fax_feeds.specs.GapsSeen.{nothing_seen}
+use Rattle.fax_feeds.specs.declared.gap_look.GapLook.{GapLook}
 use Rattle.fax_feeds.proofs.Readings.RowsFed.{from_place, place_within}
 
 pub take_length : (first rest : Bits) → take (length first) (first ++ rest) ≡ first
@@ -85,8 +87,9 @@ pub knows_passed : (whole : Bits) (feed : Feeding) → feed.gap.passed ≤ feed.
     → feed.dropped + feed.place ≤ length whole → (feed.gap.at_zeros ≡ false → feed.gap ≡ no_gap)
     → (feed.gap.at_zeros ≡ true
     → (feed.finished ≡ true) × (drop (offset_of feed) whole ≡ left_before feed.gap.count [])
-    × (feed.gap.count.tag ≡ true → feed.ctx.held.settings.encoding ≡ Group3_2D)) → KnowsGap whole feed
-knows_passed whole feed few within none zeros =
+    × (feed.gap.count.tag ≡ true → feed.ctx.held.settings.encoding ≡ Group3_2D))
+    → (feed.gap.at_zeros ≡ true → feed.gap.look ≡ nothing_seen) → KnowsGap whole feed
+knows_passed whole feed few within none zeros unlooked =
     let gap : Bits = drop (offset_of feed) whole in
     let long : length (take feed.gap.passed gap) ≡ feed.gap.passed =
     length-take-le feed.gap.passed gap (omega (arith, few, within, length-drop (offset_of feed) whole)) in
@@ -101,7 +104,12 @@ knows_passed whole feed few within none zeros =
           ap (λ (g : GapSoFar). counted_by (gap_rules feed.begun feed.ctx.held.settings) none_counted (take g.passed gap)) (none e)
           ∙ ap (λ (g : GapSoFar). Some g.count) (sym (none e));
       zeros = zeros;
+      missed = λ some. absurd (omega (arith, some, none_looked feed.gap.at_zeros refl));
     }
+  where
+    none_looked : (b : Bool) → feed.gap.at_zeros ≡ b → feed.gap.look.bits ≡ 0
+    none_looked true e = ap (λ (l : GapLook). l.bits) (unlooked e)
+    none_looked false e = ap (λ (g : GapSoFar). g.look.bits) (none e)
 
 -- nothing is known of a gap that begins here
 pub knows_none : (whole : Bits) (feed : Feeding) → feed.dropped + feed.place ≤ length whole → feed.gap ≡ no_gap
@@ -109,3 +117,4 @@ pub knows_none : (whole : Bits) (feed : Feeding) → feed.dropped + feed.place �
 knows_none whole feed within is =
     knows_passed whole feed (omega (arith, ap (λ (g : GapSoFar). g.passed) is)) within (λ e. is)
     (λ zeros. absurd (false≢true (sym (ap (λ (g : GapSoFar). g.at_zeros) is) ∙ zeros)))
+    (λ zeros. ap (λ (g : GapSoFar). g.look) is)

@@ -8,7 +8,7 @@ use Rattle.fax_rows.specs.declared.row_reader.RowState.{RowState}
 use Rattle.fax_rows.specs.GapsCounted.{counted_by, left_before, none_counted}
 use Rattle.fax_feeds.specs.declared.counted_gaps.GapSoFar.{GapSoFar}
 use Rattle.fax_feeds.specs.CountedGaps.{CameSoFar, ComesCounted, ComesSoFar, PassesNear, StandsSoFar}
-use Rattle.fax_feeds.specs.RowFeeds.{ComesInFeed, Feeding, IsFeedOf, KeepsBits, KnowsGap, LieIn, ReachesLine, StandsIn, came}
+use Rattle.fax_feeds.specs.RowFeeds.{ComesInFeed, Feeding, IsFeedOf, KeepsBits, KnowsGap, LacksEol, LieIn, ReachesLine, StandsIn, came}
 use Rattle.fax_feeds.specs.RowFeeds.{PassesEol, completed, fed_bits, fed_over, gap_rules, no_gap, offset_of, zeros_left}
 use Rattle.fax_feeds.proofs.Readings.FeedsCompleted.{at_within, full_gap, full_is_plain, full_long, gap_long, known_long}
 use Rattle.fax_feeds.proofs.Readings.FeedsCompleted.{knows_passed}
@@ -78,6 +78,7 @@ module _ {whole : Bits} {tried : ℕ} {old new : Feeding} {before after : BitsAt
           fed.stands;
     };
     passed = omega (arith, at_old, fed.known.place, fed.known.long);
+    missed = λ some. (fed.known.missed some).1;
   }
 
   -- the bits of the gap that are known
@@ -141,6 +142,10 @@ module _ {whole : Bits} {tried : ℕ} {old new : Feeding} {before after : BitsAt
         counted = λ e. subst (λ (b : Bool). counted_by (gap_rules b new.ctx.held.settings) none_counted stands_now.in_gap.gone
             ≡ Some new.gap.count) (sym by.still) stands_now.in_gap.is;
         zeros = λ zeros. absurd (false≢true (sym none_left ∙ zeros));
+        missed = λ some. (
+          by.still,
+          subst (λ (n : ℕ). LacksEol new.ctx.held (drop n whole)) (sym same_start) (stands_now.missed some),
+        );
       };
     }
 
@@ -230,7 +235,7 @@ module _ {whole : Bits} {tried : ℕ} {old new : Feeding} {before after : BitsAt
             by.keeps.finished ∙ (on.known.zeros zeros).0,
             ap (λ (n : ℕ). drop n whole) new_offset ∙ (comes.zeros zeros).0,
             (comes.zeros zeros).1,
-          ));
+          )) (λ zeros. (on.known.zeros zeros).2);
     }
 
     plain_place : (n : ℕ) → 0 + n ≡ n

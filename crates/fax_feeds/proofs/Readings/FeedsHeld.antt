@@ -1,6 +1,6 @@
 -- Rows from data that comes in pieces: a feed of which bytes are dropped, and to which bytes are fed.
 use Rattle.fax_feeds.proofs.Names.{common_steps, ◌≡◌, ◌∙◌, ◌+◌, ◌-◌, ◌*◌, ◌≤◌, ◌++◌, ℕ, Bool, true, false}
-use Rattle.fax_feeds.proofs.Names.{sym, ap, subst}
+use Rattle.fax_feeds.proofs.Names.{sym, ap, subst, ◌<◌}
 use Rattle.fax_feeds.proofs.Names.{arith, drop, length, length-append, length-drop, append_assoc, false≢true, zero, suc, [], ◌∷◌}
 use Rattle.fax_feeds.proofs.Names.{Bits, BitsAt, Context, bits_in, List, refl}
 use Rattle.std.proofs.Math.Seq.{drop-append-add, drop-length, drop-nil}
@@ -12,7 +12,7 @@ use Rattle.fax_rows.specs.RowsTried.{CanCome}
 use Rattle.fax_rows.specs.GapsCounted.{counted_by, left_before, none_counted}
 use Rattle.fax_rows.specs.declared.row_reader.RowState.{RowState}
 use Rattle.fax_feeds.specs.declared.counted_gaps.GapSoFar.{GapSoFar}
-use Rattle.fax_feeds.specs.RowFeeds.{ComeNext, DropsRead, Feeding, IsFeedOf, KnowsGap, LieIn, StandsIn}
+use Rattle.fax_feeds.specs.RowFeeds.{ComeNext, DropsRead, Feeding, IsFeedOf, KnowsGap, LacksEol, LieIn, StandsIn}
 use Rattle.fax_feeds.specs.RowFeeds.{fed_bits, gap_rules, offset_of}
 use Rattle.fax_feeds.proofs.Readings.RowsFed.{from_place, place_within}
 
@@ -50,6 +50,12 @@ module _ {whole : Bits} {tried : ℕ} {old : Feeding} (new : Feeding) (ctx : new
     long = known.long ∙ sym (ap (λ (g : GapSoFar). g.passed) gap);
     counted = λ e. grind (arith, common_steps, known.counted);
     zeros = λ e. grind (arith, common_steps, known.zeros, same_offset);
+    missed = λ some.
+        let there = known.missed (omega (arith, some, ap (λ (g : GapSoFar). g.look.bits) gap)) in (
+          begun ∙ there.0,
+          subst (λ (x : Context). LacksEol x.held (drop (offset_of new) whole)) (sym ctx)
+              (subst (λ (n : ℕ). LacksEol old.ctx.held (drop n whole)) (sym same_offset) there.1),
+        );
   }
 
   pub held_on : LieIn whole new.dropped new.finished new.kept → IsFeedOf whole tried new

@@ -135,6 +135,8 @@ module _ {old mid : Feeding} (begun : old.begun ≡ true) (line : is_at_line old
       width = λ e. cc;
       stands = λ e. cc;
       unlooked = λ e. cc;
+      few = λ e away.
+          absurd (false≢true (sym away ∙ ap (λ (f : Feeding). is_at_line f.rows.stand) stays.scans.frame ∙ line));
     };
   }
 
@@ -205,6 +207,7 @@ module _ {old mid : Feeding} (begun : old.begun ≡ true) (line : is_at_line old
         width = counts.width;
         stands = counts.stands;
         unlooked = counts.unlooked;
+        few = counts.few;
       };
     }
 

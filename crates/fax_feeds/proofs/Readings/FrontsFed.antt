@@ -148,6 +148,7 @@ module _ {f : Inside} {before after : BitsAt} {ctx : Context} {gap : GapSoFar} {
                   (subst (λ (h : Held). counted_by (front_rules h.settings) none_counted waits.stands.gone ≡ Some gap.count)
                   (sym held_same) waits.stands.is);
               zeros = λ zeros. absurd (false≢true (sym more_follow ∙ zeros));
+              missed = λ some. absurd (omega (arith, some, ap (λ (l : GapLook). l.bits) on.unlooked));
             };
           }
 
@@ -187,6 +188,17 @@ module _ {f : Inside} {before after : BitsAt} {ctx : Context} {gap : GapSoFar} {
         };
         stands = waiting_fed;
       }
+
+  -- few bits are kept
+  pub waiting_few : answer ≡ None → length (bits_in f.order f.«data».items) ≤ place + 16
+  waiting_few is = omega (
+    arith,
+    on.known.few (ap (λ (o : Option Bool). Ok o) is) (ap (λ (l : GapLook). l.bits) on.unlooked),
+    there,
+    ap length bits_before,
+    ap length on.same_bits,
+    length-drop after.place after.bits,
+  )
 
   -- what is so of every feed stays so
   pub waiting_kept : answer ≡ None → 0 < f.ctx.held.settings.columns → IsKept (record f { ctx = ctx; gap = gap; place = place })
@@ -303,7 +315,7 @@ module _ {f : Inside} {before after : BitsAt} {ctx : Context} {gap : GapSoFar} {
               (on.known.zeros zeros).0,
               ap (λ (n : ℕ). drop n whole) passed_at ∙ (first.zeros zeros).0,
               (first.zeros zeros).1,
-            ));
+            )) (λ zeros. on.unlooked);
       }
         where
           some_of : (o : Option Bool) → ◌≡◌ {A = Result (Option Bool) DecodeError} (Ok o) (Ok None) → o ≡ None
@@ -456,7 +468,8 @@ module _ {f : Inside} {before after : BitsAt} {ctx : Context} {place : ℕ} {sta
           (record { bits = whole; place = n })) (sym ended_at) ended_stood;
       known = knows_passed whole (feeding_of ended_feed) (omega (arith, none_passed))
           (place_within fed.lie place narrow_within) (λ e. none_known)
-          (λ zeros. absurd (false≢true (sym (ap (λ (g : GapSoFar). g.at_zeros) none_known) ∙ zeros)));
+          (λ zeros. absurd (false≢true (sym (ap (λ (g : GapSoFar). g.at_zeros) none_known) ∙ zeros)))
+          (λ zeros. ap (λ (g : GapSoFar). g.look) none_known);
     }
 
     place_is : (n : ℕ) → 0 + n ≡ n

@@ -20,7 +20,7 @@ use Rattle.fax_reading.specs.GapsContinued.{gap_is_settled}
 use Rattle.fax_feeds.specs.declared.counted_gaps.GapSoFar.{GapSoFar}
 use Rattle.fax_feeds.specs.declared.gap_look.GapLook.{GapLook}
 use Rattle.fax_feeds.specs.CountedGaps.{CameSoFar, ComesCounted, CountsOn, PassesNear, StandsSoFar}
-use Rattle.fax_feeds.specs.RowFeeds.{ComesOn, LieIn, PassesEol, no_gap, of_settled_gap}
+use Rattle.fax_feeds.specs.RowFeeds.{ComesOn, LacksEol, LieIn, PassesEol, no_gap, of_settled_gap}
 use Rattle.fax_feeds.proofs.Readings.RowsFed.{place_within, stands_later, stays_at_line}
 use Rattle.fax_feeds.proofs.Names.{Stand, AtLine, AfterRow, AtEnd, AtFault, ended}
 
@@ -57,9 +57,10 @@ module _ {is_last : Bool} {gap_start : ℕ} {rows kept : RowState} {look kept_lo
       (dropped : ℕ) → LieIn whole dropped is_last before.bits → gap_start ≡ dropped + before.place
       → before.place ≤ length before.bits → (start : ℕ) → start ≡ gap_start
       → IsStanding from rows old (record { bits = whole; place = gap_start })
+      → (answer ≡ Ok None → LacksEol old.held (drop start whole))
       → CameSoFar answer (from + on.extra) rows kept old new whole start (dropped + after.place)
       (record no_gap { look = kept_look }) after
-  missed_comes (Ok None) on from whole dropped lie starts within start is stands =
+  missed_comes (Ok None) on from whole dropped lie starts within start is stands misses =
       let waits = on.waits refl in
       let at : dropped + after.place ≡ gap_start =
       ap (λ (b : BitsAt). dropped + b.place) waits.3 ∙ sym starts in
@@ -77,6 +78,8 @@ module _ {is_last : Bool} {gap_start : ℕ} {rows kept : RowState} {look kept_lo
                   (stands_later from on.extra rows old new (record { bits = whole; place = gap_start }) waits.0 waits.1 stands);
             };
             passed = omega arith;
+            missed = λ some. subst (λ (h : Held). LacksEol h (drop (dropped + after.place) whole)) (sym waits.0)
+                (subst (λ (n : ℕ). LacksEol old.held (drop n whole)) (is ∙ sym at) (misses refl));
           };
           start_is = at ∙ sym is;
           unsettled = ap (λ (h : Held). gap_is_settled h.settings h.taken h.has_eols (here after)) waits.0
@@ -85,7 +88,7 @@ module _ {is_last : Bool} {gap_start : ℕ} {rows kept : RowState} {look kept_lo
         },
         waits.2,
       )
-  missed_comes (Ok (Some line)) on from whole dropped lie starts within start is stands = record {
+  missed_comes (Ok (Some line)) on from whole dropped lie starts within start is stands misses = record {
     place = dropped + after.place;
     place_is = omega arith;
     onward = λ e. omega (arith, on.onward (ap of_settled_gap e), is, starts);
@@ -95,7 +98,7 @@ module _ {is_last : Bool} {gap_start : ℕ} {rows kept : RowState} {look kept_lo
         (on.comes from whole dropped (λ none. cc) lie starts stands);
     zeros = λ e. absurd (false≢true e);
   }
-  missed_comes (Err error) on from whole dropped lie starts within start is stands = record {
+  missed_comes (Err error) on from whole dropped lie starts within start is stands misses = record {
     place = dropped + after.place;
     place_is = omega arith;
     onward = λ e. cc;
@@ -290,7 +293,8 @@ module _ (dropped : ℕ) {is_last : Bool} {gap_start : ℕ} {rows kept : RowStat
     (next_is : next ≡ record no_gap { look = look }) (starts : gap_start ≡ dropped + before.place)
     (within : before.place ≤ length before.bits) (no_line : is_at_line rows.stand ≡ false)
     (answer : Result (Option Bool) DecodeError)
-    (on : ComesOn is_last gap_start rows kept gap.look look old new before after answer) where
+    (on : ComesOn is_last gap_start rows kept gap.look look old new before after answer)
+    (misses : answer ≡ Ok None → 0 < gap.look.bits) where
   none_passed : gap.passed ≡ 0
   none_passed = ap (λ (g : GapSoFar). g.passed) gap_is
 
@@ -315,7 +319,8 @@ module _ (dropped : ℕ) {is_last : Bool} {gap_start : ℕ} {rows kept : RowStat
       subst (λ (g : GapSoFar). CameSoFar answer (from + on.extra) rows kept old new whole stands.in_gap.start
       (dropped + after.place) g after) (sym next_is) (missed_comes answer on from whole dropped lie starts within
       stands.in_gap.start is
-      (subst (λ (n : ℕ). IsStanding from rows old (record { bits = whole; place = n })) is stands.in_gap.stands))
+      (subst (λ (n : ℕ). IsStanding from rows old (record { bits = whole; place = n })) is stands.in_gap.stands)
+      (λ e. stands.missed (misses e)))
 
   settled_near : (from : ℕ) (whole : Bits) → LieIn whole dropped is_last before.bits
       → (stands : StandsSoFar from rows old whole (dropped + before.place) gap) → answer ≡ Ok (Some true)
@@ -365,6 +370,13 @@ module _ (dropped : ℕ) {is_last : Bool} {gap_start : ℕ} {rows kept : RowStat
           ap (λ (g : GapSoFar). g.count.zeros) next_is,
           ap (λ (b : BitsAt). length (here b)) (waits_there e),
         ),
+      );
+      few = λ e none. omega (
+        arith,
+        (on.looked e).2,
+        none,
+        ap (λ (l : GapLook). l.bits) look_is,
+        ap (λ (b : BitsAt). length (here b)) (waits_there e),
       );
       passed = λ other zeros. next_is ∙ ap (λ (l : GapLook). record no_gap { look = l }) (on.none_looked other);
       zeros = λ zeros. absurd (false≢true (sym (ap (λ (g : GapSoFar). g.at_zeros) next_is) ∙ zeros));
@@ -427,7 +439,7 @@ module _ (dropped : ℕ) (gap : GapSoFar) {is_last : Bool} {gap_start : ℕ} {ro
         lacks.0.stands in
         let lies = subst (LieIn whole dropped is_last) (sym first.same_bits) lie in
         let comes = missed_comes answer on (from + first.extra) whole dropped lies starts to_within stands.in_gap.start missed_start
-        stood in
+        stood (λ e. subst (λ (n : ℕ). LacksEol mid.held (drop n whole)) lacks.1 lacks.0.misses) in
         let sum : (from + first.extra) + on.extra ≡ from + (first.extra + on.extra) = omega arith in
         subst (λ (g : GapSoFar). CameSoFar answer (from + (first.extra + on.extra)) rows kept old new whole stands.in_gap.start
         (dropped + after.place) g after) (sym next_is)
@@ -528,6 +540,13 @@ module _ (dropped : ℕ) (gap : GapSoFar) {is_last : Bool} {gap_start : ℕ} {ro
           length-drop before.place before.bits,
         ),
       );
+      few = λ e none. omega (
+        arith,
+        (on.looked e).2,
+        none,
+        ap (λ (l : GapLook). l.bits) missed_look,
+        ap (λ (b : BitsAt). length (here b)) (missed_waits e),
+      );
       passed = λ other zeros. next_is ∙ ap (λ (l : GapLook). record no_gap { look = l }) (on.none_looked other);
       zeros = λ zeros. absurd (false≢true (sym (ap (λ (g : GapSoFar). g.at_zeros) next_is) ∙ zeros));
       missed = λ some. next_is ∙ ap (λ (l : GapLook). record no_gap { look = l }) (sym missed_look);
@@ -565,6 +584,7 @@ at_line_counts {is_last} {dropped} {rows} {gap} {ctx} {reader} line is within =
       seen = λ e. cc;
       known = record {
         waits = λ e. cc;
+        few = λ e. cc;
         passed = λ other zeros. is;
         zeros = λ zeros. absurd (false≢true (sym (ap (λ (g : GapSoFar). g.at_zeros) is) ∙ zeros));
         missed = λ some. absurd (omega (arith, some, unlooked));

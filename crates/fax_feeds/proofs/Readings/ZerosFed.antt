@@ -15,6 +15,8 @@ use Rattle.fax_feeds.specs.declared.counted_gaps.GapSoFar.{GapSoFar}
 use Rattle.fax_feeds.specs.RowFeeds.{ComesInFeed, Feeding, FeedsPlainly, IsFeedOf, IsPlainFeedOf, KeepsBits, KnowsGap, LieIn}
 use Rattle.fax_feeds.specs.RowFeeds.{ReadsInFeed, StandsIn, TriesLine, came, completed, fed_bits, fed_over, fed_row, offset_of}
 use Rattle.fax_feeds.specs.RowFeeds.{of_settled_gap}
+use Rattle.fax_feeds.specs.GapsSeen.{nothing_seen}
+use Rattle.fax_feeds.specs.declared.gap_look.GapLook.{GapLook}
 use Rattle.fax_feeds.proofs.Readings.FeedsCompleted.{at_within, full_is_plain, full_long, known_bits, known_long, rest_to_come}
 use Rattle.fax_feeds.proofs.Names.{length-append}
 use Rattle.std.proofs.lemmas.List.{take-append-drop}
@@ -28,6 +30,7 @@ pub record IsAtZeros (whole : Bits) (tried : ℕ) (feed : Feeding) : Type 0 wher
   pub begun : feed.begun ≡ true
   pub none : feed.part ≡ None
   pub zeros : feed.gap.at_zeros ≡ true
+  pub unlooked : feed.gap.look ≡ nothing_seen
 
 module _ {whole : Bits} {tried : ℕ} {feed : Feeding} (at : IsAtZeros whole tried feed) where
   abbrev left : Bits
@@ -154,6 +157,7 @@ module _ {whole : Bits} {tried : ℕ} {feed : Feeding} (at : IsAtZeros whole tri
         zeros_are.1,
         λ tag. ap (λ (s : DecodeSettings). s.encoding) reads_alone.settings ∙ zeros_are.2 tag,
       );
+      missed = λ some. absurd (omega (arith, some, ap (λ (l : GapLook). l.bits) at.unlooked));
     })
 
     pub zeros_lie : LieIn whole new.dropped new.finished new.kept
@@ -217,6 +221,7 @@ module _ {whole : Bits} {tried : ℕ} {feed : Feeding} (at : IsAtZeros whole tri
           zeros_are.1,
           λ tag. ap (λ (h : Held). h.settings.encoding) frame ∙ zeros_are.2 tag,
         );
+        missed = λ some. absurd (omega (arith, some, ap (λ (l : GapLook). l.bits) at.unlooked));
       };
     }
 

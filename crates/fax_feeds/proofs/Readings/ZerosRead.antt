@@ -10,7 +10,8 @@ use Rattle.fax_feeds.proofs.Readings.FeedsOn.{at_line_unended, gap_feeds, none_r
 use Rattle.fax_feeds.proofs.Readings.FeedsCompleted.{full_is_plain}
 use Rattle.fax_feeds.proofs.Readings.LooksKept.{fresh_look}
 use Rattle.fax_feeds.proofs.Readings.PartsFed.{none_kept}
-use Rattle.fax_feeds.proofs.Readings.RowsPassed.{counts_on, line_was_read}
+use Rattle.fax_feeds.proofs.Readings.RowsPassed.{counts_on, line_was_left, line_was_needed, line_was_read}
+use Rattle.fax_feeds.proofs.Readings.RowsFed.{passed_some}
 use Rattle.fax_feeds.proofs.Readings.ZerosFed.{IsAtZeros, zeros_come_on, zeros_lie, zeros_line, zeros_stay_known}
 use Rattle.fax_feeds.specs.GapsSeen.{rules_for}
 use Rattle.fax_feeds.specs.declared.counted_gaps.GapSoFar.{GapSoFar}
@@ -37,6 +38,7 @@ at_zeros keeps fed = record {
   begun = keeps.begun;
   none = keeps.none;
   zeros = keeps.zeros;
+  unlooked = (keeps.kept.counted.zeros keeps.zeros).1;
 }
 
 -- it stays so where another context is left, and as many zeros
@@ -78,9 +80,10 @@ pub zeros_line_row : {f : Inside} {begin ctx : Context} {rows : RowState} {answe
     → (0 < begin.held.settings.columns → (f.gap.count.tag ≡ true → begin.held.settings.encoding ≡ Group3_2D)
     → TriesLine true (offset_of (feeding_of f)) f.rows rows begin ctx (zeros_at f.gap.count.tag f.gap.count.zeros)
     (zeros_at f.gap.count.tag f.gap.count.zeros) answer)
-    → CountsZeros begin ctx answer → (answer ≡ Ok true → rows.stand ≡ AfterRow) → f.ctx.held.taken + 1 < 2 ^ 64
+    → CountsZeros begin ctx answer → (answer ≡ Ok true → rows.stand ≡ AfterRow) → (answer ≡ Ok false → rows ≡ f.rows)
+    → f.ctx.held.taken + 1 < 2 ^ 64
     → FeedsRow (feeding_of f) (feeding_of (record f { ctx = ctx; rows = rows })) (fed_row answer)
-zeros_line_row {f} {begin} {ctx} {rows} {answer} keeps line frame width tries counts stand room = record {
+zeros_line_row {f} {begin} {ctx} {rows} {answer} keeps line frame width tries counts stand left room = record {
   reads = λ whole tried unended fed.
       let at = at_zeros keeps fed in
       next_of (zeros_line at line frame width refl tries) (zeros_stay_known at line frame width refl tries)
@@ -95,6 +98,8 @@ zeros_line_row {f} {begin} {ctx} {rows} {answer} keeps line frame width tries co
     width = λ e. counts.width (line_was_read answer e) ∙ ap (λ (c : Context). c.held.settings.columns) frame;
     stands = λ e. (keeps.begun, stand (line_was_read answer e), keeps.none);
     unlooked = λ e more. absurd (false≢true (sym more ∙ keeps.zeros));
+    few = λ e away.
+        absurd (false≢true (sym away ∙ ap (λ (r : RowState). is_at_line r.stand) (left (line_was_left answer e)) ∙ line));
   };
 }
 
@@ -113,6 +118,7 @@ zeros_full {f} keeps line full error = record {
     stands = λ e. cc;
     width = λ e. cc;
     unlooked = λ e. cc;
+    few = λ e. cc;
   };
 }
 
@@ -156,6 +162,7 @@ module _ {f : Inside} {ctx : Context} {rows : RowState} {count : GapCount} {pass
       width = λ e. absurd (none_row (of_settled_gap passed) e);
       stands = λ e. absurd (none_row (of_settled_gap passed) e);
       unlooked = λ e. absurd (none_row (of_settled_gap passed) e);
+      few = λ e. absurd (passed_some passed (line_was_needed (of_settled_gap passed) e));
     };
   }
 

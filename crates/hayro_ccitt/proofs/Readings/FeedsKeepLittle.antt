@@ -67,33 +67,38 @@ module _ {whole : Bits} {tried most : ℕ} {feed : Feeding} (stands : IsPlainFee
       (ap (λ (h : Held). is_short (line_here settings h.reference bits_next)) (sym at.held_is) ∙ waits)
 
   gap_most : StandsAfterRow settings whole feed.ctx.held (drop (feed.dropped + feed.place) whole)
-      → gap_is_settled settings feed.ctx.held.taken feed.ctx.held.has_eols bits_next ≡ false → length bits_next ≤ most
-  gap_most at waits =
+      → gap_is_settled settings feed.ctx.held.taken feed.ctx.held.has_eols bits_next ≡ false
+      → LacksEol feed.ctx.held (drop (feed.dropped + feed.place) whole) → length bits_next ≤ most
+  gap_most at waits misses =
       let taken : feed.ctx.held.taken ≡ length at.so_far.rows + 1 =
       ap (λ (h : Held). h.taken) at.held_is ∙ length-append at.so_far.rows (at.row ∷ []) in
       known.gap at.so_far at.row (drop (feed.dropped + feed.place) whole) bits_next stands.lie.more
       (record { first = at.first; begins = at.begins; reaches = at.reaches }) (omega (arith, taken)) at.row_is there
+      (ap (λ (n : ℕ). misses_eol settings n at.so_far.has_eols (drop (feed.dropped + feed.place) whole)) (sym taken)
+      ∙ ap (λ (h : Held). misses_eol settings feed.ctx.held.taken h.has_eols (drop (feed.dropped + feed.place) whole))
+      (sym at.held_is) ∙ misses)
       (ap (λ (n : ℕ). gap_is_settled settings n at.so_far.has_eols bits_next) (sym taken)
       ∙ ap (λ (h : Held). gap_is_settled settings feed.ctx.held.taken h.has_eols bits_next) (sym at.held_is) ∙ waits)
 
-  first_most : feed.begun ≡ false → first_gap_is_settled settings.encoding settings bits_next ≡ false → length bits_next ≤ most
-  first_most unbegun waits = grind (arith, common_steps, bits_next, there)
-
   by_stand : (stand : Stand) → feed.rows.stand ≡ stand → IsOpenAt true stand feed.ctx bits_next
-      → ReaderStands stand settings whole feed.ctx.held (feed.dropped + feed.place) → length bits_next ≤ most
-  by_stand AtLine is waits at = line_most at waits
-  by_stand AfterRow is waits at = gap_most at waits
-  by_stand AtEnd is waits at = absurd waits
-  by_stand (AtFault error) is waits at = absurd waits
+      → ReaderStands stand settings whole feed.ctx.held (feed.dropped + feed.place)
+      → (is_at_line stand ≡ false → LacksEol feed.ctx.held (drop (feed.dropped + feed.place) whole)) → length bits_next ≤ most
+  by_stand AtLine is waits at misses = line_most at waits
+  by_stand AfterRow is waits at misses = gap_most at waits (misses refl)
+  by_stand AtEnd is waits at misses = absurd waits
+  by_stand (AtFault error) is waits at misses = absurd waits
 
-  by_begun : (begun : Bool) → feed.begun ≡ begun → IsOpenAt begun feed.rows.stand feed.ctx bits_next
+  by_begun : (begun : Bool) → begun ≡ true → IsOpenAt begun feed.rows.stand feed.ctx bits_next
       → StandsIn begun tried feed.rows feed.ctx (record { bits = whole; place = feed.dropped + feed.place })
+      → (is_at_line feed.rows.stand ≡ false → LacksEol feed.ctx.held (drop (feed.dropped + feed.place) whole))
       → length bits_next ≤ most
-  by_begun false is waits at = first_most is (first_gap_is_open settings bits_next waits)
-  by_begun true is waits at = by_stand feed.rows.stand refl waits at.0
+  by_begun false is waits at misses = absurd (false≢true is)
+  by_begun true is waits at misses = by_stand feed.rows.stand refl waits at.0 misses
 
-  open_most : IsOpenAt feed.begun feed.rows.stand feed.ctx bits_next → length bits_next ≤ most
-  open_most waits = by_begun feed.begun refl waits stands.stands
+  open_most : feed.begun ≡ true → IsOpenAt feed.begun feed.rows.stand feed.ctx bits_next
+      → (is_at_line feed.rows.stand ≡ false → LacksEol feed.ctx.held (drop (feed.dropped + feed.place) whole))
+      → length bits_next ≤ most
+  open_most begun waits misses = by_begun feed.begun begun waits stands.stands misses
 
 -- ---- What is called
 

@@ -10,7 +10,11 @@ use Rattle.fax_rows.proofs.Readings.ZerosLast.{ends_in_zeros, zeros_start}
 use Rattle.fax_feeds.specs.declared.counted_gaps.GapSoFar.{GapSoFar}
 use Rattle.fax_feeds.specs.declared.gap_look.GapLook.{GapLook}
 use Rattle.fax_feeds.specs.CountedGaps.{CameSoFar, ComesCounted, CountsOn, PassesNear, StandsSoFar}
-use Rattle.fax_feeds.specs.GapsSeen.{IsSeen, nothing_seen, rules_for}
+use Rattle.fax_feeds.specs.GapsSeen.{IsSeen, is_settled, nothing_seen, rules_for, stage_following}
+use Rattle.fax_feeds.specs.declared.gap_look.GapRules.{GapRules}
+use Rattle.fax_feeds.specs.declared.gap_look.GapStage.TheVariants.{Start}
+use Rattle.fax_reading.specs.GapsContinued.{gap_is_settled}
+use Rattle.fax_feeds.proofs.Readings.GapsSeen.{gap_seen}
 use Rattle.fax_feeds.proofs.Readings.GapsSoFar.{after_row, at_line_counts, came_before, eol_is_passed, kept_tag, kept_zeros}
 use Rattle.fax_feeds.proofs.Readings.GapsSoFar.{missed_counts, reaches_before, same_frame, settled_code, settled_counts}
 use Rattle.fax_feeds.proofs.Readings.GapsSoFar.{tag_counted, unsettled_line, zeros_come}
@@ -99,6 +103,7 @@ returns-in-Waits c =
           (unseen c.args.ctx.now.held c.args.gap.now.look (here before) c.requires.seen (omega (arith, c.if-gap-gt0.false)));
       known = record {
         waits = λ e. let stays = on.says.stays c.in-Waits.is in (stays.tidy, c.requires.some, stays.most);
+        few = λ e none. (on.says.stays c.in-Waits.is).few;
         passed = λ other. absurd (other refl);
         zeros = λ zeros. absurd (false≢true (sym c.requires.some ∙ zeros));
         missed = λ some. absurd (omega (arith, some, c.if-gap-gt0.false));
@@ -123,6 +128,7 @@ returns-in-Waits c =
                   stands.passed,
                   leaves.1,
                 );
+                missed = λ some. absurd (omega (arith, some, c.if-gap-gt0.false));
               };
               start_is = leaves.1;
               unsettled = leaves.0.unsettled;
@@ -166,6 +172,7 @@ returns-in-Passed c =
       seen = λ e. cc;
       known = record {
         waits = λ e. cc;
+        few = λ e. cc;
         passed = λ other zeros. c.no_gap.ensures;
         zeros = λ zeros. absurd (false≢true (sym (ap (λ (g : GapSoFar). g.at_zeros) c.no_gap.ensures) ∙ zeros));
         missed = λ some. absurd (omega (arith, some, ap (λ (g : GapSoFar). g.look.bits) c.no_gap.ensures));
@@ -285,6 +292,7 @@ returns-in-Zeros c =
       seen = λ e. absurd (passed_some call.result (sym c.of_settled_gap.ensures ∙ e));
       known = record {
         waits = λ e. absurd (passed_some call.result (sym c.of_settled_gap.ensures ∙ e));
+        few = λ e. absurd (passed_some call.result (sym c.of_settled_gap.ensures ∙ e));
         passed = λ other zeros. absurd (false≢true (sym zeros));
         zeros = λ zeros. (
           says.0,
@@ -317,16 +325,22 @@ returns-then-gap-gt0 c =
     settled_counts c.args.dropped call.new.look known (ap (λ (g : GapSoFar). record g { look = call.new.look }) known)
     (omega (arith, c.bit_pos-before.ensures.place))
     (omega (arith, c.bit_pos-before.ensures.place, c.bit_pos-before.ensures.within))
-    (sym c.is_at_line.ensures ∙ c.if-is_at_line.false) call.result call.ensures
+    (sym c.is_at_line.ensures ∙ c.if-is_at_line.false) call.result call.ensures (λ e. omega (arith, c.if-gap-gt0.true))
 
 pub returns-then-is_settled_at_once : goal.returns-then-is_settled_at_once
 returns-then-is_settled_at_once c =
     let call = c.pass_settled_gap-then-is_settled_at_once in
     let known = c.nothing_counted.ensures c.if-nothing_counted.true in
+    let held = c.args.ctx.now.held in
+    let closed : gap_is_settled held.settings held.taken held.has_eols (here c.args.reader.now) ≡ true =
+    sym (gap_seen held.settings held.taken held.has_eols (here c.args.reader.now))
+    ∙ ap (λ (r : GapRules). is_settled (stage_following r Start 0 (here c.args.reader.now))) (sym c.rules_after_row-rules.ensures)
+    ∙ c.is_settled_at_once.ensures c.if-is_settled_at_once.true in
     settled_counts c.args.dropped call.new.look known (ap (λ (g : GapSoFar). record g { look = call.new.look }) known)
     (omega (arith, c.bit_pos-before.ensures.place))
     (omega (arith, c.bit_pos-before.ensures.place, c.bit_pos-before.ensures.within))
     (sym c.is_at_line.ensures ∙ c.if-is_at_line.false) call.result call.ensures
+    (λ e. absurd (false≢true (sym (call.ensures.waits e).6 ∙ closed)))
 
 pub returns-in-Missed : goal.returns-in-Missed
 returns-in-Missed c =

@@ -58,6 +58,7 @@ returns-in-Waits c =
       );
       known = record {
         waits = λ e. let stays = step.ensures.says.stays c.in-Waits.is in (stays.tidy, c.requires.some, stays.most);
+        few = λ e none. (step.ensures.says.stays c.in-Waits.is).few;
         passed = λ other. absurd (other refl);
         zeros = λ zeros. absurd (false≢true (sym c.requires.some ∙ zeros));
         missed = λ some. absurd (omega (arith, some, ap (λ (l : GapLook). l.bits) c.requires.unlooked));
@@ -103,6 +104,7 @@ returns-in-Passed c =
       waits = λ e. cc;
       known = record {
         waits = λ e. cc;
+        few = λ e. cc;
         passed = λ other zeros. c.no_gap.ensures;
         zeros = λ zeros. absurd (false≢true (sym (ap (λ (g : GapSoFar). g.at_zeros) c.no_gap.ensures) ∙ zeros));
         missed = λ some. absurd (omega (arith, some, ap (λ (g : GapSoFar). g.look.bits) c.no_gap.ensures));
@@ -137,6 +139,7 @@ returns-in-Zeros c =
       waits = λ e. cc;
       known = record {
         waits = λ e. cc;
+        few = λ e. cc;
         passed = λ other zeros. absurd (false≢true (sym zeros));
         zeros = λ zeros. (last, (step.ensures.says.zeros is).1, c.requires.unlooked);
         missed = λ some. absurd (omega (arith, some, ap (λ (l : GapLook). l.bits) c.requires.unlooked));

@@ -41,3 +41,13 @@ returns-clause-reads c whole tried feed =
 pub returns-clause-counts : goal.returns-clause-counts
 returns-clause-counts c = counts_on c.read_from_gap.result c.begin.ensures.keeps.settings c.begin.ensures.keeps.taken
     c.read_from_gap.ensures.counts
+
+pub returns-then-not-begin-clause-counts : goal.returns-then-not-begin-clause-counts
+returns-then-not-begin-clause-counts c = record {
+  settings = c.begin.ensures.keeps.settings;
+  taken = λ e. cc;
+  width = λ e. cc;
+  stands = λ e. cc;
+  unlooked = λ e. cc;
+  few = λ e away none. c.begin.ensures.keeps.few c.if-not-begin.true;
+}

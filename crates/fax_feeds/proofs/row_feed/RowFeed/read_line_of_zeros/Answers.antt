@@ -37,4 +37,4 @@ returns c =
     rw (← c.self.view_is, c.fed_row.ensures) (zeros_line_row (keeps at)
     (ap (λ (f : Feeding). is_at_line f.rows.stand) c.self.view_is ∙ c.requires.line) c.begin_line.ensures.frame
     c.begin_line.ensures.width (λ wide tagged. rw (← c.saturating_sub-start.ensures) (call.ensures.tries wide tagged))
-    call.ensures.counts call.ensures.stand (c.can_take_row.ensures.rows c.if-not-can_take_row.false))
+    call.ensures.counts call.ensures.stand call.ensures.left (c.can_take_row.ensures.rows c.if-not-can_take_row.false))
