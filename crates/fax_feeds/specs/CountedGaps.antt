@@ -125,8 +125,8 @@ pub record ComesCounted (is_last : Bool) (dropped : ℕ) (rows kept : RowState) 
       → CameSoFar answer (from + extra) rows kept old new whole stands.in_gap.start (dropped + after.place) next after
   pub passes : (from : ℕ) (whole : Bits) → LieIn whole dropped is_last before.bits
       → (stands : StandsSoFar from rows old whole (dropped + before.place) gap) → answer ≡ Ok (Some true)
-      → PassesNear is_last rows stands.in_gap.start (dropped + before.place) (dropped + after.place - next.passed) extra gap next old
-      (stands.in_gap.gone ++ here before)
+      → PassesNear is_last rows stands.in_gap.start (dropped + before.place) (dropped + after.place - next.passed) extra gap
+      next old (stands.in_gap.gone ++ here before)
 
 -- ---- What is before the first line
 

@@ -96,9 +96,9 @@ pub data IsFedInTurn (whole : Bits) (piece : ℕ) : Feeding → Type 0 where
 
 -- After a call that needs more, each bit that was fed from the line or the gap that is next on is needed for it. Of
 -- such bits few aren't part of it. The bits of a gap are counted and not kept, but for sixteen, unless an EOL is missing in it.
--- So where each piece is fed after such a call, a feed keeps no more bits than sixteen, or those for which the longest line so far,
--- or the longest gap without an EOL, or the one that is next, is open; those of a piece, and seven; and it has room for no more
--- than twice as many.
+-- So where each piece is fed after such a call, a feed keeps no more bits than sixteen, or those for which the longest line so
+-- far, or the longest gap without an EOL, or the one that is next, is open; those of a piece, and seven; and it has room for no
+-- more than twice as many.
 pub record FeedsKeepLittle : Type 0 where
   pub needed : (whole : Bits) (tried : ℕ) (old new : Feeding) → FeedsNext whole tried old new (Ok Fed.NeedsMore)
       → AreNeeded new.begun new.rows.stand new.ctx (drop (offset_of new) (take (fed_bits new) whole))

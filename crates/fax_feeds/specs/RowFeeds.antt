@@ -234,8 +234,8 @@ IsOpenAt true AfterRow ctx next = gap_is_settled ctx.held.settings ctx.held.take
 IsOpenAt true AtEnd ctx next = ⊥
 IsOpenAt true (AtFault error) ctx next = ⊥
 
--- Of a gap that begins these bits some were looked at before, and so many more now, each counted once but for sixteen. None are at
--- a line.
+-- Of a gap that begins these bits some were looked at before, and so many more now, each counted once but for sixteen. None are
+-- at a line.
 pub record LooksAhead (at_line : Bool) (looked : ℕ) (gap : Bits) (counted : ℕ) : Type 0 where
   pub line : at_line ≡ true → counted ≡ 0
   pub within : 0 < counted → counted + looked ≤ length gap + 16
@@ -309,8 +309,8 @@ pub record DrawsRow (old new : Feeding) : Type 0 where
       → start + length (changes new.ctx.held.reference) ≤ new.dropped + new.place + length fill + 13))
 
 -- How a call goes on in the data, and what it counts for that: where a gap is passed, its bits were looked at twice at most, and
--- no more than sixteen beyond it; the changes of a row are no more than the words of its line, and one; and the lists of changes have no more room
--- than before, or than a row needs.
+-- no more than sixteen beyond it; the changes of a row are no more than the words of its line, and one; and the lists of
+-- changes have no more room than before, or than a row needs.
 pub record CallGoesOn (old new : Feeding) (answer : Result Fed DecodeError) (gap extra : ℕ) : Type 0 where
   pub counts : old.ctx.ticks + extra ≤ new.ctx.ticks
   pub stored : answer ≡ Ok Fed.Row → length (changes new.ctx.held.reference) + (old.ctx.ticks + extra) ≤ new.ctx.ticks + 1

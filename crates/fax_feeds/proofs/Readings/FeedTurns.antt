@@ -8,7 +8,8 @@ use Rattle.std.specs.Prelude.{◌^◌}
 use Rattle.fax_bits.proofs.BitReading.BitLists.{length-bits_in}
 use Rattle.fax_feeds.proofs.Readings.FeedsCounted.{IsCountedBy, counted_comes}
 use Rattle.fax_feeds.proofs.Readings.FeedsFramed.{fed_of, framed, next_of, plain_of}
-use Rattle.fax_feeds.proofs.Readings.FeedsOn.{at_line_unended, feed_reads, gap_feeds, line_feeds, none_row, reached_here, row_fits}
+use Rattle.fax_feeds.proofs.Readings.FeedsOn.{at_line_unended, feed_reads, gap_feeds, line_feeds, none_row, reached_here}
+use Rattle.fax_feeds.proofs.Readings.FeedsOn.{row_fits}
 use Rattle.fax_feeds.proofs.Readings.LooksKept.{IsLawfulGap, counted_lawful, fresh_look, none_counted_of, seen_begun, seen_there}
 use Rattle.fax_feeds.proofs.Readings.PartsFed.{none_kept}
 use Rattle.fax_feeds.proofs.Readings.RowsPassed.{counts_on, counts_row, line_was_needed}

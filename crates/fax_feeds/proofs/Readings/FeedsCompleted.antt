@@ -101,8 +101,8 @@ knows_passed whole feed few within none zeros unlooked =
       place = omega (arith, few, long);
       long = long;
       counted = λ e.
-          ap (λ (g : GapSoFar). counted_by (gap_rules feed.begun feed.ctx.held.settings) none_counted (take g.passed gap)) (none e)
-          ∙ ap (λ (g : GapSoFar). Some g.count) (sym (none e));
+          ap (λ (g : GapSoFar). counted_by (gap_rules feed.begun feed.ctx.held.settings) none_counted (take g.passed gap))
+          (none e) ∙ ap (λ (g : GapSoFar). Some g.count) (sym (none e));
       zeros = zeros;
       missed = λ some. absurd (omega (arith, some, none_looked feed.gap.at_zeros refl));
     }

@@ -1,14 +1,16 @@
 -- What a call that passes the gap before the next line leaves of a feed, where the first bits of the gap may have been counted.
 use Rattle.fax_feeds.proofs.Names.{◌≡◌, ◌≢◌, ◌∙◌, ◌+◌, ◌-◌, ◌*◌, ◌≤◌, ◌++◌, ◌&&◌, ap, sym, subst}
 use Rattle.fax_feeds.proofs.Names.{arith, length, drop, take, ℕ, Bool, true, false, [], refl, Some, None, Ok, Err, Result, Option}
-use Rattle.fax_feeds.proofs.Names.{Bits, BitsAt, Context, DecodeError, Held, here, is_at_line, length-drop, length-append, IsStanding}
+use Rattle.fax_feeds.proofs.Names.{Bits, BitsAt, Context, DecodeError, Held, here, is_at_line, length-drop, length-append}
+use Rattle.fax_feeds.proofs.Names.{IsStanding}
 use Rattle.fax_feeds.proofs.Names.{ReachesNextLine, and_parts, false≢true, seen}
 use Rattle.fax_reading.specs.GapsContinued.{gap_is_settled}
 use Rattle.fax_rows.specs.declared.row_reader.RowState.{RowState}
 use Rattle.fax_rows.specs.GapsCounted.{counted_by, left_before, none_counted}
 use Rattle.fax_feeds.specs.declared.counted_gaps.GapSoFar.{GapSoFar}
 use Rattle.fax_feeds.specs.CountedGaps.{CameSoFar, ComesCounted, ComesSoFar, PassesNear, StandsSoFar}
-use Rattle.fax_feeds.specs.RowFeeds.{ComesInFeed, Feeding, IsFeedOf, KeepsBits, KnowsGap, LacksEol, LieIn, ReachesLine, StandsIn, came}
+use Rattle.fax_feeds.specs.RowFeeds.{ComesInFeed, Feeding, IsFeedOf, KeepsBits, KnowsGap, LacksEol, LieIn, ReachesLine}
+use Rattle.fax_feeds.specs.RowFeeds.{StandsIn, came}
 use Rattle.fax_feeds.specs.RowFeeds.{PassesEol, completed, fed_bits, fed_over, gap_rules, no_gap, offset_of, zeros_left}
 use Rattle.fax_feeds.proofs.Readings.FeedsCompleted.{at_within, full_gap, full_is_plain, full_long, gap_long, known_long}
 use Rattle.fax_feeds.proofs.Readings.FeedsCompleted.{knows_passed}
@@ -29,8 +31,8 @@ pub record IsCountedBy (whole : Bits) (tried : ℕ) (old new : Feeding) (before 
   pub looked_now : new.looked ≡ new.gap.passed + new.gap.look.bits
   pub some : old.gap.at_zeros ≡ false
 
-module _ {whole : Bits} {tried : ℕ} {old new : Feeding} {before after : BitsAt} (by : IsCountedBy whole tried old new before after)
-    {answer : Result (Option Bool) DecodeError}
+module _ {whole : Bits} {tried : ℕ} {old new : Feeding} {before after : BitsAt}
+    (by : IsCountedBy whole tried old new before after) {answer : Result (Option Bool) DecodeError}
     (on : ComesCounted old.finished old.dropped old.rows new.rows old.gap new.gap old.ctx new.ctx before after answer) where
   abbrev fed : IsFeedOf whole tried old
   fed = by.fed

@@ -1,7 +1,9 @@
 -- What a call leaves of a feed at a line, of one with all bits that were fed.
 use Rattle.fax_feeds.proofs.Names.{◌≡◌, ◌≢◌, ◌∙◌, ◌+◌, ◌-◌, ◌*◌, ◌≤◌, ◌++◌, ◌∷◌, ◌&&◌, ◌⊎◌, inl, inr, ap, sym, subst, refl}
-use Rattle.fax_feeds.proofs.Names.{arith, length, drop, take, replicate, true, false, ℕ, Bool, [], None, Some, Ok, Err, Result, Option}
-use Rattle.fax_feeds.proofs.Names.{Bits, DecodeError, IfErr-weaker, IsStanding, ReadsNext, RowsRead, changes, front_of, is_at_line}
+use Rattle.fax_feeds.proofs.Names.{arith, length, drop, take, replicate, true, false, ℕ, Bool, [], None, Some, Ok, Err}
+use Rattle.fax_feeds.proofs.Names.{Result, Option}
+use Rattle.fax_feeds.proofs.Names.{Bits, DecodeError, IfErr-weaker, IsStanding, ReadsNext, RowsRead, changes, front_of}
+use Rattle.fax_feeds.proofs.Names.{is_at_line}
 use Rattle.fax_feeds.proofs.Names.{line_here, row_of_line, seen}
 use Rattle.fax_reading.specs.Answers.{HasBlack}
 use Rattle.fax_feeds.specs.declared.counted_gaps.GapSoFar.{GapSoFar}

@@ -1,8 +1,11 @@
 -- What is before the first line of a feed, of which the first bits may have been counted.
-use Rattle.fax_feeds.proofs.Names.{◌≡◌, ◌≢◌, ◌∙◌, ◌+◌, ◌-◌, ◌*◌, ◌≤◌, ◌<◌, ◌++◌, ◌&&◌, [], ap, sym, subst, refl, arith, length, drop}
-use Rattle.fax_feeds.proofs.Names.{take, true, false, not, ℕ, Bool, Ok, Err, Some, None, Result, Option, Bits, BitsAt, Context, Held}
+use Rattle.fax_feeds.proofs.Names.{◌≡◌, ◌≢◌, ◌∙◌, ◌+◌, ◌-◌, ◌*◌, ◌≤◌, ◌<◌, ◌++◌, ◌&&◌, [], ap, sym, subst, refl, arith}
+use Rattle.fax_feeds.proofs.Names.{length, drop}
+use Rattle.fax_feeds.proofs.Names.{take, true, false, not, ℕ, Bool, Ok, Err, Some, None, Result, Option, Bits, BitsAt}
+use Rattle.fax_feeds.proofs.Names.{Context, Held}
 use Rattle.fax_feeds.proofs.Names.{DecodeError, DecodeSettings, IsStanding, ReachesNextLine, Stand, AtEnd, AtLine, and_parts}
-use Rattle.fax_feeds.proofs.Names.{append_assoc, bits_in, ended, false≢true, here, inl, inr, is_at_line, is_some, length-drop, seen}
+use Rattle.fax_feeds.proofs.Names.{append_assoc, bits_in, ended, false≢true, here, inl, inr, is_at_line, is_some}
+use Rattle.fax_feeds.proofs.Names.{length-drop, seen}
 use Rattle.fax_feeds.proofs.Names.{eqb, length-append, stand_after, IsPaid, ◌||◌}
 use Rattle.fax_rows.specs.RowsRead.{DamageIsCounted, ReaderStands}
 use Rattle.fax_reading.specs.GapsContinued.{first_gap_is_settled}
@@ -132,11 +135,11 @@ module _ {f : Inside} {before after : BitsAt} {ctx : Context} {gap : GapSoFar} {
             lie = fed.lie;
             stands = subst (λ (b : Bool). StandsIn b (tried + extra) f.rows ctx
                 (record { bits = whole; place = offset_of (feeding_of waiting) })) (sym by.unbegun) (record {
-              fresh = held_same ∙ (front by fed).fresh ∙ ap (λ (h : Held). fresh h.settings) (sym held_same);
-              ticks = omega (arith, ticks_are, (front by fed).ticks);
-              state = (front by fed).state;
-              start = none_before;
-            });
+                  fresh = held_same ∙ (front by fed).fresh ∙ ap (λ (h : Held). fresh h.settings) (sym held_same);
+                  ticks = omega (arith, ticks_are, (front by fed).ticks);
+                  state = (front by fed).state;
+                  start = none_before;
+                });
             known = record {
               gone = waits.stands.gone;
               are = ap (λ (n : ℕ). drop n whole) none_before ∙ waits.stands.are
@@ -188,17 +191,6 @@ module _ {f : Inside} {before after : BitsAt} {ctx : Context} {gap : GapSoFar} {
         };
         stands = waiting_fed;
       }
-
-  -- few bits are kept
-  pub waiting_few : answer ≡ None → length (bits_in f.order f.«data».items) ≤ place + 16
-  waiting_few is = omega (
-    arith,
-    on.known.few (ap (λ (o : Option Bool). Ok o) is) (ap (λ (l : GapLook). l.bits) on.unlooked),
-    there,
-    ap length bits_before,
-    ap length on.same_bits,
-    length-drop after.place after.bits,
-  )
 
   -- what is so of every feed stays so
   pub waiting_kept : answer ≡ None → 0 < f.ctx.held.settings.columns → IsKept (record f { ctx = ctx; gap = gap; place = place })
@@ -298,8 +290,9 @@ module _ {f : Inside} {before after : BitsAt} {ctx : Context} {gap : GapSoFar} {
       stood : IsStanding (tried + extra) (record f.rows { stand = stand }) ctx (record { bits = whole; place = first.place })
       stood = subst (λ (s : Stand). IsStanding (tried + extra) (record f.rows { stand = s }) ctx
           (record { bits = whole; place = first.place })) (sym stand_is)
-          (front_stood (feeding_of f) (feeding_of (record passed { rows = record f.rows { stand = stand_after (Ok (not line)) } }))
-          mid (stand_after (Ok (not line))) extra refl refl ticks_are first.place first.passes on.takes.taken
+          (front_stood (feeding_of f)
+          (feeding_of (record passed { rows = record f.rows { stand = stand_after (Ok (not line)) } })) mid
+          (stand_after (Ok (not line))) extra refl refl ticks_are first.place first.passes on.takes.taken
           on.takes.settings (omega arith) (unfailed_by line) (at_line_by line) (front by fed))
 
       passed_fed : IsFeedOf whole (tried + extra) (feeding_of passed)
@@ -337,9 +330,11 @@ module _ {f : Inside} {before after : BitsAt} {ctx : Context} {gap : GapSoFar} {
           (subst (λ (n : ℕ). ReachesNextLine (seen f.rows f.ctx (record { bits = whole; place = offset_of (feeding_of f) }))
           (seen (record f.rows { stand = stand_after (Ok (not line)) }) ctx (record { bits = whole; place = n }))
           (line_first (stand_after (Ok (not line))))) (sym passed_at ∙ sym (place_of (offset_of (feeding_of passed))))
-          (front_reaches (feeding_of f) (feeding_of (record passed { rows = record f.rows {
-            stand = stand_after (Ok (not line));
-          } })) mid (stand_after (Ok (not line))) extra refl refl ticks_are first.place first.passes on.takes.taken
+          (front_reaches (feeding_of f) (feeding_of (record passed {
+            rows = record f.rows {
+              stand = stand_after (Ok (not line));
+            };
+          })) mid (stand_after (Ok (not line))) extra refl refl ticks_are first.place first.passes on.takes.taken
           on.takes.settings (omega arith) (unfailed_by line) (at_line_by line) (front by fed))))
 
       pub passes_first : BeginsCounted whole tried (feeding_of f) (feeding_of passed) true
@@ -483,8 +478,8 @@ module _ {f : Inside} {before after : BitsAt} {ctx : Context} {place : ℕ} {sta
         (subst (λ (n : ℕ). ReachesNextLine (seen f.rows f.ctx (record { bits = whole; place = offset_of (feeding_of f) }))
         (seen (record f.rows { stand = stand }) ctx (record { bits = whole; place = n })) (line_first stand))
         (sym ended_at ∙ sym (place_is (offset_of (feeding_of ended_feed))))
-        (front_reaches (feeding_of f) (feeding_of ended_feed) f.ctx stand 0 refl refl (omega arith) after.place at_whole none_taken
-        takes.settings first.counts unfailed at_line (front by fed)))
+        (front_reaches (feeding_of f) (feeding_of ended_feed) f.ctx stand 0 refl refl (omega arith) after.place at_whole
+        none_taken takes.settings first.counts unfailed at_line (front by fed)))
 
     pub narrow_first : BeginsCounted whole tried (feeding_of f) (feeding_of ended_feed) true
     narrow_first = record {

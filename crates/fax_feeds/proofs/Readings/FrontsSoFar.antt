@@ -109,7 +109,8 @@ module _ {old mid new : Context} (eols : ℕ) {line : Bool} (same : mid.held ≡
         );
         within = found.3;
         passes = passes_by_held old mid new whole next line same (passes_front mid new mid.ticks whole next gap.count.eols line
-            (same ∙ begins ∙ ap fresh (sym settings_same)) (subst (λ (s : DecodeSettings). 0 < s.columns) (sym settings_same) wide)
+            (same ∙ begins ∙ ap fresh (sym settings_same))
+            (subst (λ (s : DecodeSettings). 0 < s.columns) (sym settings_same) wide)
             found.3 (ap (λ (s : DecodeSettings). eols_here (front_rules s) whole) settings_same ∙ found.1)
             (λ is. (
               (four is).0,

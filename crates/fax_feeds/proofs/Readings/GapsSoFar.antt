@@ -10,7 +10,8 @@ use Rattle.fax_rows.specs.GapsCounted.{left_before, none_counted, one_counted, t
 use Rattle.fax_rows.specs.ZerosLast.{PassesZeros, zeros_passed}
 use Rattle.fax_rows.proofs.Readings.GapsCounted.{counted_then, stands, zero_alike}
 use Rattle.fax_rows.specs.declared.gap_count.GapStep.{GapStep}
-use Rattle.fax_feeds.proofs.Names.{◌≢◌, ◌-◌, ◌<◌, ◌∷◌, ◌&&◌, ◌*◌, not, leb, eqb, inl, inr, cases_lt, append_assoc, drop, common_steps}
+use Rattle.fax_feeds.proofs.Names.{◌≢◌, ◌-◌, ◌<◌, ◌∷◌, ◌&&◌, ◌*◌, not, leb, eqb, inl, inr, cases_lt, append_assoc, drop}
+use Rattle.fax_feeds.proofs.Names.{common_steps}
 use Rattle.fax_feeds.proofs.Names.{DecodeSettings, EncodingMode, Group3_1D, Group3_2D, Group4, IfErr, InvalidCode, is_at_line}
 use Rattle.fax_feeds.proofs.Names.{at_end, eols_here, limit_met, misses_eol}
 use Rattle.std.proofs.lemmas.Bool.{leb-true}
@@ -174,8 +175,8 @@ kept_tag encoding count = by_test (leb 6 count.eols && has_tags encoding) refl
     by_test false e t = rw (e) at t
 
 -- a tag was counted only where there are tags (T.4, 4.2.2)
-pub tag_counted : (settings : DecodeSettings) (bits : Bits) (count : GapCount) → counted_by settings none_counted bits ≡ Some count
-    → count.tag ≡ true → settings.encoding ≡ Group3_2D
+pub tag_counted : (settings : DecodeSettings) (bits : Bits) (count : GapCount)
+    → counted_by settings none_counted bits ≡ Some count → count.tag ≡ true → settings.encoding ≡ Group3_2D
 tag_counted settings bits count is tag = by_encoding settings.encoding (stands settings 0 false bits [] count is).1.tag
   where
     by_encoding : (encoding : EncodingMode) → (count.tag ≡ true → (has_tags encoding ≡ true) × (0 < count.eols))
@@ -236,7 +237,8 @@ counted_eol tags two count (true ∷ bits) end is more =
         let tag : next ≡ tag_more count = one_few tags two count next few e in
         let none : next.zeros ≡ 0 = ap (λ (n : GapCount). n.zeros) tag in
         let there = on next then (omega (arith, more, ap (λ (n : GapCount). n.eols) tag)) in
-        behind (replicate count.zeros false) (behind (true ∷ []) (subst (λ (n : ℕ). HasEol (replicate n false ++ bits)) none there))
+        behind (replicate count.zeros false)
+        (behind (true ∷ []) (subst (λ (n : ℕ). HasEol (replicate n false ++ bits)) none there))
 
 -- so many bits before others
 pub eol_is_passed : (settings : DecodeSettings) (gone : Bits) (count : GapCount) (before after : Bits) (start : ℕ)
@@ -279,7 +281,8 @@ unsettled_line (Ok true) e = refl
 unsettled_line (Ok false) e = absurd cc
 unsettled_line (Err error) e = absurd cc
 
-pub settled_code : (r : Result Bool DecodeError) → IfErr r (λ e. e ≡ InvalidCode) → IfErr (of_settled_gap r) (λ e. e ≡ InvalidCode)
+pub settled_code : (r : Result Bool DecodeError) → IfErr r (λ e. e ≡ InvalidCode)
+    → IfErr (of_settled_gap r) (λ e. e ≡ InvalidCode)
 settled_code (Ok line) code = tt
 settled_code (Err error) code = code
 
@@ -355,7 +358,8 @@ module _ (dropped : ℕ) {is_last : Bool} {gap_start : ℕ} {rows kept : RowStat
     line = on.line;
     at_line = λ line. absurd (false≢true (sym no_line ∙ line));
     only_code = on.only_code;
-    near = λ e. omega (arith, (on.looked e).0, ap (λ (b : BitsAt). b.place) (waits_there e), ap (λ (l : GapLook). l.bits) look_is);
+    near = λ e.
+        omega (arith, (on.looked e).0, ap (λ (b : BitsAt). b.place) (waits_there e), ap (λ (l : GapLook). l.bits) look_is);
     looks = λ some. omega (arith, on.looks.within some, within, length-drop before.place before.bits);
     waits = λ e. let waits = on.waits e in (waits.0, waits.1, waits.4, waits.2);
     seen = λ e. subst (λ (l : GapLook). IsSeen (rules_for true old.held) l (here after)) (sym look_is)
@@ -399,8 +403,8 @@ eols_sought settings taken false bits misses =
     none_missed false b c = refl
 
 -- a step found that its EOL is missing, and it is looked at as a whole from where it begins
-module _ (dropped : ℕ) (gap : GapSoFar) {is_last : Bool} {gap_start : ℕ} {rows kept : RowState} {next : GapSoFar} {count : GapCount}
-    {old mid new : Context} {before to after : BitsAt} (look : GapLook) (unlooked : gap.look.bits ≤ 0)
+module _ (dropped : ℕ) (gap : GapSoFar) {is_last : Bool} {gap_start : ℕ} {rows kept : RowState} {next : GapSoFar}
+    {count : GapCount} {old mid new : Context} {before to after : BitsAt} (look : GapLook) (unlooked : gap.look.bits ≤ 0)
     (next_is : next ≡ record no_gap { look = look }) (starts : gap_start ≡ dropped + to.place)
     (no_line : is_at_line rows.stand ≡ false) (answer : Result (Option Bool) DecodeError)
     (first : CountsOn is_last rows rows gap.count count old mid before to GapStep.Missed)
@@ -438,8 +442,8 @@ module _ (dropped : ℕ) (gap : GapSoFar) {is_last : Bool} {gap_start : ℕ} {ro
         let stood = subst (λ (n : ℕ). IsStanding (from + first.extra) rows mid (record { bits = whole; place = n })) (sym starts)
         lacks.0.stands in
         let lies = subst (LieIn whole dropped is_last) (sym first.same_bits) lie in
-        let comes = missed_comes answer on (from + first.extra) whole dropped lies starts to_within stands.in_gap.start missed_start
-        stood (λ e. subst (λ (n : ℕ). LacksEol mid.held (drop n whole)) lacks.1 lacks.0.misses) in
+        let comes = missed_comes answer on (from + first.extra) whole dropped lies starts to_within stands.in_gap.start
+        missed_start stood (λ e. subst (λ (n : ℕ). LacksEol mid.held (drop n whole)) lacks.1 lacks.0.misses) in
         let sum : (from + first.extra) + on.extra ≡ from + (first.extra + on.extra) = omega arith in
         subst (λ (g : GapSoFar). CameSoFar answer (from + (first.extra + on.extra)) rows kept old new whole stands.in_gap.start
         (dropped + after.place) g after) (sym next_is)

@@ -98,7 +98,8 @@ pub counted_lawful : {is_last : Bool} {dropped at : ℕ} {rows kept : RowState} 
     → ComesCounted is_last dropped rows kept gap next old new before after answer → IsCounted gap (dropped + before.place)
     → gap.at_zeros ≡ false → before.place ≤ length before.bits → at ≡ dropped + after.place
     → IsLawfulGap is_last at kept new.held next (here after)
-counted_lawful {is_last} {dropped} {at} {rows} {kept} {gap} {next} {old} {new} {before} {after} (Ok None) on counted follows within
+counted_lawful {is_last} {dropped} {at} {rows} {kept} {gap} {next} {old} {new} {before} {after} (Ok None) on counted follows
+    within
     at_is =
     let waits = on.known.waits refl in
     record {

@@ -1,7 +1,10 @@
 -- What is read of the zeros with which the data ends, of which a feed keeps the number alone.
-use Rattle.fax_feeds.proofs.Names.{◌≡◌, ◌≢◌, ◌∙◌, ◌+◌, ◌-◌, ◌*◌, ◌≤◌, ◌<◌, ◌++◌, ◌&&◌, [], ap, sym, subst, refl, arith, length, drop}
-use Rattle.fax_feeds.proofs.Names.{take, true, false, ℕ, Bool, Ok, Err, Some, None, Result, Option, Bits, BitsAt, Context, Held, White}
-use Rattle.fax_feeds.proofs.Names.{DecodeError, DecodeSettings, Group3_2D, InvalidCode, IfErr, IsStanding, ReachesNextLine, and_parts}
+use Rattle.fax_feeds.proofs.Names.{◌≡◌, ◌≢◌, ◌∙◌, ◌+◌, ◌-◌, ◌*◌, ◌≤◌, ◌<◌, ◌++◌, ◌&&◌, [], ap, sym, subst, refl, arith}
+use Rattle.fax_feeds.proofs.Names.{length, drop}
+use Rattle.fax_feeds.proofs.Names.{take, true, false, ℕ, Bool, Ok, Err, Some, None, Result, Option, Bits, BitsAt, Context}
+use Rattle.fax_feeds.proofs.Names.{Held, White}
+use Rattle.fax_feeds.proofs.Names.{DecodeError, DecodeSettings, Group3_2D, InvalidCode, IfErr, IsStanding, ReachesNextLine}
+use Rattle.fax_feeds.proofs.Names.{and_parts}
 use Rattle.fax_feeds.proofs.Names.{append-nil, false≢true, is_at_line, ended, length-drop, redrawn, seen}
 use Rattle.std.specs.Prelude.{◌^◌}
 use Rattle.fax_rows.specs.declared.gap_count.GapCount.{GapCount}
@@ -41,8 +44,8 @@ module _ {whole : Bits} {tried : ℕ} {feed : Feeding} (at : IsAtZeros whole tri
   zeros_are = at.fed.known.zeros at.zeros
 
   pub zeros_stood : IsStanding tried feed.rows feed.ctx (record { bits = whole; place = offset_of feed })
-  zeros_stood = subst (λ (b : Bool). StandsIn b tried feed.rows feed.ctx (record { bits = whole; place = offset_of feed })) at.begun
-      at.fed.stands
+  zeros_stood = subst (λ (b : Bool). StandsIn b tried feed.rows feed.ctx (record { bits = whole; place = offset_of feed }))
+      at.begun at.fed.stands
 
   pub start_within : offset_of feed ≤ length whole
   start_within = omega (arith, at_within at.fed at.within)
@@ -103,7 +106,8 @@ module _ {whole : Bits} {tried : ℕ} {feed : Feeding} (at : IsAtZeros whole tri
     tried_line : TriesLine zeros_alone.finished (zeros_alone.dropped + zeros_alone.place) feed.rows new.rows begin new.ctx
         (zeros_at feed.gap.count.tag feed.gap.count.zeros) (zeros_at feed.gap.count.tag feed.gap.count.zeros) answer
     tried_line =
-        let wide = (at_line_stands feed.rows.stand feed.ctx.held.settings whole feed.ctx.held (offset_of feed) line zeros_stood.0).wide in
+        let held = feed.ctx.held in
+        let wide = (at_line_stands feed.rows.stand held.settings whole held (offset_of feed) line zeros_stood.0).wide in
         let settings_are : begin.held.settings ≡ feed.ctx.held.settings = ap (λ (c : Context). c.held.settings) frame in
         let all = tries (subst (λ (s : DecodeSettings). 0 < s.columns) (sym settings_are) wide)
         (λ tag. ap (λ (s : DecodeSettings). s.encoding) settings_are ∙ zeros_are.2 tag) in

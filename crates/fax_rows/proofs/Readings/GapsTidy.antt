@@ -11,7 +11,8 @@ use Rattle.std.proofs.Math.Seq.{drop-append_seam, drop-length}
 use Rattle.fax_rows.proofs.Readings.GapsCounted.{counted_then, zero_alike}
 use Rattle.fax_rows.specs.declared.gap_count.GapCount.{GapCount}
 use Rattle.fax_rows.specs.GapsCounted.{CountsTo, EndsAtOne, StaysOpen, counted_by, ends_at_two, has_tags}
-use Rattle.fax_rows.specs.GapsCounted.{IsTidy, StaysCounted, behind_tag, can_be_tag, counted, eol_counted, eol_more, left_before, one_counted}
+use Rattle.fax_rows.specs.GapsCounted.{IsTidy, StaysCounted, behind_tag, can_be_tag, counted, eol_counted, eol_more}
+use Rattle.fax_rows.specs.GapsCounted.{left_before, one_counted}
 use Rattle.fax_rows.specs.GapsCounted.{tag_more, to_last_eol, zero_more}
 
 module _ (tags two : Bool) where

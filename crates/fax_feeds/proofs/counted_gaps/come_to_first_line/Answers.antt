@@ -1,5 +1,6 @@
 use Rattle.fax_feeds.proofs.Names.{◌≡◌, ◌≢◌, ◌∙◌, ◌+◌, ◌≤◌, ◌<◌, ◌++◌, [], ap, sym, subst, refl, arith, length, drop}
-use Rattle.fax_feeds.proofs.Names.{true, false, not, ℕ, Bool, Ok, Some, None, Bits, Context, DecodeSettings, Held, here, false≢true}
+use Rattle.fax_feeds.proofs.Names.{true, false, not, ℕ, Bool, Ok, Some, None, Bits, Context, DecodeSettings, Held, here}
+use Rattle.fax_feeds.proofs.Names.{false≢true}
 use Rattle.fax_feeds.proofs.Names.{length-drop, ◌⊎◌, inl, inr}
 use Rattle.fax_rows.specs.declared.gap_count.GapCount.{GapCount}
 use Rattle.fax_rows.specs.declared.gap_count.GapStep.{GapStep}
@@ -135,7 +136,11 @@ returns-in-Zeros c =
       same_bits = step.ensures.moves.0;
       within = step.ensures.moves.2;
       onward = step.ensures.moves.1;
-      near = omega (arith, step.ensures.work, front_ticks step.new.count.eols same step.ensures.kept.1 call.ensures.group4 call.ensures.group3);
+      near = omega (
+        arith,
+        step.ensures.work,
+        front_ticks step.new.count.eols same step.ensures.kept.1 call.ensures.group4 call.ensures.group3,
+      );
       waits = λ e. cc;
       known = record {
         waits = λ e. cc;
@@ -158,4 +163,3 @@ returns-in-Zeros c =
           (record { count = step.new.count; passed = c.bits_left-gap.result; at_zeros = true; look = c.args.gap.now.look }) refl
           ends none_left within c.requires.fresh c.requires.wide (c.bits_left-gap.ensures left);
     }
-

@@ -50,8 +50,11 @@ returns-then-gap_waits c =
     record {
       extra = c.gap_waits.new.ctx.ticks - c.args.ctx.now.ticks;
       looks = grind (arith, common_steps, false≢true, looked_within);
-      looked = λ e. (omega (arith, c.gap_waits.ensures.looked, c.gap_waits.ensures.onward), c.gap_waits.ensures.seen,
-          c.gap_waits.ensures.all c.if-gap_waits.true);
+      looked = λ e. (
+        omega (arith, c.gap_waits.ensures.looked, c.gap_waits.ensures.onward),
+        c.gap_waits.ensures.seen,
+        c.gap_waits.ensures.all c.if-gap_waits.true,
+      );
       none_looked = λ passed. absurd (passed refl);
       near = λ passed unfinished. absurd (passed refl);
       counts = omega (arith, c.gap_waits.ensures.looked, c.gap_waits.ensures.onward);

@@ -1,4 +1,5 @@
-use Rattle.fax_feeds.proofs.Names.{common_steps, ◌≡◌, ◌≢◌, ◌∙◌, ◌+◌, ◌<◌, ap, sym, subst, refl, arith, length, true, false, ℕ, BitsAt}
+use Rattle.fax_feeds.proofs.Names.{common_steps, ◌≡◌, ◌≢◌, ◌∙◌, ◌+◌, ◌<◌, ap, sym, subst, refl, arith, length, true, false}
+use Rattle.fax_feeds.proofs.Names.{ℕ, BitsAt}
 use Rattle.fax_feeds.proofs.Names.{Bits, bits_in, None, Some, Option, Ok, Bool, drop, not, Stand, stand_after, DecodeSettings}
 use Rattle.fax_feeds.proofs.Readings.FeedTurns.{can_go_on}
 use Rattle.fax_feeds.proofs.Readings.FrontsFed.{IsFrontBy, leaves, narrow_first, narrow_kept, passed_kept, passes_first}

@@ -1,4 +1,5 @@
-use Rattle.fax_feeds.proofs.Names.{common_steps, ◌≡◌, ◌≢◌, ◌∙◌, ◌+◌, ◌≤◌, ap, sym, subst, refl, arith, length, true, false, ℕ, None, Some, Option}
+use Rattle.fax_feeds.proofs.Names.{common_steps, ◌≡◌, ◌≢◌, ◌∙◌, ◌+◌, ◌≤◌, ap, sym, subst, refl, arith, length, true, false}
+use Rattle.fax_feeds.proofs.Names.{ℕ, None, Some, Option}
 use Rattle.fax_feeds.proofs.Names.{is_at_line}
 use Rattle.fax_feeds.proofs.Readings.FeedTurns.{within_bits}
 use Rattle.fax_feeds.proofs.Readings.FeedsFramed.{fed_of, framed, next_of, plain_of}

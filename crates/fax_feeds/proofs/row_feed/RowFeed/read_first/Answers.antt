@@ -1,7 +1,8 @@
 use Rattle.fax_feeds.proofs.Names.{arith, common_steps, ◌≡◌, ◌∙◌, ◌+◌, sym, ap, subst, refl, is_some, ended, true, false}
 use Rattle.fax_feeds.proofs.Readings.FeedsCompleted.{full_is_plain}
 use Rattle.fax_feeds.proofs.Readings.FeedsFramed.{next_of}
-use Rattle.fax_feeds.proofs.Readings.FeedsOn.{feeds_on, first_line_is, front_ends_feeds, front_waits_feeds, unbegun_looks, unended_stand}
+use Rattle.fax_feeds.proofs.Readings.FeedsOn.{feeds_on, first_line_is, front_ends_feeds, front_waits_feeds, unbegun_looks}
+use Rattle.fax_feeds.proofs.Readings.FeedsOn.{unended_stand}
 use Rattle.fax_feeds.proofs.Readings.RowsPassed.{counts_on}
 use Rattle.fax_feeds.specs.RowFeeds.{BeginsCounted, Feeding}
 use Rattle.fax_feeds.proofs.row_feed.RowFeed.read_first.Goals as goal
