@@ -172,8 +172,8 @@ uint32_t hayro_ccitt_close(hayro_ccitt_reader *reader);
  * the data, and read the rows that are left; close the feed. The rows, the last status and bytes_read are those of a reader of
  * all the data.
  *
- * A feed keeps a copy of the bytes that it still needs: those of a line that isn't whole, all of a gap between lines that isn't,
- * however long it is, and what was fed but not read yet.
+ * A feed keeps a copy of the bytes that it still needs: those of a line that isn't whole, few of a gap between lines that isn't,
+ * or all up to the next EOL where one is missing, however many these are, and what was fed but not read yet.
  *
  * Several feeds may be open at a time. Each belongs to one thread at a time. A feed that isn't closed leaks its memory. */
 typedef struct {

@@ -357,10 +357,10 @@ fn try_line_of_zeros(
 
 /// Reads the rows of an image from data that comes in pieces, each as soon as no data that follows can change its line.
 ///
-/// It keeps the bits that weren't read, and after [`feed`](RowFeed::feed) fewer than eight before them. After [`Fed::NeedsMore`]
-/// each of them is needed for the line that is next, or the gap before it. So where each piece is fed after `NeedsMore`, it keeps
-/// at most the bits of the longest line or gap, one piece, and seven bits, in room for at most twice as many: the law
-/// `feeds_keep_little`. A gap may be as long as the data, and is kept whole.
+/// It keeps the bits that weren't read, and after [`feed`](RowFeed::feed) fewer than eight before them. The bits of a gap are
+/// counted, and but sixteen of them kept, unless an EOL is missing: up to the next one they are kept. So where each piece is fed
+/// after [`Fed::NeedsMore`], it keeps at most sixteen bits, or those of the longest line or gap without an EOL, one piece, and
+/// seven bits, in room for at most twice as many: the law `feeds_keep_little`.
 ///
 /// # Example
 ///

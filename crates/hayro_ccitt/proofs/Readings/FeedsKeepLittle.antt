@@ -1,19 +1,21 @@
 -- What a feed keeps of the data is needed, and no more than a line or a gap needs, a piece, and seven bits.
 use Rattle.hayro_ccitt.proofs.Names.{common_steps}
 use Rattle.hayro_ccitt.proofs.Names.{◌≡◌, ◌∙◌, ◌+◌, ◌*◌, ◌≤◌, ◌++◌, ◌∷◌, [], ℕ, Bool, true, false, Option, None, Some}
+use Rattle.hayro_ccitt.proofs.Names.{cases_lt, inl, inr, max, misses_eol}
+use Rattle.fax_rows.specs.RowsRead.{is_at_line}
 use Rattle.hayro_ccitt.proofs.Names.{Result, Ok, Err, refl, sym, ap, subst, arith, drop, length, length-append, length-drop}
 use Rattle.hayro_ccitt.proofs.Names.{false≢true, Bits, Context, DecodeError, DecodeSettings, Held, Row}
 use Rattle.hayro_ccitt.proofs.Names.{Stand, AtLine, AfterRow, AtEnd, AtFault, ReaderStands, StandsAtLine, StandsAfterRow, ended}
 use Rattle.hayro_ccitt.proofs.Names.{line_here}
 use Rattle.hayro_ccitt.specs.Continuations.{is_short, line_before}
 use Rattle.fax_feeds.specs.FeedsKeepLittle.{AreNeeded, AreOpenFor, FeedsKeepLittle, IsFedInTurn}
-use Rattle.hayro_ccitt.specs.GapsContinued.{first_gap_is_settled, gap_is_settled}
+use Rattle.hayro_ccitt.specs.GapsContinued.{gap_is_settled}
 use Rattle.hayro_ccitt.specs.Lines.{Line}
 use Rattle.fax_feeds.specs.RowFeeds.{CountsRow, Feeding, FeedsNext, FeedsPlainly, FeedsRow, HoldsMore, IsFeedOf, IsOpenAt}
-use Rattle.fax_feeds.specs.RowFeeds.{IsPlainFeedOf, StandsIn, fed_end}
+use Rattle.fax_feeds.specs.RowFeeds.{IsPlainFeedOf, LacksEol, StandsIn, fed_end, offset_of}
 use Rattle.fax_feeds.proofs.Readings.FeedsCompleted.{full_gap}
 use Rattle.fax_feeds.specs.declared.row_feed.Fed.{Fed}
-use Rattle.fax_feeds.proofs.Readings.OpenBits.{first_gap_is_open, open_bits_are_read, open_front_before, open_gap_before}
+use Rattle.fax_feeds.proofs.Readings.OpenBits.{open_bits_are_read, open_front_before, open_gap_before}
 use Rattle.fax_feeds.proofs.Readings.RowsFed.{from_place}
 use Rattle.hayro_ccitt.proofs.Readings.RowsOfFeeds.{none_taken}
 use Rattle.fax_reading.proofs.Continuations.LinesContinued.{line_settled}
@@ -142,6 +144,37 @@ unended {old} {new} call = by_end (ended old.rows.stand) refl
     by_end None is = refl
     by_end (Some end) over = absurd (never_ended end (call.over end over).1)
 
+-- few bits are kept from the next one on where more data is needed
+waiting_most : {whole : Bits} {tried most : ℕ} {old mid : Feeding} → FeedsNext whole tried old mid (Ok Fed.NeedsMore)
+    → CountsRow old mid (Ok Fed.NeedsMore) → AreOpenFor most mid.ctx.held.taken mid.ctx.held.settings whole
+    → mid.place ≤ length mid.kept → length (drop mid.place mid.kept) ≤ max most 16
+waiting_most {whole} {tried} {most} {old} {mid} needs counts known within = by_stand (is_at_line mid.rows.stand) refl
+  where
+    open_bits : mid.begun ≡ true → (is_at_line mid.rows.stand ≡ false → LacksEol mid.ctx.held (drop (offset_of mid) whole))
+        → length (drop mid.place mid.kept) ≤ max most 16
+    open_bits begun misses =
+        let place_is : 0 + offset_of mid ≡ offset_of mid = omega arith in
+        let few = open_most needs.plainly.stands known needs.plainly.goes_on.within begun (needs.plainly.unsettled refl).1
+        (λ away. subst (λ (n : ℕ). LacksEol mid.ctx.held (drop n whole)) (sym place_is) (misses away)) in
+        omega (
+          arith,
+          few,
+          ap length (full_gap needs.stands within),
+          length-append needs.stands.known.gone (drop mid.place mid.kept),
+        )
+
+    begun_at_line : (begun : Bool) → mid.begun ≡ begun → is_at_line mid.rows.stand ≡ true → begun ≡ true
+    begun_at_line true is line = refl
+    begun_at_line false is line = absurd (false≢true (sym (needs.plainly.goes_on.unbegun is).2 ∙ line))
+
+    by_stand : (line : Bool) → is_at_line mid.rows.stand ≡ line → length (drop mid.place mid.kept) ≤ max most 16
+    by_stand true line =
+        open_bits (begun_at_line mid.begun refl line) (λ away. absurd (false≢true (sym away ∙ line)))
+    by_stand false away = elim (cases_lt 0 mid.gap.look.bits) [
+      | inl some ↦ let missed = needs.stands.known.missed some in open_bits missed.0 (λ e. missed.1)
+      | inr none ↦ omega (arith, counts.few refl away (omega (arith, none)), length-drop mid.place mid.kept)
+    ]
+
 -- what is kept after a piece
 fed_most : {next : Bits} {old new : Feeding} → HoldsMore next old new
     → length new.kept ≤ length (drop old.place old.kept) + length next + 7
@@ -153,7 +186,7 @@ module _ (whole : Bits) (most piece : ℕ) where
 
   -- the bound of what is kept, and of the room for it
   abbrev limit : ℕ
-  limit = most + piece + 7
+  limit = max most 16 + piece + 7
 
   abbrev AreWithin : Bits → ℕ → Type 0
   AreWithin kept room = (length kept ≤ limit) × (8 * room ≤ 2 * limit)
@@ -177,7 +210,6 @@ module _ (whole : Bits) (most piece : ℕ) where
   -- what is known of later lines is of those before
   known_before : {m n : ℕ} {s t : DecodeSettings} → m ≤ n → s ≡ t → KnownFor n s → KnownFor m t
   known_before {m} {n} {s} {t} le is known = subst (KnownFor m) is (record {
-    first_gap = known.first_gap;
     line = λ turn first rest there among. known.line turn first rest there (omega (arith, among, le));
     gap = λ turn row after first rest there among. known.gap turn row after first rest there (omega (arith, among, le));
   })
@@ -212,14 +244,7 @@ module _ (whole : Bits) (most piece : ℕ) where
             holds_within holds
             (same_within call.keeps.kept call.keeps.room (before.few (known_before
             (rows_onward (Ok Fed.NeedsMore) needs call.counts) call.counts.settings known_mid)))
-            (omega (
-              arith,
-              short,
-              fed_most holds,
-              open_most needs.plainly.stands known_mid needs.plainly.goes_on.within (needs.plainly.unsettled refl).1,
-              ap length (full_gap needs.stands holds.within),
-              length-append needs.stands.known.gone (drop mid.place mid.kept),
-            ));
+            (omega (arith, short, fed_most holds, waiting_most needs call.counts known_mid holds.within));
       }
   keeps_few feed (IsFedInTurn.finishes {old = old} was is stays) =
       let before = keeps_few old was in
