@@ -7,7 +7,7 @@ use Rattle.std.proofs.lemmas.Grind.{common_steps}
 use Rattle.fax_bits.specs.Bits.{Bits}
 use Rattle.fax_bits.specs.EndOfLine.{after_eol, all_eols, eols, one_more, past_tag, eols_with_tags, pass_last_tag}
 use Rattle.fax_bits.proofs.BitReading.ConsecutiveEols.{eol_of, eols-none, count_all-some, counts_plain, counts_tagged}
-use Rattle.fax_bits.proofs.BitReading.ConsecutiveEols.{eols-some, last_tag_count}
+use Rattle.fax_bits.proofs.BitReading.ConsecutiveEols.{eols-some}
 use Rattle.fax_bits.specs.declared.settings.EncodingMode.{EncodingMode}
 use Rattle.fax_bits.specs.declared.settings.EncodingMode.TheVariants.{Group3_1D, Group3_2D, Group4}
 use Rattle.fax_bits.specs.declared.settings.DecodeSettings.{DecodeSettings}

@@ -1,19 +1,15 @@
 -- A gap waits exactly while its bits are counted: until then data that follows can change it.
 use Rattle.fax_rows.proofs.Names.{◌≡◌, ◌∙◌, ap, sym, true, false, Bool, Bits, DecodeSettings, EncodingMode, refl, arith}
 use Rattle.fax_rows.proofs.Names.{Group3_1D, Group3_2D, Group4, ◌||◌}
-use Rattle.std.proofs.Common.{◌++◌, ◌∷◌, ◌<◌, [], None, Some, leb, replicate, zero, suc, ℕ}
-use Rattle.std.proofs.lemmas.Bool.{false≢true, lt-ltb}
-use Rattle.std.proofs.lemmas.Grind.{common_steps}
+use Rattle.std.proofs.Common.{◌++◌, ◌∷◌, ◌<◌, [], Some, leb, replicate, zero, suc, ℕ}
+use Rattle.std.proofs.lemmas.Bool.{false≢true}
 use Rattle.fax_bits.specs.Ones.{holds_one}
 use Rattle.fax_reading.proofs.GapsContinued.ContinuedEols.{after_first_tag, following_one, last_tag_tested}
 use Rattle.fax_reading.specs.GapsContinued.{eols_are_settled, eols_here_are_settled, gap_is_settled}
 use Rattle.fax_rows.proofs.Readings.GapsCounted.{Lawful, stands}
 use Rattle.fax_rows.proofs.Readings.GapsEnded.{found_at_end}
 use Rattle.fax_rows.specs.declared.gap_count.GapCount.{GapCount}
-use Rattle.fax_reading.specs.PlainReading.{misses_eol}
-use Rattle.fax_rows.proofs.Readings.GapsEnded.{found_at_one}
-use Rattle.fax_rows.specs.GapsCounted.{can_be_tag, one_counted}
-use Rattle.fax_rows.specs.GapsCounted.{behind_tag, counted_by, ends_at_two, eols_of_count, has_tags, left_before, none_counted}
+use Rattle.fax_rows.specs.GapsCounted.{behind_tag, counted_by, eols_of_count, left_before, none_counted}
 
 -- zeros alone hold no one
 zeros_hold_none : (n : ℕ) → holds_one (replicate n false ++ []) ≡ false

@@ -1,6 +1,6 @@
 -- Where a reading is whose gap is counted as its bits come.
 use Rattle.fax_rows.proofs.Names.{◌≡◌, ◌∙◌, ◌+◌, ◌≤◌, ap, sym, subst, arith, length, drop, true, false, ℕ, Bool}
-use Rattle.fax_rows.proofs.Names.{Bits, Context, DecodeSettings, EncodingMode, IsStanding, ended, is_at_line}
+use Rattle.fax_rows.proofs.Names.{Bits, Context, DecodeSettings, EncodingMode, ended, is_at_line}
 use Rattle.fax_rows.proofs.Names.{append_assoc, drop-drop, length-append, length-drop, refl, Group3_1D, Group3_2D, Group4}
 use Rattle.std.proofs.Common.{◌&&◌, eqb, ltb, not, ◌++◌, ◌∷◌, [], None, Some, Option, append-nil, leb, replicate}
 use Rattle.std.proofs.lemmas.Bool.{and_parts, eqb-true, not-true}
@@ -8,7 +8,6 @@ use Rattle.std.proofs.Math.Seq.{drop-append-add, drop-append_seam}
 use Rattle.fax_bits.specs.EndOfLine.{pass_last_tag}
 use Rattle.fax_reading.specs.PlainReading.{eols_here, misses_eol}
 use Rattle.fax_rows.proofs.Readings.GapsCounted.{counted_then, ends_at_two_eols, same_eols, zero_alike}
-use Rattle.fax_bits.specs.EndOfLine.{all_eols}
 use Rattle.fax_reading.specs.PlainReading.{eols_by}
 use Rattle.fax_rows.specs.GapsCounted.{stand_in}
 use Rattle.fax_rows.proofs.Readings.GapsEnded.{found_at_end, found_at_one, known_reaches, known_stays}
