@@ -27,3 +27,4 @@ pub mod RowsPassed
 pub mod WhiteRowsFed
 pub mod ZerosFed
 pub mod ZerosRead
+pub mod ZerosUnused

@@ -1,11 +1,11 @@
 -- What all calls of a feed count.
-use Rattle.std.specs.Prelude.{◌≡◌, ◌≢◌, ◌≤◌, ◌+◌, ◌*◌, ℕ, true, false, length, drop}
+use Rattle.std.specs.Prelude.{◌≡◌, ◌≢◌, ◌≤◌, ◌+◌, ◌-◌, ◌*◌, ℕ, true, false, length}
 use Rattle.std.specs.Prelude.{None, Result, Err}
 use Rattle.fax_bits.specs.declared.error.DecodeError.{DecodeError}
 use Rattle.fax_bits.specs.declared.error.DecodeError.TheVariants.{OutOfMemory}
 use Rattle.fax_feeds.specs.declared.row_feed.Fed.{Fed}
 use Rattle.fax_bits.specs.Bits.{Bits}
-use Rattle.fax_feeds.specs.RowFeeds.{Feeding, FeedsNext, HoldsMore, IsFeedOf, KeepsBits, completed}
+use Rattle.fax_feeds.specs.RowFeeds.{Feeding, FeedsNext, HoldsMore, IsFeedOf, KeepsBits, fed_bits, offset_of}
 use Rattle.fax_reading.specs.Rows.{changes}
 use Rattle.fax_rows.specs.RowsRead.{ended}
 
@@ -15,9 +15,10 @@ use Rattle.fax_rows.specs.RowsRead.{ended}
 abbrev pub changes_of : Feeding → ℕ
 changes_of feed = length (changes feed.ctx.held.reference)
 
--- what a call costs that fails for memory, beyond another call
+-- what a call costs that fails for memory, beyond another call: for the changes of the row before, and the bits that were fed from
+-- where the reading is
 abbrev pub cost_of_failure : Feeding → ℕ
-cost_of_failure feed = 3 * changes_of feed + 12 * length (drop feed.place feed.kept) + 6
+cost_of_failure feed = 3 * changes_of feed + 12 * (fed_bits feed - offset_of feed) + 6
 
 -- What became of a feed of some data: bytes were fed, the data may have been finished, and so many calls read the next row. Those
 -- that failed for memory cost so much more, and this much was counted for what was tried and left.
@@ -35,7 +36,7 @@ pub data IsHistory (whole : Bits) : ℕ → ℕ → ℕ → Feeding → Type 0 w
   fails : {calls lost tried : ℕ} {old new : Feeding}
       → IsHistory whole calls lost tried old → ended old.rows.stand ≡ None → KeepsBits old new
       → (next : FeedsNext whole tried old new (Err OutOfMemory))
-      → IsHistory whole (calls + 1) (lost + cost_of_failure (completed whole new)) (tried + next.plainly.extra) new
+      → IsHistory whole (calls + 1) (lost + cost_of_failure new) (tried + next.plainly.extra) new
 
 -- ---- The law
 

@@ -1,5 +1,5 @@
 -- Rows from data that comes in pieces: what is kept of it, what is seen of a reading, and which data it is a reading of.
-use Rattle.std.specs.Prelude.{◌≡◌, ◌≢◌, ◌≤◌, ◌<◌, ◌+◌, ◌*◌, ◌/◌, ◌^◌, ℕ, Bool, true, false, ◌++◌, [], not, ◌&&◌, ◌⊎◌}
+use Rattle.std.specs.Prelude.{◌≡◌, ◌≢◌, ◌≤◌, ◌<◌, ◌+◌, ◌*◌, ◌/◌, ◌%◌, ◌^◌, ℕ, Bool, true, false, ◌++◌, [], not, ◌&&◌, ◌⊎◌}
 use Rattle.std.specs.Prelude.{◌-◌, take, if◌then◌else◌}
 use Rattle.std.specs.Prelude.{vec_capacity, List, max, drop, length, replicate, ◌∷◌, Option, None, Some, Result, Ok, Err, IfErr}
 use Rattle.fax_bits.specs.declared.bit_reader.BitOrder.{BitOrder}
@@ -116,13 +116,16 @@ pub record IsUnbegun (f : Inside) : Type 0 where
   pub some_follow : f.gap.at_zeros ≡ false
   pub narrow : f.ctx.held.settings.columns ≡ 0 → f.gap ≡ no_gap
 
--- the next bit is among those kept, or just after them, offsets fit, and of a line that is next no gap is known
+-- the next bit is among those kept, or just after them, whole bytes came before them, offsets fit, and no gap is known of a line
+-- that is next, nor after the end
 pub record IsKept (f : Inside) : Type 0 where
   pub within : f.place ≤ 8 * length f.«data».items
   pub fit : f.dropped + 8 * length f.«data».items + 64 < 2 ^ 64
+  pub bytes : f.dropped % 8 ≡ 0
   pub unbegun : f.begun ≡ false → IsUnbegun f
   pub seen : IsSeen (rules_for f.begun f.ctx.held) f.gap.look (drop f.place (bits_in f.order f.«data».items))
   pub line : is_at_line f.rows.stand ≡ true → f.gap.at_zeros ≡ false → f.gap ≡ no_gap
+  pub over : ended f.rows.stand ≢ None → f.gap.at_zeros ≡ false → f.gap ≡ no_gap
   pub counted : IsCounted f.gap (f.dropped + f.place)
   pub unkept : f.gap.at_zeros ≡ true → f.part ≡ None
   pub last : f.gap.at_zeros ≡ true → f.is_last ≡ true
@@ -726,6 +729,10 @@ pub record PushesRows {M : Type 0} (step : M → List ℕ → M) (before after :
 -- the bits of the bytes that were fed and aren't consumed: a byte of which a bit was read is
 abbrev pub unused : Feeding → Bits
 unused feed = drop (8 * ((feed.place + 7) / 8)) feed.kept
+
+-- how many they are, also of those of a gap that were counted
+abbrev pub unused_size : Feeding → ℕ
+unused_size feed = fed_bits feed - 8 * ((offset_of feed + 7) / 8)
 
 -- These bits are held after those that were, and the reading is at the same offset. Before it fewer than eight bits are held.
 -- There is room for no more bits than before, or than twice those held.

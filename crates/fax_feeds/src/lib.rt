@@ -8,3 +8,4 @@ mod counted_gaps;
 mod gap_look;
 mod line_parts;
 pub mod row_feed;
+mod zeros;

@@ -10,13 +10,13 @@ ghost use Rattle.fax_feeds.specs.GapsSeen.{CountsLooks, IsSeen, is_settled, noth
 ghost use Rattle.fax_rows.specs.RowsRead.{at_end_of_rows, ended, is_at_line};
 ghost use Rattle.fax_rows.specs.RowsTried.{IsUnread, front_is_settled};
 ghost use Rattle.fax_feeds.specs.RowFeeds.{BeginsCounted, ComeNext, ComesOn, DropsRead, FeedsNext, FeedsPlainly, KeepsFront};
-ghost use Rattle.fax_feeds.specs.RowFeeds.{IsPlainFeedOf, ReadsInFeed, no_gap, offset_of};
+ghost use Rattle.fax_feeds.specs.RowFeeds.{IsPlainFeedOf, ReadsInFeed, completed, no_gap, offset_of};
 ghost use Rattle.fax_feeds.specs.RowFeeds.{IsFeedOf, KeepsBits, TriesLine, fed_bits, fed_end, fed_row, fed_without_row};
 ghost use Rattle.fax_feeds.specs.RowFeeds.{is_unread};
 ghost use Rattle.fax_feeds.specs.RowFeeds.{HoldsMore, KeepsPart, LineGoesOn, Scans, ScansLine, StaysShort, line_answer};
 ghost use Rattle.fax_reading.specs.Continuations.{is_short};
 ghost use Rattle.fax_feeds.specs.RowFeeds.{IsPartOf1d, line_of_feed, says_short, of_settled_gap};
-ghost use Rattle.fax_feeds.specs.RowFeeds.{CountsRow, Feeding, FeedsRow, PassesRows, PushesRows, unused};
+ghost use Rattle.fax_feeds.specs.RowFeeds.{CountsRow, Feeding, FeedsRow, PassesRows, PushesRows, unused, unused_size};
 ghost use Rattle.fax_reading.specs.Rows.{AreChanges, changes};
 ghost use Rattle.fax_lines.specs.SinkStates.{state_of};
 ghost use Rattle.fax_rows.specs.WhiteLines.{AreKnown};
@@ -25,6 +25,7 @@ ghost use Rattle.fax_rows.specs.ZerosLast.{CountsZeros, zeros_at};
 use crate::counted_gaps::{GapSoFar, come_to_counted_line, come_to_first_line, no_gap};
 use crate::gap_look::{GapLook, GapRules, GapStage, is_settled_at_once, rules_after_row};
 use crate::line_parts::{KeptPart, begin_part, continue_line, continue_runs, is_1d, is_in_1d_run};
+use crate::zeros::{begins_with_one, write_one_and_zeros, write_zeros};
 use fax_bits::bit_reader::{
     BitOrder, BitReader, at_bit, placed_at, scanner_at, scanner_near_end, scanner_of_last,
 };
@@ -426,7 +427,7 @@ impl RowFeed {
         ensures none_fed { IfOk result (λ feed. (feed.kept ≡ []) × (feed.dropped ≡ 0) × (feed.finished ≡ false)) }
         ensures no_room { IfOk result (λ feed. feed.room ≡ 0) }
         ensures none_read { IfOk result (λ feed. (feed.ctx.held.taken ≡ 0) × (feed.begun ≡ false) × (feed.gap ≡ no_gap)
-            × (feed.part ≡ None)) }
+            × (feed.looked ≡ 0) × (feed.part ≡ None)) }
         ensures only_memory { IsOkUnless result DecodeError.OutOfMemory }
     {
         Ok(RowFeed {
@@ -1162,12 +1163,50 @@ impl RowFeed {
         ((self.dropped + self.place).saturating_sub(self.gap.passed) + 7) / 8
     }
 
-    /// Returns the bytes that were fed and aren't consumed; of a byte that is partly read nothing is left. At the end of the
-    /// image they are what was fed after it.
-    pub fn unused(&self) -> &[u8]
-        ensures { bits_in self.now.order result.now ≡ unused self.now }
+    /// Returns how many bytes were fed and aren't consumed; a byte of which a bit was read is.
+    pub fn unused_len(&self) -> usize
+        ensures { 8 * result ≡ unused_size self.now }
     {
-        &self.data[self.place.div_ceil(8)..]
+        let fed = (self.dropped + self.data.len() * 8) / 8;
+        fed.saturating_sub(self.bytes_read())
+    }
+
+    /// Writes the zeros with which the data ends, of which only the number is kept, and before them the tag of one, if it was counted
+    /// and isn't consumed.
+    #[cold]
+    fn write_zeros_left(&self, bytes: &mut [u8])
+        requires zeros { self.now.gap.at_zeros ≡ true }
+        requires long { 8 * length bytes.old ≡ unused_size self.now }
+        ensures { (whole : Bits) (tried : ℕ) → IsFeedOf whole tried self.now
+            → bits_in self.now.order bytes.new ≡ unused (completed whole self.now) }
+    {
+        let offset = (self.dropped + self.place).saturating_sub(self.gap.passed);
+        if begins_with_one(self.gap.count.tag, offset, bytes.len()) {
+            write_one_and_zeros(self.order, bytes);
+            return;
+        }
+        write_zeros(bytes);
+    }
+
+    /// Writes the bytes that were fed and aren't consumed, which are as many as [`unused_len`](RowFeed::unused_len) returns, and
+    /// returns true. At the end of the image they are what was fed after it. Returns false and writes nothing where a gap waits for
+    /// more data of whose bits only the number is kept.
+    pub fn copy_unused(&self, bytes: &mut [u8]) -> bool
+        requires long { 8 * length bytes.old ≡ unused_size self.now }
+        ensures copied { result ≡ true → (whole : Bits) (tried : ℕ) → IsFeedOf whole tried self.now
+            → bits_in self.now.order bytes.new ≡ unused (completed whole self.now) }
+        ensures unwritten { result ≡ false → bytes.new ≡ bytes.old }
+        ensures waits { result ≡ false → ended self.now.rows.stand ≡ None }
+    {
+        if self.gap.at_zeros {
+            self.write_zeros_left(bytes);
+            return true;
+        }
+        if self.gap.passed > 0 {
+            return false;
+        }
+        bytes.copy_from_slice(&self.data[self.place.div_ceil(8)..]);
+        true
     }
 
     /// Returns the settings by which the rows are read.

@@ -83,9 +83,11 @@ read_on_by {f} {before} {after} {ctx} {rows} {place} {gap} by there same within 
           length-bits_in f.order f.«data».items,
         );
         fit = by.kept.fit;
+        bytes = by.kept.bytes;
         unbegun = λ e. absurd (false≢true (sym e ∙ by.begun));
         seen = seen_begun ctx.held (sym by.begun) (seen_there (ap here is) lawful.seen);
         line = lawful.line;
+        over = lawful.over;
         counted = lawful.counted;
         unkept = λ zeros. by.none;
         last = lawful.last;
@@ -111,10 +113,10 @@ module _ {f : Inside} {before after : BitsAt} {rows : RowState} {ctx : Context} 
   before_within : before.place ≤ length before.bits
   before_within = omega (arith, at_before, within_bits by.kept, ap (λ (b : BitsAt). length b.bits) by.is)
 
-  pub gap_read_by : IsReadBy passed after
-  gap_read_by = read_on_by by there on.same_bits (omega (arith, there, on.within))
+  pub gap_read_by : ended f.rows.stand ≡ None → IsReadBy passed after
+  gap_read_by unended = read_on_by by there on.same_bits (omega (arith, there, on.within))
       (counted_lawful line on (subst (λ (n : ℕ). IsCounted f.gap (f.dropped + n)) (sym at_before) by.kept.counted) follows
-      before_within (omega (arith, there)))
+      before_within (omega (arith, there)) unended)
 
   keeps_gap : KeepsBits (feeding_of f) (feeding_of passed)
   keeps_gap = record { order = refl; finished = refl; kept = refl; dropped = refl; room = refl }
@@ -199,7 +201,7 @@ module _ {f : Inside} {before after : BitsAt} {rows : RowState} {ctx : Context} 
             let mid = plain_of comes.1 gap_none in
             let next = line_feeds answer reads (λ e none. unread e) by.begun (on.line is) mid in
             let now = fed_of next.stands (reads.gap ∙ none) reads.within in
-            next_of (reached_here line comes.0 is by.none by.none (framed next comes.1 now (within_bits gap_read_by.kept)
+            next_of (reached_here line comes.0 is by.none by.none (framed next comes.1 now (within_bits (gap_read_by unended).kept)
             reads.within gap_none (ap (λ (g : GapSoFar). g.passed) (reads.gap ∙ none)) reads.keeps) by.begun) now.known now.lie;
         keeps = grind (arith, common_steps);
         over = λ end e. let never = sym unended ∙ e in absurd cc;
@@ -241,6 +243,7 @@ module _ {f : Inside} {before after : BitsAt} {begin ctx : Context} {rows : RowS
   line_read_by = read_on_by by there tries.same_bits (omega (arith, there, tries.within)) (record {
     seen = fresh_look _ _ (ap (λ (g : GapSoFar). g.look) unknown);
     line = λ line follows. unknown;
+    over = λ over follows. unknown;
     counted = none_counted_of unknown;
     last = λ zeros. absurd (false≢true (sym (ap (λ (g : GapSoFar). g.at_zeros) unknown) ∙ zeros));
   })

@@ -217,6 +217,7 @@ module _ {f : Inside} {before after : BitsAt} {rows : RowState} {ctx : Context} 
       (omega (arith, within_kept, after_bits)) (record {
         seen = fresh_look _ _ (ap (λ (g : GapSoFar). g.look) fresh);
         line = λ line follows. fresh;
+        over = λ over follows. fresh;
         counted = none_counted_of fresh;
         last = λ zeros. absurd (false≢true (sym (ap (λ (g : GapSoFar). g.at_zeros) fresh) ∙ zeros));
       })

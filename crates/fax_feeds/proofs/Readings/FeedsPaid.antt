@@ -14,11 +14,12 @@ use Rattle.fax_feeds.specs.declared.row_feed.Fed.{Fed}
 use Rattle.fax_rows.specs.declared.row_reader.RowState.{RowState}
 use Rattle.fax_feeds.specs.RowFeeds.{CallGoesOn, Feeding, FeedsPlainly, HasNone, IsFeedOf, IsOpenAt, IsPlainFeedOf, KeepsBits}
 use Rattle.fax_feeds.specs.RowFeeds.{DrawsRow, StandsIn, TriesFirst}
-use Rattle.fax_feeds.specs.RowFeeds.{completed, fed_bits, fed_over, most_for_line, paid_by, paid_for_line, zeros_left}
+use Rattle.fax_feeds.specs.RowFeeds.{completed, fed_bits, fed_over, most_for_line, offset_of, paid_by, paid_for_line, zeros_left}
 use Rattle.fax_feeds.specs.declared.counted_gaps.GapSoFar.{GapSoFar}
+use Rattle.fax_feeds.proofs.Readings.FeedsCompleted.{full_long}
 use Rattle.fax_feeds.proofs.Readings.CompletedOn.{completed_fed, zeros_known, keeps_completed, knows_more}
 use Rattle.std.specs.Prelude.{if◌then◌else◌}
-use Rattle.fax_feeds.proofs.Names.{IfErr}
+use Rattle.fax_feeds.proofs.Names.{IfErr, take}
 use Rattle.fax_feeds.proofs.Readings.FeedAccount.{FeedIsPaid, FirstsPaid, GapsPaid, IsAfter, IsPassed, KnowsMore, LinesPaid}
 use Rattle.fax_feeds.proofs.Readings.FeedAccount.{RowsPaid}
 use Rattle.fax_feeds.proofs.Readings.FeedAccount.{SeeksEol, WasShort, WasTried, offset}
@@ -32,6 +33,10 @@ use Rattle.fax_feeds.proofs.Names.{EncodingMode, Group4, Group3_1D, Group3_2D, m
 use Rattle.fax_rows.specs.RowsRead.{ReadsNext}
 use Rattle.fax_bits.specs.declared.error.DecodeError.TheVariants.{OutOfMemory}
 use Rattle.std.proofs.lemmas.Bool.{and_from, false_from_ne_true, true_from_ne_false}
+
+-- what a call costs that fails for memory, of a feed with all bits that were fed
+abbrev plain_cost : Feeding → ℕ
+plain_cost feed = 3 * changes_of feed + 12 * length (drop feed.place feed.kept) + 6
 
 -- ---- Where a line ends that was short
 
@@ -889,21 +894,21 @@ module _ {whole : Bits} {calls lost tried : ℕ} {old new : Feeding} {answer : R
     known_now = lines.known - (lines.known - offset new)
 
     failed_some : old.part ≢ None → counted + 2 * changes_of new
-        ≤ 6 * known_now + 2 * lines.read + 2 * paid.drawn + 8 * calls + lost + cost_of_failure new
+        ≤ 6 * known_now + 2 * lines.read + 2 * paid.drawn + 8 * calls + lost + plain_cost new
     failed_some some =
         grind (arith, common_steps, goes, failed_left, stays_at_line, was, lines, failed_changes, failed_within, here_within)
 
     -- counted for it
-    failed_most : counted ≤ 6 * known_now + 2 * lines.read + 2 * paid.drawn + 8 * calls + lost + cost_of_failure new
+    failed_most : counted ≤ 6 * known_now + 2 * lines.read + 2 * paid.drawn + 8 * calls + lost + plain_cost new
     failed_most = grind (arith, common_steps, none_or_some, none_paid, failed_within, failed_some)
 
     -- counted for it, with what is left for the line
     failed_next : ended new.rows.stand ≡ None → new.finished ≡ false → counted + 2 * changes_of new
-        ≤ 6 * known_now + 2 * lines.read + 2 * paid.drawn + 8 * calls + lost + cost_of_failure new
+        ≤ 6 * known_now + 2 * lines.read + 2 * paid.drawn + 8 * calls + lost + plain_cost new
     failed_next still unfinished =
         grind (arith, common_steps, none_or_some, lines, still_unfinished, failed_changes, failed_within, failed_some)
 
-    pub fails_paid : FeedIsPaid (calls + 1) (lost + cost_of_failure new) (tried + next.extra) new
+    pub fails_paid : FeedIsPaid (calls + 1) (lost + plain_cost new) (tried + next.extra) new
     fails_paid = record {
       gaps = paid.gaps + next.gap;
       lines = counted;
@@ -949,6 +954,12 @@ lines_in_all : {calls lost drawn lines : ℕ} {feed : Feeding} → (paid : Lines
     → lines ≤ 8 * fed_bits feed + 2 * drawn + 8 * calls + lost + 2
 lines_in_all {calls} {lost} {drawn} {lines} {feed} paid = grind (arith, common_steps, none_or_some, none_paid, length-drop)
 
+-- a failure costs as much where all bits are there that were fed
+same_cost : {whole : Bits} {tried : ℕ} {feed : Feeding} → IsFeedOf whole tried feed
+    → plain_cost (completed whole feed) ≡ cost_of_failure feed
+same_cost {whole} {tried} {feed} is =
+    omega (arith, length-drop (offset_of feed) (take (fed_bits feed) whole), full_long is)
+
 -- what was called leaves a reading of the data
 history_fed : {whole : Bits} {calls lost tried : ℕ} {feed : Feeding} → IsHistory whole calls lost tried feed
     → IsFeedOf whole tried feed
@@ -967,8 +978,9 @@ history_paid (IsHistory.feeds next before holds is) = more_paid (knows_more hold
 history_paid {whole = whole} (IsHistory.finishes before is fed) = finished_paid (ap (completed whole) is) (history_paid before)
 history_paid (IsHistory.reads before unended keeps next other) =
     reads_paid unended (keeps_completed _ keeps) (zeros_known (history_fed before)) (history_paid before) next.plainly other
-history_paid (IsHistory.fails before unended keeps next) =
-    fails_paid unended (keeps_completed _ keeps) (zeros_known (history_fed before)) (history_paid before) next.plainly refl
+history_paid {whole = whole} (IsHistory.fails {calls} {lost} {tried} {old} {new} before unended keeps next) =
+    subst (λ (n : ℕ). FeedIsPaid (calls + 1) (lost + n) (tried + next.plainly.extra) (completed whole new)) (same_cost next.stands)
+    (fails_paid unended (keeps_completed _ keeps) (zeros_known (history_fed before)) (history_paid before) next.plainly refl)
 
 pub feeds_are_paid : FeedsArePaid
 feeds_are_paid calls lost tried whole feed history is =

@@ -203,6 +203,7 @@ module _ {f : Inside} {before after : BitsAt} {ctx : Context} {gap : GapSoFar} {
       record {
         within = omega (arith, after_at, length-bits_in f.order f.«data».items);
         fit = kept.fit;
+        bytes = kept.bytes;
         unbegun = λ e. record {
           fresh = held ∙ was.fresh ∙ ap (λ (h : Held). fresh h.settings) (sym held);
           start = omega (
@@ -220,6 +221,7 @@ module _ {f : Inside} {before after : BitsAt} {ctx : Context} {gap : GapSoFar} {
         };
         seen = fresh_look _ _ on.unlooked;
         line = λ line more. absurd (false≢true (sym was.rows ∙ line));
+        over = λ over more. absurd (over was.unended);
         counted = record {
           tidy = λ more. waits.0;
           few = λ more. omega (
@@ -253,9 +255,11 @@ module _ {f : Inside} {before after : BitsAt} {ctx : Context} {gap : GapSoFar} {
       record {
         within = omega (arith, after_within, length-bits_in f.order f.«data».items);
         fit = kept.fit;
+        bytes = kept.bytes;
         unbegun = λ e. absurd (false≢true (sym e));
         seen = fresh_look _ _ on.unlooked;
         line = lawful.line;
+        over = lawful.over;
         counted = lawful.counted;
         unkept = λ zeros. none;
         last = lawful.last;
@@ -403,9 +407,11 @@ module _ {f : Inside} {before after : BitsAt} {ctx : Context} {place : ℕ} {sta
       record {
         within = omega (arith, narrow_within, length-bits_in f.order f.«data».items);
         fit = kept.fit;
+        bytes = kept.bytes;
         unbegun = λ e. absurd (false≢true (sym e));
         seen = fresh_look _ _ (ap (λ (g : GapSoFar). g.look) none_known);
         line = λ line more. none_known;
+        over = λ over more. none_known;
         counted = none_counted_of none_known;
         unkept = λ zeros. absurd (false≢true (sym (ap (λ (g : GapSoFar). g.at_zeros) none_known) ∙ zeros));
         last = λ zeros. absurd (false≢true (sym (ap (λ (g : GapSoFar). g.at_zeros) none_known) ∙ zeros));

@@ -61,6 +61,7 @@ none_counted_of {gap} {at} is = record {
 pub record IsLawfulGap (is_last : Bool) (at : ℕ) (rows : RowState) (held : Held) (gap : GapSoFar) (here : Bits) : Type 0 where
   pub seen : IsSeen (rules_for true held) gap.look here
   pub line : is_at_line rows.stand ≡ true → gap.at_zeros ≡ false → gap ≡ no_gap
+  pub over : ended rows.stand ≢ None → gap.at_zeros ≡ false → gap ≡ no_gap
   pub counted : IsCounted gap at
   pub last : gap.at_zeros ≡ true → is_last ≡ true
 
@@ -76,6 +77,7 @@ passed_lawful {is_last} {at} {rows} {held} {gap} {next} {before} {here} some kno
         record {
           seen = fresh_look (rules_for true held) here (ap (λ (g : GapSoFar). g.look) is);
           line = λ line follows. is;
+          over = λ over follows. is;
           counted = none_counted_of is;
           last = λ zeros. absurd (false≢true (sym e ∙ zeros));
         }
@@ -84,6 +86,7 @@ passed_lawful {is_last} {at} {rows} {held} {gap} {next} {before} {here} some kno
         record {
           seen = fresh_look (rules_for true held) here is.2;
           line = λ line follows. absurd (false≢true (sym follows ∙ e));
+          over = λ over follows. absurd (false≢true (sym follows ∙ e));
           counted = record {
             tidy = λ follows. absurd (false≢true (sym follows ∙ e));
             few = λ follows. absurd (false≢true (sym follows ∙ e));
@@ -96,17 +99,17 @@ passed_lawful {is_last} {at} {rows} {held} {gap} {next} {before} {here} some kno
 pub counted_lawful : {is_last : Bool} {dropped at : ℕ} {rows kept : RowState} {gap next : GapSoFar} {old new : Context}
     {before after : BitsAt} (answer : Result (Option Bool) DecodeError)
     → ComesCounted is_last dropped rows kept gap next old new before after answer → IsCounted gap (dropped + before.place)
-    → gap.at_zeros ≡ false → before.place ≤ length before.bits → at ≡ dropped + after.place
+    → gap.at_zeros ≡ false → before.place ≤ length before.bits → at ≡ dropped + after.place → ended rows.stand ≡ None
     → IsLawfulGap is_last at kept new.held next (here after)
 counted_lawful {is_last} {dropped} {at} {rows} {kept} {gap} {next} {old} {new} {before} {after} (Ok None) on counted follows
-    within
-    at_is =
+    within at_is unended =
     let waits = on.known.waits refl in
     record {
       seen = subst (λ (h : Held). IsSeen (rules_for true h) next.look (here after)) (sym (on.waits refl).0) (on.seen refl);
       line = λ line follows.
           let never : Ok None ≡ Ok (Some true) =
           (on.at_line (ap (λ (r : RowState). is_at_line r.stand) (sym (on.waits refl).3) ∙ line)).0 in absurd cc;
+      over = λ over follows. absurd (over (ap (λ (r : RowState). ended r.stand) (on.waits refl).3 ∙ unended));
       counted = record {
         tidy = λ e. waits.0;
         few = λ e. omega (
@@ -125,5 +128,5 @@ counted_lawful {is_last} {dropped} {at} {rows} {kept} {gap} {next} {old} {new} {
       };
       last = λ zeros. absurd (false≢true (sym waits.1 ∙ zeros));
     }
-counted_lawful (Ok (Some line)) on counted follows within at_is = passed_lawful (λ e. cc) on.known
-counted_lawful (Err error) on counted follows within at_is = passed_lawful (λ e. cc) on.known
+counted_lawful (Ok (Some line)) on counted follows within at_is unended = passed_lawful (λ e. cc) on.known
+counted_lawful (Err error) on counted follows within at_is unended = passed_lawful (λ e. cc) on.known

@@ -60,10 +60,12 @@ module _ {f : Inside} {now : Context} {part next : KeptPart} {read : ℕ} {befor
   kept_by left reached is unkept = record {
     within = held.within;
     fit = held.fit;
+    bytes = held.bytes;
     unbegun = λ e. absurd (false≢true (sym e ∙ kept.is_begun));
     seen = subst (λ (x : Context). IsSeen (rules_for f.begun x.held) f.gap.look (drop f.place (bits_in f.order f.«data».items)))
         (sym on.frame) held.seen;
     line = held.line;
+    over = held.over;
     counted = held.counted;
     unkept = unkept;
     last = held.last;

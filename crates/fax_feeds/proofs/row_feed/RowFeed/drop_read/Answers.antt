@@ -55,7 +55,9 @@ invariant_of-self c =
             narrow = was.narrow;
           };
       seen = seen_there (sym same) old.seen;
+      bytes = omega (arith, old.bytes);
       line = old.line;
+      over = old.over;
       counted = subst (IsCounted inside.gap) (omega arith) old.counted;
       unkept = old.unkept;
       last = old.last;

@@ -124,7 +124,9 @@ invariant_of-self-2 c =
           ∙ flat_map-append (bits_of_byte inside.order) inside.«data».items c.args.bytes.now)))
           (seen_more inside.place (bits_in inside.order inside.«data».items) (bits_in inside.order c.args.bytes.now)
           (omega (arith, old.within, length-bits_in inside.order inside.«data».items)) old.seen);
+      bytes = old.bytes;
       line = old.line;
+      over = old.over;
       counted = old.counted;
       unkept = old.unkept;
       last = old.last;

@@ -33,6 +33,7 @@ after_gap c = past_gap c.self.inside c.come_to_counted_line-line.new.ctx c.come_
 
 gap_kept : (c : After-is_some_line) → IsReadBy (after_gap c) c.come_to_counted_line-line.new.reader
 gap_kept c = gap_read_by (feed_by c) c.bit_pos-self-inside.ensures.place c.if-self.false c.come_to_counted_line-line.ensures
+    (unended_feed c)
 
 pub come_to_counted_line-line-requires-clause-seen : goal.come_to_counted_line-line-requires-clause-seen
 come_to_counted_line-line-requires-clause-seen c = grind (arith, common_steps, seen_by)

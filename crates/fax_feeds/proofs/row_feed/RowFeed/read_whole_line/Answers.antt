@@ -30,9 +30,11 @@ invariant_of-self c =
     record {
       within = grind (arith, common_steps, length-bits_in, line_is_at at);
       fit = c.self.invariant.fit;
+      bytes = c.self.invariant.bytes;
       unbegun = λ e. absurd (false≢true (sym e ∙ line_begun at));
       seen = fresh_look _ _ (ap (λ (g : GapSoFar). g.look) (no_gap_here at));
       line = λ e follows. no_gap_here at;
+      over = λ e follows. no_gap_here at;
       counted = none_counted_of (no_gap_here at);
       unkept = λ zeros. absurd (false≢true (sym (ap (λ (g : GapSoFar). g.at_zeros) (no_gap_here at)) ∙ zeros));
       last = λ zeros. absurd (false≢true (sym (ap (λ (g : GapSoFar). g.at_zeros) (no_gap_here at)) ∙ zeros));

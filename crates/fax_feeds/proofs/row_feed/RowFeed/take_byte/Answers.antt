@@ -24,7 +24,9 @@ invariant_of-self c =
           ∙ flat_map-append (bits_of_byte inside.order) inside.«data».items next)))
           (seen_more inside.place (bits_in inside.order inside.«data».items) (bits_in inside.order next)
           (omega (arith, old.within, length-bits_in inside.order inside.«data».items)) old.seen);
+      bytes = old.bytes;
       line = old.line;
+      over = old.over;
       counted = old.counted;
       unkept = old.unkept;
       last = old.last;

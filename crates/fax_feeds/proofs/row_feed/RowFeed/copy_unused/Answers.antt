@@ -1,0 +1,2 @@
+use Rattle.fax_feeds.proofs.row_feed.RowFeed.copy_unused.Goals as goal
+
