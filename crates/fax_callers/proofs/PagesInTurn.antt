@@ -14,6 +14,7 @@ use Rattle.fax_callers.specs.PageFeeds.{EndsPage, GivesNext, GivesPage, IsPageFe
 use Rattle.fax_callers.specs.PageFeeds.{SameRows, Stays, Waits, page_bits, settings_of}
 use Rattle.fax_callers.specs.Pages.{IsPage, ReadsPages, page_by, page_bytes}
 use Rattle.fax_callers.specs.Readings.{reading_of}
+use Rattle.fax_callers.specs.PageFeeds.{read_over}
 use Rattle.fax_callers.specs.declared.page_feed.PageFed.{PageFed}
 use Rattle.fax_callers.specs.declared.page_feed.PageFed.TheVariants.{NeedsMore}
 

@@ -426,8 +426,8 @@ impl RowFeed {
         ensures order { IfOk result (λ feed. feed.order ≡ order) }
         ensures none_fed { IfOk result (λ feed. (feed.kept ≡ []) × (feed.dropped ≡ 0) × (feed.finished ≡ false)) }
         ensures no_room { IfOk result (λ feed. feed.room ≡ 0) }
-        ensures none_read { IfOk result (λ feed. (feed.ctx.held.taken ≡ 0) × (feed.begun ≡ false) × (feed.gap ≡ no_gap)
-            × (feed.looked ≡ 0) × (feed.part ≡ None)) }
+        ensures none_read { IfOk result (λ feed. (feed.ctx.held.taken ≡ 0) × (feed.begun ≡ false) × (feed.looked ≡ 0)
+            × (feed.part ≡ None) × (feed.gap ≡ no_gap)) }
         ensures only_memory { IsOkUnless result DecodeError.OutOfMemory }
     {
         Ok(RowFeed {
