@@ -1,5 +1,5 @@
 -- What is kept of a gap that was looked at, from step to step.
-use Rattle.fax_feeds.proofs.Names.{arith, common_steps}
+use Rattle.fax_feeds.proofs.Names.{ended, arith, common_steps}
 use Rattle.fax_feeds.proofs.Names.{◌≡◌, ◌≤◌, ◌++◌, ◌∷◌, [], ℕ, Bool, true, Option, None, Some, Result, Ok, Err, sym}
 use Rattle.fax_feeds.proofs.Names.{subst, drop, length, Bits, BitsAt, Held, Context, DecodeError, false≢true}
 use Rattle.fax_feeds.proofs.Names.{here, is_at_line}

@@ -1,8 +1,8 @@
 -- What is left of the data behind the zeros with which it ends, and behind bits that are kept.
-use Rattle.fax_feeds.proofs.Names.{◌≡◌, ◌≢◌, ◌∙◌, ◌+◌, ◌-◌, ◌*◌, ◌/◌, ◌%◌, ◌<◌, ◌≤◌, ◌++◌, ◌∷◌, [], ℕ, Bool, true, false, zero, suc}
+use Rattle.fax_feeds.proofs.Names.{◌≡◌, ◌≢◌, ◌∙◌, ◌+◌, ◌-◌, ◌*◌, ◌/◌, ◌<◌, ◌≤◌, ◌++◌, ◌∷◌, [], ℕ, Bool, true, false, zero, suc}
 use Rattle.fax_feeds.proofs.Names.{Bits, ap, arith, bits_in, drop, drop-drop, length, length-append, length-drop, refl, replicate}
 use Rattle.fax_feeds.proofs.Names.{sym, take, append-nil}
-use Rattle.std.specs.Prelude.{slice_set}
+use Rattle.std.specs.Prelude.{◌%◌, slice_set}
 use Rattle.std.proofs.Math.Seq.{take-length}
 use Rattle.std.proofs.lemmas.List.{drop-replicate, length-replicate, replicate-append-replicate}
 use Rattle.fax_bits.specs.Bits.{bits_of_byte}
