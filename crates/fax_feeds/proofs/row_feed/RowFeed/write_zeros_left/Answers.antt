@@ -30,5 +30,5 @@ returns c =
     ∙ bits_of_zeros c.self.inside.order (length c.args.bytes.now) ∙ sym (unused_zeros fed c.self.invariant.bytes (zeros_here at)
     (within_bits c.self.invariant) (length c.self.inside.«data».items)
     (length-bits_in c.self.inside.order c.self.inside.«data».items) (length c.args.bytes.now) (size_here at)
-    (λ tag some whole_byte. none tag (omega (arith, some, c.len.ensures))
+    (λ tag some whole_byte. none tag some
     (omega (arith, whole_byte, c.saturating_sub-offset.ensures)))))
