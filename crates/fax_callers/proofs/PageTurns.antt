@@ -233,7 +233,8 @@ module _ (feed : PageFeeding) (new : Feeding) (answer : Result Fed DecodeError) 
       page_end = λ f. absurd cc;
       end = λ f. absurd cc;
       fault = λ some. either_way _ (λ none. (next_of e none).plainly.fault some) (λ end ended_so.
-          subst (λ (f : Feeding). ReadsNext (read_over bits feed.page) (read_over bits f) (Err error)) (sym (at_end end ended_so).0)
+          subst (λ (f : Feeding). ReadsNext (read_over bits feed.page) (read_over bits f) (Err error))
+          (sym (at_end end ended_so).0)
           (failed_again (page_reads is.page).1 (ended_so ∙ ap Some (bad_end end error (sym e ∙ (at_end end ended_so).1)))));
       none = λ memory. either_way _ (λ none. stays_same ((next_of e none).plainly.none memory)) (λ end ended_so.
           absurd (is.page.has_memory (ended_so ∙ ap Some (bad_end end error (sym e ∙ (at_end end ended_so).1)

@@ -15,8 +15,8 @@ use Rattle.fax_rows.specs.RowsRead.{ended}
 abbrev pub changes_of : Feeding → ℕ
 changes_of feed = length (changes feed.ctx.held.reference)
 
--- what a call costs that fails for memory, beyond another call: for the changes of the row before, and the bits that were fed from
--- where the reading is
+-- what a call costs that fails for memory, beyond another call: for the changes of the row before, and the bits that were fed
+-- from where the reading is
 abbrev pub cost_of_failure : Feeding → ℕ
 cost_of_failure feed = 3 * changes_of feed + 12 * (fed_bits feed - offset_of feed) + 6
 

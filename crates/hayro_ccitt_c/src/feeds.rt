@@ -266,8 +266,7 @@ pub extern "C" fn hayro_ccitt_feed_unused(
         HaveNoRoom left count.new (length bytes.new))) }
     ensures waits { result ≡ NEEDS_MORE → OnFeeding feed.new.handle.value (λ feeding. ended feeding.rows.rows.stand ≡ None) }
     ensures unwritten { result ≢ OK → bytes.new ≡ bytes.old }
-    ensures unchanged { feed.new.handle.value ≡ feed.old.handle.value }
-    ensures is_open { feed.new.is_open ≡ feed.old.is_open }
+    ensures unchanged { (feed.new.handle.value ≡ feed.old.handle.value) × (feed.new.is_open ≡ feed.old.is_open) }
     ensures untaken { (result ≡ NOT_TAKEN) ↔ (feed.old.is_open ≡ false) }
     ensures none_reported { feed.old.is_open ≡ false → (count.new ≡ 0) × (feed.new ≡ feed.old) }
 {

@@ -201,8 +201,9 @@ module _ {f : Inside} {before after : BitsAt} {rows : RowState} {ctx : Context} 
             let mid = plain_of comes.1 gap_none in
             let next = line_feeds answer reads (λ e none. unread e) by.begun (on.line is) mid in
             let now = fed_of next.stands (reads.gap ∙ none) reads.within in
-            next_of (reached_here line comes.0 is by.none by.none (framed next comes.1 now (within_bits (gap_read_by unended).kept)
-            reads.within gap_none (ap (λ (g : GapSoFar). g.passed) (reads.gap ∙ none)) reads.keeps) by.begun) now.known now.lie;
+            next_of (reached_here line comes.0 is by.none by.none (framed next comes.1 now
+            (within_bits (gap_read_by unended).kept) reads.within gap_none (ap (λ (g : GapSoFar). g.passed) (reads.gap ∙ none))
+            reads.keeps) by.begun) now.known now.lie;
         keeps = grind (arith, common_steps);
         over = λ end e. let never = sym unended ∙ e in absurd cc;
         counts = counts_row answer (ap (λ (h : Held). h.settings) on.frame) (ap (λ (h : Held). h.taken) on.frame) room

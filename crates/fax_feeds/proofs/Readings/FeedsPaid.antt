@@ -979,8 +979,9 @@ history_paid {whole = whole} (IsHistory.finishes before is fed) = finished_paid 
 history_paid (IsHistory.reads before unended keeps next other) =
     reads_paid unended (keeps_completed _ keeps) (zeros_known (history_fed before)) (history_paid before) next.plainly other
 history_paid {whole = whole} (IsHistory.fails {calls} {lost} {tried} {old} {new} before unended keeps next) =
-    subst (λ (n : ℕ). FeedIsPaid (calls + 1) (lost + n) (tried + next.plainly.extra) (completed whole new)) (same_cost next.stands)
-    (fails_paid unended (keeps_completed _ keeps) (zeros_known (history_fed before)) (history_paid before) next.plainly refl)
+    subst (λ (n : ℕ). FeedIsPaid (calls + 1) (lost + n) (tried + next.plainly.extra) (completed whole new))
+    (same_cost next.stands) (fails_paid unended (keeps_completed _ keeps) (zeros_known (history_fed before))
+    (history_paid before) next.plainly refl)
 
 pub feeds_are_paid : FeedsArePaid
 feeds_are_paid calls lost tried whole feed history is =

@@ -40,18 +40,19 @@ bits_of_one order (suc n) first some is =
 -- ---- A tag and zeros
 
 -- some zeros, after others
-zeros_after : (zeros k : ℕ) → drop k (replicate zeros false ++ []) ≡ replicate (zeros - k) false
-zeros_after zeros k = ap (drop k) (append-nil (replicate zeros false)) ∙ drop-replicate k zeros false
+zeros_left_after : (zeros k : ℕ) → drop k (replicate zeros false ++ []) ≡ replicate (zeros - k) false
+zeros_left_after zeros k = ap (drop k) (append-nil (replicate zeros false)) ∙ drop-replicate k zeros false
 
 -- those of which no more is left than so many
-after_tag : (tag : Bool) (zeros k left : ℕ) → (tag ≡ true → k ≢ 0) → length (behind_tag tag (replicate zeros false ++ [])) ≡ k + left
+after_tag : (tag : Bool) (zeros k left : ℕ) → (tag ≡ true → k ≢ 0)
+    → length (behind_tag tag (replicate zeros false ++ [])) ≡ k + left
     → drop k (behind_tag tag (replicate zeros false ++ [])) ≡ replicate left false
 after_tag false zeros k left other long =
-    zeros_after zeros k ∙ ap (λ (n : ℕ). replicate n false)
+    zeros_left_after zeros k ∙ ap (λ (n : ℕ). replicate n false)
     (omega (arith, long, ap length (append-nil (replicate zeros false)), length-replicate zeros false))
 after_tag true zeros zero left other long = absurd (other refl refl)
 after_tag true zeros (suc k) left other long =
-    zeros_after zeros k ∙ ap (λ (n : ℕ). replicate n false)
+    zeros_left_after zeros k ∙ ap (λ (n : ℕ). replicate n false)
     (omega (arith, long, ap length (append-nil (replicate zeros false)), length-replicate zeros false))
 
 -- the tag, and all of them
