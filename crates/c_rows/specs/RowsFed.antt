@@ -5,7 +5,8 @@ use Rattle.hayro_ccitt.specs.BitOrder.{BitOrder}
 use Rattle.hayro_ccitt.specs.DecodeError.{DecodeError}
 use Rattle.hayro_ccitt.specs.DecodeSettings.{DecodeSettings}
 use Rattle.hayro_ccitt.specs.Bits.{AreWholeBytes, Bits, bits_in}
-use Rattle.hayro_ccitt.specs.RowFeeds.{Feeding as RowsFed, ComeNext, FeedsRow, HoldsMore, IsFeedOf}
+use Rattle.hayro_ccitt.specs.RowFeeds.{Feeding as RowsFed, ComeNext, FeedsRow, HoldsMore, IsFeedOf, completed}
+use Rattle.hayro_ccitt.specs.RowFeeds.{unused}
 use Rattle.hayro_ccitt.specs.Fed.{Fed}
 use Rattle.hayro_ccitt.specs.Fed.TheVariants.{Row, NeedsMore, End}
 use Rattle.c_rows.specs.RowsGiven.{status_of_row}
@@ -81,3 +82,7 @@ pub record FinishesFeed (old new : Feeding) : Type 0 where
   pub reading : (whole : Bits) (tried : ℕ) → IsFeedOf whole tried old.rows
       → length whole ≡ old.rows.dropped + length old.rows.kept → IsFeedOf whole tried new.rows
   pub same : new ≡ record old { rows = record old.rows { finished = true } }
+
+-- a statement about the bits of the bytes that were fed and aren't consumed, of whatever data those fed are a beginning
+abbrev pub OnUnused : RowsFed → (Bits → Type 0) → Type 0
+OnUnused feed P = (whole : Bits) (tried : ℕ) → IsFeedOf whole tried feed → P (unused (completed whole feed))

@@ -1,11 +1,17 @@
-use Rattle.std.proofs.Common.{ap, arith, length}
-use Rattle.hayro_ccitt.proofs.BitReading.BitLists.{length-bits_in}
+use Rattle.hayro_ccitt.proofs.Names.{◌*◌, ◌+◌, ◌/◌, arith, length-drop, take}
+use Rattle.hayro_ccitt.specs.RowFeeds.{fed_bits, offset_of}
+use Rattle.hayro_ccitt.proofs.Readings.FeedsCompleted.{full_long}
 use Rattle.c_rows.proofs.feeding.Feeding.give_unused.Goals as goal
 
 pub returns-then-left-bytes-clause-refused : goal.returns-then-left-bytes-clause-refused
-returns-then-left-bytes-clause-refused c = λ five.
-    let bytes = c.unused-left.result.now in
+returns-then-left-bytes-clause-refused c = λ five whole tried fed.
+    let rows = c.args.self.now.rows in
     record {
-      size = omega (arith, ap length c.unused-left.ensures, length-bits_in c.args.self.now.rows.order bytes);
+      size = omega (
+        arith,
+        c.unused_len-left.ensures,
+        length-drop (8 * ((offset_of rows + 7) / 8)) (take (fed_bits rows) whole),
+        full_long fed,
+      );
       more = c.if-left-bytes.true;
     }
