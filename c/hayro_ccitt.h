@@ -38,8 +38,8 @@ extern "C" {
 #endif
 
 /* The version of this header: MAJOR * 10000 + MINOR * 100 + PATCH, and as a text. */
-#define HAYRO_CCITT_VERSION 800
-#define HAYRO_CCITT_VERSION_TEXT "0.8.0"
+#define HAYRO_CCITT_VERSION 900
+#define HAYRO_CCITT_VERSION_TEXT "0.9.0"
 
 /* How the data is encoded. */
 enum {
@@ -172,8 +172,8 @@ uint32_t hayro_ccitt_close(hayro_ccitt_reader *reader);
  * the data, and read the rows that are left; close the feed. The rows, the last status and bytes_read are those of a reader of
  * all the data.
  *
- * A feed keeps a copy of the bytes that it still needs: those of a line that isn't whole, all of a gap between lines that isn't,
- * however long it is, and what was fed but not read yet.
+ * A feed keeps a copy of the bytes that it still needs: those of a line that isn't whole, few of a gap between lines that isn't,
+ * or all of it where its EOL is missing, however many these are, and what was fed but not read yet.
  *
  * Several feeds may be open at a time. Each belongs to one thread at a time. A feed that isn't closed leaks its memory. */
 typedef struct {
@@ -216,8 +216,9 @@ uint32_t hayro_ccitt_feed_rows_packed(hayro_ccitt_row_feed *feed, uint8_t *bitma
                                       hayro_ccitt_row *row);
 
 /* Copies the bytes that were fed and aren't consumed, and stores in `count` how many they are: after HAYRO_CCITT_NO_ROW, those after
- * the image. A byte of which a bit was read is consumed. After HAYRO_CCITT_REFUSED there was no room, and none is copied. The bytes
- * after them keep their values. HAYRO_CCITT_NOT_TAKEN means that the feed isn't open; `count` is 0. The feed stays as it is. */
+ * the image. A byte of which a bit was read is consumed. After HAYRO_CCITT_REFUSED there was no room, and none is copied, nor after
+ * HAYRO_CCITT_NEEDS_MORE: then a gap waits for more data, and only the number of its bits is kept. The bytes after them keep their
+ * values. HAYRO_CCITT_NOT_TAKEN means that the feed isn't open; `count` is 0. The feed stays as it is. */
 uint32_t hayro_ccitt_feed_unused(hayro_ccitt_row_feed *feed, uint8_t *bytes, size_t length, size_t *count);
 
 /* Closes a feed, and frees its memory. Returns HAYRO_CCITT_OK, or HAYRO_CCITT_NOT_TAKEN if it isn't open: then it does nothing. */

@@ -196,8 +196,8 @@ export class RowFeed {
         calls.hayro_ccitt_feed_unused(at, 0, 0, at + COUNT);
         const length = readNumber(at + COUNT);
         return lend(length, (copy) => {
-            calls.hayro_ccitt_feed_unused(at, copy, length, at + COUNT);
-            return bytesAt(copy, length).slice();
+            const status = calls.hayro_ccitt_feed_unused(at, copy, length, at + COUNT);
+            return bytesAt(copy, status === OK ? length : 0).slice();
         });
     }
 

@@ -146,7 +146,8 @@ export class RowFeed implements Iterable<Uint8Array> {
     /** The fault of the last row, if its line was damaged and repaired. */
     get fault(): typeof UnexpectedEof | typeof InvalidCode | typeof Overflow | null;
     /** The bytes that were fed and aren't consumed, from `bytesRead` on. At the end of the image they are those after it. There are
-     * none once the feed is closed, except after `over` came to the end of the image. */
+     * none once the feed is closed, except after `over` came to the end of the image, nor where a gap waits for more data, of which
+     * only the number of bits is kept. */
     get unused(): Uint8Array;
 }
 

@@ -132,20 +132,26 @@ def runs_of_the_program():
     print(f"  {runs} runs with few allocations")
 
 
+# What comes again and again, how it is read, and the status: rows, zeros, and EOLs.
+PIPED = [(r"\200", "g4 8 0 a", 0), (r"\000", "g4 8 0 b", 1), (r"\000", "1d 8 0 l", 1), (r"\000\020\001", "1d 8 0 l", 1), (r"\000\020\001", "2d 8 0 -", 1)]
+
+
+def status_of_piped(repeated, words, size, kilobytes):
+    """The status of the program with `-i`, within so much memory, on so many bytes through a pipe: some bytes again and again."""
+    limit, letters = kilobytes << 10, "abc"[: repeated.count("\\")]
+    with subprocess.Popen(["sh", "-c", f"yes {letters} | tr -d '\\n' | tr {letters} '{repeated}' | head -c {size}"], stdout=subprocess.PIPE) as data:
+        bounded = {"preexec_fn": lambda: resource.setrlimit(resource.RLIMIT_AS, (limit, limit))}
+        command = [program.PROGRAM, "-i", *words.split()]
+        done = subprocess.run(command, stdin=data.stdout, stdout=subprocess.DEVNULL, stderr=subprocess.DEVNULL, check=False, **bounded)
+    return done.returncode
+
+
 def piped_rows():
-    """With `-i` 20 MB through a pipe take at most 2 MB more of address space than a byte."""
-
-    def fits(size, kilobytes):
-        """Whether a run on so many bytes ends well within so much."""
-        limit = kilobytes << 10
-        with subprocess.Popen(["sh", "-c", f"head -c {size} /dev/zero | tr '\\0' '\\200'"], stdout=subprocess.PIPE) as data:
-            words = [program.PROGRAM, "-i", "g4", "8", "0", "a"]
-            bounded = {"preexec_fn": lambda: resource.setrlimit(resource.RLIMIT_AS, (limit, limit))}
-            done = subprocess.run(words, stdin=data.stdout, stdout=subprocess.DEVNULL, stderr=subprocess.DEVNULL, check=False, **bounded)
-        return done.returncode == 0
-
-    least = next(kilobytes for kilobytes in range(1024, 65536, 128) if fits(1, kilobytes))
-    assert fits(20_000_000, least + 2048), least
+    """With `-i` 20 MB through a pipe take at most 2 MB more of address space than a byte: rows, and what can be of a gap."""
+    least = next(kilobytes for kilobytes in range(1024, 65536, 128) if status_of_piped(*PIPED[0][:2], 1, kilobytes) == 0)
+    for repeated, words, status in PIPED:
+        found = status_of_piped(repeated, words, 20_000_000, least + 2048)
+        assert found == status, (repeated, words, found, least)
     print(f"  {least} KB for a byte, and at most 2 MB more for 20 MB")
 
 

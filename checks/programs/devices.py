@@ -67,20 +67,28 @@ def each_read_and_write():
 
 
 def readers_without_end():
-    """Input without an end, in 64 MB of memory: an allocation failure, and nothing is written, also with `-i`, as an EOL may still come
-    after the zeros; where they are ones, `-i` ends with the image."""
+    """Input without an end, in 64 MB of memory: an allocation failure, and nothing is written, with `-i` where the gap lacks its EOL, as
+    one may still come after the ones. Zeros without an EOL are only counted with `-i`, and where they are ones, it ends with the image."""
     runs = 0
-    for words in ("g4 8 0 -", "1d 8 1 l", "2d 4294967295 0 bls", "-o g4 8 1 -", "-d g4 8 1 -", "-i g4 8 1 -"):
+    for words in ("g4 8 0 -", "1d 8 1 l", "2d 4294967295 0 bls", "-o g4 8 1 -", "-d g4 8 1 -"):
         with open("/dev/zero", "rb") as zeros:
-            done = subprocess.run(
-                [program.PROGRAM, *words.split()], stdin=zeros, capture_output=True, preexec_fn=refusals.limit_memory, timeout=60, check=False
-            )
-        assert (done.returncode, done.stdout, done.stderr) == (3, b"", b"faxrows: out of memory\n"), (words, done)
+            assert in_little_memory(words, zeros) == (3, b"", b"faxrows: out of memory\n"), words
         runs += 1
+    with subprocess.Popen(["sh", "-c", "printf '\\000\\031'; tr '\\0' '\\377' < /dev/zero"], stdout=subprocess.PIPE) as ones:
+        assert in_little_memory("-i 1d 8 0 l", ones.stdout) == (3, b"r\n", b"faxrows: out of memory\n")
+    for words, end in ("-i g4 8 1 -", (1, b"error: invalid CCITT code sequence\n", b"")), ("-i 1d 8 1 l", (0, b"r\nok 0\n", b"")):
+        with subprocess.Popen(["head", "-c", "200000000", "/dev/zero"], stdout=subprocess.PIPE) as zeros:
+            assert in_little_memory(words, zeros.stdout) == end, words
     with subprocess.Popen(["sh", "-c", "tr '\\0' '\\377' < /dev/zero"], stdout=subprocess.PIPE) as ones:
-        done = subprocess.run([program.PROGRAM, "-i", "g4", "8", "1", "-"], stdin=ones.stdout, capture_output=True, timeout=60, check=False)
-    assert (done.returncode, done.stdout, done.stderr) == (0, b"r\nok 1\n", b""), done
-    print(f"  {runs} readers without end, and one that is read to the end of the image")
+        assert in_little_memory("-i g4 8 1 -", ones.stdout) == (0, b"r\nok 1\n", b"")
+    print(f"  {runs} readers without end, one that lacks an EOL, 200 MB of zeros twice, and one that is read to the end of the image")
+
+
+def in_little_memory(words, data):
+    """The status, the output and the errors of a run in 64 MB of memory."""
+    run = [program.PROGRAM, *words.split()]
+    done = subprocess.run(run, stdin=data, capture_output=True, preexec_fn=refusals.limit_memory, timeout=60, check=False)
+    return done.returncode, done.stdout, done.stderr
 
 
 def writes_in_pieces():

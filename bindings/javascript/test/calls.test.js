@@ -176,6 +176,16 @@ test("rows come as soon as they are known", () => {
     assert.throws(() => feed.finish(), TypeError);
 });
 
+test("of a gap only the number of bits is kept", () => {
+    const feed = new fax.RowFeed(SETTINGS);
+    const unused = [...DATA].map((byte) => {
+        feed.feed(Uint8Array.of(byte));
+        return [[...feed].length, feed.bytesRead, [...feed.unused]];
+    });
+    assert.deepEqual(unused, [[0, 0, [0x31]], [1, 2, []], [0, 2, []], [0, 2, []], [0, 5, []], [0, 5, [0x07]]]);
+    feed.close();
+});
+
 test("a feed throws its fault again, and repairs are told", () => {
     const feed = new fax.RowFeed({ ...SETTINGS, rows: 2, endOfBlock: false });
     feed.feed(Uint8Array.from([0x31, 0xc0, 0x10, 0x00, 0x00]));

@@ -48,7 +48,7 @@ from .feeding import RowFeed, RowsFrom, rows_from
 from .guessing import Guess, guess
 from .showing import Mark, damage_mask, damage_shown
 
-__version__ = "0.8.0"
+__version__ = "0.9.0"
 __all__ = [
     "Damage",
     "DecodeError",

@@ -14,7 +14,7 @@ BLACK_IS_0, ENCODED_BLACK_IS_0 = 32, 128
 # What the library of a wheel is called: on Linux, macOS, Windows.
 NAMES = ("libhayro_ccitt.so", "libhayro_ccitt.dylib", "hayro_ccitt.dll")
 # The installed library whose interface this package calls.
-SONAME = "libhayro_ccitt.so.0.8"
+SONAME = "libhayro_ccitt.so.0.9"
 
 
 class Settings(ctypes.Structure):

@@ -37,13 +37,14 @@ class Feeding(Reading):
     @property
     def unused(self) -> bytes:
         """The bytes that were fed and aren't consumed, from `bytes_read` on. At the end of the image they are those after it.
-        There are none once the reader is closed."""
+        There are none once the reader is closed, nor where a gap waits for more data, of which only the number of bits is
+        kept."""
         count = ctypes.c_size_t()
         with self._lock:
             c.LIBRARY.hayro_ccitt_feed_unused(self._reader, None, 0, count)
             copy = room_for(count.value)
-            c.LIBRARY.hayro_ccitt_feed_unused(self._reader, copy, count.value, count)
-        return copy.raw
+            status = c.LIBRARY.hayro_ccitt_feed_unused(self._reader, copy, count.value, count)
+        return copy.raw if status == c.OK else b""
 
     def _feed(self, data: Data) -> bool:
         """Feeds bytes. Returns whether they were fed: they aren't if the data is finished or the reader is closed."""
@@ -216,8 +217,8 @@ class RowsFrom(Feeding, Iterator[memoryview]):
     @property
     def unused(self) -> bytes:
         """The bytes that were read from the file and aren't consumed, from `bytes_read` on. At the end of the image they are
-        those after it, which the rest of the file follows. There are none once the reader is closed, but those that weren't
-        fed."""
+        those after it, which the rest of the file follows. Once the reader is closed, or where the file failed within a gap, of
+        which only the number of bits is kept, there are none but those that weren't fed."""
         return super().unused + self._piece
 
     def __iter__(self) -> RowsFrom:

@@ -160,6 +160,15 @@ def test_rows_come_as_soon_as_they_are_known():
         assert list(rows) == [] and rows.ended and rows.unused == b"\x07"
 
 
+def test_of_a_gap_only_the_number_of_bits_is_kept():
+    # A row, EOFB, and a byte of something else: within EOFB none is unused.
+    feed, unused = RowFeed(8, k=-1), []
+    for byte in b"\x31\xc0\x04\x00\x40\x07":
+        feed.feed(bytes([byte]))
+        unused.append((len(list(feed)), feed.bytes_read, feed.unused))
+    assert unused == [(0, 0, b"\x31"), (1, 2, b""), (0, 2, b""), (0, 2, b""), (0, 5, b""), (0, 5, b"\x07")]
+
+
 def test_without_columns_a_feed_has_ended():
     for k in (-1, 0, 1):
         feed = RowFeed(0, k=k)
@@ -440,16 +449,21 @@ assert list(feed) == [] and feed.ended and feed.bytes_read == 2 + fed + 3, (fed,
 assert fed > 1 << 22
 feed.close()
 
-class Zeros:
+# After a row without its EOL all bytes up to the next one are kept.
+sought, rtc = b"\\x80" * (1 << 22), bytes.fromhex("001001001001001001")
+
+class Sought:
     def __init__(self):
         self.given = self.failed = 0
     def read(self, size):
         self.given += 1
-        return b"\\x31\\xc0" if self.given == 1 else b"\\x01\\x00\\x10" if self.failed else bytes(1 << 22)
+        if self.given == 1:
+            return b"\\x00\\x19\\x80"
+        return sought if not self.failed else rtc if self.given == self.failed + 1 else b""
 
-file = Zeros()
-rows = hayro_ccitt.rows_from(file, 8, k=-1)
-assert bytes(next(rows)) == b"\\xe7"
+file = Sought()
+rows = hayro_ccitt.rows_from(file, 8, end_of_line=True)
+assert bytes(next(rows)) == b"\\xff"
 try:
     next(rows)
     assert False
@@ -457,7 +471,7 @@ except MemoryError:
     file.failed = file.given
 # The piece that wasn't fed isn't lost.
 resource.setrlimit(resource.RLIMIT_AS, (most, most))
-assert list(rows) == [] and rows.ended and rows.bytes_read == 2 + ((file.failed - 1) << 22) + 3
+assert list(rows) == [] and rows.ended and rows.bytes_read == 3 + ((file.failed - 1) << 22) + 9
 """
 
 

@@ -115,11 +115,12 @@ impl Feed {
         (status, count)
     }
 
-    /// Copies the bytes that were fed and aren't consumed if there is room for all of them, and returns how many there are.
-    pub(crate) fn unused(&mut self, bytes: &mut [u8]) -> usize {
+    /// Copies the bytes that were fed and aren't consumed if there is room for all of them, and returns the status and how many there
+    /// are.
+    pub(crate) fn unused(&mut self, bytes: &mut [u8]) -> (u32, usize) {
         let mut count = 0;
-        hayro_ccitt_feed_unused(&mut self.reader, bytes, &mut count);
-        count
+        let status = hayro_ccitt_feed_unused(&mut self.reader, bytes, &mut count);
+        (status, count)
     }
 }
 

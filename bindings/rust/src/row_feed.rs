@@ -59,7 +59,7 @@ impl From<DecodeError> for FeedError {
 /// Reads the rows of an image from data that comes in pieces, each as soon as no data that follows can change its line.
 ///
 /// The rows, and what is reported of them, are those of a [`RowReader`](crate::RowReader) of all the data, however it is cut. Of the
-/// data the bytes that aren't read yet are kept; what isn't known yet is read again when more was fed, so few long pieces take less
+/// data the bytes that aren't read yet are kept, but few of a gap between rows, unless its EOL is missing. Few long pieces take less
 /// time than many short ones. A row is borrowed until the next call.
 ///
 /// # Example
@@ -227,16 +227,19 @@ impl RowFeed {
     }
 
     /// Returns a copy of the bytes that were fed and aren't consumed: those from [`bytes_read`](Self::bytes_read) on. At the end
-    /// of the image they are what follows it. If an allocation fails here, the program ends.
+    /// of the image they are what follows it. There are none where a gap waits for more data, of which only the number of bits is
+    /// kept. If an allocation fails here, the program ends.
     pub fn unused(&mut self) -> Vec<u8> {
         let mut bytes = zeros(self.unused_count());
-        self.feed.unused(&mut bytes);
+        if self.feed.unused(&mut bytes).0 != c::OK {
+            bytes.clear();
+        }
         bytes
     }
 
     /// Returns the number of bytes that were fed and aren't consumed.
     pub(crate) fn unused_count(&mut self) -> usize {
-        self.feed.unused(&mut [])
+        self.feed.unused(&mut []).1
     }
 
     /// Returns what the last call that read reports of the rows.

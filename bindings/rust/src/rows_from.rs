@@ -65,10 +65,11 @@ impl From<ReadError> for io::Error {
 ///
 /// # What is consumed
 ///
-/// Always, also after an error, the data is three parts: the first [`bytes_read`](Self::bytes_read) bytes, which are consumed, and at
-/// the end are the image's; then those of [`unused`](Self::unused), which are consumed too; and then what the reader gives next. So if
-/// `unused` is empty, what is consumed is the image to the byte, and what follows it can be read from the same reader. Else
-/// [`into_rest`](Self::into_rest) reads all that follows.
+/// At the end, also after an error of the data, that is three parts: the first [`bytes_read`](Self::bytes_read) bytes, which are
+/// consumed and are the image's; then those of [`unused`](Self::unused), which are consumed too; and then what the reader gives next.
+/// So if `unused` is empty, what is consumed is the image to the byte, and what follows it can be read from the same reader. Else
+/// [`into_rest`](Self::into_rest) reads all that follows. Before the end it is so too, except where the reader failed within a gap, of
+/// which only the number of bits is kept: then `unused` is empty.
 ///
 /// `unused` isn't empty where bytes after those read had to be looked at, the reader showed no more of them, and a `BufRead` shows
 /// more only if these are consumed. Bytes after an image are looked at as far as they could belong to it:

@@ -192,7 +192,8 @@ fn readers_give_the_rows_of_the_whole() {
     println!("{runs} runs, of which {exact} consumed exactly the image");
 }
 
-/// After each call the bytes consumed are those read, and then those unused; also where the reader fails, and packed.
+/// After each call the bytes consumed are those read, and then those unused; also where the reader fails, except within a gap, and
+/// packed.
 #[test]
 fn no_byte_is_lost_between_rows() {
     let (mut calls, mut unused, mut failed) = (0, 0, 0);
@@ -210,7 +211,6 @@ fn no_byte_is_lost_between_rows() {
             let row = pack(rows);
             let (read, more) = (rows.bytes_read(), rows.unused());
             let consumed = &case.data[..watched.consumed.get()];
-            assert_eq!(consumed[read..], more, "{}", case.line());
             let is_failed = match &row {
                 Err(ReadError::Io(error)) => {
                     assert_eq!(error.kind(), ErrorKind::TimedOut);
@@ -218,6 +218,9 @@ fn no_byte_is_lost_between_rows() {
                 }
                 _ => false,
             };
+            // Within a gap what was consumed isn't kept.
+            let is_known = consumed[read..] == more || is_failed && more.is_empty();
+            assert!(is_known, "{}", case.line());
             let (calls, unused, failed) = counts.get();
             counts.set((
                 calls + 1,
@@ -422,11 +425,8 @@ fn errors_are_those_of_the_reader_and_of_the_data() {
         assert!(matches!(error, ReadError::Io(_)));
         assert_eq!(io::Error::from(error).to_string(), "broken");
     }
-    // What was looked at wasn't read, and isn't lost.
-    assert_eq!(
-        (rows.bytes_read(), rows.unused()),
-        (2, CLOSED[2..4].to_vec())
-    );
+    // What was looked at wasn't read. Of a gap only the number of bits is kept.
+    assert_eq!((rows.bytes_read(), rows.unused()), (2, vec![]));
     let kinds = [
         (
             ReadError::Data(DecodeError::UnexpectedEof),

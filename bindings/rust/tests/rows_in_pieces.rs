@@ -232,8 +232,9 @@ fn the_image_ends_before_what_follows() {
     feed.feed(&CLOSED[..3]).unwrap();
     assert_eq!(feed.next_row(), Ok(Fed::Row(&[3, 5][..])));
     assert_eq!(feed.next_row(), Ok(Fed::NeedsMore));
+    // Of the EOL that begins the gap only the number of bits is kept.
     assert_eq!((feed.rows_read(), feed.bytes_read()), (1, 2));
-    assert_eq!(feed.unused(), CLOSED[2..3]);
+    assert_eq!(feed.unused(), []);
     feed.feed(&[CLOSED[3], CLOSED[4], 7, 0]).unwrap();
     assert_eq!(feed.next_row(), Ok(Fed::End));
     assert_eq!((feed.bytes_read(), feed.unused()), (5, vec![7, 0]));

@@ -1,11 +1,13 @@
 -- Rows that C reads from data in pieces.
-use Rattle.std.specs.Prelude.{◌≡◌, ◌<◌, ◌⊎◌, ◌↔◌, ◌+◌, ◌*◌, ◌^◌, ◌-◌, ℕ, Bool, true, false, List, [], length, Result}
-use Rattle.std.specs.Prelude.{Ok, Err}
+use Rattle.std.specs.Prelude.{◌≡◌, ◌≢◌, ◌<◌, ◌⊎◌, ◌↔◌, ◌+◌, ◌*◌, ◌^◌, ◌-◌, ℕ, Bool, true, false, List, [], length, take, drop}
+use Rattle.std.specs.Prelude.{Result, Ok, Err, None}
 use Rattle.hayro_ccitt.specs.BitOrder.{BitOrder}
 use Rattle.hayro_ccitt.specs.DecodeError.{DecodeError}
 use Rattle.hayro_ccitt.specs.DecodeSettings.{DecodeSettings}
 use Rattle.hayro_ccitt.specs.Bits.{AreWholeBytes, Bits, bits_in}
-use Rattle.hayro_ccitt.specs.RowFeeds.{Feeding as RowsFed, ComeNext, FeedsRow, HoldsMore, IsFeedOf}
+use Rattle.hayro_ccitt.specs.RowFeeds.{Feeding as RowsFed, ComeNext, FeedsRow, HoldsMore, IsFeedOf, completed}
+use Rattle.hayro_ccitt.specs.RowFeeds.{unused, unused_size}
+use Rattle.hayro_ccitt.specs.RowsRead.{ended}
 use Rattle.hayro_ccitt.specs.Fed.{Fed}
 use Rattle.hayro_ccitt.specs.Fed.TheVariants.{Row, NeedsMore, End}
 use Rattle.c_rows.specs.RowsGiven.{status_of_row}
@@ -81,3 +83,16 @@ pub record FinishesFeed (old new : Feeding) : Type 0 where
   pub reading : (whole : Bits) (tried : ℕ) → IsFeedOf whole tried old.rows
       → length whole ≡ old.rows.dropped + length old.rows.kept → IsFeedOf whole tried new.rows
   pub same : new ≡ record old { rows = record old.rows { finished = true } }
+
+-- What a call leaves in the caller's memory to which the bytes are written that were fed and aren't consumed: these, of whatever
+-- data those fed are a beginning; what follows them is unchanged. The count is theirs in any case. None are written where there
+-- is no room for all of them, or, before the end of the image, where some of them aren't kept.
+pub record GivesUnused (feed : RowsFed) (before after : List ℕ) (count status : ℕ) : Type 0 where
+  pub statuses : (status ≡ OK) ⊎ (status ≡ REFUSED) ⊎ (status ≡ NEEDS_MORE)
+  pub size : 8 * count ≡ unused_size feed
+  pub given : status ≡ OK → (whole : Bits) (tried : ℕ) → IsFeedOf whole tried feed
+      → bits_in feed.order (take count after) ≡ unused (completed whole feed)
+  pub rest : drop count after ≡ drop count before
+  pub refused : (status ≡ REFUSED) ↔ (length after < count)
+  pub waits : status ≡ NEEDS_MORE → ended feed.rows.stand ≡ None
+  pub unwritten : status ≢ OK → after ≡ before

@@ -28,12 +28,11 @@ pub struct Feeding {
 }
 
 impl Feeding {
-    ghost use Rattle.std.specs.Prelude.{◌≡◌, ◌≢◌, ◌≤◌, ◌<◌, ◌⊎◌, length, not, false, true, IfOk, Ok, Result};
-    ghost use Rattle.hayro_ccitt.specs.RowFeeds.{Feeding as RowsFed, unused};
+    ghost use Rattle.std.specs.Prelude.{◌≡◌, ◌≢◌, ◌≤◌, ◌<◌, length, not, false, true, IfOk, Ok, Result};
+    ghost use Rattle.hayro_ccitt.specs.RowFeeds.{Feeding as RowsFed};
     ghost use Rattle.hayro_ccitt.specs.Rows.{changes};
-    ghost use Rattle.c_rows.specs.Encoding.{AreEncoded, HaveNoRoom};
     ghost use Rattle.c_rows.specs.Packing.{bytes_of_row};
-    ghost use Rattle.c_rows.specs.RowsFed.{FinishesFeed, GivesFed, IsFeedOpened, TakesBytes, TurnsToFed};
+    ghost use Rattle.c_rows.specs.RowsFed.{FinishesFeed, GivesFed, GivesUnused, IsFeedOpened, TakesBytes, TurnsToFed};
     ghost use Rattle.c_rows.specs.RowsReported.{as_paused};
     ghost use Rattle.c_rows.specs.GivenRows.{ListsRows, PacksRows, PassesAll, columns_of};
     ghost use Rattle.c_rows.specs.RowsGiven.{IsListed, IsPacked, TellsOf};
@@ -289,20 +288,20 @@ impl Feeding {
     }
 
     /// Writes the bytes that were fed and aren't consumed if there is room for them, and returns the status. `count` is how many
-    /// there are.
+    /// there are. `NEEDS_MORE` says that a gap waits for more data, and only the number of its bits is kept: then none are written.
     pub fn give_unused(&self, bytes: &mut [u8], count: &mut usize) -> u32
-        ensures statuses { (result ≡ OK) ⊎ (result ≡ REFUSED) }
-        ensures given { result ≡ OK → AreEncoded self.now.rows.order (unused self.now.rows) count.new bytes.old bytes.new }
-        ensures refused { result ≡ REFUSED → HaveNoRoom (unused self.now.rows) count.new (length bytes.new) }
-        ensures unwritten { result ≢ OK → bytes.new ≡ bytes.old }
+        ensures { GivesUnused self.now.rows bytes.old bytes.new count.new result }
     {
-        let left = self.rows.unused();
-        *count = left.len();
-        if left.len() > bytes.len() {
+        let left = self.rows.unused_len();
+        *count = left;
+        if left > bytes.len() {
             return status::REFUSED;
         }
-        bytes[..left.len()].copy_from_slice(left);
-        status::OK
+        if self.rows.copy_unused(&mut bytes[..left]) {
+            status::OK
+        } else {
+            status::NEEDS_MORE
+        }
     }
 
     /// Reports the last row to C: what was reported before, if that still holds.

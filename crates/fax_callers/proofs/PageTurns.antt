@@ -1,11 +1,12 @@
 -- What a call of a page's reading leaves.
 use Rattle.hayro_ccitt.proofs.Names.{◌≡◌, ◌≢◌, ℕ, ◌+◌, ◌≤◌, ◌++◌, ◌∙◌, inr, Bool, true, false, List}
 use Rattle.hayro_ccitt.proofs.Names.{Option, None, Some, Result, Ok, Err, refl, sym, ap, subst, arith, length, drop, length-drop}
-use Rattle.hayro_ccitt.proofs.Names.{Bits, bits_in, DecodeError, DecodeSettings, OutOfMemory, HasEnded, IfErr, IsFault}
+use Rattle.hayro_ccitt.proofs.Names.{Bits, bits_in, DecodeError, DecodeSettings, OutOfMemory, HasEnded, HasFailed, IfErr, IsFault}
 use Rattle.hayro_ccitt.proofs.Names.{Group4, MissIsReported, ReadsNext, RowsRead, ended, missed_before, plain, ◌<◌}
 use Rattle.hayro_ccitt.specs.BitOrder.{BitOrder}
 use Rattle.hayro_ccitt.specs.Bits.{BitsFit}
-use Rattle.hayro_ccitt.specs.RowFeeds.{Feeding, FeedsNext, IsFeedOf, KeepsBits, StandsIn, StaysThere, fed_end, fed_over}
+use Rattle.hayro_ccitt.specs.RowFeeds.{Feeding, FeedsNext, IsFeedOf, KeepsBits, StandsIn, StaysThere, completed, fed_end}
+use Rattle.hayro_ccitt.specs.RowFeeds.{offset_of}
 use Rattle.hayro_ccitt.specs.Fed.{Fed}
 use Rattle.hayro_ccitt.specs.Fed.TheVariants.{Row as ReadRow, NeedsMore as WantsMore, End as ReadAll}
 use Rattle.hayro_ccitt.specs.RowState.{RowState}
@@ -16,12 +17,13 @@ use Rattle.hayro_ccitt.proofs.ErrorKinds.{by_kind}
 use Rattle.hayro_ccitt.proofs.Readings.RowByRow.{failed_stands}
 use Rattle.fax_callers.specs.PageFeeds.{EndsPage, EndsPageHere, GivesNext, HasNoRow, IsPageFeedOf, IsPageReading, PageFeeding}
 use Rattle.fax_callers.specs.PageFeeds.{SameRows}
-use Rattle.fax_callers.specs.PageFeeds.{bytes_read, page_bits, settings_of}
+use Rattle.fax_callers.specs.PageFeeds.{bytes_read, page_bits, read_over, settings_of}
 use Rattle.fax_callers.specs.Pages.{page_by, page_bytes}
 use Rattle.fax_callers.specs.declared.page_feed.PageFed.{PageFed}
 use Rattle.fax_callers.specs.declared.page_feed.PageFed.TheVariants.{Row as OneRow, NeedsMore, End, PageEnd}
 use Rattle.fax_callers.specs.Rtc.{none_seen}
 use Rattle.fax_callers.specs.declared.rtc.EolsSeen.{EolsSeen}
+use Rattle.hayro_ccitt.proofs.Readings.FeedsCompleted.{full_long}
 use Rattle.fax_callers.proofs.PageReadings.{kept_page}
 use Rattle.fax_callers.proofs.PagesNeeded.{some_wide, waits_near}
 use Rattle.fax_callers.proofs.PagesFed.{ended_within, has_ended, page_moves, page_reads, same_rows}
@@ -32,19 +34,19 @@ use Rattle.fax_callers.proofs.PagesFed.{ended_within, has_ended, page_moves, pag
 turned : {whole : Bits} {tried : ℕ} {old new : Feeding} (answer : Result Fed DecodeError) → FeedsNext whole tried old new answer
     → (new.ctx.held.settings ≡ old.ctx.held.settings) × (ended new.rows.stand ≢ Some (Err OutOfMemory))
 turned (Ok ReadRow) next =
-    let reads = next.row refl in (reads.settings, λ e. let never = sym (reads.more refl).0 ∙ e in cc)
+    let reads = next.plainly.row refl in (reads.settings, λ e. let never = sym (reads.more refl).0 ∙ e in cc)
 turned (Ok WantsMore) next =
-    let stays = next.none refl in (stays.settings, λ e. let never = sym stays.unended ∙ e in cc)
+    let stays = next.plainly.none refl in (stays.settings, λ e. let never = sym stays.unended ∙ e in cc)
 turned (Ok ReadAll) next =
-    let reads = next.end refl in (reads.settings, λ e. let never = sym (reads.end refl).0 ∙ e in cc)
+    let reads = next.plainly.end refl in (reads.settings, λ e. let never = sym (reads.end refl).0 ∙ e in cc)
 turned {whole} {tried} {old} {new} (Err error) next =
     by_kind (λ (e : DecodeError). FeedsNext whole tried old new (Err e)
     → (new.ctx.held.settings ≡ old.ctx.held.settings) × (ended new.rows.stand ≢ Some (Err OutOfMemory)))
     (λ e fault next.
-    let reads = next.fault (λ is. subst IsFault is fault) in
+    let reads = next.plainly.fault (λ is. subst IsFault is fault) in
     (reads.settings, λ f. other e fault (sym reads.error.0 ∙ f)))
-    (λ next. let stays = next.none refl in (stays.settings, λ e. let never = sym stays.unended ∙ e in cc))
-    (λ next. absurd ((next.fault (λ is. cc)).error.2.not_refused refl)) error next
+    (λ next. let stays = next.plainly.none refl in (stays.settings, λ e. let never = sym stays.unended ∙ e in cc))
+    (λ next. absurd ((next.plainly.fault (λ is. cc)).error.2.not_refused refl)) error next
   where
     other : (e : DecodeError) → IsFault e → ◌≡◌ {A = Option (Result (Unit {0}) DecodeError)} (Some (Err e)) (Some
         (Err OutOfMemory)) → ⊥
@@ -94,9 +96,12 @@ bad_end (Err other) error e = let same : other ≡ error = cc in ap Err same
 
 -- after a fault each call leaves that fault
 failed_again : {whole : Bits} {tried : ℕ} {page : Feeding} {error : DecodeError} → IsFeedOf whole tried page
-    → ended page.rows.stand ≡ Some (Err error) → ReadsNext (fed_over whole page) (fed_over whole page) (Err error)
+    → ended page.rows.stand ≡ Some (Err error) → ReadsNext (read_over whole page) (read_over whole page) (Err error)
 failed_again {whole} {tried} {page} {error} is e = by_begun page.begun is.stands
   where
+    there : 0 + offset_of page ≡ offset_of page
+    there = omega arith
+
     reported : (stand : Stand) → ended stand ≡ Some (Err error)
         → MissIsReported stand page.ctx.held.settings whole page.ctx.held.taken page.rows.missed
         → page.rows.missed ≡ missed_before page.ctx.held.settings whole page.ctx.held.taken
@@ -106,11 +111,11 @@ failed_again {whole} {tried} {page} {error} is e = by_begun page.begun is.stands
     reported (AtFault other) e is = is
 
     by_begun : (begun : Bool) → StandsIn begun tried page.rows page.ctx
-        (record { bits = whole; place = page.dropped + page.place })
-        → ReadsNext (fed_over whole page) (fed_over whole page) (Err error)
+        (record { bits = whole; place = offset_of page })
+        → ReadsNext (read_over whole page) (read_over whole page) (Err error)
     by_begun false front = let never = sym (ap (λ (r : RowState). ended r.stand) front.state) ∙ e in absurd cc
     by_begun true stands =
-        let failed = (failed_stands page.rows.stand page.ctx.held.settings whole page.ctx.held (page.dropped + page.place) e
+        let failed = (failed_stands page.rows.stand page.ctx.held.settings whole page.ctx.held (offset_of page) e
         stands.0).0 in
         record {
           settings = refl;
@@ -123,7 +128,12 @@ failed_again {whole} {tried} {page} {error} is e = by_begun page.begun is.stands
           damage = λ f. absurd cc;
           cut = λ f. absurd cc;
           end = λ f. absurd cc;
-          error = (e, refl, failed);
+          error = (
+            e,
+            refl,
+            subst (λ (n : ℕ). HasFailed page.ctx.held.settings whole page.ctx.held.taken n error) (sym there)
+                failed,
+          );
           fault_start = λ none. let never = sym none ∙ e in absurd cc;
           missed = reported page.rows.stand e stands.3;
           last = λ f. (refl, refl, refl);
@@ -164,7 +174,7 @@ module _ (feed : PageFeeding) (new : Feeding) (answer : Result Fed DecodeError) 
 
     pub new_reading : IsPageReading feed.order (drop start whole) feed.given feed.seen new
     new_reading = either_way _ (λ e.
-        kept_page is.page (λ any tried fed. let next = reads any tried e fed in (tried + next.extra, next.stands))
+        kept_page is.page (λ any tried fed. let next = reads any tried e fed in (tried + next.plainly.extra, next.stands))
         (turned answer (next_of refl e)).0 keeps.order keeps.finished (omega (arith, keeps.dropped, ap length keeps.kept))
         (turned answer (next_of refl e)).1)
         (λ end e. subst (IsPageReading feed.order (drop start whole) feed.given feed.seen) (sym (at_end end e).0) is.page)
@@ -177,7 +187,7 @@ module _ (feed : PageFeeding) (new : Feeding) (answer : Result Fed DecodeError) 
     pub gives_row : answer ≡ Ok ReadRow → GivesNext whole start feed after (Ok OneRow)
     gives_row e = record {
       row = λ f. (next_of e (either_way _ (λ none. none) (λ end some. absurd (no_row end (sym e
-          ∙ (at_end end some).1))))).row refl;
+          ∙ (at_end end some).1))))).plainly.row refl;
       page_end = λ f. absurd cc;
       end = λ f. absurd cc;
       fault = tt;
@@ -195,15 +205,15 @@ module _ (feed : PageFeeding) (new : Feeding) (answer : Result Fed DecodeError) 
       page_end = λ f. absurd cc;
       end = λ f. absurd cc;
       fault = tt;
-      none = λ none. stays_same ((next_of e (unended_more e)).none refl);
+      none = λ none. stays_same ((next_of e (unended_more e)).plainly.none refl);
       stands = λ f. is_after;
     }
 
     pub waits_unended : answer ≡ Ok WantsMore → ended new.rows.stand ≡ None
-    waits_unended e = ((next_of e (unended_more e)).none refl).unended
+    waits_unended e = ((next_of e (unended_more e)).plainly.none refl).unended
 
     pub waits_unfinished : answer ≡ Ok WantsMore → new.finished ≡ false
-    waits_unfinished e = ((next_of e (unended_more e)).unsettled refl).0
+    waits_unfinished e = ((next_of e (unended_more e)).plainly.unsettled refl).0
 
     -- so all bytes that were given but one are needed
     pub waits_few : answer ≡ Ok WantsMore → (settings_of feed).encoding ≡ Group4 → (settings_of feed).rows ≡ 0 → (size : ℕ)
@@ -212,10 +222,10 @@ module _ (feed : PageFeeding) (new : Feeding) (answer : Result Fed DecodeError) 
         let next = next_of e (unended_more e) in
         let same = new_settings in
         let bytes = page_bytes (settings_of feed) feed.order whole start in
-        waits_near new next.stands next.goes_on.within (next.unsettled refl).1
+        waits_near (completed bits new) next.plainly.stands next.plainly.goes_on.within (next.plainly.unsettled refl).1
         (ap (λ (s : DecodeSettings). s.encoding) same ∙ four) (ap (λ (s : DecodeSettings). s.rows) same ∙ unlimited)
         (some_wide new.ctx.held.settings bits size some there) (length bytes) feed.given size (length-bits_in feed.order bytes)
-        (omega (arith, keeps.dropped, ap length keeps.kept, is.page.counted)) there
+        (omega (arith, keeps.dropped, ap length keeps.kept, is.page.counted, full_long next.stands)) there
       where
         there : (plain new.ctx.held.settings bits).outcome ≡ Ok size
         there = subst (λ (s : DecodeSettings). (plain s bits).outcome ≡ Ok size) (sym new_settings) outcome
@@ -226,10 +236,11 @@ module _ (feed : PageFeeding) (new : Feeding) (answer : Result Fed DecodeError) 
       row = λ f. absurd cc;
       page_end = λ f. absurd cc;
       end = λ f. absurd cc;
-      fault = λ some. either_way _ (λ none. (next_of e none).fault some) (λ end ended_so.
-          subst (λ (f : Feeding). ReadsNext (fed_over bits feed.page) (fed_over bits f) (Err error)) (sym (at_end end ended_so).0)
+      fault = λ some. either_way _ (λ none. (next_of e none).plainly.fault some) (λ end ended_so.
+          subst (λ (f : Feeding). ReadsNext (read_over bits feed.page) (read_over bits f) (Err error))
+          (sym (at_end end ended_so).0)
           (failed_again (page_reads is.page).1 (ended_so ∙ ap Some (bad_end end error (sym e ∙ (at_end end ended_so).1)))));
-      none = λ memory. either_way _ (λ none. stays_same ((next_of e none).none memory)) (λ end ended_so.
+      none = λ memory. either_way _ (λ none. stays_same ((next_of e none).plainly.none memory)) (λ end ended_so.
           absurd (is.page.has_memory (ended_so ∙ ap Some (bad_end end error (sym e ∙ (at_end end ended_so).1)
           ∙ ap Err memory))));
       stands = λ f. is_after;
@@ -238,18 +249,18 @@ module _ (feed : PageFeeding) (new : Feeding) (answer : Result Fed DecodeError) 
     -- the page has ended
     module _ (e : answer ≡ Ok ReadAll) where
       pub new_ended : ended new.rows.stand ≡ Some (Ok tt)
-      new_ended = either_way _ (λ none. (((next_of e none).end refl).end refl).0) (λ end some.
+      new_ended = either_way _ (λ none. (((next_of e none).plainly.end refl).end refl).0) (λ end some.
           ap (λ (f : Feeding). ended f.rows.stand) (at_end end some).0 ∙ some
           ∙ ap Some (good_end end (sym e ∙ (at_end end some).1)))
 
-      same : SameRows (fed_over bits feed.page) (fed_over bits new)
-      same = either_way _ (λ none. end_same ((next_of e none).end refl)) (λ end some.
+      same : SameRows (read_over bits feed.page) (read_over bits new)
+      same = either_way _ (λ none. end_same ((next_of e none).plainly.end refl)) (λ end some.
           same_rows bits feed.page new (ap (λ (f : Feeding). f.ctx) (at_end end some).0)
           (ap (λ (f : Feeding). f.rows) (at_end end some).0))
 
-      pub has : HasEnded (settings_of feed) bits new.ctx.held.taken (new.dropped + new.place)
+      pub has : HasEnded (settings_of feed) bits new.ctx.held.taken (offset_of new)
       has = subst (λ (s : DecodeSettings). HasEnded s (bits_in feed.order (page_bytes s feed.order whole start))
-          new.ctx.held.taken (new.dropped + new.place)) new_settings (has_ended (page_reads new_reading).1 new_ended)
+          new.ctx.held.taken (offset_of new)) new_settings (has_ended (page_reads new_reading).1 new_ended)
 
       pub ends_within : bytes_read after ≤ feed.given
       ends_within = ended_within new_reading new_ended
@@ -318,7 +329,7 @@ module _ (feed : PageFeeding) (new : Feeding) (answer : Result Fed DecodeError) 
         page_end = λ f. ends_page (subst (EndsPageHere after last) f ends);
         end = λ f. inr (has.count ∙ ap Ok (ends.end f).1);
         fault = no_fault result ends _;
-        none = λ none. subst (λ (l : PageFeeding). SameRows (fed_over bits feed.page) (fed_over bits l.page))
+        none = λ none. subst (λ (l : PageFeeding). SameRows (read_over bits feed.page) (read_over bits l.page))
             (sym (unended_is result ends (no_end result none))) same;
         stands = λ other. subst (IsPageFeedOf whole start) (sym (unended_is result ends other)) is_after;
       }

@@ -12,12 +12,12 @@ use Rattle.std.proofs.Math.Seq.{drop-append_seam, take-add}
 use Rattle.hayro_ccitt.specs.BitOrder.{BitOrder}
 use Rattle.hayro_ccitt.specs.Bits.{BitsFit}
 use Rattle.hayro_ccitt.specs.PlainReading.{bytes_before}
-use Rattle.hayro_ccitt.specs.RowFeeds.{Feeding, IsFeedOf, StandsIn, fed_bits, fed_over}
+use Rattle.hayro_ccitt.specs.RowFeeds.{Feeding, IsFeedOf, StandsIn, fed_bits, offset_of}
 use Rattle.hayro_ccitt.specs.RowState.{RowState}
 use Rattle.hayro_ccitt.proofs.BitReading.BitLists.{bits_are_whole, length-bits_in}
 use Rattle.hayro_ccitt.proofs.Readings.RowByRow.{ended_stands}
 use Rattle.fax_callers.specs.PageFeeds.{BytesComeNext, DropsRead, IsPageFeedOf, IsPageReading, PageFeeding, SameRows, Stays}
-use Rattle.fax_callers.specs.PageFeeds.{fed_from_start, page_bits, settings_of}
+use Rattle.fax_callers.specs.PageFeeds.{fed_from_start, page_bits, read_over, settings_of}
 use Rattle.fax_callers.specs.Pages.{page_by}
 use Rattle.fax_callers.specs.Rtc.{GoesOnAfter, PassesBits, after_rtc, none_seen, page_size, rtc_size, size_before}
 use Rattle.fax_callers.specs.declared.rtc.EolsSeen.{EolsSeen}
@@ -112,7 +112,7 @@ module _ {order : BitOrder} {bytes : List ℕ} {given : ℕ} {seen : EolsSeen} {
 
   -- the page has at least as many bytes as were given and read
   pub count_least : (count : ℕ) → (plain page.ctx.held.settings (bits_in order (take size_of bytes))).outcome ≡ Ok count
-      → min given ((page.dropped + page.place + 7) / 8) ≤ count
+      → min given ((offset_of page + 7) / 8) ≤ count
   count_least count outcome =
       let size = length-take-le size_of bytes (size_within page.ctx.held.settings.encoding order bytes) in
       let least = read_within page_reads.1 size_of
@@ -122,14 +122,14 @@ module _ {order : BitOrder} {bytes : List ℕ} {given : ℕ} {seen : EolsSeen} {
 -- a reading that has ended well is the plain reading
 pub has_ended : {whole : Bits} {tried : ℕ} {page : Feeding} → IsFeedOf whole tried page
     → ended page.rows.stand ≡ Some (Ok tt)
-    → HasEnded page.ctx.held.settings whole page.ctx.held.taken (page.dropped + page.place)
+    → HasEnded page.ctx.held.settings whole page.ctx.held.taken (offset_of page)
 has_ended {whole} {tried} {page} is e =
-    (ended_stands page.rows.stand page.ctx.held.settings whole page.ctx.held (page.dropped + page.place) e
+    (ended_stands page.rows.stand page.ctx.held.settings whole page.ctx.held (offset_of page) e
     (by_begun page.begun is.stands)).0
   where
     by_begun : (begun : Bool) → StandsIn begun tried page.rows page.ctx
-        (record { bits = whole; place = page.dropped + page.place })
-        → ReaderStands page.rows.stand page.ctx.held.settings whole page.ctx.held (page.dropped + page.place)
+        (record { bits = whole; place = offset_of page })
+        → ReaderStands page.rows.stand page.ctx.held.settings whole page.ctx.held (offset_of page)
     by_begun true stands = stands.0
     by_begun false front = let never = sym (ap (λ (r : RowState). ended r.stand) front.state) ∙ e in absurd cc
 
@@ -150,9 +150,9 @@ outcome_within settings bits size count whole outcome = by_columns (eqb settings
 -- a page that has ended was given all bytes that were read
 pub ended_within : {order : BitOrder} {bytes : List ℕ} {given : ℕ} {seen : EolsSeen} {page : Feeding}
     → IsPageReading order bytes given seen page → ended page.rows.stand ≡ Some (Ok tt)
-    → (page.dropped + page.place + 7) / 8 ≤ given
+    → (offset_of page + 7) / 8 ≤ given
 ended_within {order} {bytes} {given} {seen} {page} is e =
-    outcome_within page.ctx.held.settings (bits_in order (take given bytes)) given ((page.dropped + page.place + 7) / 8)
+    outcome_within page.ctx.held.settings (bits_in order (take given bytes)) given ((offset_of page + 7) / 8)
     (length-bits_in order (take given bytes) ∙ ap (λ (n : ℕ). 8 * n) (length-take-le given bytes is.within))
     (has_ended (given_reads is).1 e).count
 
@@ -181,7 +181,7 @@ fresh_page {order} {page} reading order_is none_fed unbegun bytes fit = record {
     sought Group3_2D = λ more. refl
 
     by_begun : (begun : Bool) → begun ≡ false → StandsIn begun 0 page.rows page.ctx
-        (record { bits = bits_in order bytes; place = page.dropped + page.place }) → ended page.rows.stand ≡ None
+        (record { bits = bits_in order bytes; place = offset_of page }) → ended page.rows.stand ≡ None
     by_begun true e stands = absurd (false≢true (sym e))
     by_begun false e front = ap (λ (r : RowState). ended r.stand) front.state
 
@@ -294,7 +294,7 @@ piece_comes {whole} {start} {feed} is k =
 -- ---- The rows so far
 
 pub same_rows : (bits : Bits) (old new : Feeding) → new.ctx ≡ old.ctx → new.rows ≡ old.rows
-    → SameRows (fed_over bits old) (fed_over bits new)
+    → SameRows (read_over bits old) (read_over bits new)
 same_rows bits old new ctx rows = record {
   settings = ap (λ (x : Context). x.held.settings) ctx;
   counts = omega (arith, ap (λ (x : Context). x.ticks) ctx);

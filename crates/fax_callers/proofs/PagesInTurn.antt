@@ -7,13 +7,14 @@ use Rattle.hayro_ccitt.proofs.Names.{HasFailed, IfErr, IsFault, OnErr, ReadsNext
 use Rattle.hayro_ccitt.proofs.Names.{cuts_by_line, line_starts, missed_before, plain, repairs_by_line, row_ends}
 use Rattle.hayro_ccitt.specs.BitOrder.{BitOrder}
 use Rattle.hayro_ccitt.specs.Encodings.{tag_of}
-use Rattle.hayro_ccitt.specs.RowFeeds.{Feeding, fed_over}
+use Rattle.hayro_ccitt.specs.RowFeeds.{Feeding}
 use Rattle.hayro_ccitt.proofs.BitReading.BitLists.{length-bits_in}
 use Rattle.hayro_ccitt.proofs.ErrorKinds.{by_kind}
 use Rattle.fax_callers.specs.PageFeeds.{EndsPage, GivesNext, GivesPage, IsPageFeedOf, NoPageIsLeft, PageFeeding}
 use Rattle.fax_callers.specs.PageFeeds.{SameRows, Stays, Waits, page_bits, settings_of}
 use Rattle.fax_callers.specs.Pages.{IsPage, ReadsPages, page_by, page_bytes}
 use Rattle.fax_callers.specs.Readings.{reading_of}
+use Rattle.fax_callers.specs.PageFeeds.{read_over}
 use Rattle.fax_callers.specs.declared.page_feed.PageFed.{PageFed}
 use Rattle.fax_callers.specs.declared.page_feed.PageFed.TheVariants.{NeedsMore}
 
@@ -58,8 +59,8 @@ same_later one two = record {
 }
 
 -- of other bits
-same_of : (bits other : Bits) (old new : Feeding) → SameRows (fed_over bits old) (fed_over bits new)
-    → SameRows (fed_over other old) (fed_over other new)
+same_of : (bits other : Bits) (old new : Feeding) → SameRows (read_over bits old) (read_over bits new)
+    → SameRows (read_over other old) (read_over other new)
 same_of bits other old new same = record {
   settings = same.settings;
   counts = same.counts;
@@ -88,11 +89,11 @@ module _ {whole : List ℕ} {start : ℕ} {old mid : PageFeeding} (stays : Stays
   }
 
   reads_row : (new : PageFeeding) {result : Result Bool DecodeError}
-      → ReadsNext (fed_over (page_bits whole start mid) mid.page) (fed_over (page_bits whole start mid) new.page) result
-      → ReadsNext (fed_over (page_bits whole start old) old.page) (fed_over (page_bits whole start old) new.page) result
+      → ReadsNext (read_over (page_bits whole start mid) mid.page) (read_over (page_bits whole start mid) new.page) result
+      → ReadsNext (read_over (page_bits whole start old) old.page) (read_over (page_bits whole start old) new.page) result
   reads_row new {result} reads =
       reads_later stays.rows refl stays.unended
-      (subst (λ (b : Bits). ReadsNext (fed_over b mid.page) (fed_over b new.page) result) same_bits reads)
+      (subst (λ (b : Bits). ReadsNext (read_over b mid.page) (read_over b new.page) result) same_bits reads)
 
   ends_later : {new : PageFeeding} → EndsPage whole start mid new → EndsPage whole start old new
   ends_later {new} ends = record {
@@ -124,9 +125,9 @@ module _ {whole : List ℕ} {start : ℕ} {old mid : PageFeeding} (stays : Stays
   }
     where
       by_fault : (answer : Result PageFed DecodeError) → IfErr answer (λ e. e ≢ OutOfMemory
-          → ReadsNext (fed_over (page_bits whole start mid) mid.page) (fed_over (page_bits whole start mid) new.page) (Err e))
+          → ReadsNext (read_over (page_bits whole start mid) mid.page) (read_over (page_bits whole start mid) new.page) (Err e))
           → IfErr answer (λ e. e ≢ OutOfMemory
-          → ReadsNext (fed_over (page_bits whole start old) old.page) (fed_over (page_bits whole start old) new.page) (Err e))
+          → ReadsNext (read_over (page_bits whole start old) old.page) (read_over (page_bits whole start old) new.page) (Err e))
       by_fault (Ok x) fault = tt
       by_fault (Err error) fault = λ some. reads_row new (fault some)
 
@@ -236,12 +237,12 @@ given_page {whole} {start} {old} {new} answer gives law rows count page = record
     no_end (inr none) = let same : 0 ≡ count = let both = sym none ∙ outcome in cc in omega (arith, same, some.0)
 
     by_fault : (answer : Result PageFed DecodeError) → IfErr answer (λ e. e ≢ OutOfMemory
-        → ReadsNext (fed_over (page_bits whole start old) old.page) (fed_over (page_bits whole start old) new.page) (Err e))
+        → ReadsNext (read_over (page_bits whole start old) old.page) (read_over (page_bits whole start old) new.page) (Err e))
         → IfErr answer (λ e. e ≡ OutOfMemory)
     by_fault (Ok x) fault = tt
     by_fault (Err error) fault =
-        by_kind (λ (e : DecodeError). (e ≢ OutOfMemory → ReadsNext (fed_over (page_bits whole start old) old.page)
-        (fed_over (page_bits whole start old) new.page) (Err e)) → e ≡ OutOfMemory)
+        by_kind (λ (e : DecodeError). (e ≢ OutOfMemory → ReadsNext (read_over (page_bits whole start old) old.page)
+        (read_over (page_bits whole start old) new.page) (Err e)) → e ≡ OutOfMemory)
         (λ e is_fault reads. absurd (let never = sym ((reads (λ same. subst IsFault same is_fault)).error.2.fault is_fault)
         ∙ outcome
         in cc)) (λ reads. refl) (λ reads. absurd ((reads (λ same. cc)).error.2.not_refused refl)) error fault

@@ -14,7 +14,7 @@ use Rattle.hayro_ccitt.specs.GapsContinued.{eols_are_settled, gap_is_settled, fi
 use Rattle.hayro_ccitt.specs.GapsContinued.{holds_one}
 use Rattle.hayro_ccitt.specs.PlainReading.{Move, after_line, aligned_after_row, eols_of_end, is_end_of_block, nothing_read}
 use Rattle.hayro_ccitt.specs.PlainReading.{pass_gap}
-use Rattle.hayro_ccitt.specs.RowFeeds.{Feeding, IsFeedOf, IsOpenAt, StandsIn, fed_bits}
+use Rattle.hayro_ccitt.specs.RowFeeds.{Feeding, IsOpenAt, IsPlainFeedOf, StandsIn, fed_bits}
 use Rattle.hayro_ccitt.specs.Stand.{Stand}
 use Rattle.hayro_ccitt.specs.Stand.TheVariants.{AtLine, AfterRow, AtEnd, AtFault}
 use Rattle.hayro_ccitt.proofs.KeptRows.EqualFronts.{one_in_bits}
@@ -246,7 +246,7 @@ some_wide settings bits size some = by_columns settings.columns
 -- ---- A feed that waits
 
 -- The reading ends no more than twelve bits before the end of those that were fed.
-pub waits_near : {bits : Bits} {tried : ℕ} (feed : Feeding) → IsFeedOf bits tried feed → feed.place ≤ length feed.kept
+pub waits_near : {bits : Bits} {tried : ℕ} (feed : Feeding) → IsPlainFeedOf bits tried feed → feed.place ≤ length feed.kept
     → IsOpenAt feed.begun feed.rows.stand feed.ctx (drop feed.place feed.kept) → feed.ctx.held.settings.encoding ≡ Group4
     → feed.ctx.held.settings.rows ≡ 0 → 0 < feed.ctx.held.settings.columns → (size given count : ℕ) → length bits ≡ 8 * size
     → fed_bits feed ≡ 8 * given → (plain feed.ctx.held.settings bits).outcome ≡ Ok count → given ≤ count + 1

@@ -43,7 +43,7 @@ fresh_paid {order} {page} reading unbegun unlooked unkept bytes fit = record {
   most = omega arith;
   history = λ rest none enough.
       let is = reading (bits_in order rest) (bits_are_whole order rest) (omega (arith, enough, length-bits_in order rest)) in
-      (0, IsHistory.opens (bits_in order rest) is unbegun unlooked unkept, is);
+      (0, IsHistory.opens is unbegun unlooked unkept, is);
 }
 
 -- more calls may have been made
@@ -73,12 +73,13 @@ given_paid {order} {seen} {old} {new} bytes piece rest given is split unfinished
   history = λ more none enough.
       let same = with_more bytes piece rest given is.within split n le more in
       let before = paid.history (take n piece ++ more) (λ last. absurd (false≢true (sym unfinished
-      ∙ last))) (subst BitsFit same enough) in (
+      ∙ last))) (subst BitsFit same enough) in
+      let stands = fed (bits_in order (take given bytes ++ (take n piece ++ more))) before.0 before.2
+      (comes is (take n piece) more) in
+      let onward = IsHistory.feeds (bits_in old.order (take n piece)) before.1 holds stands in (
         before.0,
-        IsHistory.feeds (bits_in old.order (take n piece)) before.1 holds,
-        subst (λ (l : List ℕ). IsFeedOf (bits_in order l) before.0 new) (sym same)
-            (fed (bits_in order (take given bytes ++ (take n piece ++ more))) before.0 before.2
-            (comes is (take n piece) more)),
+        subst (λ (l : List ℕ). IsHistory (bits_in order l) paid.made lost before.0 new) (sym same) onward,
+        subst (λ (l : List ℕ). IsFeedOf (bits_in order l) before.0 new) (sym same) stands,
       );
 }
 
@@ -93,7 +94,8 @@ kept_paid {order} {bytes} {given} {calls} {lost} {old} {new} holds fed paid = re
   most = omega (arith, paid.most, ap {B = ℕ} (λ (b : Bool). cond b 1 0) holds.reading.2);
   history = λ more none enough.
       let before = paid.history more (λ last. none (holds.reading.2 ∙ last)) enough in
-      (before.0, IsHistory.feeds [] before.1 holds, fed (bits_in order (take given bytes ++ more)) before.0 before.2);
+      let stands = fed (bits_in order (take given bytes ++ more)) before.0 before.2 in
+      (before.0, IsHistory.feeds [] before.1 holds stands, stands);
 }
 
 -- its data is finished, which pays for a call
@@ -113,12 +115,10 @@ finished_paid {order} {bytes} {given} {calls} {lost} {old} {new} counted finish 
   );
   history = λ more none enough.
       let last : new.finished ≡ true = ap (λ (f : Feeding). f.finished) is in
-      let before = paid.history more (λ end. absurd (false≢true (sym unfinished ∙ end))) enough in (
-        before.0,
-        IsHistory.finishes before.1 is,
-        finish (bits_in order (take given bytes ++ more)) before.0 before.2
-            (counted_all order bytes more given paid.within counted (none last)),
-      );
+      let before = paid.history more (λ end. absurd (false≢true (sym unfinished ∙ end))) enough in
+      let stands = finish (bits_in order (take given bytes ++ more)) before.0 before.2
+      (counted_all order bytes more given paid.within counted (none last)) in
+      (before.0, IsHistory.finishes before.1 is stands, stands);
 }
 
 -- ---- A call of it
@@ -138,8 +138,8 @@ module _ {order : BitOrder} {bytes : List ℕ} {given calls lost : ℕ} {old new
     history = λ more none enough.
         let before = paid.history more (λ last. none (keeps.finished ∙ last)) enough in
         let next = reads (bits_in order (take given bytes ++ more)) before.0 before.2 in (
-          before.0 + next.extra,
-          IsHistory.reads (bits_in order (take given bytes ++ more)) before.1 unended keeps next other,
+          before.0 + next.plainly.extra,
+          IsHistory.reads before.1 unended keeps next other,
           next.stands,
         );
   }
@@ -154,8 +154,8 @@ module _ {order : BitOrder} {bytes : List ℕ} {given calls lost : ℕ} {old new
         let before = paid.history more (λ last. none (keeps.finished ∙ last)) enough in
         let next = subst (FeedsNext (bits_in order (take given bytes ++ more)) before.0 old new) e
         (reads (bits_in order (take given bytes ++ more)) before.0 before.2) in (
-          before.0 + next.extra,
-          IsHistory.fails (bits_in order (take given bytes ++ more)) before.1 unended keeps next,
+          before.0 + next.plainly.extra,
+          IsHistory.fails before.1 unended keeps next,
           next.stands,
         );
   }
@@ -246,7 +246,7 @@ module _ (feed : PageFeeding) (new : Feeding) (answer : Result Fed DecodeError) 
   counts = either _
       (λ none. let read = is.page.reads [] (λ last. refl) enough in
       let next = reads (bits_in feed.order (take feed.given (drop start whole) ++ [])) read.0 none read.1 in
-      omega (arith, next.goes_on.counts))
+      omega (arith, next.plainly.goes_on.counts))
       (λ end e. omega (arith, ap (λ (f : Feeding). f.ctx.ticks) (at_end end e).0))
     where
       enough : BitsFit (take feed.given (drop start whole) ++ [])

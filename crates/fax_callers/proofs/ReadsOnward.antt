@@ -10,7 +10,7 @@ use Rattle.hayro_ccitt.proofs.Names.{line_here, move_on, plain, row_before, whol
 use Rattle.hayro_ccitt.proofs.Names.{ReaderStands}
 use Rattle.hayro_ccitt.specs.PlainReading.{Move, after_line, aligned_after_row, bytes_before, ends_with, ending_after, pass_gap}
 use Rattle.hayro_ccitt.specs.Repetition.{repeated}
-use Rattle.hayro_ccitt.specs.RowFeeds.{Feeding, IsFeedOf, StandsIn}
+use Rattle.hayro_ccitt.specs.RowFeeds.{Feeding, IsFeedOf, StandsIn, offset_of}
 use Rattle.hayro_ccitt.specs.DecodeError.TheVariants.{UnexpectedEof}
 use Rattle.hayro_ccitt.specs.Stand.{Stand}
 use Rattle.hayro_ccitt.specs.Stand.TheVariants.{AtLine, AfterRow, AtEnd, AtFault}
@@ -210,7 +210,7 @@ counted_on settings bits count place size wide whole outcome within = by_outcome
 module _ {bits : Bits} {tried : ℕ} {feed : Feeding} (is : IsFeedOf bits tried feed) (size : ℕ)
     (whole : length bits ≡ 8 * size) (memory : ended feed.rows.stand ≢ Some (Err OutOfMemory)) where
   abbrev place : ℕ
-  place = feed.dropped + feed.place
+  place = offset_of feed
 
   abbrev settings : DecodeSettings
   settings = feed.ctx.held.settings

@@ -9,7 +9,7 @@ use Rattle.hayro_ccitt.specs.DecodeSettings.{DecodeSettings}
 use Rattle.hayro_ccitt.specs.EncodingMode.TheVariants.{Group4}
 use Rattle.hayro_ccitt.specs.Bits.{Bits, BitsFit, bits_in}
 use Rattle.hayro_ccitt.specs.FeedsPaid.{IsHistory}
-use Rattle.hayro_ccitt.specs.RowFeeds.{Feeding, IsFeedOf, fed_bits, fed_over}
+use Rattle.hayro_ccitt.specs.RowFeeds.{Feeding, IsFeedOf, completed, fed_bits, fed_over, offset_of}
 use Rattle.hayro_ccitt.specs.Rows.{Row}
 use Rattle.hayro_ccitt.specs.RowsRead.{ReadsNext, RowsRead, ended}
 use Rattle.fax_callers.specs.Pages.{page_by, page_bytes}
@@ -61,7 +61,7 @@ fed_from_start feed = feed.given + (length feed.held - feed.next)
 
 -- how many bytes of the page were read, the last one rounded up
 abbrev pub bytes_read : PageFeeding → ℕ
-bytes_read feed = (feed.page.dropped + feed.page.place + 7) / 8
+bytes_read feed = (offset_of feed.page + 7) / 8
 
 -- ---- Which data it is a reading of
 
@@ -106,7 +106,8 @@ pub record IsPaidPage (order : BitOrder) (bytes : List ℕ) (given calls lost : 
   pub made : ℕ
   pub most : made ≤ calls + given + (if page.finished then 1 else 0)
   pub history : (rest : List ℕ) → (page.finished ≡ true → rest ≡ []) → BitsFit (take given bytes ++ rest)
-      → (tried : ℕ) × IsHistory made lost tried page × IsFeedOf (bits_in order (take given bytes ++ rest)) tried page
+      → (tried : ℕ) × IsHistory (bits_in order (take given bytes ++ rest)) made lost tried page
+      × IsFeedOf (bits_in order (take given bytes ++ rest)) tried page
 
 -- so has that of the page that is next or under way, and begins at this byte offset
 abbrev pub IsPaidFrom : List ℕ → ℕ → ℕ → ℕ → PageFeeding → Type 0
@@ -127,6 +128,10 @@ HasFailed feed error = ended feed.page.rows.stand ≡ Some (Err error)
 -- the bits that the page at an offset may occupy
 abbrev pub page_bits : List ℕ → ℕ → PageFeeding → Bits
 page_bits whole start feed = bits_in feed.order (page_bytes (settings_of feed) feed.order whole start)
+
+-- what was read of these bits of a page
+abbrev pub read_over : Bits → Feeding → RowsRead
+read_over bits page = fed_over bits (completed bits page)
 
 -- no row was read, and no page ended
 abbrev pub HasNoRow : Result PageFed DecodeError → Type 0
@@ -167,13 +172,13 @@ NoPageIsLeft whole start feed =
 -- this byte offset, its fault, or its end and the start of the next page.
 pub record GivesNext (whole : List ℕ) (start : ℕ) (old new : PageFeeding) (answer : Result PageFed DecodeError) : Type 0 where
   pub row : answer ≡ Ok OneRow
-      → ReadsNext (fed_over (page_bits whole start old) old.page) (fed_over (page_bits whole start old) new.page) (Ok true)
+      → ReadsNext (read_over (page_bits whole start old) old.page) (read_over (page_bits whole start old) new.page) (Ok true)
   pub page_end : answer ≡ Ok PageEnd → EndsPage whole start old new
   pub end : answer ≡ Ok End → NoPageIsLeft whole start old
   pub fault : IfErr answer (λ e. e ≢ OutOfMemory
-      → ReadsNext (fed_over (page_bits whole start old) old.page) (fed_over (page_bits whole start old) new.page) (Err e))
+      → ReadsNext (read_over (page_bits whole start old) old.page) (read_over (page_bits whole start old) new.page) (Err e))
   pub none : HasNoRow answer
-      → SameRows (fed_over (page_bits whole start old) old.page) (fed_over (page_bits whole start old) new.page)
+      → SameRows (read_over (page_bits whole start old) old.page) (read_over (page_bits whole start old) new.page)
   pub stands : answer ≢ Ok PageEnd → IsPageFeedOf whole start new
 
 -- The same of a page of these rows, which occupies this number of bytes from the offset on.
@@ -191,7 +196,7 @@ pub record GivesPage (whole : List ℕ) (start : ℕ) (rows : List Row) (count :
 -- the reading of the page goes on
 pub record Stays (whole : List ℕ) (start : ℕ) (old new : PageFeeding) : Type 0 where
   pub is : IsPageFeedOf whole start new
-  pub rows : SameRows (fed_over (page_bits whole start old) old.page) (fed_over (page_bits whole start old) new.page)
+  pub rows : SameRows (read_over (page_bits whole start old) old.page) (read_over (page_bits whole start old) new.page)
   pub order : new.order ≡ old.order
   pub finished : new.finished ≡ old.finished
   pub unended : ended old.page.rows.stand ≡ None → ended new.page.rows.stand ≡ None

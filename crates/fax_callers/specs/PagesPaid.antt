@@ -4,7 +4,7 @@ use Rattle.hayro_ccitt.specs.DecodeError.{DecodeError}
 use Rattle.hayro_ccitt.specs.DecodeError.TheVariants.{OutOfMemory}
 use Rattle.hayro_ccitt.specs.EncodingMode.TheVariants.{Group4}
 use Rattle.hayro_ccitt.specs.FeedsPaid.{cost_of_failure}
-use Rattle.hayro_ccitt.specs.RowFeeds.{Feeding}
+use Rattle.hayro_ccitt.specs.RowFeeds.{Feeding, offset_of}
 use Rattle.hayro_ccitt.specs.RowsRead.{ended}
 use Rattle.hayro_ccitt.specs.Settings.{AreSettings}
 use Rattle.fax_callers.specs.PageFeeds.{FewGiven, IsPaidFrom, IsPaidPage, PageFeeding, fed_from_start, settings_of}
@@ -17,7 +17,7 @@ use Rattle.fax_callers.specs.declared.page_feed.PageFed.TheVariants.{PageEnd}
 
 -- how many bytes a page has that has ended, the last one filled up
 abbrev pub ended_size : Feeding → ℕ
-ended_size page = (page.dropped + page.place + 7) / 8
+ended_size page = (offset_of page + 7) / 8
 
 -- A page has ended whose reading was left like this, and was given so many bytes: no more than it may occupy, which are those up
 -- to RTC in Group 3. The next one begins at the byte after it.

@@ -1,6 +1,6 @@
 -- How few bits of the data a feed keeps, and for how few bytes it has room.
-use Rattle.std.specs.Prelude.{◌≡◌, ◌≤◌, ◌<◌, ◌+◌, ◌*◌, ℕ, Bool, true, false, [], ◌∷◌, ◌++◌, drop, length, replicate}
-use Rattle.std.specs.Prelude.{Result, Ok, Err}
+use Rattle.std.specs.Prelude.{◌≡◌, ◌≤◌, ◌<◌, ◌+◌, ◌*◌, ℕ, Bool, true, false, [], ◌∷◌, ◌++◌, drop, length, replicate, take}
+use Rattle.std.specs.Prelude.{Result, Ok, Err, max}
 use Rattle.fax_bits.specs.declared.settings.DecodeSettings.{DecodeSettings}
 use Rattle.fax_bits.specs.declared.error.DecodeError.{DecodeError}
 use Rattle.fax_feeds.specs.declared.row_feed.Fed.{Fed}
@@ -11,9 +11,9 @@ use Rattle.fax_reading.specs.Continuations.{is_short}
 use Rattle.fax_reading.specs.GapsContinued.{first_gap_is_settled, gap_is_settled}
 use Rattle.fax_reading.specs.Lines.{Line}
 use Rattle.fax_reading.specs.PlainReading.{Gap, Move, Progress, first_gap, gap_after_row, line_here, line_of_turn, move_on}
-use Rattle.fax_reading.specs.PlainReading.{row_before, row_of_line}
+use Rattle.fax_reading.specs.PlainReading.{misses_eol, row_before, row_of_line}
 use Rattle.fax_bits.specs.Repetition.{Reaches, Turn}
-use Rattle.fax_feeds.specs.RowFeeds.{Feeding, FeedsNext, FeedsRow, HoldsMore, IsFeedOf, IsOpenAt}
+use Rattle.fax_feeds.specs.RowFeeds.{Feeding, FeedsNext, FeedsRow, HoldsMore, IsFeedOf, IsOpenAt, fed_bits, offset_of}
 use Rattle.fax_reading.specs.Rows.{Row}
 
 -- ---- Bits that are needed
@@ -61,16 +61,15 @@ pub record IsTurn (settings : DecodeSettings) (whole : Bits) (turn : Progress) :
   pub begins : first_gap settings.encoding settings whole ≡ Turn.next first
   pub reaches : Reaches (move_on settings) first turn
 
--- No line up to the one after so many rows, and no gap before that line, is open for more than so many of its first bits:
--- whatever follows those doesn't change it (T.4, 4.1 and 4.2; T.6, 2.2 and 2.4.1.1).
+-- No line up to the one after so many rows, and no gap before that line in which an EOL is missing, is open for more than so
+-- many of its first bits: whatever follows those doesn't change it (T.4, 4.1 and 4.2; T.6, 2.2 and 2.4.1.1).
 pub record AreOpenFor (most taken : ℕ) (settings : DecodeSettings) (whole : Bits) : Type 0 where
-  pub first_gap : (first rest : Bits) → whole ≡ first ++ rest
-      → first_gap_is_settled settings.encoding settings first ≡ false → length first ≤ most
   pub line : (turn : Progress) (first rest : Bits) → IsTurn settings whole turn → length turn.rows ≤ taken
       → turn.rest ≡ first ++ rest
       → is_short (line_here settings (row_before settings.columns turn.rows) first) ≡ true → length first ≤ most
   pub gap : (turn : Progress) (row : Row) (after first rest : Bits) → IsTurn settings whole turn → length turn.rows < taken
       → row_of_line settings turn.has_eols turn.rest (line_of_turn settings turn) ≡ Ok (row, after) → after ≡ first ++ rest
+      → misses_eol settings (length turn.rows + 1) turn.has_eols after ≡ true
       → gap_is_settled settings (length turn.rows + 1) turn.has_eols first ≡ false → length first ≤ most
 
 -- ---- What is called
@@ -95,14 +94,15 @@ pub data IsFedInTurn (whole : Bits) (piece : ℕ) : Feeding → Type 0 where
 
 -- ---- The law
 
--- After a call that needs more, each bit that is kept from the next one on is needed for the line or the gap that is next. Of
--- such bits few aren't part of it. So where each piece is fed after such a call, a feed keeps no more bits than those for which
--- the longest line or gap so far, or the one that is next, is open, those of a piece, and seven; and it has room for no more than
--- twice as many.
+-- After a call that needs more, each bit that was fed from the line or the gap that is next on is needed for it. Of
+-- such bits few aren't part of it. The bits of a gap are counted and not kept, but for sixteen, unless an EOL is missing in it.
+-- So where each piece is fed after such a call, a feed keeps no more bits than sixteen, or those for which the longest line so
+-- far, or the longest gap without an EOL, or the one that is next, is open; those of a piece, and seven; and it has room for no
+-- more than twice as many.
 pub record FeedsKeepLittle : Type 0 where
   pub needed : (whole : Bits) (tried : ℕ) (old new : Feeding) → FeedsNext whole tried old new (Ok Fed.NeedsMore)
-      → AreNeeded new.begun new.rows.stand new.ctx (drop new.place new.kept)
+      → AreNeeded new.begun new.rows.stand new.ctx (drop (offset_of new) (take (fed_bits new) whole))
   pub read : OpenBitsAreRead
   pub kept : (whole : Bits) (most piece : ℕ) (feed : Feeding) → IsFedInTurn whole piece feed
       → AreOpenFor most feed.ctx.held.taken feed.ctx.held.settings whole
-      → (length feed.kept ≤ most + piece + 7) × (8 * feed.room ≤ 2 * (most + piece + 7))
+      → (length feed.kept ≤ max most 16 + piece + 7) × (8 * feed.room ≤ 2 * (max most 16 + piece + 7))

@@ -1,4 +1,4 @@
--- A gap whose bits are looked at one after the other, as they come: not part of the trusted specification.
+-- A gap whose bits are looked at one after the other, as they come.
 use Rattle.std.specs.Prelude.{◌≡◌, ◌+◌, ◌==◌, ℕ, suc, Bool, true, false, not, ◌&&◌, [], ◌∷◌, ◌++◌, length, nat_le, if◌then◌else◌}
 use Rattle.fax_bits.specs.declared.settings.DecodeSettings.{DecodeSettings}
 use Rattle.fax_bits.specs.declared.settings.EncodingMode.{EncodingMode}
@@ -11,7 +11,12 @@ use Rattle.fax_feeds.specs.declared.gap_look.GapRules.{GapRules}
 use Rattle.fax_feeds.specs.declared.gap_look.GapStage.{GapStage}
 use Rattle.fax_feeds.specs.declared.gap_look.GapStage.TheVariants.{Start, Damage, AfterEol, AfterTag, Settled}
 
--- ---- On what it depends
+-- ---- Where nothing was looked at
+
+abbrev pub nothing_seen : GapLook
+nothing_seen = record { stage = Start; zeros = 0; bits = 0 }
+
+-- ---- On what it depends: not part of the trusted specification
 
 -- tags follow EOLs (T.4, 4.2.2)
 abbrev pub has_tags : EncodingMode → Bool
@@ -43,7 +48,7 @@ abbrev pub rules_for : Bool → Held → GapRules
 rules_for true held = rules_after_row held.settings held.taken held.has_eols
 rules_for false held = first_rules held.settings.encoding held.settings.end_of_block
 
--- ---- What is found
+-- ---- What is found: not part of the trusted specification
 
 -- an EOL more is after the first one: two may be the end
 abbrev pub one_eol_more : Bool → GapStage
@@ -86,10 +91,7 @@ bits_needed rules stage seen (false ∷ here) = if is_settled stage then 0 else 
 bits_needed rules stage seen (true ∷ here) =
     if is_settled stage then 0 else suc (bits_needed rules (stage_after rules stage seen) 0 here)
 
--- ---- How far it was looked at
-
-abbrev pub nothing_seen : GapLook
-nothing_seen = record { stage = Start; zeros = 0; bits = 0 }
+-- ---- How far it was looked at: not part of the trusted specification
 
 -- the first of some bits were looked at, up to the rest
 pub record LooksTo (rules : GapRules) (old new : GapLook) (here rest : Bits) : Type 0 where

@@ -1,3 +1,4 @@
+pub mod CountedGaps
 pub mod FeedsKeepLittle
 pub mod FeedsPaid
 pub mod GapsSeen

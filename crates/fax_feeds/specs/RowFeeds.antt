@@ -1,5 +1,6 @@
 -- Rows from data that comes in pieces: what is kept of it, what is seen of a reading, and which data it is a reading of.
-use Rattle.std.specs.Prelude.{◌≡◌, ◌≢◌, ◌≤◌, ◌<◌, ◌+◌, ◌*◌, ◌/◌, ◌^◌, ℕ, Bool, true, false, ◌++◌, [], not, ◌&&◌, ◌⊎◌}
+use Rattle.std.specs.Prelude.{◌≡◌, ◌≢◌, ◌≤◌, ◌<◌, ◌+◌, ◌*◌, ◌/◌, ◌%◌, ◌^◌, ℕ, Bool, true, false, ◌++◌, [], not, ◌&&◌, ◌⊎◌}
+use Rattle.std.specs.Prelude.{◌-◌, take, if◌then◌else◌}
 use Rattle.std.specs.Prelude.{vec_capacity, List, max, drop, length, replicate, ◌∷◌, Option, None, Some, Result, Ok, Err, IfErr}
 use Rattle.fax_bits.specs.declared.bit_reader.BitOrder.{BitOrder}
 use Rattle.fax_bits.specs.declared.codes.Color.TheVariants.{White}
@@ -21,9 +22,13 @@ use Rattle.fax_reading.specs.Decoding.{SinkState}
 use Rattle.fax_reading.specs.GapsContinued.{gap_is_settled}
 use Rattle.fax_feeds.specs.GapsSeen.{IsSeen, nothing_seen, rules_for}
 use Rattle.fax_feeds.specs.declared.gap_look.GapLook.{GapLook}
+use Rattle.fax_feeds.specs.declared.counted_gaps.GapSoFar.{GapSoFar}
+use Rattle.fax_bits.specs.declared.settings.DecodeSettings.{DecodeSettings}
+use Rattle.fax_rows.specs.FrontsCounted.{front_rules}
+use Rattle.fax_rows.specs.GapsCounted.{IsTidy, counted_by, left_before, none_counted}
 use Rattle.fax_feeds.specs.LineParts.{IsLawfulPart, IsPartOf}
 use Rattle.fax_reading.specs.Lines.{Line}
-use Rattle.fax_reading.specs.PlainReading.{line_here, lines_of, row_of_line}
+use Rattle.fax_reading.specs.PlainReading.{line_here, lines_of, misses_eol, row_of_line}
 use Rattle.fax_reading.specs.Rows.{Row, changes}
 use Rattle.fax_rows.specs.RowsRead.{IsStanding, IsStandingAtLine, ReachesNextLine, ReadsNext, RowsRead, ended, is_at_line}
 use Rattle.fax_rows.specs.RowsRead.{seen}
@@ -32,11 +37,10 @@ use Rattle.fax_bits.specs.Faults.{no_memory}
 
 -- ---- What is seen
 
--- the context, what is kept between two rows, the order of the bits, whether what is before the first line was passed,
--- whether the
--- data is finished, the bits kept of it, how many bits came before them, the offset of the next bit among those kept, how many
--- bits from there on were looked at since the gap before the next line is sought, the part of the line there from which it goes
--- on, if it was found to be short, how many of its bits were read, and for how many bytes there is room
+-- the context, what is kept between two rows, the order of the bits, whether what is before the first line was passed, whether
+-- the data is finished, the bits kept of it, how many bits came before them, the offset of the next bit among those kept, how
+-- many bits of the gap before the next line were looked at, what is known of that gap, the part of the line there from which it
+-- goes on, if it was found to be short, how many of its bits were read, and for how many bytes there is room
 pub record Feeding : Type 0 where
   pub ctx : Context
   pub rows : RowState
@@ -47,6 +51,7 @@ pub record Feeding : Type 0 where
   pub dropped : ℕ
   pub place : ℕ
   pub looked : ℕ
+  pub gap : GapSoFar
   pub part : Option KeptPart
   pub line_read : ℕ
   pub tried_at : ℕ
@@ -62,7 +67,8 @@ feeding_of f = record {
   kept = bits_in f.order f.«data».items;
   dropped = f.dropped;
   place = f.place;
-  looked = f.look.bits;
+  looked = f.gap.passed + f.gap.look.bits;
+  gap = f.gap;
   part = f.part;
   line_read = f.line_read;
   tried_at = f.tried;
@@ -87,17 +93,54 @@ abbrev pub PartIsKept : Option KeptPart → Bool → Stand → Held → Bits →
 PartIsKept None begun stand held here read = read ≡ 0
 PartIsKept (Some part) begun stand held here read = LineGoesOn begun stand held here read part
 
--- the next bit is among those kept, or just after them, offsets fit, and nothing was read yet if nothing has begun
+-- nothing is known of a gap that begins
+abbrev pub no_gap : GapSoFar
+no_gap = record { count = none_counted; passed = 0; at_zeros = false; look = nothing_seen }
+
+-- The bits of a gap that were counted are those of a gap that goes on, and no more than there were; or the data ends with zeros
+-- that were counted.
+pub record IsCounted (gap : GapSoFar) (at : ℕ) : Type 0 where
+  pub tidy : gap.at_zeros ≡ false → IsTidy gap.count
+  pub few : gap.at_zeros ≡ false → gap.count.eols + gap.count.zeros ≤ at
+  pub zeros : gap.at_zeros ≡ true → (16 ≤ gap.count.zeros) × (gap.look ≡ nothing_seen)
+  pub missed : 0 < gap.look.bits → gap ≡ record no_gap { look = gap.look }
+
+-- nothing was read yet
+pub record IsUnbegun (f : Inside) : Type 0 where
+  pub fresh : f.ctx.held ≡ fresh f.ctx.held.settings
+  pub start : f.dropped + f.place ≡ f.gap.passed
+  pub unended : ended f.rows.stand ≡ None
+  pub rows : is_at_line f.rows.stand ≡ false
+  pub unlooked : f.gap.look ≡ nothing_seen
+  pub some_follow : f.gap.at_zeros ≡ false
+  pub narrow : f.ctx.held.settings.columns ≡ 0 → f.gap ≡ no_gap
+
+-- the next bit is among those kept, or just after them, whole bytes came before them, offsets fit, and no gap is known of a line
+-- that is next, nor after the end
 pub record IsKept (f : Inside) : Type 0 where
   pub within : f.place ≤ 8 * length f.«data».items
   pub fit : f.dropped + 8 * length f.«data».items + 64 < 2 ^ 64
-  pub fresh : f.begun ≡ false → f.ctx.held ≡ fresh f.ctx.held.settings
-  pub start : f.begun ≡ false → f.place ≡ 0
-  pub unended : f.begun ≡ false → ended f.rows.stand ≡ None
-  pub rows : f.begun ≡ false → is_at_line f.rows.stand ≡ false
-  pub seen : IsSeen (rules_for f.begun f.ctx.held) f.look (drop f.place (bits_in f.order f.«data».items))
-  pub line : is_at_line f.rows.stand ≡ true → f.look ≡ nothing_seen
+  pub bytes : f.dropped % 8 ≡ 0
+  pub unbegun : f.begun ≡ false → IsUnbegun f
+  pub seen : IsSeen (rules_for f.begun f.ctx.held) f.gap.look (drop f.place (bits_in f.order f.«data».items))
+  pub line : is_at_line f.rows.stand ≡ true → f.gap.at_zeros ≡ false → f.gap ≡ no_gap
+  pub over : ended f.rows.stand ≢ None → f.gap.at_zeros ≡ false → f.gap ≡ no_gap
+  pub counted : IsCounted f.gap (f.dropped + f.place)
+  pub unkept : f.gap.at_zeros ≡ true → f.part ≡ None
+  pub last : f.gap.at_zeros ≡ true → f.is_last ≡ true
   pub part : PartIsKept f.part f.begun f.rows.stand f.ctx.held (drop f.place (bits_in f.order f.«data».items)) f.line_read
+
+-- how many bits were fed
+abbrev pub fed_bits : Feeding → ℕ
+fed_bits feed = feed.dropped + length feed.kept
+
+-- where the reading is: before the bits of the gap that were counted
+abbrev pub offset_of : Feeding → ℕ
+offset_of feed = feed.dropped + feed.place - feed.gap.passed
+
+-- The feed with all bits of some data that were fed, where the reading is.
+abbrev pub completed : Bits → Feeding → Feeding
+completed whole feed = record feed { kept = take (fed_bits feed) whole; dropped = 0; place = offset_of feed }
 
 -- what was read of these bits
 abbrev pub fed_over : Bits → Feeding → RowsRead
@@ -124,13 +167,43 @@ abbrev pub StandsIn : Bool → ℕ → RowState → Context → BitsAt → Type 
 StandsIn true tried rows ctx at = IsStanding tried rows ctx at
 StandsIn false tried rows ctx at = IsAtFront tried rows ctx at.place
 
--- It is a reading of these bits, of which those fed so far are a beginning, and all of them if the data is finished; its
--- rows so far
--- are those of the plain reading. This much work was counted for what was tried and left.
-pub record IsFeedOf (whole : Bits) (tried : ℕ) (feed : Feeding) : Type 0 where
+-- It is a reading of these bits, of which those fed so far are a beginning, and all of them if the data is finished; its rows
+-- so far are those of the plain reading. This much work was counted for what was tried and left. No bits of a gap are gone.
+pub record IsPlainFeedOf (whole : Bits) (tried : ℕ) (feed : Feeding) : Type 0 where
   pub fit : length whole + 64 < 2 ^ 64
   pub lie : LieIn whole feed.dropped feed.finished feed.kept
   pub stands : StandsIn feed.begun tried feed.rows feed.ctx (record { bits = whole; place = feed.dropped + feed.place })
+
+-- the rules of the gap that is next: EOLs before the first line have no tags (T.4, 4.1.2)
+abbrev pub gap_rules : Bool → DecodeSettings → DecodeSettings
+gap_rules true settings = settings
+gap_rules false settings = front_rules settings
+
+-- an EOL is missing in the gap that these bits begin (T.4, 4.1.2)
+abbrev pub LacksEol : Held → Bits → Type 0
+LacksEol held gap = misses_eol held.settings held.taken held.has_eols gap ≡ true
+
+-- What is known of the gap is so of these bits: those from where the reading is up to the next bit were counted. Where the data
+-- ends with zeros, the reading is before them, and a tag of one.
+pub record KnowsGap (whole : Bits) (feed : Feeding) : Type 0 where
+  pub gone : Bits
+  pub are : drop (offset_of feed) whole ≡ gone ++ drop (feed.dropped + feed.place) whole
+  pub place : feed.dropped + feed.place ≡ offset_of feed + length gone
+  pub long : length gone ≡ feed.gap.passed
+  pub counted : feed.gap.at_zeros ≡ false
+      → counted_by (gap_rules feed.begun feed.ctx.held.settings) none_counted gone ≡ Some feed.gap.count
+  pub zeros : feed.gap.at_zeros ≡ true
+      → (feed.finished ≡ true) × (drop (offset_of feed) whole ≡ left_before feed.gap.count [])
+      × (feed.gap.count.tag ≡ true → feed.ctx.held.settings.encoding ≡ Group3_2D)
+  -- its bits are kept and looked at only where an EOL is missing
+  pub missed : 0 < feed.gap.look.bits → (feed.begun ≡ true) × LacksEol feed.ctx.held (drop (offset_of feed) whole)
+
+-- It is a reading of these bits, as above, where the first bits of the gap that is next may have been counted.
+pub record IsFeedOf (whole : Bits) (tried : ℕ) (feed : Feeding) : Type 0 where
+  pub fit : length whole + 64 < 2 ^ 64
+  pub lie : LieIn whole feed.dropped feed.finished feed.kept
+  pub stands : StandsIn feed.begun tried feed.rows feed.ctx (record { bits = whole; place = offset_of feed })
+  pub known : KnowsGap whole feed
 
 -- ---- What a call leaves
 
@@ -153,8 +226,7 @@ pub record StaysThere (old new : RowsRead) : Type 0 where
   pub line : old.at_line ≡ true → new.at_line ≡ true
 
 -- What is next can be changed by data that follows: what is before the first line, the gap, or the line, which is short
--- (T.4, 4.1 and
--- 4.2; T.6, 2.2 and 2.4.1.1).
+-- (T.4, 4.1 and 4.2; T.6, 2.2 and 2.4.1.1).
 abbrev pub IsOpenAt : Bool → Stand → Context → Bits → Type 0
 IsOpenAt false stand ctx next = front_is_settled ctx.held.settings next ≡ false
 IsOpenAt true AtLine ctx next = is_short (line_here ctx.held.settings ctx.held.reference next) ≡ true
@@ -162,12 +234,15 @@ IsOpenAt true AfterRow ctx next = gap_is_settled ctx.held.settings ctx.held.take
 IsOpenAt true AtEnd ctx next = ⊥
 IsOpenAt true (AtFault error) ctx next = ⊥
 
--- Of a gap that begins these bits some were looked at before, and so many more now, each counted once: as far as is needed to
--- know that nothing that follows changes it, or all there are. None are at a line, nor in data that is finished.
-pub record LooksAhead (is_last at_line : Bool) (looked : ℕ) (gap : Bits) (counted : ℕ) : Type 0 where
+-- Of a gap that begins these bits some were looked at before, and so many more now, each counted once but for sixteen. None are
+-- at a line.
+pub record LooksAhead (at_line : Bool) (looked : ℕ) (gap : Bits) (counted : ℕ) : Type 0 where
   pub line : at_line ≡ true → counted ≡ 0
-  pub finished : is_last ≡ true → counted ≡ 0
-  pub within : 0 < counted → counted + looked ≤ length gap
+  pub within : 0 < counted → counted + looked ≤ length gap + 16
+
+-- how many bits are left with which the data ends, of which only the number is kept
+abbrev pub zeros_left : Feeding → ℕ
+zeros_left feed = if feed.gap.at_zeros then feed.gap.passed else 0
 
 -- the line that is here
 abbrev pub line_of_feed : Feeding → Line
@@ -233,16 +308,20 @@ pub record DrawsRow (old new : Feeding) : Type 0 where
       → drop new.place new.kept ++ more ≡ fill ++ replicate 11 false ++ true ∷ after
       → start + length (changes new.ctx.held.reference) ≤ new.dropped + new.place + length fill + 13))
 
--- How a call goes on in the data, and what it counts for that: where a gap is passed, no more than twelve bits beyond it were
--- looked at; the changes of a row are no more than the words of its line, and one; and the lists of changes have no more room
--- than before, or than a row needs.
+-- How a call goes on in the data, and what it counts for that: where a gap is passed, its bits were looked at twice at most, and
+-- no more than sixteen beyond it; the changes of a row are no more than the words of its line, and one; and the lists of
+-- changes have no more room than before, or than a row needs.
 pub record CallGoesOn (old new : Feeding) (answer : Result Fed DecodeError) (gap extra : ℕ) : Type 0 where
   pub counts : old.ctx.ticks + extra ≤ new.ctx.ticks
   pub stored : answer ≡ Ok Fed.Row → length (changes new.ctx.held.reference) + (old.ctx.ticks + extra) ≤ new.ctx.ticks + 1
   pub draws : answer ≡ Ok Fed.Row → DrawsRow old new
   pub onward : ended new.rows.stand ≡ None → old.dropped + old.place ≤ new.dropped + new.place
   pub near : old.begun ≡ true → old.finished ≡ false → ended new.rows.stand ≡ None
-      → gap + old.looked + (old.dropped + old.place) ≤ new.dropped + new.place + new.looked + 12
+      → gap + old.looked + 2 * (old.dropped + old.place) ≤ 2 * (new.dropped + new.place) + new.looked + 16
+  pub last : old.begun ≡ true → old.finished ≡ true → ended new.rows.stand ≡ None
+      → gap + zeros_left old + 2 * (old.dropped + old.place) ≤ 2 * (new.dropped + new.place) + zeros_left new + 16
+  -- a line that is read leaves what is known of zeros with which the data ends
+  pub zeros : ended new.rows.stand ≡ None → (old.begun && is_at_line old.rows.stand) ≡ true → zeros_left new ≡ zeros_left old
   pub stays : HasNone answer → (old.begun && is_at_line old.rows.stand) ≡ true → new.place ≡ old.place
   -- what a line yields that was left before
   pub row_is : answer ≡ Ok Fed.Row → (old.begun && is_at_line old.rows.stand) ≡ true
@@ -267,11 +346,9 @@ pub record CallGoesOn (old new : Feeding) (answer : Result Fed DecodeError) (gap
   pub space : new.ctx.space ≤ max old.ctx.space (2 * old.ctx.held.settings.columns + 66)
 
 -- What a call that reads the next row leaves, of whatever data those fed are a beginning: the next row of its plain reading,
--- its end
--- or its fault; or nothing is read, since what is next can still be changed, or since a change of a row that paints a black
--- pixel
--- can't be stored. What was tried and left counted at most so much.
-pub record FeedsNext (whole : Bits) (tried : ℕ) (old new : Feeding) (answer : Result Fed DecodeError) : Type 0 where
+-- its end or its fault; or nothing is read, since what is next can still be changed, or since a change of a row that paints a
+-- black pixel can't be stored. What was tried and left counted at most so much.
+pub record FeedsPlainly (whole : Bits) (tried : ℕ) (old new : Feeding) (answer : Result Fed DecodeError) : Type 0 where
   pub row : answer ≡ Ok Fed.Row → ReadsNext (fed_over whole old) (fed_over whole new) (Ok true)
   pub end : answer ≡ Ok Fed.End → ReadsNext (fed_over whole old) (fed_over whole new) (Ok false)
   pub fault : IfErr answer (λ e. e ≢ OutOfMemory → ReadsNext (fed_over whole old) (fed_over whole new) (Err e))
@@ -282,16 +359,21 @@ pub record FeedsNext (whole : Bits) (tried : ℕ) (old new : Feeding) (answer : 
       → HasBlack (front_of (line_here new.ctx.held.settings new.ctx.held.reference (drop new.place new.kept)))
   pub paints : answer ≡ Err OutOfMemory → PaintsBlack (lines_of new.ctx.held.settings whole) new.ctx.held.taken
   pub extra : ℕ
-  pub stands : IsFeedOf whole (tried + extra) new
+  pub stands : IsPlainFeedOf whole (tried + extra) new
   -- what was counted for bits of the gap that weren't looked at before, and for the line; where the gap waits, the bits that were
   -- looked at are kept
   pub gap : ℕ
   pub line_extra : ℕ
   pub extra_is : extra ≡ gap + line_extra
-  pub looks : LooksAhead old.finished (old.begun && is_at_line old.rows.stand) old.looked (drop old.place old.kept) gap
-  pub looked : answer ≡ Ok Fed.NeedsMore → is_at_line new.rows.stand ≡ false → gap + old.looked ≡ new.looked
+  pub looks : LooksAhead (old.begun && is_at_line old.rows.stand) old.looked (drop old.place old.kept) gap
+  pub looked : answer ≡ Ok Fed.NeedsMore → is_at_line new.rows.stand ≡ false → gap + old.looked ≤ new.looked + 16
   pub line_work : LineWork old new answer line_extra
   pub goes_on : CallGoesOn old new answer gap extra
+
+-- So it is of a feed with all bits of that data that were fed.
+pub record FeedsNext (whole : Bits) (tried : ℕ) (old new : Feeding) (answer : Result Fed DecodeError) : Type 0 where
+  pub plainly : FeedsPlainly whole tried (completed whole old) (completed whole new) answer
+  pub stands : IsFeedOf whole (tried + plainly.extra) new
 
 -- what no call changes that reads a row: the order and the bits kept, how many came before them, for how many bytes there is
 -- room, and whether the data is finished
@@ -303,13 +385,16 @@ pub record KeepsBits (old new : Feeding) : Type 0 where
   pub room : new.room ≡ old.room
 
 -- What a call that reads the next row leaves, whatever the data is: the settings; and of a row that it is counted, has as many
--- pixels as there are columns, and a gap is next, of which nothing was looked at.
+-- pixels as there are columns, and a gap is next, of which nothing is known unless the data ends with zeros. Where a gap waits
+-- whose bits are counted, few are kept from the next one on.
 pub record CountsRow (old new : Feeding) (answer : Result Fed DecodeError) : Type 0 where
   pub settings : new.ctx.held.settings ≡ old.ctx.held.settings
   pub taken : answer ≡ Ok Fed.Row → (new.ctx.held.taken ≡ old.ctx.held.taken + 1) × (new.ctx.held.taken < 2 ^ 64)
   pub width : answer ≡ Ok Fed.Row → length new.ctx.held.reference ≡ old.ctx.held.settings.columns
   pub stands : answer ≡ Ok Fed.Row → (new.begun ≡ true) × (new.rows.stand ≡ AfterRow) × (new.part ≡ None)
-  pub unlooked : answer ≡ Ok Fed.Row → new.looked ≡ 0
+  pub unlooked : answer ≡ Ok Fed.Row → new.gap.at_zeros ≡ false → new.gap ≡ no_gap
+  pub few : answer ≡ Ok Fed.NeedsMore → is_at_line new.rows.stand ≡ false → new.gap.look.bits ≡ 0
+      → length new.kept ≤ new.place + 16
 
 -- a short line is read on: nothing changes but the count of work, and what is kept of the line
 pub record Scans (old new : Feeding) : Type 0 where
@@ -334,13 +419,20 @@ came (Ok None) = Ok true
 came (Ok (Some line)) = Ok line
 came (Err error) = Err error
 
+-- Of a gap that begins these bits some were looked at before, and so many more now, each counted once: as far as is needed to
+-- know that nothing that follows changes it, or all there are. None are at a line, nor in data that is finished.
+pub record LooksUpTo (is_last at_line : Bool) (looked : ℕ) (gap : Bits) (counted : ℕ) : Type 0 where
+  pub line : at_line ≡ true → counted ≡ 0
+  pub finished : is_last ≡ true → counted ≡ 0
+  pub within : 0 < counted → counted + looked ≤ length gap
+
 -- the gap before the next line is passed, if there is one here, and no data that follows can change it
 pub record ComesOn (is_last : Bool) (gap_start : ℕ) (rows kept : RowState) (look kept_look : GapLook) (old new : Context)
     (before after : BitsAt) (answer : Result (Option Bool) DecodeError) : Type 0 where
   pub extra : ℕ
-  pub looks : LooksAhead is_last (is_at_line rows.stand) look.bits (here before) extra
+  pub looks : LooksUpTo is_last (is_at_line rows.stand) look.bits (here before) extra
   pub looked : answer ≡ Ok None → (extra + look.bits ≡ kept_look.bits)
-      × IsSeen (rules_for true old.held) kept_look (here before)
+      × IsSeen (rules_for true old.held) kept_look (here before) × (kept_look.bits ≡ length (here before))
   pub none_looked : answer ≢ Ok None → kept_look ≡ nothing_seen
   -- of a gap that is passed no more than twelve bits beyond its end were looked at
   pub near : answer ≢ Ok None → is_last ≡ false → extra + look.bits + before.place ≤ after.place + 12
@@ -408,20 +500,23 @@ pub record ReachesLine (old new : Feeding) (extra : ℕ) : Type 0 where
   pub counts : old.ctx.ticks + extra ≤ new.ctx.ticks
   pub onward : old.dropped + old.place ≤ new.dropped + new.place
   pub near : old.begun ≡ true → old.finished ≡ false
-      → extra + old.looked + (old.dropped + old.place) ≤ new.dropped + new.place + 12
+      → extra + old.looked + 2 * (old.dropped + old.place) ≤ 2 * (new.dropped + new.place) + 16
+  pub last : old.begun ≡ true → old.finished ≡ true
+      → extra + zeros_left old + 2 * (old.dropped + old.place) ≤ 2 * (new.dropped + new.place) + zeros_left new + 16
   pub past_eol : old.finished ≡ false → old.begun ≡ true → is_at_line old.rows.stand ≡ false → old.ctx.held.has_eols ≡ true
       → PassesEol (drop old.place old.kept) (old.dropped + old.place) (new.dropped + new.place)
   pub at_line : (old.begun && is_at_line old.rows.stand) ≡ true
       → (new.place ≡ old.place) × (new.ctx.held ≡ old.ctx.held) × (new.kept ≡ old.kept)
+  pub zeros : (old.begun && is_at_line old.rows.stand) ≡ true → zeros_left new ≡ zeros_left old
   pub tried : new.tried_at ≡ old.tried_at
   pub space : new.ctx.space ≡ old.ctx.space
   pub settings : new.ctx.held.settings ≡ old.ctx.held.settings
 
--- what is before the first line is passed, if no data that follows can change it
-pub record Begins (old new : Feeding) (answer : Bool) : Type 0 where
+-- what is before the first line of these bits is passed, if no data that follows can change it
+pub record Begins (whole : Bits) (tried : ℕ) (old new : Feeding) (answer : Bool) : Type 0 where
   pub extra : ℕ
-  pub looks : LooksAhead old.finished false old.looked (drop old.place old.kept) extra
-  pub looked : answer ≡ false → extra + old.looked ≡ new.looked
+  pub looks : LooksAhead false old.looked (drop old.place old.kept) extra
+  pub looked : answer ≡ false → extra + old.looked ≤ new.looked + 16
   pub keeps : KeepsBits old new
   pub begun : new.begun ≡ answer
   pub within : new.place ≤ length new.kept
@@ -431,17 +526,30 @@ pub record Begins (old new : Feeding) (answer : Bool) : Type 0 where
   pub waits : answer ≡ false → (new.ctx.held ≡ old.ctx.held) × (new.ctx.ticks ≡ old.ctx.ticks + extra) × (new.rows ≡ old.rows)
       × (new.place ≡ old.place) × (old.finished ≡ false)
       × (front_is_settled old.ctx.held.settings old.kept ≡ false)
-  pub reaches : (whole : Bits) (tried : ℕ) → answer ≡ true → IsFeedOf whole tried old → ReachesLine old new extra
+  pub reaches : answer ≡ true → ReachesLine old new extra
   pub unfailed : answer ≡ true → (error : DecodeError) → ended new.rows.stand ≢ Some (Err error)
-  pub passes : (whole : Bits) (tried : ℕ) → answer ≡ true → IsFeedOf whole tried old
-      → ReachesNextLine (fed_over whole old) (fed_over whole new) (line_first new.rows.stand)
-  pub stands : (whole : Bits) (tried : ℕ) → IsFeedOf whole tried old → IsFeedOf whole (tried + extra) new
+  pub passes : answer ≡ true → ReachesNextLine (fed_over whole old) (fed_over whole new) (line_first new.rows.stand)
+  pub stands : IsPlainFeedOf whole (tried + extra) new
+
+-- what is before the first line of these bits is passed by a feed that may have counted bits of it
+pub record BeginsCounted (whole : Bits) (tried : ℕ) (old new : Feeding) (answer : Bool) : Type 0 where
+  pub begins : Begins whole tried (completed whole old) (completed whole new) answer
+  pub stands : IsFeedOf whole (tried + begins.extra) new
+
+-- what that leaves unchanged, whatever the data is
+pub record KeepsFront (old new : Feeding) (answer : Bool) : Type 0 where
+  pub keeps : KeepsBits old new
+  pub begun : new.begun ≡ answer
+  pub settings : new.ctx.held.settings ≡ old.ctx.held.settings
+  pub taken : new.ctx.held.taken ≡ old.ctx.held.taken
+  pub unkept : (old.part ≡ None) × (new.part ≡ None)
+  pub few : answer ≡ false → length new.kept ≤ new.place + 16
 
 -- so is the gap before the next line
-pub record ComesInFeed (old new : Feeding) (answer : Result (Option Bool) DecodeError) : Type 0 where
+pub record ComesInFeed (whole : Bits) (tried : ℕ) (old new : Feeding) (answer : Result (Option Bool) DecodeError) : Type 0 where
   pub extra : ℕ
-  pub looks : LooksAhead old.finished (is_at_line old.rows.stand) old.looked (drop old.place old.kept) extra
-  pub looked : answer ≡ Ok None → extra + old.looked ≡ new.looked
+  pub looks : LooksAhead (is_at_line old.rows.stand) old.looked (drop old.place old.kept) extra
+  pub looked : answer ≡ Ok None → extra + old.looked ≤ new.looked + 16
   pub keeps : KeepsBits old new
   pub begun : new.begun ≡ true
   pub within : new.place ≤ length new.kept
@@ -449,14 +557,12 @@ pub record ComesInFeed (old new : Feeding) (answer : Result (Option Bool) Decode
   pub waits : answer ≡ Ok None → (new.ctx.held ≡ old.ctx.held) × (new.ctx.ticks ≡ old.ctx.ticks + extra) × (new.rows ≡ old.rows)
       × (new.place ≡ old.place) × (old.finished ≡ false) × (is_at_line old.rows.stand ≡ false)
       × (gap_is_settled old.ctx.held.settings old.ctx.held.taken old.ctx.held.has_eols (drop old.place old.kept) ≡ false)
-  pub comes : (whole : Bits) (tried : ℕ) → answer ≢ Ok None → IsFeedOf whole tried old
-      → ReachesNextLine (fed_over whole old) (fed_over whole new) (came answer)
-  pub stands : (whole : Bits) (tried : ℕ) → answer ≢ Ok None → IsFeedOf whole tried old → IsFeedOf whole (tried + extra) new
+  pub comes : answer ≢ Ok None → ReachesNextLine (fed_over whole old) (fed_over whole new) (came answer)
+  pub stands : IsPlainFeedOf whole (tried + extra) new
   pub line : answer ≡ Ok (Some true) → is_at_line new.rows.stand ≡ true
   pub counts : old.ctx.ticks + extra ≤ new.ctx.ticks
-  pub reaches : (whole : Bits) (tried : ℕ) → answer ≡ Ok (Some true) → IsFeedOf whole tried old → ReachesLine old new extra
+  pub reaches : answer ≡ Ok (Some true) → ReachesLine old new extra
   pub only_code : IfErr answer (λ e. e ≡ InvalidCode)
-  pub waiting : (whole : Bits) (tried : ℕ) → answer ≡ Ok None → IsFeedOf whole tried old → IsFeedOf whole (tried + extra) new
 
 -- what is counted for a line that is left, or that was left before
 pub record LineIsPaid (old new : Feeding) (answer : Result Bool DecodeError) (counted : ℕ) : Type 0 where
@@ -480,21 +586,22 @@ pub record ReadsInFeed (old new : Feeding) (answer : Result Bool DecodeError) : 
       × (is_short (line_here new.ctx.held.settings new.ctx.held.reference (drop old.place old.kept)) ≡ true)
   pub memory : answer ≡ Err OutOfMemory
       → HasBlack (front_of (line_here new.ctx.held.settings new.ctx.held.reference (drop old.place old.kept)))
-  pub paints : (whole : Bits) (tried : ℕ) → answer ≡ Err OutOfMemory → IsFeedOf whole tried old
+  pub paints : (whole : Bits) (tried : ℕ) → answer ≡ Err OutOfMemory → IsPlainFeedOf whole tried old
       → PaintsBlack (lines_of new.ctx.held.settings whole) new.ctx.held.taken
-  pub reads : (whole : Bits) (tried : ℕ) → (IsUnread answer → ⊥) → IsFeedOf whole tried old
+  pub reads : (whole : Bits) (tried : ℕ) → (IsUnread answer → ⊥) → IsPlainFeedOf whole tried old
       → ReadsNext (fed_over whole old) (fed_over whole new) answer
-  pub stands : (whole : Bits) (tried : ℕ) → IsFeedOf whole tried old → IsFeedOf whole (tried + extra) new
+  pub stands : (whole : Bits) (tried : ℕ) → IsPlainFeedOf whole tried old → IsPlainFeedOf whole (tried + extra) new
   pub most : new.ctx.space ≤ max old.ctx.space (2 * old.ctx.held.settings.columns + 66)
   pub counted : old.ctx.ticks + extra ≤ new.ctx.ticks
   pub stored : answer ≡ Ok true → length (changes new.ctx.held.reference) + (old.ctx.ticks + extra) ≤ new.ctx.ticks + 1
   pub looked : new.looked ≡ old.looked
+  pub gap : new.gap ≡ old.gap
   pub done : answer ≢ Ok false → new.part ≡ None
   pub tried : (new.tried_at ≡ old.tried_at) ⊎ (new.tried_at ≡ new.dropped + new.place)
   pub after : answer ≡ Ok true → new.rows.stand ≡ AfterRow
   pub within : new.place ≤ length new.kept
   pub paid : paid_for_line new ≤ most_for_line new + 2
-  pub row_is : (whole : Bits) (tried : ℕ) → answer ≡ Ok true → IsFeedOf whole tried old
+  pub row_is : (whole : Bits) (tried : ℕ) → answer ≡ Ok true → IsPlainFeedOf whole tried old
       → (row_of_line old.ctx.held.settings old.ctx.held.has_eols (drop old.place old.kept) (line_of_feed old)
       ≡ Ok (new.ctx.held.reference, drop new.place new.kept)) × (old.place ≤ new.place)
       × (new.ctx.held.has_eols ≡ old.ctx.held.has_eols)
@@ -614,13 +721,13 @@ pub record PushesRows {M : Type 0} (step : M → List ℕ → M) (before after :
 
 -- ---- More data
 
--- how many bits were fed
-abbrev pub fed_bits : Feeding → ℕ
-fed_bits feed = feed.dropped + length feed.kept
-
 -- the bits of the bytes that were fed and aren't consumed: a byte of which a bit was read is
 abbrev pub unused : Feeding → Bits
 unused feed = drop (8 * ((feed.place + 7) / 8)) feed.kept
+
+-- how many they are, also of those of a gap that were counted
+abbrev pub unused_size : Feeding → ℕ
+unused_size feed = fed_bits feed - 8 * ((offset_of feed + 7) / 8)
 
 -- These bits are held after those that were, and the reading is at the same offset. Before it fewer than eight bits are held.
 -- There is room for no more bits than before, or than twice those held.
@@ -632,6 +739,7 @@ pub record HoldsMore (next : Bits) (old new : Feeding) : Type 0 where
   pub few_read : new.place < 8
   pub begun : new.begun ≡ old.begun
   pub looked : new.looked ≡ old.looked
+  pub gap : new.gap ≡ old.gap
   pub part : new.part ≡ old.part
   pub line_read : new.line_read ≡ old.line_read
   pub tried_at : new.tried_at ≡ old.tried_at
@@ -655,6 +763,7 @@ pub record DropsRead (old new : Feeding) : Type 0 where
   pub place : new.place + 8 * bytes ≡ old.place
   pub few_read : new.place < 8
   pub looked : new.looked ≡ old.looked
+  pub gap : new.gap ≡ old.gap
   pub within : old.place ≤ length old.kept
   pub ctx : new.ctx ≡ old.ctx
   pub rows : new.rows ≡ old.rows

@@ -4,7 +4,7 @@ ghost use Rattle.std.specs.Prelude.{◌≡◌, ◌≤◌, ◌+◌, false, true, 
 ghost use Rattle.fax_bits.specs.Bits.{here};
 ghost use Rattle.fax_bits.specs.EndOfLine.{after_eol};
 ghost use Rattle.fax_reading.specs.GapsContinued.{after_line_tag, holds_one};
-ghost use Rattle.fax_feeds.specs.GapsSeen.{LooksOn, first_rules, is_settled, nothing_seen, rules_after_row, stage_after};
+ghost use Rattle.fax_feeds.specs.GapsSeen.{LooksOn, is_settled, nothing_seen, rules_after_row, stage_after};
 ghost use Rattle.fax_feeds.specs.GapsSeen.{stage_following};
 
 use fax_bits::bit_reader::{BitReader, copy};
@@ -58,17 +58,6 @@ pub(crate) fn rules_after_row(ctx: &DecoderContext) -> GapRules
         has_tags: settings.encoding == EncodingMode::Group3_2D,
         ends_at_two: settings.encoding == EncodingMode::Group4 && settings.end_of_block,
         seeks: ctx.has_eols() && !limit_met(ctx) && !settings.strict,
-    }
-}
-
-/// Returns what the look at what is before the first line depends on: there EOLs have no tags (T.4, 4.1.2).
-pub(crate) fn first_rules(settings: DecodeSettings) -> GapRules
-    ensures { result ≡ first_rules settings.encoding settings.end_of_block }
-{
-    GapRules {
-        has_tags: false,
-        ends_at_two: settings.encoding == EncodingMode::Group4 && settings.end_of_block,
-        seeks: false,
     }
 }
 

@@ -4,6 +4,8 @@
 //! short, go on where they stopped. `hayro_ccitt` passes it on.
 #![tactic(auto)]
 
+mod counted_gaps;
 mod gap_look;
 mod line_parts;
 pub mod row_feed;
+mod zeros;

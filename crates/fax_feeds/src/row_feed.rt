@@ -9,21 +9,23 @@ ghost use Rattle.fax_reading.specs.GapsContinued.{gap_is_settled};
 ghost use Rattle.fax_feeds.specs.GapsSeen.{CountsLooks, IsSeen, is_settled, nothing_seen, rules_for, stage_following};
 ghost use Rattle.fax_rows.specs.RowsRead.{at_end_of_rows, ended, is_at_line};
 ghost use Rattle.fax_rows.specs.RowsTried.{IsUnread, front_is_settled};
-ghost use Rattle.fax_feeds.specs.RowFeeds.{Begins, ComeNext, ComesInFeed, DropsRead, ReadsInFeed, ComesOn, FeedsNext};
+ghost use Rattle.fax_feeds.specs.RowFeeds.{BeginsCounted, ComeNext, ComesOn, DropsRead, FeedsNext, FeedsPlainly, KeepsFront};
+ghost use Rattle.fax_feeds.specs.RowFeeds.{IsPlainFeedOf, ReadsInFeed, completed, no_gap, offset_of};
 ghost use Rattle.fax_feeds.specs.RowFeeds.{IsFeedOf, KeepsBits, TriesLine, fed_bits, fed_end, fed_row, fed_without_row};
 ghost use Rattle.fax_feeds.specs.RowFeeds.{is_unread};
 ghost use Rattle.fax_feeds.specs.RowFeeds.{HoldsMore, KeepsPart, LineGoesOn, Scans, ScansLine, StaysShort, line_answer};
 ghost use Rattle.fax_reading.specs.Continuations.{is_short};
 ghost use Rattle.fax_feeds.specs.RowFeeds.{IsPartOf1d, line_of_feed, says_short, of_settled_gap};
-ghost use Rattle.fax_feeds.specs.RowFeeds.{CountsRow, Feeding, FeedsRow, PassesRows, PushesRows, unused};
+ghost use Rattle.fax_feeds.specs.RowFeeds.{CountsRow, Feeding, FeedsRow, PassesRows, PushesRows, unused, unused_size};
 ghost use Rattle.fax_reading.specs.Rows.{AreChanges, changes};
 ghost use Rattle.fax_lines.specs.SinkStates.{state_of};
 ghost use Rattle.fax_rows.specs.WhiteLines.{AreKnown};
+ghost use Rattle.fax_rows.specs.ZerosLast.{CountsZeros, zeros_at};
 
-use crate::gap_look::{
-    GapLook, GapRules, GapStage, first_rules, is_settled_at_once, rules_after_row,
-};
+use crate::counted_gaps::{GapSoFar, come_to_counted_line, come_to_first_line, no_gap};
+use crate::gap_look::{GapLook, GapRules, GapStage, is_settled_at_once, rules_after_row};
 use crate::line_parts::{KeptPart, begin_part, continue_line, continue_runs, is_1d, is_in_1d_run};
+use crate::zeros::{begins_with_one, write_one_and_zeros, write_zeros};
 use fax_bits::bit_reader::{
     BitOrder, BitReader, at_bit, placed_at, scanner_at, scanner_near_end, scanner_of_last,
 };
@@ -31,10 +33,12 @@ use fax_bits::codes::Color;
 use fax_bits::{DecodeError, DecodeSettings, EncodingMode, Result};
 use fax_lines::Decoder;
 use fax_lines::context::{DecoderContext, begin_line, reference_row};
+use fax_rows::gap_count::GapCount;
 use fax_rows::push_rows::{WhiteLinesAhead, push_white_rows};
 use fax_rows::row_reader::{RowState, Stand, first_stand, has_ended, is_at_line};
 use fax_rows::rows::try_row;
 use fax_rows::white_lines::{WhiteLines, no_white_lines, repeats_white};
+use fax_rows::zeros_last::{pass_to_zeros, try_zeros};
 use std::alloc::Global;
 use std::marker::Model;
 use std::mem;
@@ -85,12 +89,12 @@ fn look_waits(
 ) -> bool
     requires seen { IsSeen rules.now look.old (here reader.now) }
     ensures waits { result ≡ (not is_last && not (is_settled (stage_following rules.now GapStage.Start 0 (here reader.now)))) }
-    ensures held { ctx.new.held ≡ ctx.old.held }
+    ensures kept { (ctx.new.held ≡ ctx.old.held) × (ctx.new.space ≡ ctx.old.space) }
     ensures looked { CountsLooks look.old look.new ctx.old.ticks ctx.new.ticks }
     ensures onward { look.old.bits ≤ look.new.bits }
+    ensures all { result ≡ true → look.new.bits ≡ length (here reader.now) }
     ensures unlooked { is_last ≡ true → ctx.new.ticks ≡ ctx.old.ticks }
     ensures seen { IsSeen rules.now look.new (here reader.now) }
-    ensures space { ctx.new.space ≡ ctx.old.space }
 {
     if is_last || is_settled_at_once(rules, reader) {
         return false;
@@ -110,42 +114,19 @@ fn gap_waits(
     requires seen { IsSeen (rules_for true ctx.old.held) look.old (here reader.now) }
     ensures waits { result ≡ (not is_last && not (gap_is_settled ctx.old.held.settings ctx.old.held.taken ctx.old.held.has_eols
         (here reader.now))) }
-    ensures held { ctx.new.held ≡ ctx.old.held }
+    ensures kept { (ctx.new.held ≡ ctx.old.held) × (ctx.new.space ≡ ctx.old.space) }
     ensures looked { CountsLooks look.old look.new ctx.old.ticks ctx.new.ticks }
     ensures onward { look.old.bits ≤ look.new.bits }
+    ensures all { result ≡ true → look.new.bits ≡ length (here reader.now) }
     ensures unlooked { is_last ≡ true → ctx.new.ticks ≡ ctx.old.ticks }
     ensures seen { IsSeen (rules_for true ctx.old.held) look.new (here reader.now) }
-    ensures space { ctx.new.space ≡ ctx.old.space }
 {
     let rules = rules_after_row(ctx);
     look_waits(ctx, look, &rules, reader, is_last)
 }
 
-/// Looks on at what is before the first line, and returns whether it must wait for more data.
-fn front_waits(
-    ctx: &mut DecoderContext,
-    look: &mut GapLook,
-    reader: &BitReader<'_>,
-    is_last: bool,
-) -> bool
-    requires seen { IsSeen (rules_for false ctx.old.held) look.old (here reader.now) }
-    ensures waits { result ≡ (not is_last && not (front_is_settled ctx.old.held.settings (here reader.now))) }
-    ensures held { ctx.new.held ≡ ctx.old.held }
-    ensures looked { CountsLooks look.old look.new ctx.old.ticks ctx.new.ticks }
-    ensures onward { look.old.bits ≤ look.new.bits }
-    ensures unlooked { is_last ≡ true → ctx.new.ticks ≡ ctx.old.ticks }
-    ensures seen { IsSeen (rules_for false ctx.old.held) look.new (here reader.now) }
-    ensures space { ctx.new.space ≡ ctx.old.space }
-{
-    if ctx.settings().columns == 0 {
-        return false; // There is no line.
-    }
-    let rules = first_rules(ctx.settings());
-    look_waits(ctx, look, &rules, reader, is_last)
-}
-
 /// Returns whether a line is here after a gap that was passed.
-fn of_settled_gap(line: Result<bool>) -> Result<Option<bool>>
+pub(crate) fn of_settled_gap(line: Result<bool>) -> Result<Option<bool>>
     ensures { result ≡ of_settled_gap line }
 {
     match line {
@@ -288,7 +269,7 @@ fn can_take_row(ctx: &DecoderContext) -> bool
 /// Passes the gap before the next line, which begins at this offset of the data, if no data that follows can change it.
 /// Returns whether there is a line after it, or `None` if more data is needed.
 #[inline(always)]
-fn pass_settled_gap(
+pub(crate) fn pass_settled_gap(
     rows: &mut RowState,
     ctx: &mut DecoderContext,
     look: &mut GapLook,
@@ -344,12 +325,43 @@ fn try_line(
     row
 }
 
+/// Reads the line here, which begins at this offset of the data, and which is the last bits of it: a tag of one, if it was counted,
+/// and zeros. Returns true; after an allocation failure it is left.
+fn try_line_of_zeros(
+    rows: &mut RowState,
+    ctx: &mut DecoderContext,
+    count: &GapCount,
+    line_start: usize,
+) -> Result<bool>
+    requires rows { ctx.old.held.taken + 1 < 2 ^ 64 }
+    requires damaged { ctx.old.held.repairs.rows ≤ ctx.old.held.taken }
+    requires begun { ctx.old.held.front ≡ [] }
+    requires enough { 16 ≤ count.now.zeros }
+    ensures tries { 0 < ctx.old.held.settings.columns
+        → (count.now.tag ≡ true → ctx.old.held.settings.encoding ≡ EncodingMode.Group3_2D)
+        → TriesLine true line_start rows.old rows.new ctx.old ctx.new (zeros_at count.now.tag count.now.zeros)
+        (zeros_at count.now.tag count.now.zeros) result }
+    ensures counts { CountsZeros ctx.old ctx.new result }
+    ensures stand { result ≡ Ok true → rows.new.stand ≡ Stand.AfterRow }
+    ensures left { result ≡ Ok false → rows.new ≡ rows.old }
+{
+    let damaged_rows = ctx.damaged_rows();
+    let cut_rows = ctx.cut_rows();
+    let row = try_zeros(ctx, count.tag, count.zeros);
+    if is_unread(&row) {
+        return row;
+    }
+    let line = line_answer(&row);
+    rows.note_line(ctx, &line, line_start, damaged_rows, cut_rows);
+    row
+}
+
 /// Reads the rows of an image from data that comes in pieces, each as soon as no data that follows can change its line.
 ///
-/// It keeps the bits that weren't read, and after [`feed`](RowFeed::feed) fewer than eight before them. After [`Fed::NeedsMore`]
-/// each of them is needed for the line that is next, or the gap before it. So where each piece is fed after `NeedsMore`, it keeps
-/// at most the bits of the longest line or gap, one piece, and seven bits, in room for at most twice as many: the law
-/// `feeds_keep_little`. A gap may be as long as the data, and is kept whole.
+/// It keeps the bits that weren't read, and after [`feed`](RowFeed::feed) fewer than eight before them. The bits of a gap are
+/// counted, and but sixteen of them kept, unless its EOL is missing: then all are kept. So where each piece is fed after
+/// [`Fed::NeedsMore`], it keeps at most sixteen bits, or those of the longest line, or gap whose EOL is missing, one piece, and
+/// seven bits, in room for at most twice as many: the law `feeds_keep_little`.
 ///
 /// # Example
 ///
@@ -374,13 +386,13 @@ pub struct RowFeed {
     /// Whether what is before the first line was passed.
     begun: bool,
     is_last: bool,
-    /// The bytes that are still needed, and those of the line or gap that is next.
+    /// The bytes that are still needed, and those of the line that is next.
     data: Vec<u8>,
     /// How many bits came before them.
     dropped: usize,
     place: usize,
-    /// How far the gap that is next was looked at.
-    look: GapLook,
+    /// What is known of the gap that is next.
+    gap: GapSoFar,
     /// Where the line here goes on that was found to be short, or `None` at its start, or where no line is known to be here.
     part: Option<KeptPart>,
     /// How many bits of that line were read.
@@ -415,7 +427,7 @@ impl RowFeed {
         ensures none_fed { IfOk result (λ feed. (feed.kept ≡ []) × (feed.dropped ≡ 0) × (feed.finished ≡ false)) }
         ensures no_room { IfOk result (λ feed. feed.room ≡ 0) }
         ensures none_read { IfOk result (λ feed. (feed.ctx.held.taken ≡ 0) × (feed.begun ≡ false) × (feed.looked ≡ 0)
-            × (feed.part ≡ None)) }
+            × (feed.part ≡ None) × (feed.gap ≡ no_gap)) }
         ensures only_memory { IsOkUnless result DecodeError.OutOfMemory }
     {
         Ok(RowFeed {
@@ -427,7 +439,7 @@ impl RowFeed {
             data: Vec::new(alloc),
             dropped: 0,
             place: 0,
-            look: GapLook::new(),
+            gap: no_gap(),
             part: None,
             line_read: 0,
             tried: usize::MAX,
@@ -437,16 +449,23 @@ impl RowFeed {
     /// Passes what is before the first line, if no data that follows can change it, and returns whether it was passed.
     fn begin(&mut self) -> bool
         requires { self.old.begun ≡ false }
-        ensures begins { Begins self.old self.new result }
-        ensures none_kept { (self.old.part ≡ None) × (self.new.part ≡ None) }
+        ensures begins { (whole : Bits) (tried : ℕ) → IsFeedOf whole tried self.old
+            → BeginsCounted whole tried self.old self.new result }
+        ensures keeps { KeepsFront self.old self.new result }
     {
         let mut reader = placed_at(&self.data, self.order, self.place);
-        if front_waits(&mut self.ctx, &mut self.look, &reader, self.is_last) {
-            return false;
+        if self.ctx.settings().columns == 0 {
+            self.rows.stand = first_stand(&mut self.ctx, &mut reader);
+            self.place = reader.bit_pos();
+            self.begun = true;
+            return true;
         }
-        self.look = GapLook::new();
-        self.rows.stand = first_stand(&mut self.ctx, &mut reader);
+        let line = come_to_first_line(&mut self.ctx, &mut self.gap, &mut reader, self.is_last);
         self.place = reader.bit_pos();
+        let Some(line) = line else {
+            return false;
+        };
+        self.rows.stand = if line { Stand::AtLine } else { Stand::AtEnd };
         self.begun = true;
         true
     }
@@ -459,6 +478,7 @@ impl RowFeed {
         requires damaged { self.old.ctx.held.repairs.rows ≤ self.old.ctx.held.taken }
         requires line { is_at_line self.old.rows.stand ≡ true }
         requires none_kept { self.old.part ≡ None }
+        requires gap { self.old.gap ≡ no_gap }
         ensures reads { ReadsInFeed self.old self.new result }
         ensures none_kept { self.new.part ≡ None }
         ensures no_tag { self.old.ctx.held.settings.encoding ≡ EncodingMode.Group3_2D
@@ -483,6 +503,7 @@ impl RowFeed {
     /// the part from which it goes on is kept.
     #[inline(always)]
     fn go_on_from(&mut self, part: KeptPart, read: usize) -> bool
+        requires gap { self.old.gap.at_zeros ≡ false }
         requires part { LineGoesOn self.old.begun self.old.rows.stand self.old.ctx.held (drop self.old.place self.old.kept) read
             part }
         ensures scans { ScansLine part.passed read self.old self.new result }
@@ -634,6 +655,7 @@ impl RowFeed {
         requires begun { self.old.begun ≡ true }
         requires line { is_at_line self.old.rows.stand ≡ true }
         requires none_drawn { redrawn self.old.ctx.held [] Color.White ≡ self.old.ctx.held }
+        requires gap { self.old.gap.at_zeros ≡ false }
         ensures { KeepsPart self.old self.new }
     {
         let line_start = self.dropped + self.place;
@@ -660,6 +682,7 @@ impl RowFeed {
         requires damaged { self.old.ctx.held.repairs.rows ≤ self.old.ctx.held.taken }
         requires line { is_at_line self.old.rows.stand ≡ true }
         requires none_kept { self.old.part ≡ None }
+        requires gap { self.old.gap ≡ no_gap }
         ensures reads { ReadsInFeed self.old self.new result }
         ensures unread { result ≡ Ok false → self.new.part ≡ None
             → (self.new.ctx.ticks ≡ self.old.ctx.ticks) ⊎ ((self.old.tried_at ≢ self.new.dropped + self.new.place)
@@ -677,8 +700,10 @@ impl RowFeed {
     fn read_here(&mut self) -> Result<Fed>
         requires begun { self.old.begun ≡ true }
         requires line { is_at_line self.old.rows.stand ≡ true }
-        ensures reads { (whole : Bits) (tried : ℕ) → IsFeedOf whole tried self.old
-            → FeedsNext whole tried self.old self.new result }
+        requires gap { self.old.gap ≡ no_gap }
+        ensures gap { self.new.gap ≡ self.old.gap }
+        ensures reads { (whole : Bits) (tried : ℕ) → IsPlainFeedOf whole tried self.old
+            → FeedsPlainly whole tried self.old self.new result }
         ensures keeps { KeepsBits self.old self.new }
         ensures counts { CountsRow self.old self.new result }
         ensures waits { result ≡ Ok Fed.NeedsMore → self.old.part ≢ None → Scans self.old self.new }
@@ -702,19 +727,24 @@ impl RowFeed {
         requires none_kept { self.old.part ≡ None }
         ensures { FeedsRow self.old self.new result }
     {
+        if self.gap.at_zeros {
+            return self.read_zeros();
+        }
         let mut reader = placed_at(&self.data, self.order, self.place);
-        let gap_start = self.dropped + self.place;
-        let line = pass_settled_gap(
+        let line = come_to_counted_line(
             &mut self.rows,
             &mut self.ctx,
-            &mut self.look,
+            &mut self.gap,
             &mut reader,
             self.is_last,
-            gap_start,
+            self.dropped,
         );
         self.place = reader.bit_pos();
         if !is_some_line(&line) {
             return fed_without_row(line);
+        }
+        if self.gap.at_zeros {
+            return self.read_zeros();
         }
         if !can_take_row(&self.ctx) {
             return Err(DecodeError::UnexpectedEof);
@@ -733,6 +763,48 @@ impl RowFeed {
             self.keep_part();
         }
         fed_row(row)
+    }
+
+    /// Reads the row of the line that the zeros begin with which the data ends, if no more rows than can be counted were read.
+    #[cold]
+    #[inline(never)]
+    fn read_line_of_zeros(&mut self) -> Result<Fed>
+        requires begun { self.old.begun ≡ true }
+        requires line { is_at_line self.old.rows.stand ≡ true }
+        requires none_kept { self.old.part ≡ None }
+        requires zeros { self.old.gap.at_zeros ≡ true }
+        ensures { FeedsRow self.old self.new result }
+    {
+        if !can_take_row(&self.ctx) {
+            return Err(DecodeError::UnexpectedEof);
+        }
+        let start = (self.dropped + self.place).saturating_sub(self.gap.passed);
+        begin_line(&mut self.ctx);
+        let row = try_line_of_zeros(&mut self.rows, &mut self.ctx, &self.gap.count, start);
+        fed_row(row)
+    }
+
+    /// Reads the row of the line that the zeros begin with which the data ends, after the gap before it, if there is one.
+    #[cold]
+    #[inline(never)]
+    fn read_zeros(&mut self) -> Result<Fed>
+        requires begun { self.old.begun ≡ true }
+        requires unended { ended self.old.rows.stand ≡ None }
+        requires none_kept { self.old.part ≡ None }
+        requires zeros { self.old.gap.at_zeros ≡ true }
+        ensures { FeedsRow self.old self.new result }
+    {
+        if is_at_line(self.rows.stand) {
+            return self.read_line_of_zeros();
+        }
+        let start = (self.dropped + self.place).saturating_sub(self.gap.passed);
+        self.gap.count.eols = 0;
+        let passed = pass_to_zeros(&mut self.rows, &mut self.ctx, &mut self.gap.count, start);
+        let line = of_settled_gap(passed);
+        if !is_some_line(&line) {
+            return fed_without_row(line);
+        }
+        self.read_line_of_zeros()
     }
 
     /// Reads the first row, after what is before it.
@@ -820,7 +892,7 @@ impl RowFeed {
     fn push_white<D: Decoder>(&mut self, lines: &mut WhiteLines, decoder: &mut D) -> Result<()>
         requires known { AreKnown self.old.ctx.held.settings lines.old }
         requires after { (self.old.begun ≡ true) × (self.old.rows.stand ≡ Stand.AfterRow) × (self.old.part ≡ None) }
-        requires unlooked { self.old.looked ≡ 0 }
+        requires unlooked { self.old.gap.at_zeros ≡ false → self.old.gap ≡ no_gap }
         ensures width { D.width decoder.new ≡ D.width decoder.old }
         ensures known { AreKnown self.old.ctx.held.settings lines.new }
         ensures passes { OnOk result (PassesRows (D.step (D.width decoder.old)) (D.meaning decoder.old) (D.meaning decoder.new)
@@ -829,8 +901,8 @@ impl RowFeed {
             (state_of D.Decoder decoder.old) (state_of D.Decoder decoder.new) self.old self.new (Err e)) }
     {
         let repeats = repeats_white(&self.ctx, lines);
-        if !repeats {
-            return Ok(());
+        if !repeats || self.gap.at_zeros {
+            return Ok(()); // No bits of zeros with which the data ends are kept.
         }
         let mut reader = placed_at(&self.data, self.order, self.place);
         let white = WhiteLinesAhead {
@@ -1086,17 +1158,55 @@ impl RowFeed {
 
     /// Returns the number of bytes consumed so far, as `RowReader::bytes_read` does.
     pub fn bytes_read(&self) -> usize
-        ensures { result ≡ (self.now.dropped + self.now.place + 7) / 8 }
+        ensures { result ≡ (offset_of self.now + 7) / 8 }
     {
-        (self.dropped + self.place + 7) / 8
+        ((self.dropped + self.place).saturating_sub(self.gap.passed) + 7) / 8
     }
 
-    /// Returns the bytes that were fed and aren't consumed; of a byte that is partly read nothing is left. At the end of the
-    /// image they are what was fed after it.
-    pub fn unused(&self) -> &[u8]
-        ensures { bits_in self.now.order result.now ≡ unused self.now }
+    /// Returns how many bytes were fed and aren't consumed; a byte of which a bit was read is.
+    pub fn unused_len(&self) -> usize
+        ensures { 8 * result ≡ unused_size self.now }
     {
-        &self.data[self.place.div_ceil(8)..]
+        let fed = (self.dropped + self.data.len() * 8) / 8;
+        fed.saturating_sub(self.bytes_read())
+    }
+
+    /// Writes the zeros with which the data ends, of which only the number is kept, and before them the tag of one, if it was counted
+    /// and isn't consumed.
+    #[cold]
+    fn write_zeros_left(&self, bytes: &mut [u8])
+        requires zeros { self.now.gap.at_zeros ≡ true }
+        requires long { 8 * length bytes.old ≡ unused_size self.now }
+        ensures { (whole : Bits) (tried : ℕ) → IsFeedOf whole tried self.now
+            → bits_in self.now.order bytes.new ≡ unused (completed whole self.now) }
+    {
+        let offset = (self.dropped + self.place).saturating_sub(self.gap.passed);
+        if begins_with_one(self.gap.count.tag, offset, bytes.len()) {
+            write_one_and_zeros(self.order, bytes);
+            return;
+        }
+        write_zeros(bytes);
+    }
+
+    /// Writes the bytes that were fed and aren't consumed, which are as many as [`unused_len`](RowFeed::unused_len) returns, and
+    /// returns true. At the end of the image they are what was fed after it. Returns false and writes nothing where a gap waits for
+    /// more data of whose bits only the number is kept.
+    pub fn copy_unused(&self, bytes: &mut [u8]) -> bool
+        requires long { 8 * length bytes.old ≡ unused_size self.now }
+        ensures copied { result ≡ true → (whole : Bits) (tried : ℕ) → IsFeedOf whole tried self.now
+            → bits_in self.now.order bytes.new ≡ unused (completed whole self.now) }
+        ensures unwritten { result ≡ false → bytes.new ≡ bytes.old }
+        ensures waits { result ≡ false → ended self.now.rows.stand ≡ None }
+    {
+        if self.gap.at_zeros {
+            self.write_zeros_left(bytes);
+            return true;
+        }
+        if self.gap.passed > 0 {
+            return false;
+        }
+        bytes.copy_from_slice(&self.data[self.place.div_ceil(8)..]);
+        true
     }
 
     /// Returns the settings by which the rows are read.

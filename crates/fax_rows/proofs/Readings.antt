@@ -1,5 +1,13 @@
 pub mod FirstGaps
+pub mod FrontsCounted
+pub mod GapsCame
+pub mod GapsCounted
+pub mod GapsEnded
+pub mod GapsOpen
 pub mod GapsPassed
+pub mod GapsStepped
+pub mod GapsStood
+pub mod GapsTidy
 pub mod LinesRead
 pub mod RowByRow
 pub mod RowsAgain
@@ -8,3 +16,5 @@ pub mod RowsTried
 pub mod WhiteLineBits
 pub mod WhiteRowsPushed
 pub mod WhiteRowsRead
+pub mod ZerosLast
+pub mod ZeroLines

@@ -1,7 +1,10 @@
 pub mod Contract
+pub mod FrontsCounted
+pub mod GapsCounted
 pub mod RowCursors
 pub mod RowsRead
 pub mod RowsTried
 pub mod TakenRows
 pub mod WhiteLines
 pub mod WhiteRows
+pub mod ZerosLast

@@ -7,6 +7,8 @@
 #![tactic(auto)]
 
 pub mod counts;
+pub mod front_count;
+pub mod gap_count;
 pub mod group3;
 pub mod group4;
 pub mod push_rows;
@@ -14,3 +16,4 @@ pub mod row_cursor;
 pub mod row_reader;
 pub mod rows;
 pub mod white_lines;
+pub mod zeros_last;

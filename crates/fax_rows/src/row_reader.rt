@@ -92,7 +92,11 @@ fn cut_since(ctx: &DecoderContext, cut_rows: u64) -> bool
 }
 
 /// Returns the offset of a gap if its EOL was missed: if more EOLs are missed now than before it.
-fn missed_since(ctx: &DecoderContext, missed_eols: u64, gap_start: usize) -> Option<usize>
+pub(crate) fn missed_since(
+    ctx: &DecoderContext,
+    missed_eols: u64,
+    gap_start: usize,
+) -> Option<usize>
     ensures { result ≡ missed_since ctx.now.held.repairs missed_eols gap_start }
 {
     if ctx.missed_eols() == missed_eols {
@@ -227,8 +231,7 @@ impl RowState {
     }
 
     /// Notes what came of the line that begins at this offset: its row, or its fault. Before it this many rows were damaged,
-    /// and
-    /// this many had a cut run.
+    /// and this many had a cut run.
     #[inline(always)]
     pub fn note_line(
         &mut self,

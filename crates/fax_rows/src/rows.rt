@@ -135,7 +135,7 @@ pub fn read_eols(ctx: &mut DecoderContext, reader: &mut BitReader<'_>) -> usize
 /// Returns whether this number of EOLs ends the image: EOFB (T.6, 2.4.1.1) or RTC (T.4, 4.1.4), with
 /// `end_of_block`.
 #[inline(always)]
-fn is_end_of_block(ctx: &DecoderContext, count: usize) -> bool
+pub(crate) fn is_end_of_block(ctx: &DecoderContext, count: usize) -> bool
     ensures { result ≡ is_end_of_block ctx.now.held.settings count }
 {
     // Mostly there is at most one, which never ends it.
@@ -151,7 +151,7 @@ fn is_end_of_block(ctx: &DecoderContext, count: usize) -> bool
 
 /// Returns whether the image ends after a row and this number of EOLs: at RTC, at the row limit or at the end of the data.
 #[inline(always)]
-fn is_over(ctx: &DecoderContext, reader: &BitReader<'_>, count: usize) -> bool
+pub(crate) fn is_over(ctx: &DecoderContext, reader: &BitReader<'_>, count: usize) -> bool
     ensures over { result ≡ is_over ctx.now.held.settings ctx.now.held.taken (count, here reader.now) }
 {
     is_end_of_block(ctx, count) || limit_met(ctx) || reader.at_end()

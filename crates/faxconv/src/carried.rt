@@ -1,13 +1,13 @@
 //! Pages that aren't fax, carried from TIFF files into a TIFF file.
 
 use crate::run::{Job, Run, report_of};
-use crate::source::{Content, Entry};
 use fax_decode::damage::Damage;
 use fax_strips::Target;
+use faxconv_in::{Content, Entry, text_of_carried};
 use faxconv_lib::Status;
 use faxconv_lib::report::{Note, PageReport};
 use faxconv_out::AddedPage;
-use std::alloc::{AllocError, Global};
+use std::alloc::AllocError;
 use tiff_split::{CarriedPage, Carrier, Ranges, SplitError};
 
 impl<'a, 'b, 'c> Run<'a, 'b, 'c> {
@@ -70,18 +70,4 @@ impl<'a, 'b, 'c> Run<'a, 'b, 'c> {
         let added = self.add_page(AddedPage::Carried(page))?;
         Ok(status.worse(added))
     }
-}
-
-/// Returns why a page isn't decoded, and what of it isn't carried along.
-fn text_of_carried(alloc: Global, why: &str, page: &CarriedPage) -> Result<String, AllocError> {
-    let mut text = format!(in alloc; "{why}; carried along unread")?;
-    for (index, tag) in page.left_out.iter().enumerate() {
-        let before = if index == 0 {
-            " without tag"
-        } else {
-            ", without tag"
-        };
-        write!(text, "{before} {tag}")?;
-    }
-    Ok(text)
 }

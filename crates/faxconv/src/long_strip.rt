@@ -1,16 +1,14 @@
 //! Pages of one long strip, whose rows are written as it is read.
 
-use crate::piped::can_be_piped;
 use crate::run::{Job, Run, report_of};
-use crate::source::Content;
-use crate::split::{MOST_READ_WHOLE, SplitReading, content_of};
-use fax_pages::{Page, PartKind};
+use crate::split::{MOST_READ_WHOLE, SplitReading};
+use faxconv_in::{Content, RawReading, content_of, options_of_strip};
 use faxconv_lib::options::{RawOptions, Rotation};
-use faxconv_lib::raw_reading::RawReading;
 use faxconv_lib::{Action, Format, Status};
 use faxconv_out::RowsOut;
 use std::alloc::AllocError;
-use tiff_split::{SplitError, SplitPage, StripReader};
+use std::fs::File;
+use tiff_split::{OneStrip, SplitError, SplitPage, StripReader};
 
 impl<'a, 'b, 'c> Run<'a, 'b, 'c> {
     /// Writes the picture of a page as PBM as its strip is read, if it has one that is long, and if its rows are those of the picture; `None` if
@@ -47,20 +45,26 @@ impl<'a, 'b, 'c> Run<'a, 'b, 'c> {
         self.teller.show_progress(job.name, u64::from(page.number));
         let mut out = RowsOut::new(self.rt, page.columns, page.rows);
         out.is_inverted = page.is_inverted;
-        let source = StripReader::new(reading.file, &strip);
-        Ok(self.write_strip(job, &raw, source, out)?)
+        Ok(self.write_strip(job, &raw, reading.file, &strip, out)?)
     }
 
-    /// Writes the rows of a strip; `None` if there are none.
+    /// Writes the rows of a strip; `None` if there are none. The strip is read again if it is damaged.
     fn write_strip(
         &mut self,
         job: &Job<'_>,
         raw: &RawOptions,
-        mut source: StripReader<'_>,
+        file: &File,
+        strip: &OneStrip,
         mut out: RowsOut<'a>,
     ) -> Result<Option<Status>, AllocError> {
-        let mut reading = RawReading::new(self.rt.alloc(), raw)?;
-        let status = self.read_piped(job.name, &mut source, &mut reading, &mut out, job.output)?;
+        let (name, output) = (job.name, job.output);
+        let mut reading = RawReading::strictly(self.rt.alloc(), raw)?;
+        let mut source = StripReader::new(file, strip);
+        let mut status = self.read_piped(name, &mut source, &mut reading, &mut out, output)?;
+        if !matches!(status, Status::CannotGoOn) && reading.begin_again(raw)? {
+            let mut again = StripReader::new(file, strip);
+            status = self.read_piped(name, &mut again, &mut reading, &mut out, output)?;
+        }
         if matches!(status, Status::CannotGoOn) {
             out.discard();
             return Ok(Some(status));
@@ -73,21 +77,4 @@ impl<'a, 'b, 'c> Run<'a, 'b, 'c> {
         let status = self.tell_page(job.name, &report)?;
         Ok(Some(self.finish_rows(out, end.rows, status, job.output)?))
     }
-}
-
-/// Returns how the strip of a page is read as it comes, if its rows are those of the picture.
-fn options_of_strip(page: &Page<'_>) -> Option<RawOptions> {
-    let [part] = page.parts.as_slice() else {
-        return None;
-    };
-    if !matches!(page.kind, PartKind::Strip)
-        || page.rows_are_words
-        || page.orientation != 1
-        || part.settings.rows != page.rows
-    {
-        return None;
-    }
-    let mut raw = RawOptions::of_guess(part.settings, page.order);
-    raw.has_height = true;
-    if can_be_piped(&raw) { Some(raw) } else { None }
 }

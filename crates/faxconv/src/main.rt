@@ -5,16 +5,10 @@ mod carried;
 mod guess;
 mod long_strip;
 mod output;
-mod pbm;
-mod pdf;
 mod piped;
-mod raw;
 mod run;
 mod shown;
-mod source;
 mod split;
-mod texts;
-mod tiff;
 mod written;
 
 use crate::run::Run;
@@ -81,7 +75,7 @@ fn run_named<'a>(rt: &'a HostRuntime, name: &'a str, arguments: &'a [String]) ->
 }
 
 /// What `--version` prints after the name.
-const VERSION: &str = "0.8.0";
+const VERSION: &str = "0.9.0";
 
 /// Returns the text of `--help`.
 fn help_of(program: Program) -> &'static str {

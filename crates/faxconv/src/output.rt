@@ -1,7 +1,6 @@
 //! What is written: pictures to their files or to standard output, and the pages of all files to one document.
 
 use crate::run::Run;
-use crate::texts::too_large;
 use crate::written::Written;
 use fax_decode::shown_picture;
 use fax_documents::Resolution;
@@ -9,6 +8,7 @@ use fax_encode::EncodeError;
 use fax_pages::Page;
 use fax_pictures::{Bitmap, PictureError};
 use fax_strips::{StripPage, Target, encode_picture};
+use faxconv_in::too_large;
 use faxconv_lib::folder::files_in;
 use faxconv_lib::names::name_of_picture;
 use faxconv_lib::options::{Encoding, Rotation};

@@ -1,30 +1,18 @@
 //! Raw data whose rows are written as it comes.
 
 use crate::output::{Output, STANDARD_OUTPUT};
-use crate::raw::{MOST_BYTES, RawPage, page_of, piece_of, written_page};
 use crate::run::Run;
 use fax_program::Uninterrupted;
+use faxconv_in::{MOST_BYTES, RawPage, RawReading, page_of, piece_of, written_page};
 use faxconv_lib::names::name_of_picture;
-use faxconv_lib::options::RawOptions;
-use faxconv_lib::raw_reading::RawReading;
 use faxconv_lib::{NewFile, Status};
 use faxconv_out::{RowsOut, Unwritten};
 use std::alloc::AllocError;
 use std::io;
 use std::io::Read;
 
-/// The most columns of data that is read as it comes.
-pub(crate) const WIDEST: u32 = 1 << 20;
-
 /// How many bytes are read at a time.
 const PIECE: usize = 1 << 16;
-
-/// Returns whether raw data has a picture that isn't too large, as far as that is known before it is read.
-pub(crate) fn can_be_piped(raw: &RawOptions) -> bool {
-    let rows = if raw.has_height { raw.settings.rows } else { 1 };
-    let width = (raw.settings.columns as usize).div_ceil(8);
-    raw.settings.columns <= WIDEST && width.saturating_mul(rows as usize) <= MOST_BYTES
-}
 
 impl<'a, 'b, 'c> Run<'a, 'b, 'c> {
     /// Reads raw data of which the first bytes were read, and writes its picture. With a height, the rows are written as soon as they

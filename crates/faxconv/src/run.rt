@@ -1,19 +1,16 @@
 //! A run: the files that are read, and what is written and said of their pages.
 
 use crate::output::Output;
-use crate::pbm::PbmEntries;
-use crate::pdf::PdfEntries;
-use crate::piped::can_be_piped;
-use crate::raw::{RawPage, read_raw};
-use crate::source::{Content, Entry, Source};
-use crate::texts::text_of_no_picture;
-use crate::tiff::TiffEntries;
 use crate::written::Written;
 use fax_decode::damage::Damage;
 use fax_decode::{Allowance, DecodedPage, by_other_keys, decode_page};
 use fax_pages::{Page, PartKind};
 use fax_pictures::Bitmap;
 use fax_strips::{copy_strips, known_resolution};
+use faxconv_in::{
+    Content, Entry, PbmEntries, PdfEntries, RawPage, Source, TiffEntries, can_be_piped, read_raw,
+    text_of_no_picture,
+};
 use faxconv_lib::folder::files_in;
 use faxconv_lib::info::{Contents, name_of_part, put_info, put_json_info};
 use faxconv_lib::kinds::{behind_digifax, name_of_other};

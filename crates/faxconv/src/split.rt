@@ -2,15 +2,14 @@
 
 use crate::output::Output;
 use crate::run::{Job, Run, note_of};
-use crate::source::{Content, Entry};
-use crate::tiff::TiffEntries;
 use fax_decode::Allowance;
+use faxconv_in::{Content, Entry, content_of};
 use faxconv_lib::report::Place;
 use faxconv_lib::{Action, Kind, Status, kind_of};
-use std::alloc::{AllocError, Global};
+use std::alloc::AllocError;
 use std::fs::File;
 use std::os::unix::fs::FileExt;
-use tiff_split::{Carrier, LIES_OVER_OTHERS, SplitError, SplitPage, SplitPages};
+use tiff_split::{Carrier, SplitError, SplitPage, SplitPages};
 
 /// The most bytes of a TIFF file that is read whole.
 pub(crate) const MOST_READ_WHOLE: u64 = 1 << 20;
@@ -145,14 +144,4 @@ impl<'a, 'b, 'c> Run<'a, 'b, 'c> {
         let entry = self.carried(entry, &mut reading.carrier, reading.file)?;
         Ok(self.do_entry(job, entry, &mut reading.allowance)?)
     }
-}
-
-/// Returns what the page of a file of one is.
-pub(crate) fn content_of(alloc: Global, file: &[u8]) -> Result<Content<'_>, AllocError> {
-    if let Some(mut entries) = TiffEntries::open(alloc, file)? {
-        if let Some(entry) = entries.next()? {
-            return Ok(entry.content);
-        }
-    }
-    Ok(Content::Refused(String::from_str(alloc, LIES_OVER_OTHERS)?))
 }

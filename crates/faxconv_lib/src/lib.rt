@@ -15,7 +15,6 @@ pub mod names;
 pub mod new_file;
 pub mod options;
 pub mod pages;
-pub mod raw_reading;
 pub mod report;
 pub mod standard;
 pub mod status;

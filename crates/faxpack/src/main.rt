@@ -80,7 +80,7 @@ FLAGS are letters, or - for none:
   s  no effect; faxrows then reads strictly";
 
 /// What `--version` prints.
-const VERSION: &str = "faxpack 0.8.0";
+const VERSION: &str = "faxpack 0.9.0";
 
 /// Returns the status of a run that read its input: 0 if the strip was written, 1 if the input is no picture that can be
 /// encoded.

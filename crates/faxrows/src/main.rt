@@ -95,7 +95,7 @@ turn have two dimensions, or any number without it. FLAGS are letters, or - for 
   r  the lowest bit of each byte comes first";
 
 /// What `--version` prints.
-const VERSION: &str = "faxrows 0.8.0";
+const VERSION: &str = "faxrows 0.9.0";
 
 /// Returns the status of a run that wrote its text.
 fn status_of_done(done: Done) -> u8

@@ -38,7 +38,7 @@ pub use Rattle.hayro_ccitt.specs.PlainReading.{failed_at, line_starts, lines_of,
 pub use Rattle.hayro_ccitt.specs.Rows.{HaveWidth, Row, changes}
 pub use Rattle.hayro_ccitt.specs.Answers.{PaintsBlack}
 pub use Rattle.hayro_ccitt.specs.RowFeeds.{ComeNext, Feeding, FeedsNext, IsFeedOf, KeepsBits, StandsIn, fed_bits, fed_end}
-pub use Rattle.hayro_ccitt.specs.RowFeeds.{fed_over}
+pub use Rattle.hayro_ccitt.specs.RowFeeds.{completed, fed_over, offset_of}
 pub use Rattle.hayro_ccitt.specs.Fed.{Fed}
 pub use Rattle.hayro_ccitt.specs.RowsRead.{ReaderStands, ended}
 pub use Rattle.hayro_ccitt.specs.RowsRead.{HasFailed, ReadsNext, RowsRead, at_end_of_rows}

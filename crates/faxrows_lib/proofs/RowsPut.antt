@@ -1,6 +1,6 @@
 -- Rows that are put while data is fed, as lines.
 use Rattle.faxrows_lib.proofs.Names.{◌≡◌, ◌≢◌, ◌≤◌, ◌+◌, ◌/◌, ◌++◌, ◌∙◌, ℕ, List, [], Option, Ok, Err, refl, sym, subst, take}
-use Rattle.faxrows_lib.proofs.Names.{length}
+use Rattle.faxrows_lib.proofs.Names.{RowsRead, arith, completed, length, offset_of}
 use Rattle.faxrows_lib.proofs.Names.{Bits, DecodeError, DecodeSettings, IsFault, OutOfMemory, Refused, ap, changes}
 use Rattle.faxrows_lib.proofs.Names.{AppendsFront, EndsByRow, PassesOn, line_of_row, lines_of_rows, rows_of}
 use Rattle.faxrows_lib.proofs.Names.{Bool, KeepsBits, None, PutsRows, Result, RunFault, Some, Used, bytes_after, bytes_before}
@@ -13,6 +13,10 @@ use Rattle.hayro_ccitt.proofs.Readings.RowByRow.{ended_stands, failed_stands}
 use Rattle.hayro_ccitt.proofs.Readings.RowsPassed.{keeps_on}
 use Rattle.hayro_ccitt.specs.RowState.{RowState}
 use Rattle.hayro_ccitt.proofs.ErrorKinds.{by_kind}
+
+-- what was read of these bits
+abbrev read_over : Bits → Feeding → RowsRead
+read_over whole feed = fed_over whole (completed whole feed)
 
 module _ {start before : Option (List ℕ)} {whole : Bits} {old new : Feeding} {waited : List ℕ}
     (put : HasPut start before whole old waited) where
@@ -31,14 +35,14 @@ module _ {start before : Option (List ℕ)} {whole : Bits} {old new : Feeding} {
 
   -- a row is read
   module _ (next : FeedsNext whole put.tried old new (Ok Fed.Row)) where
-    row_came : Came old.ctx.held.settings whole old.ctx.held.taken (fed_over whole new)
-    row_came = came old.ctx.held.settings whole (fed_over whole old) (fed_over whole new) refl refl (next.row refl)
+    row_came : Came old.ctx.held.settings whole old.ctx.held.taken (read_over whole new)
+    row_came = came old.ctx.held.settings whole (read_over whole old) (read_over whole new) refl refl (next.plainly.row refl)
 
     -- and its line is put
     pub row_put : {now : Option (List ℕ)} {waits : List ℕ}
         → PassesOn before now waited (line_of_row (changes new.ctx.held.reference)) waits → HasPut start now whole new waits
     row_put {now} {waits} passes = record {
-      tried = put.tried + next.extra;
+      tried = put.tried + next.plainly.extra;
       is_feed = next.stands;
       within = subst (λ (s : DecodeSettings). new.ctx.held.taken ≤ length (rows_of s whole)) (sym row_came.settings_are)
           row_came.within;
@@ -58,42 +62,43 @@ module _ {start before : Option (List ℕ)} {whole : Bits} {old new : Feeding} {
 
   -- the reading ends well
   pub ends_well : FeedsNext whole put.tried old new (Ok Fed.End) → (count : ℕ)
-      → count ≡ (new.dropped + new.place + 7) / 8 → EndsByRow old.ctx.held.settings whole new.ctx.held.taken (Ok count)
+      → count ≡ (offset_of new + 7) / 8 → EndsByRow old.ctx.held.settings whole new.ctx.held.taken (Ok count)
   ends_well next count is =
-      ended_well old.ctx.held.settings whole (fed_over whole old) (fed_over whole new) count refl refl (next.end refl) is
+      ended_well old.ctx.held.settings whole (read_over whole old) (read_over whole new) count refl refl (next.plainly.end refl)
+      (omega (arith, is))
 
   pub well_put : FeedsNext whole put.tried old new (Ok Fed.End) → HasPut start before whole new waited
-  well_put next = stays_put next.stands (next.end refl).settings ((next.end refl).end refl).1
+  well_put next = stays_put next.stands (next.plainly.end refl).settings ((next.plainly.end refl).end refl).1
 
   -- it needs more data
   pub more_put : FeedsNext whole put.tried old new (Ok Fed.NeedsMore) → HasPut start before whole new waited
-  more_put next = stays_put next.stands (next.none refl).settings (next.none refl).taken
+  more_put next = stays_put next.stands (next.plainly.none refl).settings (next.plainly.none refl).taken
 
   -- it ends with an error
   pub ends_badly : (error : DecodeError) → FeedsNext whole put.tried old new (Err error)
       → EndsByRow old.ctx.held.settings whole new.ctx.held.taken (Err error) × HasPut start before whole new waited
   ends_badly = by_kind (λ (e : DecodeError). FeedsNext whole put.tried old new (Err e)
       → EndsByRow old.ctx.held.settings whole new.ctx.held.taken (Err e) × HasPut start before whole new waited)
-      (λ e fault next. by_reading e next (next.fault (λ is. subst IsFault is fault)))
-      by_memory (λ next. absurd ((next.fault (λ is. cc)).error.2.not_refused refl))
+      (λ e fault next. by_reading e next (next.plainly.fault (λ is. subst IsFault is fault)))
+      by_memory (λ next. absurd ((next.plainly.fault (λ is. cc)).error.2.not_refused refl))
     where
       by_reading : (e : DecodeError) → FeedsNext whole put.tried old new (Err e)
-          → ReadsNext (fed_over whole old) (fed_over whole new) (Err e)
+          → ReadsNext (read_over whole old) (read_over whole new) (Err e)
           → EndsByRow old.ctx.held.settings whole new.ctx.held.taken (Err e) × HasPut start before whole new waited
       by_reading e next reads = (
-        ended_badly old.ctx.held.settings whole (fed_over whole old) (fed_over whole new) e refl refl put.within reads,
+        ended_badly old.ctx.held.settings whole (read_over whole old) (read_over whole new) e refl refl put.within reads,
         stays_put next.stands reads.settings reads.error.1,
       )
 
       by_memory : FeedsNext whole put.tried old new (Err OutOfMemory)
           → EndsByRow old.ctx.held.settings whole new.ctx.held.taken (Err OutOfMemory) × HasPut start before whole new waited
       by_memory next =
-          let stays = next.none refl in (
+          let stays = next.plainly.none refl in (
             (
               (
                 subst (λ (n : ℕ). n ≤ length (rows_of old.ctx.held.settings whole)) (sym stays.taken) put.within,
                 subst (λ (s : DecodeSettings). PaintsBlack (lines_of s whole) new.ctx.held.taken) stays.settings
-                    (next.paints refl),
+                    (next.plainly.paints refl),
               ),
               λ refused. cc,
             ),
@@ -105,21 +110,21 @@ module _ {start before : Option (List ℕ)} {whole : Bits} {old new : Feeding} {
 -- a reading that has ended is the plain reading to its end
 stands_ended : {whole : Bits} {tried : ℕ} {feed : Feeding} {end : Result (Unit {0}) DecodeError} → IsFeedOf whole tried feed
     → ended feed.rows.stand ≡ Some end
-    → ReaderStands feed.rows.stand feed.ctx.held.settings whole feed.ctx.held (feed.dropped + feed.place)
+    → ReaderStands feed.rows.stand feed.ctx.held.settings whole feed.ctx.held (offset_of feed)
 stands_ended {whole} {tried} {feed} {end} is_feed e = by_begun feed.begun is_feed.stands
   where
     by_begun : (begun : Bool) → StandsIn begun tried feed.rows feed.ctx
-        (record { bits = whole; place = feed.dropped + feed.place })
-        → ReaderStands feed.rows.stand feed.ctx.held.settings whole feed.ctx.held (feed.dropped + feed.place)
+        (record { bits = whole; place = offset_of feed })
+        → ReaderStands feed.rows.stand feed.ctx.held.settings whole feed.ctx.held (offset_of feed)
     by_begun true stands = stands.0
     by_begun false front = let never = sym (ap (λ (r : RowState). ended r.stand) front.state) ∙ e in absurd cc
 
 well_ended : {whole : Bits} {tried : ℕ} {feed : Feeding} → IsFeedOf whole tried feed → ended feed.rows.stand ≡ Some (Ok tt)
-    → (count : ℕ) → count ≡ (feed.dropped + feed.place + 7) / 8
+    → (count : ℕ) → count ≡ (offset_of feed + 7) / 8
     → EndsByRow feed.ctx.held.settings whole feed.ctx.held.taken (Ok count)
 well_ended {whole} {tried} {feed} is_feed e count is =
     let settings = feed.ctx.held.settings in
-    let end = (ended_stands feed.rows.stand settings whole feed.ctx.held (feed.dropped + feed.place) e
+    let end = (ended_stands feed.rows.stand settings whole feed.ctx.held (offset_of feed) e
     (stands_ended is_feed e)).0 in (
       (end.all ∙ sym (length-map (plain settings whole).rows changes), end.count ∙ ap Ok (sym is)),
       λ never. cc,
@@ -130,9 +135,9 @@ badly_ended : {whole : Bits} {tried : ℕ} {feed : Feeding} {error : DecodeError
     → EndsByRow feed.ctx.held.settings whole feed.ctx.held.taken (Err error)
 badly_ended {whole} {tried} {feed} {error} is_feed e within =
     let settings = feed.ctx.held.settings in
-    let failed = (failed_stands feed.rows.stand settings whole feed.ctx.held (feed.dropped + feed.place) e
+    let failed = (failed_stands feed.rows.stand settings whole feed.ctx.held (offset_of feed) e
     (stands_ended is_feed e)).0 in (
-      failed_so settings whole feed.ctx.held.taken (feed.dropped + feed.place) error failed within,
+      failed_so settings whole feed.ctx.held.taken (offset_of feed) error failed within,
       λ refused. failed.not_refused (search rules),
     )
 
@@ -192,7 +197,7 @@ module _ {W : Type 0} (contents : W → Option (List ℕ)) (begun mid : W × Boo
 
   module _ (is_row : answer ≡ Ok Fed.Row) where
     pub next_taken : new.ctx.held.taken ≡ old.ctx.held.taken + 1
-    next_taken = (((next_some is_row (unended_row is_row)).row refl).more refl).1
+    next_taken = (((next_some is_row (unended_row is_row)).plainly.row refl).more refl).1
 
     pub row_so_far : {later : W × Bool} {left : List ℕ}
         → PassesOn (contents mid.0) (contents later.0) waits (line_of_row (changes new.ctx.held.reference)) left
@@ -201,8 +206,8 @@ module _ {W : Type 0} (contents : W → Option (List ℕ)) (begun mid : W × Boo
         let next = next_some is_row (unended_row is_row) in
         record {
           keeps = keeps;
-          settings = (next.row refl).settings ∙ so_far.settings;
-          some = (so_far.some.0, so_far.some.1 + next.extra, next.stands);
+          settings = (next.plainly.row refl).settings ∙ so_far.settings;
+          some = (so_far.some.0, so_far.some.1 + next.plainly.extra, next.stands);
           put = λ start whole put. let here = so_far.put start whole put in
               row_put here (next_of is_row (unended_row is_row) here) passes;
         }
@@ -224,11 +229,11 @@ module _ {W : Type 0} (contents : W → Option (List ℕ)) (begun mid : W × Boo
   pub more_puts : answer ≡ Ok Fed.NeedsMore → PutsRows (used contents begun mid) first new waited waits (Ok None)
   more_puts e =
       let next = next_some e (unended_more e) in
-      let stays = next.none refl in
+      let stays = next.plainly.none refl in
       record {
         keeps = keeps;
         settings = stays.settings ∙ so_far.settings;
-        more = λ none. (next.unsettled refl).0;
+        more = λ none. (next.plainly.unsettled refl).0;
         put = λ start whole put. let here = so_far.put start whole put in more_put here (next_of e (unended_more e) here);
         ends = tt;
         front = tt;
@@ -263,19 +268,19 @@ module _ {W : Type 0} (contents : W → Option (List ℕ)) (begun mid : W × Boo
       front = tt;
     }
 
-  pub end_puts : answer ≡ Ok Fed.End → (count : ℕ) → count ≡ (new.dropped + new.place + 7) / 8
+  pub end_puts : answer ≡ Ok Fed.End → (count : ℕ) → count ≡ (offset_of new + 7) / 8
       → PutsRows (used contents begun mid) first new waited waits (Ok (Some (Ok count)))
   end_puts e count is =
       ended_puts (Ok count)
       (λ unended start whole put. (ends_well put (next_of e unended put) count is, well_put put (next_of e unended put)))
-      (λ unended. ((next_some e unended).end refl).settings)
+      (λ unended. ((next_some e unended).plainly.end refl).settings)
       (λ end ended_so start whole put. by_end end ended_so start whole put)
     where
       by_end : (end : Result (Unit {0}) DecodeError) → ended old.rows.stand ≡ Some end → (start : Option (List ℕ))
           (whole : Bits) → HasPut start (contents mid.0) whole old waits
           → EndsByRow old.ctx.held.settings whole old.ctx.held.taken (Ok count)
       by_end (Ok x) so start whole put = well_ended put.is_feed so count
-          (is ∙ ap (λ (f : Feeding). (f.dropped + f.place + 7) / 8) (at_end (Ok x) so).0)
+          (is ∙ ap (λ (f : Feeding). (offset_of f + 7) / 8) (at_end (Ok x) so).0)
       by_end (Err error) so start whole put = let never = sym e ∙ (at_end (Err error) so).1 in absurd cc
 
   pub error_puts : (error : DecodeError) → answer ≡ Err error
@@ -288,8 +293,9 @@ module _ {W : Type 0} (contents : W → Option (List ℕ)) (begun mid : W × Boo
           → new.ctx.held.settings ≡ old.ctx.held.settings
       same_settings = by_kind (λ (e : DecodeError). FeedsNext so_far.some.0 so_far.some.1 old new (Err e)
           → new.ctx.held.settings ≡ old.ctx.held.settings)
-          (λ e fault next. (next.fault (λ is. subst IsFault is fault)).settings) (λ next. (next.none refl).settings)
-          (λ next. (next.fault (λ is. cc)).settings)
+          (λ e fault next. (next.plainly.fault (λ is. subst IsFault is fault)).settings)
+          (λ next. (next.plainly.none refl).settings)
+          (λ next. (next.plainly.fault (λ is. cc)).settings)
 
       by_end : (end : Result (Unit {0}) DecodeError) → ended old.rows.stand ≡ Some end → (start : Option (List ℕ))
           (whole : Bits) → HasPut start (contents mid.0) whole old waits

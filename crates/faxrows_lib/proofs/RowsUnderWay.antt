@@ -342,6 +342,16 @@ nothing_as_read IsText settings order reader writer unread unwritten = record {
 
 -- ---- The first state
 
+-- nothing was fed, and nothing was read
+pub new_feed : {feed : Feeding} → (feed.kept ≡ []) × (feed.dropped ≡ 0) × (feed.finished ≡ false) → feed.ctx.held.taken ≡ 0
+    → ((whole : Bits) → AreWholeBytes whole → length whole + 64 < 2 ^ 64 → IsFeedOf whole 0 feed) → IsNewFeed feed
+new_feed none taken reads = record {
+  none_fed = omega (arith, ap length none.0, none.1);
+  none_read = taken;
+  unfinished = none.2;
+  reads = reads;
+}
+
 -- nothing is under way yet
 pub way_begun : {R : Type 0} (bytes : R → Option (List ℕ)) (reader : R × Bool) (start : Option (List ℕ)) {feed : Feeding}
     {waits : List ℕ} → IsNewFeed feed → waits ≡ []
@@ -366,6 +376,15 @@ way_begun bytes reader start {feed} {waits} new empty = record {
 }
 
 -- ---- A run
+
+-- a feed reads as the args mean
+pub as_meant : {R W T : Type 0} (IsText : DecodeSettings → Bits → T → List ℕ → Type 0) {reader : Used R} {writer : Used W}
+    {settings meant : DecodeSettings} {order meant_order : BitOrder} (result : Result T RunFault) → settings ≡ meant
+    → order ≡ meant_order → WritesAsRead IsText settings order reader writer result
+    → WritesAsRead IsText meant meant_order reader writer result
+as_meant IsText {reader} {writer} {settings} {meant} {order} {meant_order} result same_settings same_order writes =
+    subst (λ (o : BitOrder). WritesAsRead IsText meant o reader writer result) same_order
+    (subst (λ (s : DecodeSettings). WritesAsRead IsText s order reader writer result) same_settings writes)
 
 module _ {R W T : Type 0} (IsText : DecodeSettings → Bits → T → List ℕ → Type 0) (args : List (List ℕ)) (reader : Used R)
     (writer : Used W) where

@@ -7,6 +7,7 @@ pub use Rattle.fax_feeds.proofs.Readings.BlackGoesOn
 pub use Rattle.fax_feeds.proofs.Readings.FeedAccount
 pub use Rattle.fax_feeds.proofs.Readings.FeedTurns
 pub use Rattle.fax_feeds.proofs.Readings.FeedWhite
+pub use Rattle.fax_feeds.proofs.Readings.FeedsCompleted
 pub use Rattle.fax_feeds.proofs.Readings.FeedsOn
 pub use Rattle.fax_feeds.proofs.Readings.FeedsPaid
 pub use Rattle.fax_feeds.proofs.Readings.FeedsWait

@@ -8,7 +8,7 @@ use Rattle.hayro_ccitt.specs.Answers.{IsFault, meaning_after}
 use Rattle.hayro_ccitt.specs.Bits.{Bits}
 use Rattle.hayro_ccitt.specs.Decoding.{SinkState}
 use Rattle.hayro_ccitt.specs.PlainReading.{plain}
-use Rattle.fax_feeds.specs.RowFeeds.{Feeding, IsFeedOf, IsOpenAt, PushesRows}
+use Rattle.fax_feeds.specs.RowFeeds.{Feeding, IsFeedOf, IsOpenAt, PushesRows, fed_bits, offset_of}
 use Rattle.hayro_ccitt.specs.Rows.{Row, changes}
 use Rattle.fax_rows.specs.RowsRead.{HasEnded, HasFailed, ended}
 
@@ -30,12 +30,12 @@ pub record PassesNextRows {M : Type 0} (whole : Bits) (step : M → List ℕ →
       × after.refuses (changes (get_or (rows_of old whole) (old.ctx.held.taken + passed) []))
   -- what is next can be changed by data that follows
   pub waits : answer ≡ Ok Fed.NeedsMore
-      → (new.finished ≡ false) × IsOpenAt new.begun new.rows.stand new.ctx (drop new.place new.kept)
+      → (new.finished ≡ false) × IsOpenAt new.begun new.rows.stand new.ctx (drop (offset_of new) (take (fed_bits new) whole))
   -- there are no more rows
-  pub end : answer ≡ Ok Fed.End → HasEnded old.ctx.held.settings whole new.ctx.held.taken (new.dropped + new.place)
+  pub end : answer ≡ Ok Fed.End → HasEnded old.ctx.held.settings whole new.ctx.held.taken (offset_of new)
   -- the plain reading has this fault after them, and the reading is where it fails
   pub fault : IfErr answer (λ e. IsFault e
-      → HasFailed old.ctx.held.settings whole new.ctx.held.taken (new.dropped + new.place) e)
+      → HasFailed old.ctx.held.settings whole new.ctx.held.taken (offset_of new) e)
   -- it is a reading of that data still
   pub tried : ℕ
   pub stands : IsFeedOf whole tried new

@@ -26,10 +26,10 @@ pub fn feeds_paid()
     ensures { FeedsArePaid }
 {}
 
-/// How little of the data a [`RowFeed`](crate::RowFeed) keeps. After a call that needs more, each bit that is kept from the next
-/// one on is needed for the line or the gap that is next: a line that is whole has all such bits, and a gap passes all but eleven.
-/// Where each piece is fed after such a call, no more bits are kept than the longest line or gap up to the next one needs, a piece
-/// has, and seven; and there is room for no more than twice as many (T.4, 4; T.6, 2).
+/// How little of the data a [`RowFeed`](crate::RowFeed) keeps. After a call that needs more, each bit that was fed from the line or
+/// the gap that is next on is needed for it: a line that is whole has all such bits, and a gap passes all but eleven. Where each
+/// piece is fed after such a call, no more bits are kept than sixteen, or than the longest line needs, or gap whose EOL is missing,
+/// than a piece has, and seven; and there is room for no more than twice as many (T.4, 4; T.6, 2).
 pub fn feeds_keep_little()
     ensures { FeedsKeepLittle }
 {}

@@ -1,17 +1,15 @@
 //! The calls for C that read rows from data in pieces.
 
 ghost use Rattle.std.specs.Prelude.{◌≡◌, ◌≢◌, ◌<◌, ◌⊎◌, ◌↔◌, None, IfSome, length, false, true};
-ghost use Rattle.hayro_ccitt.specs.RowFeeds.{unused};
 ghost use Rattle.hayro_ccitt.specs.Rows.{changes};
-ghost use Rattle.hayro_ccitt_c.specs.Encoding.{AreEncoded, HaveNoRoom};
 ghost use Rattle.hayro_ccitt_c.specs.Owned.{OnFeeding, OnFeedings};
 ghost use Rattle.hayro_ccitt_c.specs.Packing.{bytes_of_row};
-ghost use Rattle.hayro_ccitt_c.specs.RowsFed.{FinishesFeed, GivesFed, IsFeedOpened, TakesBytes};
+ghost use Rattle.hayro_ccitt_c.specs.RowsFed.{FinishesFeed, GivesFed, GivesUnused, IsFeedOpened, TakesBytes};
 ghost use Rattle.hayro_ccitt_c.specs.RowsReported.{as_paused};
 ghost use Rattle.hayro_ccitt_c.specs.GivenRows.{ListsRows, PacksRows};
 ghost use Rattle.hayro_ccitt_c.specs.RowsGiven.{IsListed, IsPacked, TellsOf, reported_nothing};
 ghost use Rattle.hayro_ccitt_c.specs.Settings.{layout_of, order_of, settings_of};
-ghost use Rattle.c_rows.specs.declared.status.TheConstants.{OK, OUT_OF_MEMORY, REFUSED, NOT_TAKEN};
+ghost use Rattle.c_rows.specs.declared.status.TheConstants.{OK, OUT_OF_MEMORY, REFUSED, NOT_TAKEN, NEEDS_MORE};
 
 use crate::feed_handle::Feed;
 use crate::owned::Owned;
@@ -250,8 +248,8 @@ pub extern "C" fn hayro_ccitt_feed_rows_changes(
 /// Copies the bytes that were fed and aren't consumed to the front of `bytes`; after the end of the image they are what follows
 /// it. `count` is how many there are. The bytes after them keep their values, and the reading doesn't change.
 ///
-/// `REFUSED` says that there is no room for them: then none is copied; `NOT_TAKEN`, that the reader isn't open: then `count` is
-/// 0.
+/// `REFUSED` says that there is no room for them; `NEEDS_MORE`, that a gap waits for more data, and only the number of its bits is
+/// kept: then none is copied. `NOT_TAKEN` says that the reader isn't open: then `count` is 0.
 #[unsafe(no_mangle)]
 pub extern "C" fn hayro_ccitt_feed_unused(
     alloc: Global,
@@ -259,11 +257,9 @@ pub extern "C" fn hayro_ccitt_feed_unused(
     bytes: &mut [u8],
     count: &mut usize,
 ) -> u32
-    ensures statuses { (result ≡ OK) ⊎ (result ≡ REFUSED) ⊎ (result ≡ NOT_TAKEN) }
-    ensures given { result ≡ OK → OnFeeding feed.new.handle.value (λ feeding.
-        AreEncoded feeding.rows.order (unused feeding.rows) count.new bytes.old bytes.new) }
-    ensures refused { result ≡ REFUSED → OnFeeding feed.new.handle.value (λ feeding.
-        HaveNoRoom (unused feeding.rows) count.new (length bytes.new)) }
+    ensures statuses { (result ≡ OK) ⊎ (result ≡ REFUSED) ⊎ (result ≡ NEEDS_MORE) ⊎ (result ≡ NOT_TAKEN) }
+    ensures gives { feed.old.is_open ≡ true → OnFeeding feed.new.handle.value (λ feeding.
+        GivesUnused feeding.rows bytes.old bytes.new count.new result) }
     ensures unwritten { result ≢ OK → bytes.new ≡ bytes.old }
     ensures unchanged { feed.new.handle.value ≡ feed.old.handle.value }
     ensures is_open { feed.new.is_open ≡ feed.old.is_open }

@@ -1,12 +1,10 @@
 //! What a handle owns whose rows come from data in pieces.
 
-ghost use Rattle.std.specs.Prelude.{◌≡◌, ◌≢◌, ◌≤◌, ◌<◌, ◌⊎◌, IfOk, length, false, true};
-ghost use Rattle.hayro_ccitt.specs.RowFeeds.{unused};
+ghost use Rattle.std.specs.Prelude.{◌≡◌, ◌≢◌, ◌≤◌, ◌<◌, IfOk, length, false, true};
 ghost use Rattle.hayro_ccitt.specs.Rows.{changes};
-ghost use Rattle.hayro_ccitt_c.specs.Encoding.{AreEncoded, HaveNoRoom};
 ghost use Rattle.hayro_ccitt_c.specs.Owned.{IfFeeding, IfFeedings, is_feeding};
 ghost use Rattle.hayro_ccitt_c.specs.Packing.{bytes_of_row};
-ghost use Rattle.hayro_ccitt_c.specs.RowsFed.{FinishesFeed, GivesFed, IsFeedOpened, TakesBytes};
+ghost use Rattle.hayro_ccitt_c.specs.RowsFed.{FinishesFeed, GivesFed, GivesUnused, IsFeedOpened, TakesBytes};
 ghost use Rattle.hayro_ccitt_c.specs.RowsReported.{as_paused};
 ghost use Rattle.hayro_ccitt_c.specs.GivenRows.{ListsRows, PacksRows};
 ghost use Rattle.hayro_ccitt_c.specs.RowsGiven.{IsListed, IsPacked, TellsOf};
@@ -171,15 +169,10 @@ impl Owned {
     }
 
     /// Writes the bytes that were fed and aren't consumed if there is room for them, and returns the status. `count` is how many
-    /// there are.
+    /// there are. `NEEDS_MORE` says that a gap waits for more data, and only the number of its bits is kept: then none are written.
     pub(crate) fn give_unused(&self, bytes: &mut [u8], count: &mut usize) -> u32
         requires feeds { is_feeding self.now ≡ true }
-        ensures statuses { (result ≡ OK) ⊎ (result ≡ REFUSED) }
-        ensures given { result ≡ OK → IfFeeding self.now (λ feeding.
-            AreEncoded feeding.rows.order (unused feeding.rows) count.new bytes.old bytes.new) }
-        ensures refused { result ≡ REFUSED → IfFeeding self.now (λ feeding.
-            HaveNoRoom (unused feeding.rows) count.new (length bytes.new)) }
-        ensures unwritten { result ≢ OK → bytes.new ≡ bytes.old }
+        ensures { IfFeeding self.now (λ feeding. GivesUnused feeding.rows bytes.old bytes.new count.new result) }
     {
         match self {
             Owned::Feeding(feeding) => feeding.give_unused(bytes, count),

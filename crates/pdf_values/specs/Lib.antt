@@ -1,1 +1,2 @@
 pub mod Payments
+pub mod Tokens

@@ -356,6 +356,15 @@ feeds_one_byte = record {
     can_come = record { bytes = refl; none = λ e. absurd cc };
   };
   stands = record { fresh = refl; ticks = refl; state = refl; start = refl };
+  known = record {
+    gone = [];
+    are = refl;
+    place = refl;
+    long = refl;
+    counted = λ e. refl;
+    zeros = λ e. absurd cc;
+    missed = λ some. absurd (omega (arith, some));
+  };
 }
 
 -- ---- Conforming data

@@ -17,7 +17,7 @@ use Rattle.hayro_ccitt.specs.Encodings.{EncodesRows, PictureT4}
 use Rattle.hayro_ccitt.specs.Locality.{IsLocal, EndAlike}
 use Rattle.hayro_ccitt.specs.LocalityByK.{ComeBefore1D, DifferInOneLine}
 use Rattle.hayro_ccitt.specs.PlainReading.{plain}
-use Rattle.hayro_ccitt.specs.RowFeeds.{Feeding, IsFeedOf, IsOpenAt}
+use Rattle.hayro_ccitt.specs.RowFeeds.{Feeding, IsFeedOf, IsOpenAt, no_gap}
 use Rattle.hayro_ccitt.specs.RowsKept.{AreAlikeAfter}
 use Rattle.hayro_ccitt.specs.Settings.{AreSettings}
 use Rattle.hayro_ccitt.specs.Stand.{Stand}
@@ -223,6 +223,7 @@ fed text = record {
   dropped = 0;
   place = 0;
   looked = 0;
+  gap = no_gap;
   part = None;
   line_read = 0;
   tried_at = 0;

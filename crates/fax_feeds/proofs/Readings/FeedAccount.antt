@@ -5,7 +5,7 @@ use Rattle.fax_feeds.specs.declared.line_parts.KeptPart.{KeptPart}
 use Rattle.fax_bits.specs.Bits.{Bits}
 use Rattle.fax_reading.specs.Continuations.{is_short}
 use Rattle.fax_reading.specs.PlainReading.{line_here}
-use Rattle.fax_feeds.specs.RowFeeds.{Feeding, fed_bits, most_for_line, paid_for_line}
+use Rattle.fax_feeds.specs.RowFeeds.{Feeding, fed_bits, most_for_line, paid_for_line, zeros_left}
 use Rattle.fax_feeds.specs.FeedsPaid.{changes_of}
 use Rattle.fax_rows.specs.RowsRead.{ended, is_at_line}
 
@@ -55,13 +55,20 @@ pub record RowsPaid (drawn : ℕ) (feed : Feeding) : Type 0 where
   pub most : drawn ≤ fed_bits feed
   pub after : IsAfter drawn feed
 
--- What so many calls counted for gaps: the bits of gaps, those before the first line twice, and twelve bits a call.
+-- What so many calls counted for gaps: the bits of gaps twice, those before the first line once more, twice those known where
+-- the data was finished, and sixteen bits a call.
 pub record GapsPaid (calls gaps : ℕ) (feed : Feeding) : Type 0 where
   pub first : ℕ
   pub first_most : first ≤ fed_bits feed
-  pub most : gaps ≤ first + fed_bits feed + 12 * calls
-  pub here : ended feed.rows.stand ≡ None → feed.finished ≡ false → gaps ≤ first + offset feed + feed.looked + 12 * calls
-  pub unbegun : feed.begun ≡ false → (gaps ≤ feed.looked + 12 * calls) × (first ≡ 0)
+  pub last : ℕ
+  pub last_most : last ≤ 2 * fed_bits feed
+  pub none_last : feed.finished ≡ false → last ≡ 0
+  pub most : gaps ≤ first + last + 2 * fed_bits feed + 16 * calls
+  pub here : ended feed.rows.stand ≡ None → feed.finished ≡ false
+      → gaps ≤ first + 2 * offset feed + feed.looked + 16 * calls
+  pub there : ended feed.rows.stand ≡ None → feed.finished ≡ true → feed.begun ≡ true
+      → gaps ≤ first + last + 2 * offset feed + zeros_left feed + 16 * calls
+  pub unbegun : feed.begun ≡ false → (gaps ≤ feed.looked + 16 * calls) × (first ≡ 0) × (gaps ≤ fed_bits feed + 16 * calls)
 
 -- What they counted for lines that were left, of which so much in calls that failed for memory: the bits that were known when
 -- lines were short, those that were known when such lines were read, the changes of the rows, and a few ticks a call. Before a
@@ -102,3 +109,18 @@ pub record FeedIsPaid (calls lost tried : ℕ) (feed : Feeding) : Type 0 where
   pub gaps_paid : GapsPaid calls gaps feed
   pub lines_paid : LinesPaid calls lost drawn lines feed
   pub firsts_paid : FirstsPaid calls drawn firsts feed
+
+-- ---- More data
+
+-- So many bits more are known of a feed, and the reading is at the same offset.
+pub record KnowsMore (next : Bits) (old new : Feeding) : Type 0 where
+  pub unread : drop new.place new.kept ≡ drop old.place old.kept ++ next
+  pub fed : fed_bits new ≡ fed_bits old + length next
+  pub place : new.dropped + new.place ≡ old.dropped + old.place
+  pub begun : new.begun ≡ old.begun
+  pub looked : new.looked ≡ old.looked
+  pub gap : new.gap ≡ old.gap
+  pub part : new.part ≡ old.part
+  pub line_read : new.line_read ≡ old.line_read
+  pub tried_at : new.tried_at ≡ old.tried_at
+  pub reading : (new.ctx ≡ old.ctx) × (new.rows ≡ old.rows) × (new.finished ≡ old.finished)

@@ -9,14 +9,15 @@ use Rattle.fax_feeds.proofs.Names.{seen, changes, pixels, length-append}
 use Rattle.fax_feeds.proofs.Names.{◌&&◌}
 use Rattle.fax_bits.proofs.BitReading.BitLists.{length-low_bits}
 use Rattle.fax_reading.proofs.PixelRows.ChangesAndPixels.{changes-pixels, length-pixels}
-use Rattle.fax_feeds.proofs.Readings.FeedTurns.{IsReadBy, past_line, read_on_by}
+use Rattle.fax_feeds.proofs.Readings.FeedTurns.{IsReadBy, past_line, read_on_by, within_bits}
+use Rattle.fax_feeds.proofs.Readings.FeedsFramed.{fed_of, framed, next_of, plain_of}
 use Rattle.fax_feeds.proofs.Readings.FeedsOn.{no_line_paid, none_looked, none_paid}
-use Rattle.fax_feeds.proofs.Readings.LooksKept.{fresh_look}
+use Rattle.fax_feeds.proofs.Readings.LooksKept.{fresh_look, none_counted_of}
 use Rattle.fax_rows.proofs.Readings.RowsAgain.{gap_width, line_passed, white_reads, white_stands}
 use Rattle.fax_feeds.proofs.Readings.RowsFed.{from_place, place_within}
-use Rattle.fax_feeds.specs.GapsSeen.{nothing_seen}
-use Rattle.fax_feeds.specs.RowFeeds.{DrawsRow, FeedsNext, FeedsRow, IsFeedOf, PassesEol, StandsIn}
-use Rattle.fax_feeds.specs.RowFeeds.{fed_over, feeding_of}
+use Rattle.fax_feeds.specs.RowFeeds.{DrawsRow, FeedsPlainly, FeedsRow, IsPlainFeedOf, KeepsBits, PassesEol, StandsIn}
+use Rattle.fax_feeds.specs.RowFeeds.{fed_over, feeding_of, no_gap}
+use Rattle.fax_feeds.specs.declared.counted_gaps.GapSoFar.{GapSoFar}
 use Rattle.fax_rows.specs.WhiteRows.{TakesWhite}
 use Rattle.fax_rows.specs.WhiteLines.{AreWhiteLine, IsWhiteLine, MayFollow, PassesLine, bits_of_word, eol_before}
 use Rattle.fax_feeds.specs.declared.row_feed.Fed.{Fed}
@@ -25,7 +26,7 @@ use Rattle.fax_rows.specs.declared.row_reader.RowState.{RowState}
 use Rattle.fax_rows.specs.declared.white_lines.WhiteLines.{WhiteLines}
 
 module _ {f : Inside} {before after : BitsAt} {rows : RowState} {ctx : Context} {place : ℕ} {lines : WhiteLines}
-    (by : IsReadBy f before) (there : place ≡ after.place) (following : f.rows.stand ≡ AfterRow) (fresh : f.look ≡ nothing_seen)
+    (by : IsReadBy f before) (there : place ≡ after.place) (following : f.rows.stand ≡ AfterRow) (fresh : f.gap ≡ no_gap)
     (follow : MayFollow f.ctx.held.settings f.ctx.held.has_eols f.ctx.held.reference lines)
     (takes : TakesWhite lines (f.dropped + f.place) f.rows rows f.ctx ctx before after) where
   abbrev kept_bits : Bits
@@ -99,7 +100,7 @@ module _ {f : Inside} {before after : BitsAt} {rows : RowState} {ctx : Context} 
     drawn = inl (omega (arith, no_changes, gap_in_word, place_after));
   }
 
-  module _ {whole : Bits} {tried : ℕ} (feed : IsFeedOf whole tried (feeding_of f)) where
+  module _ {whole : Bits} {tried : ℕ} (feed : IsPlainFeedOf whole tried (feeding_of f)) where
     abbrev at_whole : BitsAt
     at_whole = record { bits = whole; place = f.dropped + f.place }
 
@@ -138,7 +139,7 @@ module _ {f : Inside} {before after : BitsAt} {rows : RowState} {ctx : Context} 
         }) x next_whole) (Ok true)) (sym takes.new_is)
         (white_reads tried f.rows f.ctx at_whole white_stood following lines follow takes.unmet next_whole whole_passes))
 
-    white_fed : IsFeedOf whole (tried + 0) (feeding_of (past_line f ctx rows place))
+    white_fed : IsPlainFeedOf whole (tried + 0) (feeding_of (past_line f ctx rows place))
     white_fed =
         let none : tried + 0 ≡ tried = omega arith in
         record {
@@ -162,7 +163,7 @@ module _ {f : Inside} {before after : BitsAt} {rows : RowState} {ctx : Context} 
     not_at_line true e = false≢true (sym (ap is_at_line following) ∙ e)
     not_at_line false e = false≢true e
 
-    white_feeds : FeedsNext whole tried (feeding_of f) (feeding_of (past_line f ctx rows place)) (Ok Fed.Row)
+    white_feeds : FeedsPlainly whole tried (feeding_of f) (feeding_of (past_line f ctx rows place)) (Ok Fed.Row)
     white_feeds = record {
       row = λ e. white_next;
       end = λ e. cc;
@@ -176,7 +177,7 @@ module _ {f : Inside} {before after : BitsAt} {rows : RowState} {ctx : Context} 
       extra_is = refl;
       stands = white_fed;
       gap = 0;
-      looks = none_looked f.is_last (f.begun && is_at_line f.rows.stand) f.look.bits (drop f.place kept_bits);
+      looks = none_looked (f.begun && is_at_line f.rows.stand) (f.gap.passed + f.gap.look.bits) (drop f.place kept_bits);
       looked = λ e. cc;
       line_work = no_line_paid by.none;
       goes_on = grind (
@@ -198,15 +199,28 @@ module _ {f : Inside} {before after : BitsAt} {rows : RowState} {ctx : Context} 
   -- a white row is read
   pub white_row : FeedsRow (feeding_of f) (feeding_of (past_line f ctx rows place)) (Ok Fed.Row)
   white_row = record {
-    reads = λ whole tried unended feed. white_feeds feed;
-    keeps = record { order = refl; finished = refl; kept = refl; dropped = refl; room = refl };
+    reads = λ whole tried unended feed.
+        let none : f.gap.passed ≡ 0 = ap (λ (g : GapSoFar). g.passed) fresh in
+        let next = white_feeds (plain_of feed none) in
+        let now = fed_of next.stands fresh within_kept in
+        next_of (framed next feed now (within_bits by.kept) within_kept none none keeps_white) now.known now.lie;
+    keeps = keeps_white;
     over = λ end e. let never = sym (ap ended following) ∙ e in absurd cc;
     counts = grind (arith, common_steps, white_row_is, length-pixels);
   }
+    where
+      keeps_white : KeepsBits (feeding_of f) (feeding_of (past_line f ctx rows place))
+      keeps_white = record { order = refl; finished = refl; kept = refl; dropped = refl; room = refl }
 
   pub white_read_by : IsReadBy (past_line f ctx rows place) after
   white_read_by = read_on_by by there (ap (λ (b : BitsAt). b.bits) takes.passes.moved_on)
-      (omega (arith, within_kept, after_bits)) (fresh_look _ _ fresh) (λ e. fresh)
+      (omega (arith, within_kept, after_bits)) (record {
+        seen = fresh_look _ _ (ap (λ (g : GapSoFar). g.look) fresh);
+        line = λ line follows. fresh;
+        over = λ over follows. fresh;
+        counted = none_counted_of fresh;
+        last = λ zeros. absurd (false≢true (sym (ap (λ (g : GapSoFar). g.at_zeros) fresh) ∙ zeros));
+      })
     where
       after_bits : length after.bits ≡ length kept_bits
       after_bits = ap (λ (b : BitsAt). length b.bits) kept_passes.moved_on

@@ -1,18 +1,15 @@
 -- Rows from data that comes in pieces: what the steps of a call leave of a feed.
-use Rattle.fax_feeds.proofs.Names.{common_steps, ◌≡◌, ◌≢◌, ◌∙◌, ◌+◌, ◌-◌, ◌*◌, ◌≤◌, [], ℕ, Bool, true, false, Result, Ok, Err}
+use Rattle.fax_feeds.proofs.Names.{common_steps, ◌≡◌, ◌≢◌, ◌∙◌, ◌+◌, ◌-◌, ◌≤◌, [], ℕ, Bool, true, false, Result, Ok, Err}
 use Rattle.fax_feeds.proofs.Names.{None, Some, Option, refl, sym, ap, subst, arith, length, drop, cond, Bits, BitsAt, Held}
 use Rattle.fax_feeds.proofs.Names.{Context, DecodeError, White, redrawn, front_of, here, lines_of, ◌&&◌, IsStanding}
 use Rattle.fax_feeds.proofs.Names.{IsStandingAtLine, ReachesNextLine, ReadsNext, is_at_line, seen, line_here, DecodeSettings}
 use Rattle.fax_feeds.proofs.Names.{Stand, AtLine, AfterRow, AtEnd, AtFault, ended, is_some, ◌++◌}
-use Rattle.fax_feeds.proofs.Names.{◌⊎◌, inl, inr, IfErr-weaker, RowsRead, false≢true, ◌<◌, List, zero, suc, ◌∷◌, append_assoc}
-use Rattle.fax_feeds.proofs.Names.{bits_in, length-append, length-drop}
-use Rattle.std.proofs.Math.Seq.{drop-append-add, drop-length, drop-nil}
-use Rattle.fax_bits.specs.declared.bit_reader.BitOrder.{BitOrder}
-use Rattle.fax_bits.specs.Bits.{bits_of_byte}
+use Rattle.fax_feeds.proofs.Names.{◌⊎◌, inl, inr, IfErr-weaker, RowsRead, false≢true, ◌<◌}
+use Rattle.fax_feeds.proofs.Names.{length-drop}
 use Rattle.std.specs.Prelude.{◌^◌}
 use Rattle.fax_rows.proofs.Readings.RowByRow.{at_line_stands, begun_is, few, paints_at_line, reads_on}
 use Rattle.fax_feeds.proofs.Readings.RowsDrawn.{row_drawn}
-use Rattle.fax_feeds.proofs.Readings.RowsFed.{stands_later, left_is, left_not, from_place, place_within}
+use Rattle.fax_feeds.proofs.Readings.RowsFed.{stands_later, left_is, left_not, from_place}
 use Rattle.fax_lines.proofs.Work.RoomTaken.{row_enough}
 use Rattle.fax_rows.specs.declared.row_reader.RowState.{RowState}
 use Rattle.fax_feeds.proofs.Readings.BlackGoesOn.{black_goes_on}
@@ -20,11 +17,11 @@ use Rattle.fax_reading.specs.Answers.{HasBlack, PaintsBlack}
 use Rattle.fax_reading.specs.Continuations.{is_short}
 use Rattle.fax_reading.specs.GapsContinued.{gap_is_settled}
 use Rattle.fax_rows.specs.RowsTried.{CanCome, IsUnread, StandsFirst, TriesRow, front_is_settled}
-use Rattle.fax_feeds.specs.RowFeeds.{ComesInFeed, ComesOn, Feeding, IsFeedOf, KeepsBits, LieIn, ReadsInFeed, StandsIn}
-use Rattle.fax_feeds.specs.RowFeeds.{HasNone, LooksAhead, TriesLine, came, fed_over}
-use Rattle.fax_feeds.specs.declared.gap_look.GapLook.{GapLook}
-use Rattle.fax_feeds.specs.RowFeeds.{ComeNext, DropsRead, FeedsNext, IsAtFront, IsOpenAt, StaysThere, fed_without_row}
-use Rattle.fax_feeds.specs.RowFeeds.{LineWork, fed_bits, fed_row, is_unread, line_first, paid_by}
+use Rattle.fax_feeds.specs.RowFeeds.{ComesInFeed, Feeding, IsPlainFeedOf, KeepsBits, LieIn, ReadsInFeed, StandsIn}
+use Rattle.fax_feeds.specs.RowFeeds.{HasNone, LooksAhead, TriesLine, came, fed_over, zeros_left}
+use Rattle.fax_feeds.specs.declared.counted_gaps.GapSoFar.{GapSoFar}
+use Rattle.fax_feeds.specs.RowFeeds.{FeedsPlainly, IsAtFront, IsOpenAt, StaysThere, fed_without_row}
+use Rattle.fax_feeds.specs.RowFeeds.{LineWork, fed_row, is_unread, line_first, paid_by}
 use Rattle.fax_feeds.proofs.Names.{changes}
 use Rattle.fax_reading.proofs.Work.WordsPay.{found_within}
 use Rattle.fax_reading.proofs.Work.TurnsPaid.{row_shorter}
@@ -36,8 +33,6 @@ use Rattle.fax_bits.specs.declared.error.DecodeError.TheVariants.{InvalidCode, O
 use Rattle.fax_feeds.specs.declared.row_feed.Fed.{Fed}
 use Rattle.fax_bits.proofs.ErrorKinds.{by_kind}
 use Rattle.std.proofs.lemmas.Bool.{and_from}
-use Rattle.std.proofs.lemmas.List.{nil_from_length}
-use Rattle.fax_bits.proofs.BitReading.BitLists.{length-bits_of_byte}
 use Rattle.fax_feeds.proofs.Readings.RowsPassed.{line_was_read}
 use Rattle.fax_rows.proofs.Readings.RowsPushed.{none_missed}
 
@@ -67,7 +62,7 @@ module _ (old new : Feeding) (before after : BitsAt) (before_is : before ≡ rec
   starts = ap (λ (n : ℕ). old.dropped + n) (sym (ap (λ (b : BitsAt). b.place) before_is))
 
   -- where the reading is in the whole data
-  module _ {whole : Bits} {tried : ℕ} (feed : IsFeedOf whole tried old) where
+  module _ {whole : Bits} {tried : ℕ} (feed : IsPlainFeedOf whole tried old) where
     pub lies : LieIn whole old.dropped old.finished before.bits
     lies = subst (λ (b : Bits). LieIn whole old.dropped old.finished b) (sym (ap (λ (b : BitsAt). b.bits) before_is)) feed.lie
 
@@ -76,91 +71,17 @@ module _ (old new : Feeding) (before after : BitsAt) (before_is : before ≡ rec
 
     pub stays_fed : (more : ℕ)
         → IsStanding (tried + more) new.rows new.ctx (record { bits = whole; place = old.dropped + after.place })
-        → IsFeedOf whole (tried + more) new
+        → IsPlainFeedOf whole (tried + more) new
     stays_fed more stands = grind (arith, common_steps)
 
   place_is : old.dropped + after.place ≡ new.dropped + new.place
   place_is = omega (arith, keeps.dropped, ends)
 
-  -- a gap is passed
-  pub feed_comes : new.tried_at ≡ old.tried_at → (look kept_look : GapLook) → old.looked ≡ look.bits → new.looked ≡ kept_look.bits
-      → (answer : Result (Option Bool) DecodeError)
-      → ComesOn old.finished at old.rows new.rows look kept_look old.ctx new.ctx before after answer
-      → ComesInFeed old new answer
-  feed_comes same_tried look kept_look was is answer on = record {
-    extra = on.extra;
-    looks = grind (arith, common_steps);
-    looked = λ e. omega (arith, was, is, (on.looked e).0);
-    keeps = keeps;
-    begun = still;
-    space = on.space;
-    waits = λ e.
-        let w = on.waits e in (
-          w.0,
-          w.1,
-          w.2,
-          ends ∙ ap (λ (b : BitsAt). b.place) (w.3 ∙ before_is),
-          w.4,
-          w.5,
-          ap (λ (b : BitsAt). gap_is_settled old.ctx.held.settings old.ctx.held.taken old.ctx.held.has_eols (here b))
-              (sym before_is) ∙ w.6,
-        );
-    comes = λ whole tried passed feed. grind (
-      arith,
-      common_steps,
-      place_is,
-      lies,
-      starts,
-      stood,
-      on.comes tried whole old.dropped passed (lies feed) starts (stood feed),
-    );
-    stands = λ whole tried passed feed. stays_fed feed on.extra (on.stands tried whole old.dropped passed (lies feed) starts
-        (stood feed));
-    line = on.line;
-    within = grind (arith, common_steps);
-    counts = on.counts;
-    reaches = λ whole tried e feed. record {
-      counts = on.counts;
-      onward = omega (arith, keeps.dropped, ends, ap (λ (b : BitsAt). b.place) before_is, on.onward e);
-      near = λ was_begun unfinished. omega (
-        arith,
-        on.near (λ none. let never = sym e ∙ none in absurd cc) unfinished,
-        was,
-        keeps.dropped,
-        ends,
-        ap (λ (b : BitsAt). b.place) before_is,
-      );
-      past_eol = λ unfinished was_begun no_line sought.
-          let eol = on.past_eol unfinished no_line sought e in
-          record {
-            fill = eol.fill;
-            after = eol.after;
-            place = ap here (sym before_is) ∙ eol.place;
-            passed = omega (arith, eol.passed, keeps.dropped, ends, ap (λ (b : BitsAt). b.place) before_is);
-          };
-      at_line = λ at.
-          let there = on.at_line (and_parts old.begun (is_at_line old.rows.stand) at).1 in
-          (ends ∙ ap (λ (b : BitsAt). b.place) (there.0 ∙ before_is), there.1, keeps.kept);
-      tried = same_tried;
-      space = on.space;
-      settings = (on.comes tried whole old.dropped (λ none. let never = sym e ∙ none in absurd cc) (lies feed) starts
-          (stood feed)).settings;
-    };
-    only_code = on.only_code;
-    waiting = λ whole tried e feed.
-        let w = on.waits e in
-        stays_fed feed on.extra (subst (λ (b : BitsAt). IsStanding (tried + on.extra) new.rows new.ctx
-        (record { bits = whole; place = old.dropped + b.place })) (sym w.3)
-        (subst (λ (n : ℕ). IsStanding (tried + on.extra) new.rows new.ctx (record { bits = whole; place = n })) starts
-        (subst (λ (r : RowState). IsStanding (tried + on.extra) r new.ctx (record { bits = whole; place = at })) (sym w.2)
-        (stands_later tried on.extra old.rows old.ctx new.ctx (record { bits = whole; place = at }) w.0 w.1 (stood feed)))));
-  }
-
   -- the line is read, or left
   module _ (mid : Context)
       (frame : mid ≡ record old.ctx { held = redrawn old.ctx.held [] White; passed = 0; cut = false })
       (width : length old.ctx.held.reference ≡ old.ctx.held.settings.columns) (line : is_at_line old.rows.stand ≡ true)
-      (unkept : old.part ≡ None) (same_look : new.looked ≡ old.looked)
+      (unkept : old.part ≡ None) (same_look : new.looked ≡ old.looked) (same_gap : new.gap ≡ old.gap)
       (same_tried : new.tried_at ≡ old.tried_at)
       (none_new : new.part ≡ None) (inside : old.place ≤ length old.kept)
       (answer : Result Bool DecodeError)
@@ -180,7 +101,7 @@ module _ (old new : Feeding) (before after : BitsAt) (before_is : before ≡ rec
     no_more : CanCome old.finished []
     no_more = record { bytes = refl; none = λ e. refl }
 
-    module _ {whole : Bits} {tried : ℕ} (feed : IsFeedOf whole tried old) where
+    module _ {whole : Bits} {tried : ℕ} (feed : IsPlainFeedOf whole tried old) where
       same : mid.held ≡ old.ctx.held
       same = grind (arith, common_steps, begun_is, at_line_stands, stood)
 
@@ -215,7 +136,7 @@ module _ (old new : Feeding) (before after : BitsAt) (before_is : before ≡ rec
           (black_goes_on old.ctx.held.settings old.ctx.held.reference (here before) lie.more black)))
 
       line_stays_fed : (b : Bool) → is_unread answer ≡ b
-          → IsFeedOf whole (tried + cond b (new.ctx.ticks - old.ctx.ticks) 0) new
+          → IsPlainFeedOf whole (tried + cond b (new.ctx.ticks - old.ctx.ticks) 0) new
       line_stays_fed true left_so =
           let left = left_is answer left_so in
           let more = new.ctx.ticks - old.ctx.ticks in
@@ -315,6 +236,7 @@ module _ (old new : Feeding) (before after : BitsAt) (before_is : before ≡ rec
       counted = omega (arith, counted, at_most (is_unread answer) (new.ctx.ticks - old.ctx.ticks));
       stored = λ e. line_stored e;
       looked = same_look;
+      gap = same_gap;
       done = λ e. none_new;
       tried = inl same_tried;
       after = tries.stand;
@@ -334,60 +256,55 @@ module _ (old new : Feeding) (before after : BitsAt) (before_is : before ≡ rec
 
 -- ---- What is before the first line
 
-module _ (old new : Feeding) (mid : Context) (before after : BitsAt) (stand : Stand) (more : ℕ)
-    (before_is : before ≡ record { bits = old.kept; place = old.place }) (keeps : KeepsBits old new)
-    (ends : new.place ≡ after.place) (still : new.begun ≡ true) (rows_are : new.rows ≡ record old.rows { stand = stand })
-    (same : mid.held ≡ old.ctx.held) (ticks : mid.ticks ≡ old.ctx.ticks + more)
-    (first : StandsFirst stand mid new.ctx before after) (none_taken : new.ctx.held.taken ≡ 0)
+module _ (old new : Feeding) (mid : Context) (stand : Stand) (more : ℕ)
+    (rows_are : new.rows ≡ record old.rows { stand = stand }) (same : mid.held ≡ old.ctx.held)
+    (ticks : mid.ticks ≡ old.ctx.ticks + more) {whole : Bits} {tried at : ℕ} (next : ℕ)
+    (first : StandsFirst stand mid new.ctx (record { bits = whole; place = 0 }) (record { bits = whole; place = next }))
+    (taken : new.ctx.held.taken ≡ mid.held.taken)
     (settings_are : new.ctx.held.settings ≡ mid.held.settings) (counts : mid.ticks ≤ new.ctx.ticks)
     (unfailed : (error : DecodeError) → ended stand ≢ Some (Err error))
     (at_line : is_some (ended stand) ≡ false → is_at_line stand ≡ true)
-    (settled : (old.finished ≡ true)
-    ⊎ (front_is_settled mid.held.settings before.bits ≡ true))
-    {whole : Bits} {tried : ℕ} (feed : IsFeedOf whole tried old) (front : IsAtFront tried old.rows old.ctx
-    (old.dropped + old.place)) where
-  abbrev lie : LieIn whole old.dropped old.finished old.kept
-  lie = feed.lie
-
-  none_dropped : old.dropped ≡ 0
-  none_dropped = omega (arith, front.start)
-
-  whole_is : whole ≡ before.bits ++ lie.more
-  whole_is = grind (arith, common_steps, none_dropped)
-
-  changes_nothing : (old.finished ≡ true) ⊎ (front_is_settled mid.held.settings before.bits ≡ true)
-      → (lie.more ≡ []) ⊎ (front_is_settled mid.held.settings before.bits ≡ true)
-  changes_nothing (inl last) = inl (lie.can_come.none last)
-  changes_nothing (inr is) = inr is
-
+    (front : IsAtFront tried old.rows old.ctx at) where
   front_ticks : mid.ticks ≡ tried + more
   front_ticks = omega (arith, ticks, front.ticks)
 
-  front_standing : IsStanding (tried + more)
-      (record { started_at = 0; damage = None; cut = false; missed = None; stand = stand })
-      new.ctx (record { bits = before.bits ++ lie.more; place = after.place })
-  front_standing = grind (arith, common_steps, changes_nothing, front_ticks, none_missed)
-
-  rows_now : new.rows ≡ record { started_at = 0; damage = None; cut = false; missed = None; stand = stand }
-  rows_now = rows_are ∙ ap (λ (r : RowState). record r { stand = stand }) front.state
-
-  place_now : after.place ≡ new.dropped + new.place
-  place_now = omega (arith, none_dropped, keeps.dropped, ends)
-
-  front_stood : IsStanding (tried + more) new.rows new.ctx (record { bits = whole; place = new.dropped + new.place })
-  front_stood = grind (arith, common_steps, rows_now, place_now, whole_is, front_standing)
-
-  pub front_fed : IsFeedOf whole (tried + more) new
-  front_fed = grind (arith, common_steps, front_stood)
+  all_bits : whole ++ [] ≡ whole
+  all_bits = append-nil whole
 
   none_before : old.ctx.held.taken ≡ 0
   none_before = ap (λ (h : Held). h.taken) front.fresh
 
+  none_taken : new.ctx.held.taken ≡ 0
+  none_taken = taken ∙ ap (λ (h : Held). h.taken) same ∙ none_before
+
+  front_standing : IsStanding (tried + more)
+      (record { started_at = 0; damage = None; cut = false; missed = None; stand = stand })
+      new.ctx (record { bits = whole; place = next })
+  front_standing = grind (
+    arith,
+    common_steps,
+    front_ticks,
+    none_missed,
+    all_bits,
+    none_taken,
+    first.stands [] (inl refl),
+    first.damage [],
+    first.paid [] (inl refl),
+  )
+
+  rows_now : new.rows ≡ record { started_at = 0; damage = None; cut = false; missed = None; stand = stand }
+  rows_now = rows_are ∙ ap (λ (r : RowState). record r { stand = stand }) front.state
+
+  pub front_stood : IsStanding (tried + more) new.rows new.ctx (record { bits = whole; place = next })
+  front_stood = subst (λ (r : RowState). IsStanding (tried + more) r new.ctx (record { bits = whole; place = next }))
+      (sym rows_now) front_standing
+
   same_settings : new.ctx.held.settings ≡ old.ctx.held.settings
   same_settings = settings_are ∙ ap (λ (h : Held). h.settings) same
 
-  pub front_reaches : ReachesNextLine (fed_over whole old) (fed_over whole new) (line_first new.rows.stand)
-  front_reaches = grind (arith, common_steps, rows_now, same_settings, front_stood, none_before, same)
+  pub front_reaches : ReachesNextLine (seen old.rows old.ctx (record { bits = whole; place = at }))
+      (seen new.rows new.ctx (record { bits = whole; place = next })) (line_first new.rows.stand)
+  front_reaches = grind (arith, common_steps, rows_now, same_settings, front_stood, none_before, none_taken, same)
 
 -- before the first line nothing has begun
 pub at_front : (begun : Bool) (tried : ℕ) (rows : RowState) (ctx : Context) (at : BitsAt) → begun ≡ false
@@ -405,10 +322,10 @@ none_after (Err error) other reached = grind (arith, common_steps)
 
 -- a line was reached, and the call went on from there
 pub feeds_on : {whole : Bits} {tried : ℕ} (more : ℕ) {old mid new : Feeding} {answer : Result Fed DecodeError}
-    → LooksAhead old.finished (old.begun && is_at_line old.rows.stand) old.looked (drop old.place old.kept) more
+    → LooksAhead (old.begun && is_at_line old.rows.stand) old.looked (drop old.place old.kept) more
     → old.part ≡ None → mid.part ≡ None → mid.begun ≡ true
     → ReachesNextLine (fed_over whole old) (fed_over whole mid) (Ok true) → ReachesLine old mid more
-    → FeedsNext whole (tried + more) mid new answer → FeedsNext whole tried old new answer
+    → FeedsPlainly whole (tried + more) mid new answer → FeedsPlainly whole tried old new answer
 feeds_on {whole} {tried} more {old} {mid} {new} {answer} looks unkept none begun reached reaches next = record {
   row = λ e. reads_on (fed_over whole old) (fed_over whole mid) (fed_over whole new) (Ok true) reached (next.row e);
   end = λ e. reads_on (fed_over whole old) (fed_over whole mid) (fed_over whole new) (Ok false) reached (next.end e);
@@ -458,7 +375,7 @@ feeds_on {whole} {tried} more {old} {mid} {new} {answer} looks unkept none begun
     failed_at_once = λ e kept. next.line_work.failed_at_once e none;
   };
   stands = let same : (tried + more) + next.extra ≡ tried + (more + next.extra) = omega arith in
-      subst (λ (n : ℕ). IsFeedOf whole n new) same next.stands;
+      subst (λ (n : ℕ). IsPlainFeedOf whole n new) same next.stands;
   gap = more;
   looks = looks;
   looked = λ e away.
@@ -485,6 +402,15 @@ feeds_on {whole} {tried} more {old} {mid} {new} {answer} looks unkept none begun
     onward = λ unended. omega (arith, reaches.onward, next.goes_on.onward unended);
     near = λ was_begun unfinished unended.
         omega (arith, reaches.near was_begun unfinished, next.goes_on.onward unended);
+    last = λ was_begun finished unended. omega (
+      arith,
+      reaches.last was_begun finished,
+      next.goes_on.onward unended,
+      next.goes_on.zeros unended (and_from mid.begun (is_at_line mid.rows.stand) begun (reached.line refl)),
+    );
+    zeros = λ unended at.
+        next.goes_on.zeros unended (and_from mid.begun (is_at_line mid.rows.stand) begun (reached.line refl))
+        ∙ reaches.zeros at;
     stays = λ left at. next.goes_on.stays left (and_from mid.begun (is_at_line mid.rows.stand) begun (reached.line refl))
         ∙ (reaches.at_line at).0;
     row_is = λ e at.
@@ -561,12 +487,12 @@ next_is : {old new : Feeding} → KeepsBits old new → new.place ≡ old.place 
 next_is {old} {new} keeps place = ap (λ (n : ℕ). drop n old.kept) (sym place) ∙ ap (drop new.place) (sym keeps.kept)
 
 -- at a line no gap is looked at
-pub none_looked : (finished line : Bool) (looked : ℕ) (gap : Bits) → LooksAhead finished line looked gap 0
-none_looked finished line looked gap = grind (arith, common_steps)
+pub none_looked : (line : Bool) (looked : ℕ) (gap : Bits) → LooksAhead line looked gap 0
+none_looked line looked gap = grind (arith, common_steps)
 
 -- once begun
-looks_begun : (begun : Bool) {finished line : Bool} {looked counted : ℕ} {gap : Bits} → begun ≡ true
-    → LooksAhead finished line looked gap counted → LooksAhead finished (begun && line) looked gap counted
+looks_begun : (begun : Bool) {line : Bool} {looked counted : ℕ} {gap : Bits} → begun ≡ true
+    → LooksAhead line looked gap counted → LooksAhead (begun && line) looked gap counted
 looks_begun true is looks = looks
 looks_begun false is looks = absurd (false≢true is)
 
@@ -589,7 +515,7 @@ fault_ends : {old new : RowsRead} {error : DecodeError} → ReadsNext old new (E
 fault_ends reads unended = let never = sym reads.error.0 ∙ unended in cc
 
 line_onward : {whole : Bits} {tried : ℕ} {old new : Feeding} (answer : Result Bool DecodeError) → ReadsInFeed old new answer
-    → IsFeedOf whole tried old → ended new.rows.stand ≡ None → old.place ≤ new.place
+    → IsPlainFeedOf whole tried old → ended new.rows.stand ≡ None → old.place ≤ new.place
 line_onward {whole} {tried} {old} {new} (Ok true) reads feed unended = (reads.row_is whole tried refl feed).1
 line_onward {whole} {tried} {old} {new} (Ok false) reads feed unended = omega (arith, (reads.left refl).1)
 line_onward {whole} {tried} {old} {new} (Err error) reads feed unended = by_left (is_unread (Err error)) refl
@@ -600,7 +526,7 @@ line_onward {whole} {tried} {old} {new} (Err error) reads feed unended = by_left
 
 -- the row of a line has no more changes than the line's bits pay
 line_draws : {whole : Bits} {tried : ℕ} {old new : Feeding} (answer : Result Bool DecodeError) → ReadsInFeed old new answer
-    → old.begun ≡ true → is_at_line old.rows.stand ≡ true → IsFeedOf whole tried old → answer ≡ Ok true → DrawsRow old new
+    → old.begun ≡ true → is_at_line old.rows.stand ≡ true → IsPlainFeedOf whole tried old → answer ≡ Ok true → DrawsRow old new
 line_draws {whole} {tried} {old} {new} answer reads begun line feed e =
     let held = old.ctx.held in
     let row = reads.row_is whole tried e feed in
@@ -627,7 +553,7 @@ line_draws {whole} {tried} {old} {new} answer reads begun line feed e =
     following = length-drop new.place new.kept
 
 line_goes_on : {whole : Bits} {tried : ℕ} {old new : Feeding} (answer : Result Bool DecodeError)
-    → (reads : ReadsInFeed old new answer) → old.begun ≡ true → is_at_line old.rows.stand ≡ true → IsFeedOf whole tried old
+    → (reads : ReadsInFeed old new answer) → old.begun ≡ true → is_at_line old.rows.stand ≡ true → IsPlainFeedOf whole tried old
     → CallGoesOn old new (fed_row answer) 0 reads.extra
 line_goes_on {whole} {tried} {old} {new} answer reads begun line feed = record {
   counts = reads.counted;
@@ -636,6 +562,9 @@ line_goes_on {whole} {tried} {old} {new} answer reads begun line feed = record {
   onward = λ unended. omega (arith, line_onward answer reads feed unended, reads.keeps.dropped);
   near = λ was_begun unfinished unended.
       omega (arith, line_onward answer reads feed unended, reads.keeps.dropped, reads.looked);
+  last = λ was_begun finished unended.
+      omega (arith, line_onward answer reads feed unended, reads.keeps.dropped, same_zeros);
+  zeros = λ unended at. same_zeros;
   stays = λ left at. (reads.left (left_as_none answer left)).1;
   row_is = λ e at. (reads.row_is whole tried (line_was_read answer e) feed).0;
   tried = λ left at. reads.tried;
@@ -650,6 +579,9 @@ line_goes_on {whole} {tried} {old} {new} answer reads begun line feed = record {
   space = reads.most;
 }
   where
+    same_zeros : zeros_left new ≡ zeros_left old
+    same_zeros = ap (λ (g : GapSoFar). cond g.at_zeros g.passed 0) reads.gap
+
     still_at_line : (answer : Result Bool DecodeError) → ReadsInFeed old new answer → fed_row answer ≡ Ok Fed.NeedsMore
         → is_at_line new.rows.stand ≡ true
     still_at_line (Ok true) reads e = cc
@@ -683,7 +615,7 @@ line_fault (Err error) reads = reads
 pub line_feeds : {whole : Bits} {tried : ℕ} {old new : Feeding} (answer : Result Bool DecodeError) → ReadsInFeed old new answer
     → (answer ≡ Ok false → old.part ≡ None → new.part ≡ None → (new.ctx.ticks ≡ old.ctx.ticks)
     ⊎ ((old.tried_at ≢ new.dropped + new.place) × (new.tried_at ≡ new.dropped + new.place))) → old.begun ≡ true
-    → is_at_line old.rows.stand ≡ true → IsFeedOf whole tried old → FeedsNext whole tried old new
+    → is_at_line old.rows.stand ≡ true → IsPlainFeedOf whole tried old → FeedsPlainly whole tried old new
     (fed_row answer)
 line_feeds {whole} {tried} {old} {new} answer reads unread begun line feed = record {
   row = λ e. row_of_line_read answer (line_was_read answer e) (λ whole_line. reads.reads whole tried whole_line feed);
@@ -703,7 +635,7 @@ line_feeds {whole} {tried} {old} {new} answer reads unread begun line feed = rec
   goes_on = line_goes_on answer reads begun line feed;
   stands = reads.stands whole tried feed;
   gap = 0;
-  looks = none_looked old.finished (old.begun && is_at_line old.rows.stand) old.looked (drop old.place old.kept);
+  looks = none_looked (old.begun && is_at_line old.rows.stand) old.looked (drop old.place old.kept);
   looked = λ e away. grind (arith, common_steps, false≢true);
 }
 
@@ -735,10 +667,10 @@ gap_end (Err error) other e reached = absurd cc
 -- the reading ends before a line
 over_feeds : {whole : Bits} {tried : ℕ} {old new : Feeding} (answer : Result (Option Bool) DecodeError) (more : ℕ)
     → answer ≢ Ok None → answer ≢ Ok (Some true) → answer ≢ Err OutOfMemory
-    → ReachesNextLine (fed_over whole old) (fed_over whole new) (came answer) → IsFeedOf whole (tried + more) new
-    → LooksAhead old.finished (old.begun && is_at_line old.rows.stand) old.looked (drop old.place old.kept) more
+    → ReachesNextLine (fed_over whole old) (fed_over whole new) (came answer) → IsPlainFeedOf whole (tried + more) new
+    → LooksAhead (old.begun && is_at_line old.rows.stand) old.looked (drop old.place old.kept) more
     → old.part ≡ None → CallGoesOn old new (fed_without_row answer) more more
-    → FeedsNext whole tried old new (fed_without_row answer)
+    → FeedsPlainly whole tried old new (fed_without_row answer)
 over_feeds {whole} {tried} {old} {new} answer more waits line memory reached stands looks unkept goes_on = record {
   row = λ e. absurd (none_row answer e);
   end = λ e. gap_end answer line e reached;
@@ -760,11 +692,10 @@ over_feeds {whole} {tried} {old} {new} answer more waits line memory reached sta
 
 -- no line is reached: more data is needed, or it is the end
 pub gap_feeds : {whole : Bits} {tried : ℕ} {old new : Feeding} (answer : Result (Option Bool) DecodeError)
-    → ComesInFeed old new answer
+    → ComesInFeed whole tried old new answer
     → answer ≢ Ok (Some true) → old.begun ≡ true → ended old.rows.stand ≡ None → old.part ≡ None → new.part ≡ None
-    → IsFeedOf whole tried old
-    → FeedsNext whole tried old new (fed_without_row answer)
-gap_feeds {whole} {tried} {old} {new} (Ok None) comes other begun unended unkept none feed =
+    → FeedsPlainly whole tried old new (fed_without_row answer)
+gap_feeds {whole} {tried} {old} {new} (Ok None) comes other begun unended unkept none =
     let w = comes.waits refl in
     record {
       row = λ e. cc;
@@ -779,25 +710,23 @@ gap_feeds {whole} {tried} {old} {new} (Ok None) comes other begun unended unkept
       extra_is = omega arith;
       line_work = no_line_paid unkept;
       goes_on = grind (arith, common_steps, false≢true, and_parts, at, none_paid, comes.looked refl);
-      stands = comes.waiting whole tried refl feed;
+      stands = comes.stands;
       gap = comes.extra;
       looks = looks_begun old.begun begun comes.looks;
       looked = λ e away. comes.looked refl;
     }
-gap_feeds {whole} {tried} {old} {new} (Ok (Some true)) comes other begun unended unkept none feed = absurd (other refl)
-gap_feeds {whole} {tried} {old} {new} (Ok (Some false)) comes other begun unended unkept none feed =
-    over_feeds (Ok (Some false)) comes.extra (λ e. cc) (λ e. cc) (λ e. cc) (comes.comes whole tried (λ is. cc) feed)
-    (comes.stands whole tried (λ is. cc) feed) (looks_begun old.begun begun comes.looks) unkept
-    (grind (arith, common_steps, gap_ended))
-gap_feeds {whole} {tried} {old} {new} (Err error) comes other begun unended unkept none feed =
+gap_feeds {whole} {tried} {old} {new} (Ok (Some true)) comes other begun unended unkept none = absurd (other refl)
+gap_feeds {whole} {tried} {old} {new} (Ok (Some false)) comes other begun unended unkept none =
+    over_feeds (Ok (Some false)) comes.extra (λ e. cc) (λ e. cc) (λ e. cc) (comes.comes (λ is. cc)) comes.stands
+    (looks_begun old.begun begun comes.looks) unkept (grind (arith, common_steps, gap_ended))
+gap_feeds {whole} {tried} {old} {new} (Err error) comes other begun unended unkept none =
     over_feeds (Err error) comes.extra (λ e. cc) (λ e. cc)
-    (λ e. let never : InvalidCode ≡ OutOfMemory = sym comes.only_code ∙ cc in cc) (comes.comes whole tried (λ is. cc) feed)
-    (comes.stands whole tried (λ is. cc) feed) (looks_begun old.begun begun comes.looks) unkept
-    (grind (arith, common_steps, gap_ended))
+    (λ e. let never : InvalidCode ≡ OutOfMemory = sym comes.only_code ∙ cc in cc) (comes.comes (λ is. cc)) comes.stands
+    (looks_begun old.begun begun comes.looks) unkept (grind (arith, common_steps, gap_ended))
 
 -- there is room for the row of a line
 pub row_fits : {whole : Bits} {tried : ℕ} {feed : Feeding} → feed.begun ≡ true → is_at_line feed.rows.stand ≡ true
-    → IsFeedOf whole tried feed → (feed.ctx.held.taken + 1 < 2 ^ 64) × (feed.ctx.held.repairs.rows ≤ feed.ctx.held.taken)
+    → IsPlainFeedOf whole tried feed → (feed.ctx.held.taken + 1 < 2 ^ 64) × (feed.ctx.held.repairs.rows ≤ feed.ctx.held.taken)
 row_fits {whole} {tried} {feed} begun line is = grind (arith, common_steps, few, at_line_stands)
 
 pub first_line_is : (stand : Stand) {old new : RowsRead} → is_some (ended stand) ≡ false → ReachesNextLine old new
@@ -810,21 +739,18 @@ first_line_is (AtFault error) is reached = absurd cc
 
 -- a line was reached, and is read
 pub reached_here : {whole : Bits} {tried : ℕ} {old mid new : Feeding} {answer : Result Fed DecodeError}
-    (line : Result (Option Bool) DecodeError) → (comes : ComesInFeed old mid line) → line ≡ Ok (Some true)
-    → old.part ≡ None → mid.part ≡ None
-    → ((tried : ℕ) → IsFeedOf whole tried mid → FeedsNext whole tried mid new answer) → old.begun ≡ true
-    → IsFeedOf whole tried old → FeedsNext whole tried old new answer
-reached_here {whole} {tried} {old} {mid} {new} line comes is unkept none reads begun feed =
+    (line : Result (Option Bool) DecodeError) → (comes : ComesInFeed whole tried old mid line) → line ≡ Ok (Some true)
+    → old.part ≡ None → mid.part ≡ None → FeedsPlainly whole (tried + comes.extra) mid new answer → old.begun ≡ true
+    → FeedsPlainly whole tried old new answer
+reached_here {whole} {tried} {old} {mid} {new} line comes is unkept none reads begun =
     let some : line ≢ Ok None = λ none. let never = sym is ∙ none in absurd cc in
     let reached = subst (λ (r : Result (Option Bool) DecodeError). ReachesNextLine (fed_over whole old) (fed_over whole mid)
-    (came r))
-    is (comes.comes whole tried some feed) in
-    feeds_on comes.extra (looks_begun old.begun begun comes.looks) unkept none comes.begun reached
-    (comes.reaches whole tried is feed) (reads (tried + comes.extra) (comes.stands whole tried some feed))
+    (came r)) is (comes.comes some) in
+    feeds_on comes.extra (looks_begun old.begun begun comes.looks) unkept none comes.begun reached (comes.reaches is) reads
 
 -- nothing has begun
-pub unbegun_looks : (begun line : Bool) {finished : Bool} {looked counted : ℕ} {gap : Bits} → begun ≡ false
-    → LooksAhead finished false looked gap counted → LooksAhead finished (begun && line) looked gap counted
+pub unbegun_looks : (begun line : Bool) {looked counted : ℕ} {gap : Bits} → begun ≡ false
+    → LooksAhead false looked gap counted → LooksAhead (begun && line) looked gap counted
 unbegun_looks false line is looks = looks
 unbegun_looks true line is looks = absurd (false≢true (sym is))
 
@@ -838,8 +764,9 @@ not_begun false line is e = false≢true e
 not_begun true line is e = false≢true (sym is)
 
 -- what is before the first line waits for more data
-pub front_waits_feeds : {whole : Bits} {tried : ℕ} {old new : Feeding} → Begins old new false → old.begun ≡ false
-    → old.part ≡ None → new.part ≡ None → IsFeedOf whole tried old → FeedsNext whole tried old new (Ok Fed.NeedsMore)
+pub front_waits_feeds : {whole : Bits} {tried : ℕ} {old new : Feeding} → Begins whole tried old new false → old.begun ≡ false
+    → old.part ≡ None → new.part ≡ None → IsPlainFeedOf whole tried old
+    → FeedsPlainly whole tried old new (Ok Fed.NeedsMore)
 front_waits_feeds {whole} {tried} {old} {new} begins unbegun unkept none feed =
     let w = begins.waits refl in
     let front = at_front old.begun tried old.rows old.ctx
@@ -860,7 +787,7 @@ front_waits_feeds {whole} {tried} {old} {new} begins unbegun unkept none feed =
       line_extra = 0;
       extra_is = omega arith;
       line_work = no_line_paid unkept;
-      stands = begins.stands whole tried feed;
+      stands = begins.stands;
       gap = begins.extra;
       looks = unbegun_looks old.begun (is_at_line old.rows.stand) unbegun begins.looks;
       looked = λ e away. begins.looked refl;
@@ -875,97 +802,18 @@ first_line_ends AtEnd is unfailed = refl
 first_line_ends (AtFault error) is unfailed = absurd (unfailed error refl)
 
 -- the reading ends there
-pub front_ends_feeds : {whole : Bits} {tried : ℕ} {old new : Feeding} → Begins old new true → old.begun ≡ false
-    → old.part ≡ None → new.part ≡ None → is_some (ended new.rows.stand) ≡ true → IsFeedOf whole tried old
-    → FeedsNext whole tried old new (Ok Fed.End)
-front_ends_feeds {whole} {tried} {old} {new} begins unbegun unkept none over feed =
+pub front_ends_feeds : {whole : Bits} {tried : ℕ} {old new : Feeding} → Begins whole tried old new true → old.begun ≡ false
+    → old.part ≡ None → new.part ≡ None → is_some (ended new.rows.stand) ≡ true
+    → FeedsPlainly whole tried old new (Ok Fed.End)
+front_ends_feeds {whole} {tried} {old} {new} begins unbegun unkept none over =
     let reached = subst (ReachesNextLine (fed_over whole old) (fed_over whole new))
-    (first_line_ends new.rows.stand over (begins.unfailed refl)) (begins.passes whole tried refl feed) in
-    over_feeds (Ok (Some false)) begins.extra (λ e. cc) (λ e. cc) (λ e. cc) reached (begins.stands whole tried feed)
+    (first_line_ends new.rows.stand over (begins.unfailed refl)) (begins.passes refl) in
+    over_feeds (Ok (Some false)) begins.extra (λ e. cc) (λ e. cc) (λ e. cc) reached begins.stands
     (unbegun_looks old.begun (is_at_line old.rows.stand) unbegun begins.looks) unkept
-    (grind (arith, common_steps, gap_ended, begins.reaches whole tried refl feed, reached.end refl))
+    (grind (arith, common_steps, gap_ended, begins.reaches refl, reached.end refl))
 
--- ---- More data
-
--- the bits of bytes, without those of the first ones
-pub bits-dropped : (order : BitOrder) (bytes : ℕ) (items : List ℕ) → bits_in order (drop bytes items) ≡ drop (8 * bytes)
-    (bits_in order items)
-bits-dropped order zero items = refl
-bits-dropped order (suc bytes) [] = sym (drop-nil (8 * suc bytes))
-bits-dropped order (suc bytes) (byte ∷ items) =
-    let next : 8 * suc bytes ≡ length (bits_of_byte order byte) + 8 * bytes = omega (arith, length-bits_of_byte order byte) in
-    bits-dropped order bytes items ∙ sym (drop-append-add (bits_of_byte order byte) (bits_in order items) (8 * bytes))
-    ∙ ap (λ (n : ℕ). drop n (bits_in order (byte ∷ items))) (sym next)
-
--- the reading is the same without the bytes that were read
-pub drops_read : {whole : Bits} {tried : ℕ} {old new : Feeding} → DropsRead old new → IsFeedOf whole tried old
-    → IsFeedOf whole tried new
-drops_read {whole} {tried} {old} {new} drops feed =
-    let lie = feed.lie in
-    let enough : 8 * drops.bytes ≤ length old.kept = omega (arith, drops.read, drops.within) in
-    let place : old.dropped + old.place ≡ new.dropped + new.place = omega (arith, drops.dropped, drops.place) in
-    record {
-      fit = feed.fit;
-      lie = record {
-        within = omega (arith, drops.dropped, place_within lie (8 * drops.bytes) enough);
-        more = lie.more;
-        bits = ap (λ (n : ℕ). drop n whole) drops.dropped ∙ from_place lie (8 * drops.bytes) enough
-            ∙ ap (λ (b : Bits). b ++ lie.more) (sym drops.kept);
-        can_come = subst (λ (b : Bool). CanCome b lie.more) (sym drops.finished) lie.can_come;
-      };
-      stands = grind (arith, common_steps);
-    }
-
--- more bits are kept
-pub feeds_more : {whole : Bits} {tried : ℕ} {old new : Feeding} (next : Bits) (room : ℕ)
-    → new ≡ record old { kept = old.kept ++ next; room = room } → old.finished ≡ false → IsFeedOf whole tried old
-    → ComeNext whole old next → IsFeedOf whole tried new
-feeds_more {whole} {tried} {old} {new} next room is unfinished feed come = subst (IsFeedOf whole tried) (sym is) (record {
-  fit = feed.fit;
-  lie = record {
-    within = feed.lie.within;
-    more = come.rest;
-    bits = feed.lie.bits ∙ ap (λ (b : Bits). old.kept ++ b) (sym rest_is ∙ come.bits) ∙ sym
-        (append_assoc old.kept next come.rest);
-    can_come = record { bytes = come.bytes; none = λ last. absurd (false≢true (sym unfinished ∙ last)) };
-  };
-  stands = feed.stands;
-})
-  where
-    rest_is : drop (old.dropped + length old.kept) whole ≡ feed.lie.more
-    rest_is = from_place feed.lie (length old.kept) (omega arith) ∙ ap (λ (b : Bits). b ++ feed.lie.more) (drop-length old.kept)
-
--- dropping bytes that were read leaves the count of those fed
-pub drops_none_fed : {old new : Feeding} → DropsRead old new → fed_bits new ≡ fed_bits old
-drops_none_fed {old} {new} drops = grind (arith, common_steps, length-drop)
-
--- they come next also once bytes are dropped
-pub come_next : {whole : Bits} {old new : Feeding} {next : Bits} → DropsRead old new → ComeNext whole old next
-    → ComeNext whole new next
-come_next {whole} {old} {new} drops come = grind (arith, common_steps, drops_none_fed)
-
--- the data is finished
-pub feed_finished : {whole : Bits} {tried : ℕ} {old new : Feeding} → new ≡ record old { finished = true }
-    → IsFeedOf whole tried old
-    → length whole ≡ old.dropped + length old.kept → IsFeedOf whole tried new
-feed_finished {whole} {tried} {old} {new} is feed all = subst (IsFeedOf whole tried) (sym is) (record {
-  fit = feed.fit;
-  lie = record {
-    within = feed.lie.within;
-    more = feed.lie.more;
-    bits = feed.lie.bits;
-    can_come = record { bytes = feed.lie.can_come.bytes; none = λ last. nil_from_length feed.lie.more none };
-  };
-  stands = feed.stands;
-})
-  where
-    none : length feed.lie.more ≡ 0
-    none = omega (
-      arith,
-      all,
-      feed.lie.within,
-      ap length feed.lie.bits,
-      length-drop old.dropped whole,
-      length-append old.kept
-          feed.lie.more,
-    )
+pub unended_stand : (stand : Stand) → is_some (ended stand) ≡ false → ended stand ≡ None
+unended_stand AtLine is = refl
+unended_stand AfterRow is = refl
+unended_stand AtEnd is = absurd cc
+unended_stand (AtFault error) is = absurd cc

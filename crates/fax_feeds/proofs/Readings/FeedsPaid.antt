@@ -1,6 +1,6 @@
 -- What all calls of a feed count is paid.
 use Rattle.fax_feeds.proofs.Names.{common_steps}
-use Rattle.fax_feeds.proofs.Names.{◌≡◌, ◌≢◌, ◌∙◌, ◌+◌, ◌-◌, ◌*◌, ◌≤◌, ◌<◌, ◌++◌, ◌⊎◌, ◌&&◌, [], ℕ, Bool, true, false}
+use Rattle.fax_feeds.proofs.Names.{◌≡◌, ◌≢◌, ◌∙◌, ◌+◌, ◌-◌, ◌*◌, ◌≤◌, ◌++◌, ◌⊎◌, ◌&&◌, [], ℕ, Bool, true, false}
 use Rattle.fax_feeds.proofs.Names.{Result, Ok, Err, None, Some, Option, refl, sym, ap, subst, arith, length, drop}
 use Rattle.fax_feeds.proofs.Names.{inl, inr, cases_lt, false≢true, length-append, length-drop, append_assoc, append-nil}
 use Rattle.fax_feeds.proofs.Names.{Bits, Context, Held, DecodeError, DecodeSettings, Row, Stand, AtLine, AfterRow, AtEnd}
@@ -12,11 +12,16 @@ use Rattle.fax_reading.specs.Continuations.{is_short}
 use Rattle.fax_feeds.specs.declared.line_parts.KeptPart.{KeptPart}
 use Rattle.fax_feeds.specs.declared.row_feed.Fed.{Fed}
 use Rattle.fax_rows.specs.declared.row_reader.RowState.{RowState}
-use Rattle.fax_feeds.specs.RowFeeds.{CallGoesOn, Feeding, FeedsNext, HasNone, HoldsMore, IsFeedOf, IsOpenAt, KeepsBits}
+use Rattle.fax_feeds.specs.RowFeeds.{CallGoesOn, Feeding, FeedsPlainly, HasNone, IsFeedOf, IsOpenAt, IsPlainFeedOf, KeepsBits}
 use Rattle.fax_feeds.specs.RowFeeds.{DrawsRow, StandsIn, TriesFirst}
-use Rattle.fax_feeds.specs.RowFeeds.{fed_bits, fed_over, most_for_line, paid_by, paid_for_line}
-use Rattle.fax_feeds.proofs.Names.{IfErr}
-use Rattle.fax_feeds.proofs.Readings.FeedAccount.{FeedIsPaid, FirstsPaid, GapsPaid, IsAfter, IsPassed, LinesPaid, RowsPaid}
+use Rattle.fax_feeds.specs.RowFeeds.{completed, fed_bits, fed_over, most_for_line, offset_of, paid_by, paid_for_line, zeros_left}
+use Rattle.fax_feeds.specs.declared.counted_gaps.GapSoFar.{GapSoFar}
+use Rattle.fax_feeds.proofs.Readings.FeedsCompleted.{full_long}
+use Rattle.fax_feeds.proofs.Readings.CompletedOn.{completed_fed, zeros_known, keeps_completed, knows_more}
+use Rattle.std.specs.Prelude.{if◌then◌else◌}
+use Rattle.fax_feeds.proofs.Names.{IfErr, take}
+use Rattle.fax_feeds.proofs.Readings.FeedAccount.{FeedIsPaid, FirstsPaid, GapsPaid, IsAfter, IsPassed, KnowsMore, LinesPaid}
+use Rattle.fax_feeds.proofs.Readings.FeedAccount.{RowsPaid}
 use Rattle.fax_feeds.proofs.Readings.FeedAccount.{SeeksEol, WasShort, WasTried, offset}
 use Rattle.fax_feeds.specs.FeedsPaid.{FeedsArePaid, IsHistory, changes_of, cost_of_failure}
 use Rattle.fax_feeds.proofs.Readings.FeedsOn.{none_paid}
@@ -27,7 +32,11 @@ use Rattle.fax_rows.proofs.Work.CallsPaid.{within_most}
 use Rattle.fax_feeds.proofs.Names.{EncodingMode, Group4, Group3_1D, Group3_2D, most_counted}
 use Rattle.fax_rows.specs.RowsRead.{ReadsNext}
 use Rattle.fax_bits.specs.declared.error.DecodeError.TheVariants.{OutOfMemory}
-use Rattle.std.proofs.lemmas.Bool.{and_from, false_from_ne_true, true_from_ne_false}
+use Rattle.std.proofs.lemmas.Bool.{and_from, true_from_ne_false}
+
+-- what a call costs that fails for memory, of a feed with all bits that were fed
+abbrev plain_cost : Feeding → ℕ
+plain_cost feed = 3 * changes_of feed + 12 * length (drop feed.place feed.kept) + 6
 
 -- ---- Where a line ends that was short
 
@@ -84,7 +93,7 @@ none_or_some (Some part) = inr (λ e. cc)
 
 -- ---- More data
 
-module _ {next : Bits} {old new : Feeding} (holds : HoldsMore next old new) where
+module _ {next : Bits} {old new : Feeding} (holds : KnowsMore next old new) where
   drop_is : drop new.place new.kept ≡ drop old.place old.kept ++ next
   drop_is = holds.unread
 
@@ -111,6 +120,9 @@ module _ {next : Bits} {old new : Feeding} (holds : HoldsMore next old new) wher
 
   same_changes : changes_of new ≡ changes_of old
   same_changes = ap (λ (x : Context). length (changes x.held.reference)) holds.reading.0
+
+  same_zeros : zeros_left new ≡ zeros_left old
+  same_zeros = ap (λ (g : GapSoFar). if g.at_zeros then g.passed else 0) holds.gap
 
   longer : length (drop new.place new.kept) ≡ length (drop old.place old.kept) + length next
   longer = ap length drop_is ∙ length-append (drop old.place old.kept) next
@@ -160,8 +172,19 @@ module _ {next : Bits} {old new : Feeding} (holds : HoldsMore next old new) wher
             holds.place,
             holds.looked,
           );
+          last = gaps.last;
+          last_most = omega (arith, gaps.last_most, holds.fed);
+          none_last = λ unfinished. gaps.none_last (sym holds.reading.2 ∙ unfinished);
+          there = λ unended finished begun. omega (
+            arith,
+            gaps.there (sym (ap (λ (r : RowState). ended r.stand) holds.reading.1) ∙ unended)
+                (sym holds.reading.2 ∙ finished) (sym holds.begun ∙ begun),
+            holds.place,
+            same_zeros,
+          );
           unbegun = λ e.
-              let was = gaps.unbegun (sym holds.begun ∙ e) in (omega (arith, was.0, holds.looked), was.1);
+              let was = gaps.unbegun (sym holds.begun ∙ e) in
+              (omega (arith, was.0, holds.looked), was.1, omega (arith, was.2, holds.fed));
         };
         lines_paid = record {
           known = lines.known;
@@ -195,6 +218,31 @@ finished_passed : (known : ℕ) (feed : Feeding) (part : Option KeptPart) → Is
 finished_passed known feed None was = λ unended unfinished. absurd (false≢true (sym unfinished))
 finished_passed known feed (Some part) was = finished_short known feed was
 
+finished_gaps : {calls gaps : ℕ} {feed : Feeding} (b : Bool) → feed.finished ≡ b → GapsPaid calls gaps feed
+    → GapsPaid calls gaps (record feed { finished = true })
+finished_gaps true was paid = record {
+  first = paid.first;
+  first_most = paid.first_most;
+  last = paid.last;
+  last_most = paid.last_most;
+  none_last = λ unfinished. absurd (false≢true (sym unfinished));
+  most = paid.most;
+  here = λ unended unfinished. absurd (false≢true (sym unfinished));
+  there = λ unended finished begun. paid.there unended was begun;
+  unbegun = paid.unbegun;
+}
+finished_gaps {feed = feed} false was paid = record {
+  first = paid.first;
+  first_most = paid.first_most;
+  last = 2 * fed_bits feed;
+  last_most = omega arith;
+  none_last = λ unfinished. absurd (false≢true (sym unfinished));
+  most = omega (arith, paid.most, paid.none_last was);
+  here = λ unended unfinished. absurd (false≢true (sym unfinished));
+  there = λ unended finished begun. omega (arith, paid.most, paid.none_last was);
+  unbegun = paid.unbegun;
+}
+
 pub finished_paid : {calls lost tried : ℕ} {old new : Feeding} → new ≡ record old { finished = true }
     → FeedIsPaid calls lost tried old → FeedIsPaid calls lost tried new
 finished_paid {calls} {lost} {tried} {old} {new} is paid =
@@ -220,13 +268,13 @@ finished_paid {calls} {lost} {tried} {old} {new} is paid =
           })
         ];
       };
-      gaps_paid = grind (arith, common_steps, gaps, false≢true);
+      gaps_paid = finished_gaps old.finished refl gaps;
       lines_paid = grind (arith, common_steps, lines, false≢true, finished_passed);
     })
 
 -- ---- Before the first call
 
-pub begun_paid : (whole : Bits) (feed : Feeding) → IsFeedOf whole 0 feed → feed.begun ≡ false → feed.looked ≡ 0
+pub begun_paid : (whole : Bits) (feed : Feeding) → IsPlainFeedOf whole 0 feed → feed.begun ≡ false → feed.looked ≡ 0
     → feed.part ≡ None → FeedIsPaid 0 0 0 feed
 begun_paid whole feed is unbegun unlooked unkept =
     let front = subst (λ (b : Bool). StandsIn b 0 feed.rows feed.ctx (record
@@ -250,7 +298,17 @@ begun_paid whole feed is unbegun unlooked unkept =
           left = λ unended unfinished. omega (arith, white);
         });
       };
-      gaps_paid = grind (arith, common_steps);
+      gaps_paid = record {
+        first = 0;
+        first_most = omega arith;
+        last = 0;
+        last_most = omega arith;
+        none_last = λ unfinished. refl;
+        most = omega arith;
+        here = λ unended unfinished. omega arith;
+        there = λ unended finished begun. omega arith;
+        unbegun = λ e. (omega arith, refl, omega arith);
+      };
       lines_paid = record {
         known = 0;
         read = 0;
@@ -285,8 +343,9 @@ record RowAdds (before drawn : ℕ) (new : Feeding) : Type 0 where
   adds : new.finished ≡ false → before + changes_of new ≤ drawn + 1
 
 module _ {whole : Bits} {calls lost tried : ℕ} {old new : Feeding} {answer : Result Fed DecodeError}
-    (unended : ended old.rows.stand ≡ None) (keeps : KeepsBits old new) (paid : FeedIsPaid calls lost tried old)
-    (next : FeedsNext whole tried old new answer) where
+    (unended : ended old.rows.stand ≡ None) (keeps : KeepsBits old new) (few : zeros_left old ≤ length (drop old.place old.kept))
+    (paid : FeedIsPaid calls lost tried old)
+    (next : FeedsPlainly whole tried old new answer) where
   abbrev goes : CallGoesOn old new answer next.gap next.extra
   goes = next.goes_on
 
@@ -304,28 +363,66 @@ module _ {whole : Bits} {calls lost tried : ℕ} {old new : Feeding} {answer : R
 
   -- ---- Gaps
 
-  gap_unfinished : 0 < next.gap → old.finished ≡ false
-  gap_unfinished some = false_from_ne_true old.finished (λ e. absurd (omega (arith, some, next.looks.finished e)))
-
   here_within : length (drop old.place old.kept) + offset old ≡ fed_bits old
   here_within = omega (arith, length-drop old.place old.kept, lines.within)
 
-  gap_begun : old.begun ≡ true → paid.gaps + next.gap ≤ gaps.first + fed_bits old + 12 * calls
-  gap_begun begun = grind (arith, common_steps, cases_lt, gap_unfinished, here_within)
+  gap_begun : old.begun ≡ true → paid.gaps + next.gap ≤ gaps.first + gaps.last + 2 * fed_bits old + 16 * calls + 16
+  gap_begun begun = elim (cases_lt 0 next.gap) [
+    | inl some ↦ by_finished old.finished refl (next.looks.within some)
+    | inr none ↦ omega (arith, gaps.most, none)
+  ]
+    where
+      by_finished : (b : Bool) → old.finished ≡ b → next.gap + old.looked ≤ length (drop old.place old.kept) + 16
+          → paid.gaps + next.gap ≤ gaps.first + gaps.last + 2 * fed_bits old + 16 * calls + 16
+      by_finished true over most = omega (arith, gaps.there unended over begun, most, here_within, few)
+      by_finished false still most = omega (arith, gaps.here unended still, most, here_within)
 
-  gap_unbegun : old.begun ≡ false → paid.gaps + next.gap ≤ fed_bits old + 12 * calls
-  gap_unbegun unbegun = grind (arith, common_steps, cases_lt, here_within)
+  gap_unbegun : old.begun ≡ false → paid.gaps + next.gap ≤ fed_bits old + 16 * calls + 16
+  gap_unbegun unbegun = elim (cases_lt 0 next.gap) [
+    | inl some ↦ omega (arith, (gaps.unbegun unbegun).0, next.looks.within some, here_within)
+    | inr none ↦ omega (arith, (gaps.unbegun unbegun).2, none)
+  ]
 
   pub gaps_step : (b n : Bool) → old.begun ≡ b → new.begun ≡ n → GapsPaid (calls + 1) (paid.gaps + next.gap) new
-  gaps_step true n begun is = grind (arith, common_steps, false≢true, gaps, same_fed, gap_begun, still_unfinished, goes)
+  gaps_step true n begun is = record {
+    first = gaps.first;
+    first_most = omega (arith, gaps.first_most, same_fed);
+    last = gaps.last;
+    last_most = omega (arith, gaps.last_most, same_fed);
+    none_last = λ unfinished. gaps.none_last (still_unfinished unfinished);
+    most = omega (arith, gap_begun begun, same_fed);
+    here = λ still unfinished.
+        omega (arith, gaps.here unended (still_unfinished unfinished), goes.near begun (still_unfinished unfinished) still);
+    there = λ still finished now.
+        let was : old.finished ≡ true = sym keeps.finished ∙ finished in
+        omega (arith, gaps.there unended was begun, goes.last begun was still);
+    unbegun = λ e. absurd (false≢true (sym (goes.unbegun e).0 ∙ begun));
+  }
   gaps_step false true unbegun is = record {
     first = fed_bits old;
     first_most = omega (arith, same_fed);
+    last = gaps.last;
+    last_most = omega (arith, gaps.last_most, same_fed);
+    none_last = λ unfinished. gaps.none_last (still_unfinished unfinished);
     most = omega (arith, gap_unbegun unbegun, same_fed);
     here = λ still unfinished. omega (arith, gap_unbegun unbegun);
+    there = λ still finished now. omega (arith, gap_unbegun unbegun);
     unbegun = λ e. absurd (false≢true (sym e ∙ is));
   }
-  gaps_step false false unbegun is = grind (arith, common_steps, goes, gap_unbegun, same_fed, gaps)
+  gaps_step false false unbegun is = record {
+    first = gaps.first;
+    first_most = omega (arith, gaps.first_most, same_fed);
+    last = gaps.last;
+    last_most = omega (arith, gaps.last_most, same_fed);
+    none_last = λ unfinished. gaps.none_last (still_unfinished unfinished);
+    most = omega (arith, gap_unbegun unbegun, same_fed);
+    here = λ still unfinished. omega (arith, waited);
+    there = λ still finished now. absurd (false≢true (sym is ∙ now));
+    unbegun = λ e. (waited, (gaps.unbegun unbegun).1, omega (arith, gap_unbegun unbegun, same_fed));
+  }
+    where
+      waited : paid.gaps + next.gap ≤ new.looked + 16 * (calls + 1)
+      waited = omega (arith, (gaps.unbegun unbegun).0, next.looked (goes.unbegun is).1 (goes.unbegun is).2)
 
   -- ---- Where the next line begins
 
@@ -797,21 +894,21 @@ module _ {whole : Bits} {calls lost tried : ℕ} {old new : Feeding} {answer : R
     known_now = lines.known - (lines.known - offset new)
 
     failed_some : old.part ≢ None → counted + 2 * changes_of new
-        ≤ 6 * known_now + 2 * lines.read + 2 * paid.drawn + 8 * calls + lost + cost_of_failure new
+        ≤ 6 * known_now + 2 * lines.read + 2 * paid.drawn + 8 * calls + lost + plain_cost new
     failed_some some =
         grind (arith, common_steps, goes, failed_left, stays_at_line, was, lines, failed_changes, failed_within, here_within)
 
     -- counted for it
-    failed_most : counted ≤ 6 * known_now + 2 * lines.read + 2 * paid.drawn + 8 * calls + lost + cost_of_failure new
+    failed_most : counted ≤ 6 * known_now + 2 * lines.read + 2 * paid.drawn + 8 * calls + lost + plain_cost new
     failed_most = grind (arith, common_steps, none_or_some, none_paid, failed_within, failed_some)
 
     -- counted for it, with what is left for the line
     failed_next : ended new.rows.stand ≡ None → new.finished ≡ false → counted + 2 * changes_of new
-        ≤ 6 * known_now + 2 * lines.read + 2 * paid.drawn + 8 * calls + lost + cost_of_failure new
+        ≤ 6 * known_now + 2 * lines.read + 2 * paid.drawn + 8 * calls + lost + plain_cost new
     failed_next still unfinished =
         grind (arith, common_steps, none_or_some, lines, still_unfinished, failed_changes, failed_within, failed_some)
 
-    pub fails_paid : FeedIsPaid (calls + 1) (lost + cost_of_failure new) (tried + next.extra) new
+    pub fails_paid : FeedIsPaid (calls + 1) (lost + plain_cost new) (tried + next.extra) new
     fails_paid = record {
       gaps = paid.gaps + next.gap;
       lines = counted;
@@ -829,7 +926,7 @@ module _ {whole : Bits} {calls lost tried : ℕ} {old new : Feeding} {answer : R
 -- ---- All calls
 
 -- what the plain reading counts
-plain_most : {whole : Bits} {tried : ℕ} {feed : Feeding} → IsFeedOf whole tried feed
+plain_most : {whole : Bits} {tried : ℕ} {feed : Feeding} → IsPlainFeedOf whole tried feed
     → feed.ctx.ticks ≤ tried + 36 * length whole + 14
 plain_most {whole} {tried} {feed} is = by_begun feed.begun is.stands
   where
@@ -844,8 +941,8 @@ plain_most {whole} {tried} {feed} is = by_begun feed.begun is.stands
     by_begun false front = omega (arith, front.ticks)
 
 -- no more bits were fed than the whole data has
-fed_within : {whole : Bits} {tried : ℕ} {feed : Feeding} → IsFeedOf whole tried feed → fed_bits feed ≤ length whole
-fed_within {whole} {tried} {feed} is = omega (
+plain_within : {whole : Bits} {tried : ℕ} {feed : Feeding} → IsPlainFeedOf whole tried feed → fed_bits feed ≤ length whole
+plain_within {whole} {tried} {feed} is = omega (
   arith,
   is.lie.within,
   ap length is.lie.bits,
@@ -857,25 +954,47 @@ lines_in_all : {calls lost drawn lines : ℕ} {feed : Feeding} → (paid : Lines
     → lines ≤ 8 * fed_bits feed + 2 * drawn + 8 * calls + lost + 2
 lines_in_all {calls} {lost} {drawn} {lines} {feed} paid = grind (arith, common_steps, none_or_some, none_paid, length-drop)
 
--- what was called is paid
-history_paid : {calls lost tried : ℕ} {feed : Feeding} → IsHistory calls lost tried feed → FeedIsPaid calls lost tried feed
-history_paid (IsHistory.opens {feed} whole is unbegun unlooked unkept) = begun_paid whole feed is unbegun unlooked unkept
-history_paid (IsHistory.feeds next before holds) = more_paid holds (history_paid before)
-history_paid (IsHistory.finishes before is) = finished_paid is (history_paid before)
-history_paid (IsHistory.reads whole before unended keeps next other) =
-    reads_paid unended keeps (history_paid before) next other
-history_paid (IsHistory.fails whole before unended keeps next) = fails_paid unended keeps (history_paid before) next refl
+-- a failure costs as much where all bits are there that were fed
+same_cost : {whole : Bits} {tried : ℕ} {feed : Feeding} → IsFeedOf whole tried feed
+    → plain_cost (completed whole feed) ≡ cost_of_failure feed
+same_cost {whole} {tried} {feed} is =
+    omega (arith, length-drop (offset_of feed) (take (fed_bits feed) whole), full_long is)
+
+-- what was called leaves a reading of the data
+history_fed : {whole : Bits} {calls lost tried : ℕ} {feed : Feeding} → IsHistory whole calls lost tried feed
+    → IsFeedOf whole tried feed
+history_fed (IsHistory.opens is unbegun unlooked unkept) = is
+history_fed (IsHistory.feeds next before holds is) = is
+history_fed (IsHistory.finishes before is fed) = fed
+history_fed (IsHistory.reads before unended keeps next other) = next.stands
+history_fed (IsHistory.fails before unended keeps next) = next.stands
+
+-- and is paid
+history_paid : {whole : Bits} {calls lost tried : ℕ} {feed : Feeding} → IsHistory whole calls lost tried feed
+    → FeedIsPaid calls lost tried (completed whole feed)
+history_paid {whole = whole} (IsHistory.opens {feed} is unbegun unlooked unkept) =
+    begun_paid whole (completed whole feed) (completed_fed is) unbegun unlooked unkept
+history_paid (IsHistory.feeds next before holds is) = more_paid (knows_more holds (history_fed before) is) (history_paid before)
+history_paid {whole = whole} (IsHistory.finishes before is fed) = finished_paid (ap (completed whole) is) (history_paid before)
+history_paid (IsHistory.reads before unended keeps next other) =
+    reads_paid unended (keeps_completed _ keeps) (zeros_known (history_fed before)) (history_paid before) next.plainly other
+history_paid {whole = whole} (IsHistory.fails {calls} {lost} {tried} {old} {new} before unended keeps next) =
+    subst (λ (n : ℕ). FeedIsPaid (calls + 1) (lost + n) (tried + next.plainly.extra) (completed whole new))
+    (same_cost next.stands) (fails_paid unended (keeps_completed _ keeps) (zeros_known (history_fed before))
+    (history_paid before) next.plainly refl)
 
 pub feeds_are_paid : FeedsArePaid
 feeds_are_paid calls lost tried whole feed history is =
     let paid = history_paid history in
+    let all = completed_fed is in
     omega (
       arith,
-      plain_most is,
-      fed_within is,
+      plain_most all,
+      plain_within all,
       paid.sum,
       paid.gaps_paid.most,
       paid.gaps_paid.first_most,
+      paid.gaps_paid.last_most,
       lines_in_all paid.lines_paid,
       paid.firsts_paid.most,
       paid.firsts_paid.known_most,

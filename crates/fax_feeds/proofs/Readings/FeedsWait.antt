@@ -5,9 +5,17 @@ use Rattle.fax_feeds.proofs.Names.{line_here, DecodeError, RowsRead, IfErr-weake
 use Rattle.fax_reading.specs.Continuations.{is_short}
 use Rattle.fax_feeds.specs.declared.line_parts.KeptPart.{KeptPart}
 use Rattle.fax_feeds.specs.declared.row_feed.Fed.{Fed}
-use Rattle.fax_feeds.specs.RowFeeds.{Feeding, FeedsNext, FeedsRow, IsFeedOf, KeepsBits, PartIsKept, StaysShort, StaysThere}
+use Rattle.fax_feeds.specs.RowFeeds.{Feeding, FeedsPlainly, FeedsRow, IsPlainFeedOf, KeepsBits, PartIsKept, StaysShort}
+use Rattle.fax_feeds.specs.RowFeeds.{StaysThere}
 use Rattle.fax_feeds.specs.RowFeeds.{fed_over, line_of_feed, most_for_line, paid_for_line}
+use Rattle.fax_feeds.proofs.Readings.CompletedOn.{keeps_completed}
+use Rattle.fax_feeds.proofs.Readings.FeedsCompleted.{full_gap}
+use Rattle.fax_feeds.proofs.Readings.FeedsFramed.{fed_of, framed, next_of, plain_of}
 use Rattle.fax_feeds.proofs.Readings.FeedsOn.{line_feeds, at_line_unended}
+use Rattle.std.proofs.lemmas.List.{nil_from_length}
+use Rattle.fax_feeds.proofs.Names.{◌++◌, length, take}
+use Rattle.fax_feeds.specs.declared.counted_gaps.GapSoFar.{GapSoFar}
+use Rattle.fax_feeds.specs.RowFeeds.{IsFeedOf, completed, fed_bits, no_gap, offset_of}
 use Rattle.fax_feeds.proofs.Readings.FeedsPaid.{open_at_line}
 use Rattle.fax_feeds.proofs.Readings.PartsFed.{later_next, scanned_fed, stays_short}
 
@@ -26,7 +34,7 @@ stays_there old new ticks le stays = grind (arith, common_steps)
 
 -- a line that is settled isn't waited for
 line_is_read : {whole : Bits} {tried : ℕ} {old next : Feeding} → old.begun ≡ true → is_at_line old.rows.stand ≡ true
-    → KeepsBits old next → FeedsNext whole tried old next (Ok Fed.NeedsMore)
+    → KeepsBits old next → FeedsPlainly whole tried old next (Ok Fed.NeedsMore)
     → (old.finished ≡ true) ⊎ (is_short (line_of_feed old) ≡ false) → ⊥
 line_is_read {old = old} {next = next} begun line keeps n (inl finished) =
     false≢true (sym (n.unsettled refl).0 ∙ keeps.finished ∙ finished)
@@ -45,7 +53,7 @@ line_is_read {old = old} {next = next} begun line keeps n (inr whole) =
 -- A call that reads the next row leaves the same where the line was read on before.
 next_later : {whole : Bits} {tried : ℕ} {old next : Feeding} (more read : ℕ) (answer : Result Fed DecodeError) → old.part ≢ None
     → more + paid_for_line old ≤ most_for_line old + 4 → (answer ≡ Ok Fed.NeedsMore → ⊥)
-    → FeedsNext whole (tried + more) (later old more read) next answer → FeedsNext whole tried old next answer
+    → FeedsPlainly whole (tried + more) (later old more read) next answer → FeedsPlainly whole tried old next answer
 next_later {whole} {tried} {old} {next} more read answer some paid settled n =
     let work = n.line_work in
     let on = n.goes_on in
@@ -62,7 +70,7 @@ next_later {whole} {tried} {old} {next} more read answer some paid settled n =
       memory = n.memory;
       paints = n.paints;
       extra = more + n.extra;
-      stands = subst (λ (m : ℕ). IsFeedOf whole m next) (omega arith) n.stands;
+      stands = subst (λ (m : ℕ). IsPlainFeedOf whole m next) (omega arith) n.stands;
       gap = n.gap;
       line_extra = more + n.line_extra;
       extra_is = omega (arith, n.extra_is);
@@ -90,6 +98,8 @@ next_later {whole} {tried} {old} {next} more read answer some paid settled n =
         };
         onward = on.onward;
         near = on.near;
+        last = on.last;
+        zeros = on.zeros;
         stays = on.stays;
         row_is = on.row_is;
         past_eol = on.past_eol;
@@ -105,12 +115,18 @@ next_later {whole} {tried} {old} {next} more read answer some paid settled n =
       };
     }
 
-module _ {old mid : Feeding} (begun : old.begun ≡ true) (line : is_at_line old.rows.stand ≡ true) where
+module _ {old mid : Feeding} (begun : old.begun ≡ true) (line : is_at_line old.rows.stand ≡ true) (unknown : old.gap ≡ no_gap)
+    (within : old.place ≤ length old.kept) where
   -- the line still is short
   pub row_waits : StaysShort old mid true → FeedsRow old mid (Ok Fed.NeedsMore)
   row_waits stays = record {
-    reads = λ whole tried unended feed. line_feeds (Ok false) (stays_short stays begun)
-        (λ e none still. absurd (false≢true (sym (stays.unkept none).0))) begun line feed;
+    reads = λ whole tried unended feed.
+        let reads = stays_short stays begun in
+        let next = line_feeds (Ok false) reads (λ e none still. absurd (false≢true (sym (stays.unkept none).0))) begun line
+        (plain_of feed (ap (λ (g : GapSoFar). g.passed) unknown)) in
+        let now = fed_of next.stands (reads.gap ∙ unknown) reads.within in
+        next_of (framed next feed now within reads.within (ap (λ (g : GapSoFar). g.passed) unknown)
+        (ap (λ (g : GapSoFar). g.passed) (reads.gap ∙ unknown)) reads.keeps) now.known now.lie;
     keeps = (stays_short stays begun).keeps;
     over = λ end e. absurd (let never = sym (at_line_unended old.rows.stand line) ∙ e in cc);
     counts = record {
@@ -119,6 +135,8 @@ module _ {old mid : Feeding} (begun : old.begun ≡ true) (line : is_at_line old
       width = λ e. cc;
       stands = λ e. cc;
       unlooked = λ e. cc;
+      few = λ e away.
+          absurd (false≢true (sym away ∙ ap (λ (f : Feeding). is_at_line f.rows.stand) stays.scans.frame ∙ line));
     };
   }
 
@@ -145,18 +163,36 @@ module _ {old mid : Feeding} (begun : old.begun ≡ true) (line : is_at_line old
         }) (omega (arith, stays.scans.counts))
         ∙ ap (λ (n : ℕ). record (later old more mid.line_read) { tried_at = n }) stays.tried
 
+    settled_there : (whole : Bits) → drop (offset_of old) (take (fed_bits old) whole) ≡ drop old.place old.kept
+        → (old.finished ≡ true) ⊎ (is_short (line_of_feed old) ≡ false)
+        → (old.finished ≡ true) ⊎ (is_short (line_of_feed (completed whole old)) ≡ false)
+    settled_there whole here (inl finished) = inl finished
+    settled_there whole here (inr settled) = inr (ap (λ (b : Bits). is_short (line_here old.ctx.held.settings
+        old.ctx.held.reference b))
+        here ∙ settled)
+
     later_row : FeedsRow (later old more mid.line_read) next answer
     later_row = subst (λ (f : Feeding). FeedsRow f next answer) mid_is row
 
     pub row_after_line : FeedsRow old next answer
     row_after_line = record {
       reads = λ whole tried unended feed.
+          let frame = stays.scans.frame in
+          let mid_within : mid.place ≤ length mid.kept =
+          omega (arith, within, ap (λ (f : Feeding). f.place) frame, ap (λ (f : Feeding). length f.kept) frame) in
           let fed : IsFeedOf whole (tried + more) (later old more mid.line_read) =
-          subst (IsFeedOf whole (tried + more)) mid_is (scanned_fed stays.scans begun feed) in
+          subst (IsFeedOf whole (tried + more)) mid_is (fed_of (scanned_fed stays.scans begun
+          (plain_of feed (ap (λ (g : GapSoFar). g.passed) unknown)))
+          (ap (λ (f : Feeding). f.gap) frame ∙ unknown) mid_within) in
           let n = later_row.reads whole (tried + more) unended fed in
-          next_later more mid.line_read answer some (omega (arith, stays.most, stays.scans.counts))
-          (λ e. line_is_read begun line later_row.keeps
-          (subst (FeedsNext whole (tried + more) (later old more mid.line_read) next) e n) (stays.settled refl some)) n;
+          let here : drop (offset_of old) (take (fed_bits old) whole) ≡ drop old.place old.kept = full_gap feed within
+          ∙ ap (λ (b : Bits). b ++ drop old.place old.kept)
+          (nil_from_length feed.known.gone (omega (arith, feed.known.long, (ap (λ (g : GapSoFar). g.passed) unknown)))) in
+          next_of (next_later {old = completed whole old} {next = completed whole next} more mid.line_read answer some
+          (omega (arith, stays.most, stays.scans.counts, ap length here))
+          (λ e. line_is_read begun line (keeps_completed whole later_row.keeps)
+          (subst (FeedsPlainly whole (tried + more) (later (completed whole old) more mid.line_read) (completed whole next))
+          e n.plainly) (settled_there whole here (stays.settled refl some))) n.plainly) n.stands.known n.stands.lie;
       keeps = let keeps = later_row.keeps in record {
         order = keeps.order;
         finished = keeps.finished;
@@ -171,6 +207,7 @@ module _ {old mid : Feeding} (begun : old.begun ≡ true) (line : is_at_line old
         width = counts.width;
         stands = counts.stands;
         unlooked = counts.unlooked;
+        few = counts.few;
       };
     }
 

@@ -6,8 +6,7 @@ use Rattle.fax_feeds.proofs.Names.{Group4, Group3_1D, Group3_2D, DecodeSettings,
 use Rattle.fax_feeds.proofs.Names.{limit_met}
 use Rattle.fax_bits.specs.EndOfLine.{eols, eols_with_tags, one_more, past_tag}
 use Rattle.fax_reading.specs.GapsContinued.{after_line_tag, holds_one, eols_are_settled, next_eols_are_settled, gap_is_settled}
-use Rattle.fax_reading.specs.GapsContinued.{first_gap_is_settled}
-use Rattle.fax_feeds.specs.GapsSeen.{IsSeen, LooksTo, bits_needed, ends_at_two, first_rules, has_tags, is_settled, nothing_seen}
+use Rattle.fax_feeds.specs.GapsSeen.{IsSeen, LooksTo, bits_needed, ends_at_two, has_tags, is_settled, nothing_seen}
 use Rattle.fax_feeds.specs.GapsSeen.{one_eol_more, rules_after_row, stage_after, stage_following, zeros_after}
 use Rattle.fax_feeds.specs.declared.gap_look.GapLook.{GapLook}
 use Rattle.fax_feeds.specs.declared.gap_look.GapRules.{GapRules}
@@ -364,28 +363,6 @@ module _ (settings : DecodeSettings) (taken : ℕ) (has_eols : Bool) (here : Bit
   -- A gap that was looked at is settled exactly if it is the same whatever bits follow (T.4, 4.1.2 and 4.1.4; T.6, 2.4.1.1).
   pub gap_seen : is_settled (stage_following rules Start 0 here) ≡ gap_is_settled settings taken has_eols here
   gap_seen = by_after_eol (after_eol 0 here) refl
-
--- EOLs without tags, and the next isn't sought
-plain_seen : (here : Bits)
-    → is_settled (stage_following (rules_of Group3_1D false false) Start 0 here) ≡ holds_one (all_eols here).1
-plain_seen here = by_eol (after_eol 0 here) refl
-  where
-    by_eol : (o : Option Bits) → after_eol 0 here ≡ o
-        → is_settled (stage_following (rules_of Group3_1D false false) Start 0 here) ≡ holds_one (all_eols here).1
-    by_eol None e = grind (arith, common_steps, start_settles, all_eols-none)
-    by_eol (Some rest) e =
-        ap is_settled (eol_seen (rules_of Group3_1D false false) Start 0 here rest e)
-        ∙ eols_seen Group3_1D false false here rest e
-
--- so it is with the first gap of the data (T.4, 4.1.2; T.6, 2.4.1.1)
-pub first_gap_seen : (encoding : EncodingMode) (settings : DecodeSettings) (here : Bits) → settings.encoding ≡ encoding
-    → is_settled (stage_following (first_rules encoding settings.end_of_block) Start 0 here)
-    ≡ first_gap_is_settled encoding settings here
-first_gap_seen Group4 settings here is =
-    ap (λ (e : EncodingMode). is_settled (stage_following (rules_of e settings.end_of_block false) Start 0 here)) (sym is)
-    ∙ gap_seen settings 0 false here
-first_gap_seen Group3_1D settings here is = plain_seen here
-first_gap_seen Group3_2D settings here is = plain_seen here
 
 -- ---- How far it was looked at
 

@@ -144,16 +144,6 @@ open_first_gap_before settings first more = by_encoding settings.encoding
     by_encoding Group3_1D waits = without_tags waits
     by_encoding Group3_2D waits = without_tags waits
 
--- without columns nothing is open
-pub first_gap_is_open : (settings : DecodeSettings) (bits : Bits) → front_is_settled settings bits ≡ false
-    → first_gap_is_settled settings.encoding settings bits ≡ false
-first_gap_is_open settings bits = by_columns (eqb settings.columns 0)
-  where
-    by_columns : (none : Bool) → (none || first_gap_is_settled settings.encoding settings bits) ≡ false
-        → first_gap_is_settled settings.encoding settings bits ≡ false
-    by_columns true waits = absurd (false≢true (sym waits))
-    by_columns false waits = waits
-
 pub open_front_before : (settings : DecodeSettings) (first more : Bits) → front_is_settled settings (first ++ more) ≡ false
     → front_is_settled settings first ≡ false
 open_front_before settings first more = by_columns (eqb settings.columns 0)

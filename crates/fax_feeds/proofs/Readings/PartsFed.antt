@@ -12,7 +12,7 @@ use Rattle.fax_feeds.specs.declared.line_parts.KeptPart.{KeptPart}
 use Rattle.fax_reading.specs.Continuations.{is_short}
 use Rattle.fax_feeds.specs.LineParts.{ContinuesLine, IsPartOf}
 use Rattle.fax_feeds.proofs.Readings.FeedsOn.{none_paid}
-use Rattle.fax_feeds.specs.RowFeeds.{KeepsPart, Feeding, IsFeedOf, LineGoesOn, PartIsKept, ReadsInFeed, Scans, ScansLine}
+use Rattle.fax_feeds.specs.RowFeeds.{KeepsPart, Feeding, IsPlainFeedOf, LineGoesOn, PartIsKept, ReadsInFeed, Scans, ScansLine}
 use Rattle.fax_feeds.specs.RowFeeds.{StandsIn}
 use Rattle.fax_feeds.specs.RowFeeds.{StaysShort, fed_over, line_of_feed, most_for_line, most_to_find, paid_by}
 use Rattle.fax_reading.specs.Answers.{HasBlack}
@@ -104,12 +104,12 @@ stays_by old new part short is unfinished none_drawn scans = grind (arith, commo
 
 module _ {whole : Bits} {tried : ℕ} {old new : Feeding} (scans : Scans old new) (begun : old.begun ≡ true) where
   -- what was read on is counted as tried
-  pub scanned_fed : IsFeedOf whole tried old → IsFeedOf whole (tried + (new.ctx.ticks - old.ctx.ticks)) new
+  pub scanned_fed : IsPlainFeedOf whole tried old → IsPlainFeedOf whole (tried + (new.ctx.ticks - old.ctx.ticks)) new
   scanned_fed feed =
       let more = new.ctx.ticks - old.ctx.ticks in
       let at : BitsAt = record { bits = whole; place = old.dropped + old.place } in
       let ctx : Context = record old.ctx { ticks = new.ctx.ticks } in
-      subst (IsFeedOf whole (tried + more)) (sym scans.frame) (record {
+      subst (IsPlainFeedOf whole (tried + more)) (sym scans.frame) (record {
         fit = feed.fit;
         lie = feed.lie;
         stands = subst (λ (b : Bool). StandsIn b (tried + more) old.rows ctx at) (sym begun)
@@ -151,11 +151,12 @@ scanned_before {old} {mid} {new} answer stays begun reads =
           (reads.reads whole (tried + more) other (scanned_fed scans begun feed)));
       stands = λ whole tried feed.
           let same : (tried + more) + reads.extra ≡ tried + (more + reads.extra) = omega arith in
-          subst (λ (n : ℕ). IsFeedOf whole n new) same (reads.stands whole (tried + more) (scanned_fed scans begun feed));
+          subst (λ (n : ℕ). IsPlainFeedOf whole n new) same (reads.stands whole (tried + more) (scanned_fed scans begun feed));
       most = grind (arith, common_steps);
       counted = omega (arith, reads.counted, scans.counts);
       stored = λ e. omega (arith, reads.stored e, scans.counts);
       looked = reads.looked ∙ ap (λ (f : Feeding). f.looked) frame;
+      gap = reads.gap ∙ ap (λ (f : Feeding). f.gap) frame;
       done = reads.done;
       tried = grind (arith, common_steps);
       after = reads.after;
@@ -223,11 +224,12 @@ scanned_after {old} {mid} {new} reads none unkept keeps_part =
       reads = λ whole tried other feed. absurd (other refl);
       stands = λ whole tried feed.
           let same : (tried + reads.extra) + more ≡ tried + (reads.extra + more) = omega arith in
-          subst (λ (n : ℕ). IsFeedOf whole n new) same (scanned_fed scans reads.begun (reads.stands whole tried feed));
+          subst (λ (n : ℕ). IsPlainFeedOf whole n new) same (scanned_fed scans reads.begun (reads.stands whole tried feed));
       most = omega (arith, reads.most, ap (λ (f : Feeding). f.ctx.space) frame);
       counted = omega (arith, reads.counted, scans.counts);
       stored = λ e. cc;
       looked = ap (λ (f : Feeding). f.looked) frame ∙ reads.looked;
+      gap = ap (λ (f : Feeding). f.gap) frame ∙ reads.gap;
       done = λ e. absurd (e refl);
       tried = grind (arith, common_steps);
       after = λ e. cc;
@@ -267,6 +269,7 @@ stays_short {old} {new} stays begun =
       counted = omega (arith, stays.scans.counts);
       stored = λ e. cc;
       looked = ap (λ (f : Feeding). f.looked) frame;
+      gap = ap (λ (f : Feeding). f.gap) frame;
       done = λ e. absurd (e refl);
       tried = inl stays.tried;
       after = λ e. cc;

@@ -5,6 +5,8 @@ use Rattle.fax_feeds.specs.GapsSeen.{IsSeen, rules_for}
 use Rattle.fax_feeds.specs.declared.line_parts.KeptPart.{KeptPart}
 use Rattle.fax_feeds.specs.declared.row_feed.RowFeed.TheInside.{Inside}
 use Rattle.fax_feeds.specs.LineParts.{ContinuesLine}
+use Rattle.fax_feeds.specs.RowFeeds.{no_gap}
+use Rattle.fax_feeds.proofs.Names.{◌≢◌, is_at_line}
 use Rattle.fax_feeds.specs.RowFeeds.{Feeding, IsKept, LineGoesOn, PartIsKept, ScansLine, feeding_of, StaysShort}
 use Rattle.fax_bits.proofs.BitReading.BitLists.{length-bits_in}
 use Rattle.fax_feeds.proofs.Readings.PartsFed.{part_reached, scans_short, scans_whole, read_within, stays_by}
@@ -19,6 +21,24 @@ part_within f held = grind (
   read_within f.part f.begun f.rows.stand f.ctx.held
       (drop f.place (bits_in f.order f.«data».items)) f.line_read held.part,
 )
+
+-- where a part is kept, no zeros end the data
+pub part_follows : (f : Inside) (part : KeptPart) → IsKept f → f.part ≡ Some part → f.gap.at_zeros ≡ false
+part_follows f part held is = by_zeros f.gap.at_zeros refl
+  where
+    by_zeros : (b : Bool) → f.gap.at_zeros ≡ b → b ≡ false
+    by_zeros false e = refl
+    by_zeros true e = let never : Some part ≡ None = sym is ∙ held.unkept e in absurd cc
+
+-- a part that is kept is that of a line here, of which no gap is known
+pub part_is_at_line : (f : Inside) → IsKept f → f.part ≢ None → (is_at_line f.rows.stand ≡ true) × (f.gap ≡ no_gap)
+part_is_at_line f held some = by_part f.part refl held.part
+  where
+    by_part : (part : Option KeptPart) → f.part ≡ part
+        → PartIsKept part f.begun f.rows.stand f.ctx.held (drop f.place (bits_in f.order f.«data».items)) f.line_read
+        → (is_at_line f.rows.stand ≡ true) × (f.gap ≡ no_gap)
+    by_part None is kept = absurd (some is)
+    by_part (Some part) is kept = (kept.at_line, held.line kept.at_line (part_follows f part held is))
 
 module _ {f : Inside} {now : Context} {part next : KeptPart} {read : ℕ} {before after : BitsAt} {short : Bool}
     (held : IsKept f) (before_is : before ≡ record { bits = bits_in f.order f.«data».items; place = f.place + read })
@@ -36,23 +56,25 @@ module _ {f : Inside} {now : Context} {part next : KeptPart} {read : ℕ} {befor
 
   kept_by : (left : Option KeptPart) (reached : ℕ)
       → PartIsKept left f.begun f.rows.stand now.held (drop f.place (bits_in f.order f.«data».items)) reached
-      → IsKept (with_part left reached)
-  kept_by left reached is = record {
+      → (f.gap.at_zeros ≡ true → left ≡ None) → IsKept (with_part left reached)
+  kept_by left reached is unkept = record {
     within = held.within;
     fit = held.fit;
-    fresh = λ e. absurd (false≢true (sym e ∙ kept.is_begun));
-    start = λ e. absurd (false≢true (sym e ∙ kept.is_begun));
-    unended = λ e. absurd (false≢true (sym e ∙ kept.is_begun));
-    rows = λ e. absurd (false≢true (sym e ∙ kept.is_begun));
-    seen = subst (λ (x : Context). IsSeen (rules_for f.begun x.held) f.look (drop f.place (bits_in f.order f.«data».items)))
+    bytes = held.bytes;
+    unbegun = λ e. absurd (false≢true (sym e ∙ kept.is_begun));
+    seen = subst (λ (x : Context). IsSeen (rules_for f.begun x.held) f.gap.look (drop f.place (bits_in f.order f.«data».items)))
         (sym on.frame) held.seen;
     line = held.line;
+    over = held.over;
+    counted = held.counted;
+    unkept = unkept;
+    last = held.last;
     part = is;
   }
 
   -- none is kept
   pub kept_whole : IsKept (with_part None 0)
-  kept_whole = kept_by None 0 refl
+  kept_whole = kept_by None 0 refl (λ zeros. refl)
 
   pub whole_scans : short ≡ false → ScansLine part.passed read (feeding_of f) (feeding_of (with_part None 0)) false
   whole_scans = scans_whole (feeding_of f) scanned part next read before after short before_is place_within on kept
@@ -67,10 +89,11 @@ module _ {f : Inside} {now : Context} {part next : KeptPart} {read : ℕ} {befor
   -- the part that is reached is
   module _ (reached : ℕ) (reached_is : reached ≡ after.place - f.place) (inside : after.place ≤ length after.bits)
       (is_short : short ≡ true) where
-    pub kept_short : IsKept (with_part (Some next) reached)
-    kept_short = kept_by (Some next) reached (subst (λ (n : ℕ). LineGoesOn f.begun f.rows.stand now.held
+    pub kept_short : f.gap.at_zeros ≡ false → IsKept (with_part (Some next) reached)
+    kept_short some_follow = kept_by (Some next) reached (subst (λ (n : ℕ). LineGoesOn f.begun f.rows.stand now.held
         (drop f.place (bits_in f.order f.«data».items)) n next) (sym reached_is)
         (part_reached (feeding_of f) scanned part next read before after short before_is place_within on kept inside is_short))
+        (λ zeros. absurd (false≢true (sym some_follow ∙ zeros)))
 
     pub short_scans : ScansLine part.passed read (feeding_of f) (feeding_of (with_part (Some next) reached)) true
     short_scans = subst (λ (n : ℕ). ScansLine part.passed read (feeding_of f) (feeding_of (with_part (Some next) n)) true)

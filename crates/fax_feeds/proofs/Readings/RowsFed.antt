@@ -21,6 +21,7 @@ use Rattle.fax_rows.proofs.Readings.LinesRead.{line_stays, line_is_next}
 use Rattle.fax_bits.specs.declared.error.DecodeError.TheVariants.{InvalidCode}
 use Rattle.fax_feeds.proofs.Names.{no_memory}
 use Rattle.fax_bits.proofs.ErrorKinds.{by_kind, no_memory_is}
+use Rattle.fax_reading.specs.Context.{Repairs}
 
 -- ---- Bits that lie in the whole data
 
@@ -251,3 +252,9 @@ pub none_read : (r : Result Bool DecodeError) → IsUnread r → r ≢ Ok true
 none_read (Ok true) left e = absurd cc
 none_read (Ok false) left e = cc
 none_read (Err error) left e = cc
+
+pub read_after : (rows : RowState) (answer : Result Bool DecodeError) (start rows_before cut_before : ℕ) (repairs : Repairs)
+    → answer ≡ Ok true
+    → (rows_after_line rows (line_answer answer) start rows_before cut_before repairs).stand ≡ AfterRow
+read_after rows (Ok read) start rows_before cut_before repairs e = refl
+read_after rows (Err error) start rows_before cut_before repairs e = absurd cc

@@ -4,21 +4,63 @@ use Rattle.fax_feeds.proofs.Names.{◌≡◌, ◌∙◌, ◌++◌, ◌∷◌, []
 use Rattle.fax_feeds.proofs.Names.{◌+◌, ◌<◌, ◌≤◌, Bool, true, false, Result, DecodeError, arith}
 use Rattle.std.specs.Prelude.{◌^◌}
 use Rattle.fax_feeds.specs.RowFeeds.{CountsRow, Feeding, FeedsRow, FeedsRows, KeepsBits, PassesRows, ReadsInFeed, fed_row}
-use Rattle.fax_feeds.specs.RowFeeds.{PushesRows, last_left, rows_left}
+use Rattle.fax_feeds.proofs.Names.{DecodeSettings}
+use Rattle.fax_feeds.specs.RowFeeds.{PushesRows, no_gap, last_left, rows_left}
 use Rattle.fax_reading.specs.Decoding.{SinkState}
 use Rattle.fax_bits.specs.declared.error.DecodeError.TheVariants.{Refused}
 use Rattle.fax_feeds.specs.declared.row_feed.Fed.{Fed}
+use Rattle.fax_feeds.specs.declared.counted_gaps.GapSoFar.{GapSoFar}
+use Rattle.fax_feeds.specs.RowFeeds.{fed_without_row}
+use Rattle.fax_feeds.proofs.Names.{Option, Some, None, false≢true, is_at_line}
+use Rattle.fax_rows.specs.RowsTried.{IsUnread}
+use Rattle.fax_rows.specs.declared.row_reader.RowState.{RowState}
 
 pub line_was_read : (answer : Result Bool DecodeError) → fed_row answer ≡ Ok Fed.Row → answer ≡ Ok true
 line_was_read (Ok true) e = refl
 line_was_read (Ok false) e = absurd cc
 line_was_read (Err error) e = absurd cc
 
+pub line_was_left : (answer : Result Bool DecodeError) → fed_row answer ≡ Ok Fed.NeedsMore → answer ≡ Ok false
+line_was_left (Ok true) e = absurd cc
+line_was_left (Ok false) e = refl
+line_was_left (Err error) e = absurd cc
+
+pub line_was_needed : (line : Result (Option Bool) DecodeError) → fed_without_row line ≡ Ok Fed.NeedsMore → line ≡ Ok None
+line_was_needed (Ok None) e = refl
+line_was_needed (Ok (Some line)) e = absurd cc
+line_was_needed (Err error) e = absurd cc
+
 -- a row is counted whose line is read after a gap
 pub counts_row : {old mid new : Feeding} (answer : Result Bool DecodeError)
     → mid.ctx.held.settings ≡ old.ctx.held.settings → mid.ctx.held.taken ≡ old.ctx.held.taken
-    → mid.ctx.held.taken + 1 < 2 ^ 64 → mid.looked ≡ 0 → ReadsInFeed mid new answer → CountsRow old new (fed_row answer)
-counts_row answer settings taken room unlooked reads = grind (arith, common_steps, line_was_read)
+    → mid.ctx.held.taken + 1 < 2 ^ 64 → (mid.gap.at_zeros ≡ false → mid.gap ≡ no_gap) → is_at_line mid.rows.stand ≡ true
+    → ReadsInFeed mid new answer → CountsRow old new (fed_row answer)
+counts_row answer settings taken room unlooked line reads = record {
+  settings = reads.settings ∙ settings;
+  taken = λ e.
+      let now = reads.taken (line_was_read answer e) in (now ∙ ap (λ (n : ℕ). n + 1) taken, omega (arith, now, room));
+  width = λ e. reads.width (line_was_read answer e) ∙ ap (λ (s : DecodeSettings). s.columns) settings;
+  stands = λ e.
+      let is = line_was_read answer e in
+      (reads.begun, reads.after is, reads.done (λ left. let never = sym is ∙ left in absurd cc));
+  unlooked = λ e more. reads.gap ∙ unlooked (ap (λ (g : GapSoFar). g.at_zeros) (sym reads.gap) ∙ more);
+  few = λ e away.
+      let same = (reads.left (subst IsUnread (sym (line_was_left answer e)) refl)).0 in
+      absurd (false≢true (sym away ∙ ap (λ (r : RowState). is_at_line r.stand) same ∙ line));
+}
+
+-- after a gap
+pub counts_on : {old mid new : Feeding} (answer : Result Fed DecodeError)
+    → mid.ctx.held.settings ≡ old.ctx.held.settings → mid.ctx.held.taken ≡ old.ctx.held.taken → CountsRow mid new answer
+    → CountsRow old new answer
+counts_on answer settings taken counts = record {
+  settings = counts.settings ∙ settings;
+  taken = λ e. ((counts.taken e).0 ∙ ap (λ (n : ℕ). n + 1) taken, (counts.taken e).1);
+  width = λ e. counts.width e ∙ ap (λ (s : DecodeSettings). s.columns) settings;
+  stands = counts.stands;
+  unlooked = counts.unlooked;
+  few = counts.few;
+}
 
 -- some rows were read, and then others
 all_read : (old : Feeding) (first then : List Feeding) → FeedsRows old first → FeedsRows (last_left old first) then

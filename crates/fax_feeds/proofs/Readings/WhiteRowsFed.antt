@@ -5,8 +5,7 @@ use Rattle.fax_feeds.proofs.Readings.FeedTurns.{IsReadBy, past_line}
 use Rattle.fax_feeds.proofs.Readings.FeedWhite.{white_read_by, white_row}
 use Rattle.fax_rows.proofs.Readings.RowsAgain.{white_unchanging}
 use Rattle.fax_feeds.proofs.Readings.RowsPassed.{keeps_on, passes_more}
-use Rattle.fax_feeds.specs.GapsSeen.{nothing_seen}
-use Rattle.fax_feeds.specs.RowFeeds.{Feeding, FeedsRow, KeepsBits, PassesRows, feeding_of}
+use Rattle.fax_feeds.specs.RowFeeds.{Feeding, FeedsRow, KeepsBits, PassesRows, feeding_of, no_gap}
 use Rattle.fax_rows.specs.WhiteRows.{PassWhite, PassesWhite, Pushed, ReadsWhite}
 use Rattle.fax_feeds.specs.declared.row_feed.Fed.{Fed}
 use Rattle.fax_feeds.specs.declared.row_feed.RowFeed.TheInside.{Inside}
@@ -26,7 +25,7 @@ pub record IsFedTo {M : Type 0} (step : M → List ℕ → M) (first : Feeding) 
   pub settings : now.ctx.held.settings ≡ first.ctx.held.settings
 
 module _ {M : Type 0} {step : M → List ℕ → M} {first : Feeding} {start : M} {f : Inside} {lines : WhiteLines}
-    (fresh : f.look ≡ nothing_seen) where
+    (fresh : f.gap ≡ no_gap) where
   -- a white line is the next row
   module _ {mid new : Pushed M} (fed : IsFedTo step first start f mid) (reads : ReadsWhite lines f.dropped mid new) where
     pub white_fed_row : FeedsRow (feeding_of (fed_to f mid)) (feeding_of (fed_to f new)) (Ok Fed.Row)
@@ -53,7 +52,7 @@ module _ {M : Type 0} {step : M → List ℕ → M} {first : Feeding} {start : M
 
 -- and so on
 pub some_fed : {M : Type 0} (step : M → List ℕ → M) (first : Feeding) (start : M) (f : Inside) (lines : WhiteLines)
-    → f.look ≡ nothing_seen → (count : ℕ) (old new : Pushed M) → IsFedTo step first start f old
+    → f.gap ≡ no_gap → (count : ℕ) (old new : Pushed M) → IsFedTo step first start f old
     → PassWhite step lines f.dropped count old new → IsFedTo step first start f new
 some_fed step first start f lines fresh zero old new fed pass = subst (IsFedTo step first start f) (sym pass) fed
 some_fed step first start f lines fresh (suc count) old new fed pass =

@@ -3,10 +3,11 @@ use Rattle.hayro_ccitt.proofs.Names.{common_steps}
 use Rattle.hayro_ccitt.proofs.Names.{◌≡◌, ◌≢◌, ◌∙◌, ◌∷◌, [], refl, sym, ap, subst, ℕ, List, Ok, Err, meaning_after}
 use Rattle.hayro_ccitt.proofs.Names.{◌+◌, ◌<◌, ◌≤◌, inl, inr, Result, None, DecodeError, DecodeSettings, arith, plain}
 use Rattle.hayro_ccitt.proofs.Names.{Bits, SinkState, IsFault, HasEnded, HasFailed, OutOfMemory, Refused, ended}
-use Rattle.hayro_ccitt.proofs.Names.{drop, length, take}
+use Rattle.hayro_ccitt.proofs.Names.{Row, drop, get_or, length, take}
+use Rattle.hayro_ccitt.specs.Rows.{changes}
 use Rattle.std.specs.Prelude.{Bool, IfErr}
 use Rattle.std.proofs.lemmas.List.{drop_more}
-use Rattle.fax_feeds.specs.RowFeeds.{ComesToNoRow, Feeding, FeedsNext, FeedsRows, IsFeedOf, RefusesRow}
+use Rattle.fax_feeds.specs.RowFeeds.{ComesToNoRow, Feeding, FeedsNext, FeedsRows, IsFeedOf, RefusesRow, offset_of}
 use Rattle.fax_feeds.specs.RowFeeds.{last_left, rows_left}
 use Rattle.hayro_ccitt.specs.RowsOfFeeds.{PassesNextRows, PassesPlainRows, rows_of, sink_state}
 use Rattle.fax_feeds.specs.declared.row_feed.Fed.{Fed}
@@ -39,9 +40,9 @@ have_read : (whole : Bits) (tried : ℕ) (old : Feeding) (rows : List Feeding) �
 have_read whole tried old [] unended stands reads = grind (arith, common_steps)
 have_read whole tried old (new ∷ rows) unended stands reads =
     let call = reads.0.reads whole tried unended stands in
-    let next = call.row refl in
+    let next = call.plainly.row refl in
     let (more_come, more, within) = next.more refl in
-    let rest = have_read whole (tried + call.extra) new rows more_come call.stands reads.1 in
+    let rest = have_read whole (tried + call.plainly.extra) new rows more_come call.stands reads.1 in
     let plain_rows = rows_of old whole in
     let index : old.ctx.held.taken < length plain_rows = omega (arith, more, within) in
     record {
@@ -56,31 +57,37 @@ have_read whole tried old (new ∷ rows) unended stands reads =
 
 -- ---- A call that reads no row
 
+-- where the reading is
+there : (new : Feeding) → 0 + offset_of new ≡ offset_of new
+there new = omega arith
+
 module _ {whole : Bits} {tried : ℕ} {old new : Feeding} where
   failed : (e : DecodeError) → e ≢ OutOfMemory → FeedsNext whole tried old new (Err e)
       → (new.ctx.held.taken ≡ old.ctx.held.taken)
-      × HasFailed old.ctx.held.settings whole new.ctx.held.taken (new.dropped + new.place) e
-  failed e other next = let (over, taken, has) = (next.fault other).error in (taken, has)
+      × HasFailed old.ctx.held.settings whole new.ctx.held.taken (offset_of new) e
+  failed e other next = let (over, taken, has) = (next.plainly.fault other).error in
+      (taken, subst (λ (n : ℕ). HasFailed old.ctx.held.settings whole new.ctx.held.taken n e) (there new) has)
 
   never_refused : (answer : Result Fed DecodeError) → FeedsNext whole tried old new answer → answer ≢ Err Refused
-  never_refused answer next is = grind (arith, common_steps)
+  never_refused answer next is = grind (arith, common_steps, next.plainly)
 
   pub none_taken : (answer : Result Fed DecodeError) → answer ≢ Ok Fed.Row → FeedsNext whole tried old new answer
       → new.ctx.held.taken ≡ old.ctx.held.taken
   none_taken (Ok Fed.Row) no_row next = absurd (no_row refl)
-  none_taken (Ok Fed.NeedsMore) no_row next = (next.none refl).taken
-  none_taken (Ok Fed.End) no_row next = let (over, taken, has) = (next.end refl).end refl in taken
+  none_taken (Ok Fed.NeedsMore) no_row next = (next.plainly.none refl).taken
+  none_taken (Ok Fed.End) no_row next = let (over, taken, has) = (next.plainly.end refl).end refl in taken
   none_taken (Err error) no_row next = by_kind (λ (e : DecodeError). FeedsNext whole tried old new (Err e)
       → new.ctx.held.taken ≡ old.ctx.held.taken) (λ e fault next. (failed e (fault_not_memory e fault) next).0)
-      (λ next. (next.none refl).taken) (λ next. (failed Refused (λ e. cc) next).0) error next
+      (λ next. (next.plainly.none refl).taken) (λ next. (failed Refused (λ e. cc) next).0) error next
 
   has_ended : (answer : Result Fed DecodeError) → FeedsNext whole tried old new answer → answer ≡ Ok Fed.End
-      → HasEnded old.ctx.held.settings whole new.ctx.held.taken (new.dropped + new.place)
-  has_ended answer next is = let (over, taken, has) = (next.end is).end refl in has
+      → HasEnded old.ctx.held.settings whole new.ctx.held.taken (offset_of new)
+  has_ended answer next is = let (over, taken, has) = (next.plainly.end is).end refl in
+      subst (HasEnded old.ctx.held.settings whole new.ctx.held.taken) (there new) has
 
   has_failed : (answer : Result Fed DecodeError) → FeedsNext whole tried old new answer
       → IfErr answer (λ e. IsFault e
-      → HasFailed old.ctx.held.settings whole new.ctx.held.taken (new.dropped + new.place) e)
+      → HasFailed old.ctx.held.settings whole new.ctx.held.taken (offset_of new) e)
   has_failed (Ok fed) next = tt
   has_failed (Err e) next = λ fault. (failed e (fault_not_memory e fault) next).1
 
@@ -109,19 +116,41 @@ module _ {M : Type 0} (whole : Bits) (step : M → List ℕ → M) (before after
         meaning = passed_rows;
         taken = λ other. none_taken answer ends.no_row next ∙ read.taken;
         refused = λ is. absurd (never_refused answer next is);
-        waits = next.unsettled;
-        end = λ is. subst (λ (s : DecodeSettings). HasEnded s whole new.ctx.held.taken (new.dropped + new.place))
+        waits = next.plainly.unsettled;
+        end = λ is. subst (λ (s : DecodeSettings). HasEnded s whole new.ctx.held.taken (offset_of new))
             read.settings (has_ended answer next is);
         fault = subst (λ (s : DecodeSettings). IfErr answer (λ e. IsFault e
-            → HasFailed s whole new.ctx.held.taken (new.dropped + new.place) e)) read.settings (has_failed answer next);
-        tried = read.tried + next.extra;
+            → HasFailed s whole new.ctx.held.taken (offset_of new) e)) read.settings (has_failed answer next);
+        tried = read.tried + next.plainly.extra;
         stands = next.stands;
       }
 
   -- or the sink refused the row that is next
   passed_to_refusal : (answer : Result Fed DecodeError) → RefusesRow after mid new answer
       → PassesNextRows whole step before after old new answer
-  passed_to_refusal answer ends = grind (arith, common_steps, passed_rows, refusal_is_no_fault)
+  passed_to_refusal answer ends =
+      let next = ends.call.reads whole read.tried read.unended read.stands in
+      let came = next.plainly.row refl in
+      let more = came.more refl in
+      let row_is = came.row refl
+      ∙ ap (λ (s : DecodeSettings). get_or (plain s whole).rows mid.ctx.held.taken []) read.settings
+      ∙ ap (λ (n : ℕ). get_or (rows_of old whole) n []) read.taken in
+      record {
+        passed = length rows;
+        within = λ some. omega (arith, read.taken, read.within some);
+        meaning = passed_rows;
+        taken = λ other. absurd (other ends.answer_is);
+        refused = λ is. (
+          omega (arith, more.1, read.taken),
+          subst (λ (s : DecodeSettings). new.ctx.held.taken ≤ length (plain s whole).rows) read.settings more.2,
+          subst (λ (r : Row). after.refuses (changes r)) row_is ends.row,
+        );
+        waits = λ is. let never = sym ends.answer_is ∙ is in absurd cc;
+        end = λ is. let never = sym ends.answer_is ∙ is in absurd cc;
+        fault = refusal_is_no_fault _ answer ends.answer_is;
+        tried = read.tried + next.plainly.extra;
+        stands = next.stands;
+      }
 
 pub passes_plain_rows : {S M : Type 0} (meaning : S → M) (has_refused : S → Bool) (refuses : S → List ℕ → Type 0)
     → PassesPlainRows meaning has_refused refuses

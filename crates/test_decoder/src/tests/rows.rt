@@ -80,6 +80,16 @@ fn are_alike(rt: &(impl Abort + AllocGlobal), feed: &RowFeed, reader: &RowReader
     same(rt, found, expected);
 }
 
+/// Compares what is unused with the bytes that were fed after those that were consumed.
+fn unused_is_after(rt: &(impl Abort + AllocGlobal), feed: &RowFeed, fed: &[u8]) {
+    let size = feed.unused_len();
+    let mut found = vec![in rt.alloc(); 0xEEu8; size].expect(rt, "memory");
+    assert!(rt; feed.copy_unused(&mut found));
+    let read = feed.bytes_read();
+    assert!(rt; read <= fed.len());
+    same(rt, &found[..], &fed[read..]);
+}
+
 /// Reads the rows of data that comes byte by byte, as a reader does from all of it.
 fn feeds_bytes(
     rt: &(impl Abort + AllocGlobal),
@@ -95,6 +105,8 @@ fn feeds_bytes(
         let found = next_of(&mut reader);
         same(rt, next_fed(rt, &mut feed, data, &mut fed), found);
         are_alike(rt, &feed, &reader, digits);
+        assert!(rt; fed <= data.len());
+        unused_is_after(rt, &feed, &data[..fed]);
     }
 }
 
@@ -419,4 +431,16 @@ fn long_gaps_come_byte_by_byte(rt: HostRuntime) {
     feeds_row(&rt, &mut feed, &line);
     let found = (first, feed.line_start(), feed.missed_eol());
     same(&rt, found, (800_012, 1_600_036, Some(800_017)));
+}
+
+/// Of a gap that waits only the number of its bits is kept: they aren't written as unused.
+#[test]
+fn a_gap_that_waits_is_not_unused(rt: HostRuntime) {
+    let settings = settings_in(&rt, "Group3_1D 8 columns 0 rows l");
+    let mut feed = RowFeed::new(rt.alloc(), BitOrder::HighestFirst, settings).expect(&rt, "memory");
+    feeds_alike(&rt, &mut feed, 0x00, 3);
+    assert!(rt; feed.unused_len() == 3);
+    let mut bytes = [0xEEu8; 3];
+    same(&rt, feed.copy_unused(&mut bytes), false);
+    same(&rt, bytes, [0xEE; 3]);
 }

@@ -1,4 +1,5 @@
 use Rattle.fax_feeds.proofs.Names.{◌≡◌, ◌∙◌, ◌+◌, ◌&&◌, ap, sym, arith, length, drop, length-drop, drop-drop, not, Bool, Bits}
+use Rattle.fax_feeds.proofs.Names.{true, false, refl, false≢true}
 use Rattle.fax_feeds.proofs.Names.{ℕ, subst, length-append, here}
 use Rattle.fax_feeds.specs.GapsSeen.{LooksTo, nothing_seen, is_settled, stage_following}
 use Rattle.fax_feeds.specs.declared.gap_look.GapStage.TheVariants.{Start}
@@ -56,6 +57,23 @@ returns-clause-waits c =
     )))))
     ∙ sym (ap (λ (b : Bool). not b && not (is_settled (stage_following c.args.rules.now Start 0 (here c.args.reader.now))))
     c.if-is_last.false)
+
+pub returns-clause-all : goal.returns-clause-all
+returns-clause-all c e =
+    let at = (goal.at.returns-clause-all c).After-look_on in
+    let looks = c.requires.seen.1 in
+    omega (
+      arith,
+      c.look_on.ensures.all (not_true c.look_on.result e),
+      ap length (ahead_is at),
+      looks.bits,
+      ap length looks.are,
+      length-append looks.looked c.requires.seen.0,
+    )
+  where
+    not_true : (b : Bool) → not b ≡ true → b ≡ false
+    not_true false e = refl
+    not_true true e = absurd (false≢true e)
 
 pub returns-clause-seen : goal.returns-clause-seen
 returns-clause-seen c =

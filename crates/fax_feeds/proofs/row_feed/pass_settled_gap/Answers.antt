@@ -50,7 +50,11 @@ returns-then-gap_waits c =
     record {
       extra = c.gap_waits.new.ctx.ticks - c.args.ctx.now.ticks;
       looks = grind (arith, common_steps, false≢true, looked_within);
-      looked = λ e. (omega (arith, c.gap_waits.ensures.looked, c.gap_waits.ensures.onward), c.gap_waits.ensures.seen);
+      looked = λ e. (
+        omega (arith, c.gap_waits.ensures.looked, c.gap_waits.ensures.onward),
+        c.gap_waits.ensures.seen,
+        c.gap_waits.ensures.all c.if-gap_waits.true,
+      );
       none_looked = λ passed. absurd (passed refl);
       near = λ passed unfinished. absurd (passed refl);
       counts = omega (arith, c.gap_waits.ensures.looked, c.gap_waits.ensures.onward);
@@ -59,8 +63,8 @@ returns-then-gap_waits c =
       past_eol = λ unfinished no_line sought e. cc;
       same_bits = refl;
       within = omega (arith, c.bit_pos-start.ensures.place, c.bit_pos-start.ensures.within);
-      space = c.gap_waits.ensures.space;
-      frame = rw c.gap_waits.ensures.held refl;
+      space = c.gap_waits.ensures.kept.1;
+      frame = rw c.gap_waits.ensures.kept.0 refl;
       waits = λ e. grind (arith, common_steps);
       comes = λ from whole dropped passed lie starts stands. absurd (passed refl);
       stands = λ from whole dropped passed lie starts stands. absurd (passed refl);
@@ -139,7 +143,7 @@ returns c =
     let no_line = sym c.is_at_line.ensures ∙ c.if-is_at_line.false in
     let closed = waits_not c.args.is_last (gap_is_settled held.settings held.taken held.has_eols (here c.args.reader.now))
     (sym c.gap_waits.ensures.waits ∙ c.if-gap_waits.false) in
-    let same = c.gap_waits.ensures.held in
+    let same = c.gap_waits.ensures.kept.0 in
     let settled = subst (λ (h : Held). (c.args.is_last ≡ true)
     ⊎ (gap_is_settled h.settings h.taken h.has_eols (here c.args.reader.now) ≡ true)) (sym same) closed in
     let gap = c.pass_gap_here.ensures in
@@ -193,7 +197,7 @@ returns c =
           (over_is gap.over (sym gap.said ∙ came_is answer (sym c.of_settled_gap.ensures ∙ e)));
       same_bits = gap.same_bits;
       within = gap.within;
-      space = gap.space ∙ c.gap_waits.ensures.space;
+      space = gap.space ∙ c.gap_waits.ensures.kept.1;
       frame = grind (arith, common_steps, gap.passes [] (inl refl));
       waits = λ e. absurd (passed_some answer (sym c.of_settled_gap.ensures ∙ e));
       comes = λ from whole dropped passed lie starts stands. rw c.of_settled_gap.ensures (gap_step_reaches c.args.is_last

@@ -1,9 +1,6 @@
 use Rattle.fax_feeds.proofs.Names.{common_steps}
-use Rattle.fax_feeds.proofs.Names.{rules, ◌≡◌, ◌∙◌, sym, refl, arith, length, ◌≤◌, ℕ, Bool, true, Result, Ok, Err}
-use Rattle.fax_feeds.proofs.Names.{AfterRow, DecodeError}
-use Rattle.fax_reading.specs.Context.{Repairs}
-use Rattle.fax_rows.specs.declared.row_reader.RowState.{RowState}
-use Rattle.fax_feeds.proofs.Readings.RowsFed.{left_is, left_not, line_step_stands, line_step_reads, none_read}
+use Rattle.fax_feeds.proofs.Names.{rules, ◌≡◌, ◌∙◌, sym, refl, arith, length, ◌≤◌, true}
+use Rattle.fax_feeds.proofs.Readings.RowsFed.{left_is, left_not, line_step_stands, line_step_reads, none_read, read_after}
 use Rattle.fax_rows.specs.RowsTried.{rows_after_line}
 use Rattle.fax_feeds.specs.RowFeeds.{line_answer}
 use Rattle.fax_feeds.proofs.row_feed.try_line.Goals.{After-note_line}
@@ -28,12 +25,6 @@ kept_after_try : (c : After-note_line) → c.note_line.new.self ≡ rows_after_l
     (line_answer c.try_row-row.result)
     c.args.line_start c.args.ctx.now.held.repairs.rows c.args.ctx.now.held.repairs.cut c.try_row-row.new.ctx.held.repairs
 kept_after_try c = search rules
-
-read_after : (rows : RowState) (answer : Result Bool DecodeError) (start rows_before cut_before : ℕ) (repairs : Repairs)
-    → answer ≡ Ok true
-    → (rows_after_line rows (line_answer answer) start rows_before cut_before repairs).stand ≡ AfterRow
-read_after rows (Ok read) start rows_before cut_before repairs e = refl
-read_after rows (Err error) start rows_before cut_before repairs e = absurd cc
 
 pub returns-clause-tries : goal.returns-clause-tries
 returns-clause-tries c =

@@ -7,17 +7,17 @@ use Rattle.fax_feeds.proofs.Readings.GapsSeen.{looks_at_run, looks_at_zeros}
 use Rattle.fax_feeds.proofs.gap_look.GapLook.look_on.Goals.{In-None, In-Some}
 use Rattle.fax_feeds.proofs.gap_look.GapLook.look_on.Goals as goal
 
-zeros_left : (c : In-None) → here c.ones.rest ≡ replicate c.zero_run-zeros.result.0 false
-zeros_left c = rw c.in-None.is at c.zero_run-zeros.ensures.end
+only_zeros : (c : In-None) → here c.ones.rest ≡ replicate c.zero_run-zeros.result.0 false
+only_zeros c = rw c.in-None.is at c.zero_run-zeros.ensures.end
 
 pub returns-in-None-clause-looks : goal.returns-in-None-clause-looks
-returns-in-None-clause-looks c = grind (arith, common_steps, looks_at_zeros, zeros_left c)
+returns-in-None-clause-looks c = grind (arith, common_steps, looks_at_zeros, only_zeros c)
 
 pub returns-in-None-clause-ticks : goal.returns-in-None-clause-ticks
-returns-in-None-clause-ticks c = grind (arith, common_steps, looked-zeros, length-replicate, zeros_left c)
+returns-in-None-clause-ticks c = grind (arith, common_steps, looked-zeros, length-replicate, only_zeros c)
 
 pub returns-in-None-clause-all : goal.returns-in-None-clause-all
-returns-in-None-clause-all c e = grind (arith, common_steps, length-append, length-replicate, zeros_left c)
+returns-in-None-clause-all c e = grind (arith, common_steps, length-append, length-replicate, only_zeros c)
 
 run_here : (c : In-Some) → here c.ones.rest ≡ replicate c.zero_run-zeros.result.0 false ++ true ∷ here c.in-Some.after
 run_here c = let one = rw c.in-Some.is at c.zero_run-zeros.ensures.one in one.1

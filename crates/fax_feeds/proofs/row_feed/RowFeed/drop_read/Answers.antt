@@ -4,8 +4,10 @@ use Rattle.fax_feeds.proofs.Names.{drop, drop-drop, bits_in, List, ℕ}
 use Rattle.std.proofs.Math.Seq.{paste, take-append_seam}
 use Rattle.std.proofs.lemmas.List.Edits.{paste_all}
 use Rattle.fax_bits.proofs.BitReading.BitLists.{length-bits_in}
-use Rattle.fax_feeds.proofs.Readings.FeedsOn.{bits-dropped}
+use Rattle.fax_feeds.proofs.Readings.FeedsHeld.{bits-dropped}
 use Rattle.fax_feeds.proofs.Readings.LooksKept.{seen_there}
+use Rattle.fax_feeds.proofs.Names.{subst}
+use Rattle.fax_feeds.specs.RowFeeds.{IsCounted}
 use Rattle.fax_feeds.proofs.row_feed.RowFeed.drop_read.Goals.{After-truncate}
 use Rattle.fax_feeds.proofs.row_feed.RowFeed.drop_read.Goals as goal
 
@@ -37,15 +39,28 @@ invariant_of-self c =
     let same : drop place (bits_in inside.order c.truncate.new.self.items) ≡ drop inside.place bits
     = ap (drop place) (bits_left at) ∙ drop-drop place (8 * (inside.place / 8)) bits ∙ ap (λ (n : ℕ). drop n bits) there in
     let kept = ap length (items_left at) ∙ length-drop (inside.place / 8) inside.«data».items in
+    let old = c.self.invariant in
     record {
-      within = omega (arith, kept, c.self.invariant.within);
-      fit = omega (arith, kept, c.self.invariant.within, c.self.invariant.fit);
-      fresh = c.self.invariant.fresh;
-      start = λ e. omega (arith, c.self.invariant.start e);
-      unended = c.self.invariant.unended;
-      rows = c.self.invariant.rows;
-      seen = seen_there (sym same) c.self.invariant.seen;
-      line = c.self.invariant.line;
+      within = omega (arith, kept, old.within);
+      fit = omega (arith, kept, old.within, old.fit);
+      unbegun = λ e.
+          let was = old.unbegun e in
+          record {
+            fresh = was.fresh;
+            start = omega (arith, was.start);
+            unended = was.unended;
+            rows = was.rows;
+            unlooked = was.unlooked;
+            some_follow = was.some_follow;
+            narrow = was.narrow;
+          };
+      seen = seen_there (sym same) old.seen;
+      bytes = omega (arith, old.bytes);
+      line = old.line;
+      over = old.over;
+      counted = subst (IsCounted inside.gap) (omega arith) old.counted;
+      unkept = old.unkept;
+      last = old.last;
       part = grind (arith, common_steps);
     }
 
@@ -59,6 +74,7 @@ returns-then-bytes-eq0 c =
       place = omega arith;
       few_read = omega arith;
       looked = refl;
+      gap = refl;
       within = omega (arith, c.self.invariant.within, length-bits_in c.self.inside.order c.self.inside.«data».items);
       ctx = refl;
       rows = refl;
@@ -82,6 +98,7 @@ returns c =
       place = omega arith;
       few_read = omega arith;
       looked = refl;
+      gap = refl;
       within = omega (arith, c.self.invariant.within, length-bits_in c.self.inside.order c.self.inside.«data».items);
       ctx = refl;
       rows = refl;

@@ -7,7 +7,7 @@ use Rattle.fax_feeds.proofs.Names.{Err, Result, ◌+◌, ◌<◌, arith, length,
 use Rattle.std.specs.Prelude.{◌^◌}
 use Rattle.fax_feeds.proofs.Readings.BitsHeld.{holds_more, holds_none}
 use Rattle.fax_feeds.proofs.Names.{drop, length-append}
-use Rattle.fax_feeds.proofs.Readings.FeedsOn.{come_next, drops_none_fed, drops_read, feeds_more}
+use Rattle.fax_feeds.proofs.Readings.FeedsHeld.{come_next, drops_none_fed, drops_read, feeds_more}
 use Rattle.fax_feeds.proofs.Readings.LooksKept.{seen_more, seen_there}
 use Rattle.fax_feeds.proofs.Readings.PartsFed.{kept_longer}
 use Rattle.std.proofs.lemmas.List.{drop-append-le}
@@ -119,15 +119,17 @@ invariant_of-self-2 c =
     record {
       within = omega (arith, longer, old.within);
       fit = grind (arith, common_steps);
-      fresh = old.fresh;
-      start = old.start;
-      unended = old.unended;
-      rows = old.rows;
+      unbegun = λ e. grind (arith, common_steps, old.unbegun e);
       seen = seen_there (ap (drop inside.place) (sym (ap (bits_in inside.order) items
           ∙ flat_map-append (bits_of_byte inside.order) inside.«data».items c.args.bytes.now)))
           (seen_more inside.place (bits_in inside.order inside.«data».items) (bits_in inside.order c.args.bytes.now)
           (omega (arith, old.within, length-bits_in inside.order inside.«data».items)) old.seen);
+      bytes = old.bytes;
       line = old.line;
+      over = old.over;
+      counted = old.counted;
+      unkept = old.unkept;
+      last = old.last;
       part = grind (arith, common_steps, drop-append-le, length-bits_in, flat_map-append, kept_longer);
     }
 

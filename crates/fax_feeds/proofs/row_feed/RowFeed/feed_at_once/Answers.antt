@@ -2,7 +2,7 @@ use Rattle.fax_feeds.proofs.Names.{common_steps}
 use Rattle.fax_feeds.proofs.Names.{◌<◌, ◌≤◌, arith, bits_in, length, length-append}
 use Rattle.fax_bits.proofs.BitReading.BitLists.{length-bits_in}
 use Rattle.fax_feeds.proofs.Readings.BitsHeld.{holds_more}
-use Rattle.fax_feeds.proofs.Readings.FeedsOn.{feeds_more}
+use Rattle.fax_feeds.proofs.Readings.FeedsHeld.{feeds_more}
 use Rattle.fax_feeds.specs.RowFeeds.{DropsRead, Feeding}
 use Rattle.fax_feeds.proofs.row_feed.RowFeed.feed_at_once.Goals as goal
 

@@ -1,5 +1,5 @@
 use Rattle.fax_feeds.proofs.Names.{ap, true}
-use Rattle.fax_feeds.proofs.Readings.FeedsOn.{feed_finished}
+use Rattle.fax_feeds.proofs.Readings.FeedsHeld.{feed_finished}
 use Rattle.fax_feeds.specs.RowFeeds.{Feeding}
 use Rattle.fax_feeds.proofs.row_feed.RowFeed.finish.Goals as goal
 

@@ -2,6 +2,7 @@ use Rattle.fax_feeds.proofs.Names.{arith}
 use Rattle.fax_feeds.proofs.Names.{common_steps}
 use Rattle.fax_feeds.proofs.Names.{◌∙◌, ap, sym, subst, drop}
 use Rattle.fax_feeds.proofs.Readings.PartsFed.{stays_by}
+use Rattle.fax_feeds.proofs.Readings.PartsScanned.{part_follows}
 use Rattle.fax_feeds.specs.RowFeeds.{Feeding, LineGoesOn, ScansLine, StaysShort}
 use Rattle.fax_feeds.proofs.row_feed.RowFeed.go_on_by_call.Goals.{In-Some, After-go_on_from}
 use Rattle.fax_feeds.proofs.row_feed.RowFeed.go_on_by_call.Goals as goal
@@ -12,7 +13,11 @@ part_kept : (c : In-Some) → LineGoesOn c.args.self.now.begun c.args.self.now.r
 part_kept c = grind (arith, common_steps)
 
 pub go_on_from-requires : goal.go_on_from-requires
-go_on_from-requires c = record { part = part_kept (goal.at.go_on_from-requires c).In-Some }
+go_on_from-requires c = record {
+  part = part_kept (goal.at.go_on_from-requires c).In-Some;
+  gap = ap (λ (f : Feeding). f.gap.at_zeros) (sym c.self.view_is)
+      ∙ part_follows c.self.inside c.in-Some.part c.self.invariant c.in-Some.is;
+}
 
 -- what the call leaves
 module _ (c : After-go_on_from) (kept : LineGoesOn c.args.self.now.begun c.args.self.now.rows.stand c.args.self.now.ctx.held

@@ -1,4 +1,4 @@
-use Rattle.fax_feeds.proofs.Names.{common_steps, refl, ◌≡◌, ◌+◌, sym, subst, arith, length-drop, drop, bits_in}
+use Rattle.fax_feeds.proofs.Names.{common_steps, refl, ◌≡◌, ◌∙◌, ◌+◌, ap, sym, subst, arith, length-drop, drop, bits_in}
 use Rattle.fax_bits.proofs.BitReading.BitLists.{length-bits_in}
 use Rattle.fax_feeds.proofs.Readings.PartsScanned.{kept_short, kept_whole, short_scans, whole_scans}
 use Rattle.fax_feeds.specs.RowFeeds.{Feeding, LineGoesOn}
@@ -33,7 +33,7 @@ invariant_of-self c =
     let at = goal.at.invariant_of-self c in
     let on = c.continue_line-is_short.ensures in
     kept_short c.self.invariant (starts_at at.After-continue_line-is_short) on.goes_on (kept at.After-deref) _ refl on.within
-    c.if-is_short.true
+    c.if-is_short.true (ap (λ (f : Feeding). f.gap.at_zeros) c.self.view_is ∙ c.requires.gap)
 
 pub invariant_of-self-2 : goal.invariant_of-self-2
 invariant_of-self-2 c =

@@ -1,6 +1,6 @@
 use Rattle.fax_feeds.proofs.Names.{common_steps, ◌≡◌, ◌+◌, arith, drop, refl, bits_in}
 use Rattle.fax_bits.proofs.BitReading.BitLists.{length-bits_in}
-use Rattle.fax_feeds.proofs.Readings.PartsScanned.{kept_short, part_within, short_stays, whole_stays}
+use Rattle.fax_feeds.proofs.Readings.PartsScanned.{kept_short, part_follows, part_within, short_stays, whole_stays}
 use Rattle.fax_feeds.specs.RowFeeds.{LineGoesOn}
 use Rattle.fax_feeds.proofs.row_feed.RowFeed.is_still_short.Goals.{After-continue_line-is_short}
 use Rattle.fax_feeds.proofs.row_feed.RowFeed.is_still_short.Goals as goal
@@ -33,6 +33,7 @@ invariant_of-self-then-is_short c =
     let at = (goal.at.invariant_of-self-then-is_short c).After-continue_line-is_short in
     let on = c.continue_line-is_short.ensures in
     kept_short c.self.invariant (starts_at at) on.goes_on (kept at) _ refl on.within c.if-is_short.true
+    (part_follows c.self.inside c.in-Some-part.part c.self.invariant c.in-Some-part.is)
 
 pub returns-then-is_short : goal.returns-then-is_short
 returns-then-is_short c =

@@ -4,12 +4,10 @@ use Rattle.fax_feeds.proofs.Names.{BitsAt}
 use Rattle.std.specs.Prelude.{IfErr, OnOk}
 use Rattle.fax_bits.proofs.BitReading.BitLists.{length-bits_in}
 use Rattle.fax_feeds.proofs.Readings.FeedTurns.{IsReadBy, past_line}
-use Rattle.fax_feeds.proofs.Readings.LooksKept.{unlooked}
 use Rattle.fax_feeds.proofs.Readings.RowsPassed.{passes_none, pushed_to_refusal}
 use Rattle.fax_feeds.proofs.Readings.WhiteRowsFed.{IsFedTo, fed_to, some_fed, white_fed_by, white_fed_empty, white_fed_row}
 use Rattle.fax_rows.proofs.Readings.WhiteRowsRead.{came_after, refused_after}
-use Rattle.fax_feeds.specs.GapsSeen.{nothing_seen}
-use Rattle.fax_feeds.specs.RowFeeds.{PassesRows, PushesRows, feeding_of}
+use Rattle.fax_feeds.specs.RowFeeds.{PassesRows, PushesRows, feeding_of, no_gap}
 use Rattle.fax_feeds.specs.declared.row_feed.RowFeed.TheInside.{Inside}
 use Rattle.fax_lines.specs.SinkStates.{state_of}
 use Rattle.fax_rows.specs.declared.white_lines.WhiteLines.{WhiteLines}
@@ -62,8 +60,8 @@ module _ (g : Over) (c : After-bit_pos-self-inside g) where
   read_by : IsReadBy c.self.inside c.placed_at-reader.result
   read_by = grind (arith, common_steps, reader_is)
 
-  fresh : c.self.inside.look ≡ nothing_seen
-  fresh = grind (arith, common_steps, unlooked c.self.invariant.seen)
+  fresh : c.self.inside.gap ≡ no_gap
+  fresh = grind (arith, common_steps, c.requires.unlooked)
 
   -- the sink means the rows so far, which are none
   fed_before : IsFedTo step_here (feeding_of c.self.inside) (g.D.Decoder.meaning c.args.decoder.now) c.self.inside read_before

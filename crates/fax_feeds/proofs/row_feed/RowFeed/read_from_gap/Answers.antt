@@ -1,11 +1,13 @@
 use Rattle.fax_feeds.proofs.Names.{common_steps}
 use Rattle.fax_feeds.proofs.Names.{◌≡◌, ◌≢◌, ◌∙◌, ap, sym, subst, arith, false≢true, false, true, BitsAt, bits_in}
-use Rattle.fax_feeds.proofs.Names.{None}
+use Rattle.fax_feeds.proofs.Names.{None, Held, White, [], length, redrawn}
+use Rattle.fax_bits.proofs.BitReading.BitLists.{length-bits_in}
+use Rattle.fax_rows.specs.RowsTried.{IsUnread}
 use Rattle.fax_feeds.proofs.Names.{Context, Ok, is_at_line, drop, ended, refl}
 use Rattle.fax_feeds.proofs.Readings.FeedTurns.{IsReadBy, full_row, gap_read_by, gap_row, line_read_by, line_row}
-use Rattle.fax_feeds.proofs.Readings.FeedTurns.{past_gap, past_line, seen_by, turn_reads}
+use Rattle.fax_feeds.proofs.Readings.FeedTurns.{can_go_on, past_gap, past_line, seen_by, turn_reads, zeros_row}
 use Rattle.fax_feeds.proofs.Readings.PartsFed.{scanned_after, unread_line}
-use Rattle.fax_feeds.specs.RowFeeds.{Feeding, FeedsRow, KeepsPart, ReadsInFeed, fed_row, feeding_of}
+use Rattle.fax_feeds.specs.RowFeeds.{Feeding, FeedsRow, KeepsPart, ReadsInFeed, fed_row, feeding_of, no_gap}
 use Rattle.fax_feeds.specs.declared.row_feed.RowFeed.TheInside.{Inside}
 use Rattle.fax_feeds.proofs.row_feed.RowFeed.read_from_gap.Goals.{After-is_some_line}
 use Rattle.fax_feeds.proofs.row_feed.RowFeed.read_from_gap.Goals.{After-is_unsettled, then-is_unsettled, else-is_unsettled}
@@ -25,17 +27,39 @@ unended_feed c = ap (λ (f : Feeding). ended f.rows.stand) c.self.view_is ∙ c.
 
 -- the feed where the gap was passed
 abbrev after_gap : After-is_some_line → Inside
-after_gap c = past_gap c.self.inside c.pass_settled_gap-line.new.ctx c.pass_settled_gap-line.new.rows
-    c.bit_pos-self-inside.result c.pass_settled_gap-line.new.look
+after_gap c = past_gap c.self.inside c.come_to_counted_line-line.new.ctx c.come_to_counted_line-line.new.rows
+    c.bit_pos-self-inside.result c.come_to_counted_line-line.new.gap
 
-gap_kept : (c : After-is_some_line) → IsReadBy (after_gap c) c.pass_settled_gap-line.new.reader
-gap_kept c = gap_read_by (feed_by c) c.bit_pos-self-inside.ensures.place c.pass_settled_gap-line.ensures
+gap_kept : (c : After-is_some_line) → IsReadBy (after_gap c) c.come_to_counted_line-line.new.reader
+gap_kept c = gap_read_by (feed_by c) c.bit_pos-self-inside.ensures.place c.if-self.false c.come_to_counted_line-line.ensures
+    (unended_feed c)
 
-pub pass_settled_gap-line-requires-clause-seen : goal.pass_settled_gap-line-requires-clause-seen
-pass_settled_gap-line-requires-clause-seen c = grind (arith, common_steps, seen_by)
+pub come_to_counted_line-line-requires-clause-seen : goal.come_to_counted_line-line-requires-clause-seen
+come_to_counted_line-line-requires-clause-seen c = grind (arith, common_steps, seen_by)
 
-pub pass_settled_gap-line-requires-clause-line : goal.pass_settled_gap-line-requires-clause-line
-pass_settled_gap-line-requires-clause-line c = c.self.invariant.line
+pub come_to_counted_line-line-requires-clause-line : goal.come_to_counted_line-line-requires-clause-line
+come_to_counted_line-line-requires-clause-line c = λ line. c.self.invariant.line line c.if-self.false
+
+pub come_to_counted_line-line-requires-clause-on : goal.come_to_counted_line-line-requires-clause-on
+come_to_counted_line-line-requires-clause-on c =
+    let is : c.placed_at-reader.result ≡ record {
+      bits = bits_in c.self.inside.order c.self.inside.«data».items;
+      place = c.self.inside.place;
+    } = grind (arith, common_steps) in
+    can_go_on c.self.invariant c.if-self.false (ap (λ (b : BitsAt). drop b.place b.bits) is)
+
+pub come_to_counted_line-line-requires-clause-fits : goal.come_to_counted_line-line-requires-clause-fits
+come_to_counted_line-line-requires-clause-fits c =
+    let is : c.placed_at-reader.result ≡ record {
+      bits = bits_in c.self.inside.order c.self.inside.«data».items;
+      place = c.self.inside.place;
+    } = grind (arith, common_steps) in
+    omega (
+      arith,
+      c.self.invariant.fit,
+      ap (λ (b : BitsAt). length b.bits) is,
+      length-bits_in c.self.inside.order c.self.inside.«data».items,
+    )
 
 pub invariant_of-self : goal.invariant_of-self
 invariant_of-self c = (gap_kept (goal.at.invariant_of-self c).After-is_some_line).kept
@@ -44,8 +68,21 @@ pub returns-then-not-is_some_line : goal.returns-then-not-is_some_line
 returns-then-not-is_some_line c =
     let here = (goal.at.returns-then-not-is_some_line c).After-is_some_line in
     rw (← c.self.view_is, c.fed_without_row.ensures)
-    (gap_row (feed_by here) c.bit_pos-self-inside.ensures.place c.pass_settled_gap-line.ensures (unended_feed here)
-    (c.is_some_line.ensures.none c.if-not-is_some_line.true))
+    (gap_row (feed_by here) c.bit_pos-self-inside.ensures.place c.if-self.false c.come_to_counted_line-line.ensures
+    (unended_feed here) (c.is_some_line.ensures.none c.if-not-is_some_line.true))
+
+-- ---- Zeros with which the data ends
+
+pub invariant_of-self-then-self-2 : goal.invariant_of-self-then-self-2
+invariant_of-self-then-self-2 c = (gap_kept (goal.at.invariant_of-self-then-self-2 c).After-is_some_line).kept
+
+pub returns-then-self-2 : goal.returns-then-self-2
+returns-then-self-2 c =
+    let here = (goal.at.returns-then-self-2 c).After-is_some_line in
+    rw (← c.self.view_is)
+    (zeros_row (feed_by here) c.bit_pos-self-inside.ensures.place c.if-self.false c.come_to_counted_line-line.ensures
+    (unended_feed here) (c.is_some_line.ensures.here c.if-not-is_some_line.false)
+    c.read_zeros-then-self-2.ensures)
 
 -- ---- The line
 
@@ -57,8 +94,8 @@ pub returns-then-not-can_take_row : goal.returns-then-not-can_take_row
 returns-then-not-can_take_row c =
     let here = (goal.at.returns-then-not-can_take_row c).After-is_some_line in
     rw (← c.self.view_is)
-    (full_row (feed_by here) c.bit_pos-self-inside.ensures.place c.pass_settled_gap-line.ensures (unended_feed here)
-    (c.is_some_line.ensures.here c.if-not-is_some_line.false)
+    (full_row (feed_by here) c.bit_pos-self-inside.ensures.place c.if-self.false c.come_to_counted_line-line.ensures
+    (unended_feed here) (c.is_some_line.ensures.here c.if-not-is_some_line.false)
     (λ fits few. false≢true (sym c.if-not-can_take_row.true ∙ c.can_take_row.ensures.room fits few)) _)
 
 pub overflow_add-line_start : goal.overflow_add-line_start
@@ -68,22 +105,33 @@ overflow_add-line_start c =
 
 module _ (c : After-is_unsettled) where
   abbrev here_gap : After-is_some_line
-  here_gap = c.before.before.before.before.before.before.before.before.before.before.before.before.before.before.before
+  here_gap = (c.before.before.before.before.before.before.before.before.before.before.before.before.before.before.before.before)
 
-  line_is_at : is_at_line c.pass_settled_gap-line.new.rows.stand ≡ true
-  line_is_at = c.pass_settled_gap-line.ensures.line (c.is_some_line.ensures.here c.if-not-is_some_line.false)
+  line_is_at : is_at_line c.come_to_counted_line-line.new.rows.stand ≡ true
+  line_is_at = c.come_to_counted_line-line.ensures.line (c.is_some_line.ensures.here c.if-not-is_some_line.false)
+
+  unknown : (after_gap here_gap).gap ≡ no_gap
+  unknown = c.come_to_counted_line-line.ensures.known.passed
+      (λ none. let never = sym (c.is_some_line.ensures.here c.if-not-is_some_line.false) ∙ none in absurd cc) c.if-self-2.false
 
   -- the feed where the line was read, or left
   abbrev following_line : Inside
   following_line = past_line (after_gap here_gap) c.try_line-row.new.ctx c.try_line-row.new.rows c.bit_pos-self-inside-2.result
 
   line_kept : IsReadBy following_line c.try_line-row.new.reader
-  line_kept = line_read_by (gap_kept here_gap) line_is_at c.bit_pos-self-inside-2.ensures.place c.begin_line.ensures.frame
-      c.try_line-row.ensures.tries
+  line_kept = line_read_by (gap_kept here_gap) unknown line_is_at c.bit_pos-self-inside-2.ensures.place
+      c.begin_line.ensures.frame c.try_line-row.ensures.tries
 
   line_reads : ReadsInFeed (feeding_of (after_gap here_gap)) (feeding_of following_line) c.try_line-row.result
-  line_reads = turn_reads (gap_kept here_gap) line_is_at c.bit_pos-self-inside-2.ensures.place c.begin_line.ensures.frame
-      c.try_line-row.ensures.tries c.begin_line.ensures.width
+  line_reads = turn_reads (gap_kept here_gap) unknown line_is_at c.bit_pos-self-inside-2.ensures.place
+      c.begin_line.ensures.frame c.try_line-row.ensures.tries c.begin_line.ensures.width
+
+pub keep_part-requires-clause-none_drawn : goal.keep_part-requires-clause-none_drawn
+keep_part-requires-clause-none_drawn c =
+    let at = (goal.at.keep_part-requires-clause-none_drawn c).After-is_unsettled in
+    let short = c.is_unsettled.ensures.short c.if-is_unsettled.true in
+    let held = ((line_reads at).left (subst IsUnread (sym short) refl)).2 in
+    ap (λ (h : Held). redrawn h [] White) held ∙ sym held
 
 pub invariant_of-self-then-is_unsettled : goal.invariant_of-self-then-is_unsettled
 invariant_of-self-then-is_unsettled c = (line_kept (goal.at.invariant_of-self-then-is_unsettled c).After-is_unsettled).kept
@@ -94,9 +142,9 @@ invariant_of-self-else-is_unsettled c = (line_kept (goal.at.invariant_of-self-el
 -- the line was read, or failed
 whole_feeds : (c : After-is_unsettled) → c.try_line-row.result ≢ Ok false
     → FeedsRow (feeding_of c.self.inside) (feeding_of (following_line c)) (fed_row c.try_line-row.result)
-whole_feeds c other = line_row (feed_by (here_gap c)) c.bit_pos-self-inside.ensures.place
-    c.pass_settled_gap-line.ensures (unended_feed (here_gap c)) (c.is_some_line.ensures.here c.if-not-is_some_line.false)
-    (c.can_take_row.ensures.rows c.if-not-can_take_row.false) (line_reads c) (λ e none. absurd (other e))
+whole_feeds c other = line_row (feed_by (here_gap c)) c.bit_pos-self-inside.ensures.place c.if-self.false
+    c.come_to_counted_line-line.ensures (unended_feed (here_gap c)) (c.is_some_line.ensures.here c.if-not-is_some_line.false)
+    c.if-self-2.false (c.can_take_row.ensures.rows c.if-not-can_take_row.false) (line_reads c) (λ e none. absurd (other e))
 
 -- it is short, and its part is kept
 short_feeds : (c : After-is_unsettled) {new : Feeding} → c.try_line-row.result ≡ Ok false
@@ -106,9 +154,9 @@ short_feeds c {new} is keeps =
     let short = subst (ReadsInFeed gap (feeding_of (following_line c))) is (line_reads c) in
     let kept = subst (ReadsInFeed gap new) (sym is)
     (scanned_after short (gap_kept (here_gap c)).none (line_kept c).none keeps) in
-    line_row (feed_by (here_gap c)) c.bit_pos-self-inside.ensures.place c.pass_settled_gap-line.ensures
+    line_row (feed_by (here_gap c)) c.bit_pos-self-inside.ensures.place c.if-self.false c.come_to_counted_line-line.ensures
     (unended_feed (here_gap c)) (c.is_some_line.ensures.here c.if-not-is_some_line.false)
-    (c.can_take_row.ensures.rows c.if-not-can_take_row.false) kept
+    c.if-self-2.false (c.can_take_row.ensures.rows c.if-not-can_take_row.false) kept
     (λ e still. unread_line short refl (λ tagged end. c.try_line-row.ensures.no_tag
     (ap (λ (x : Context). x.held.settings.encoding) c.begin_line.ensures.frame ∙ tagged)
     (ap (λ (b : BitsAt). drop b.place b.bits) (gap_kept (here_gap c)).is ∙ end) is

@@ -1,7 +1,7 @@
 use Rattle.fax_feeds.proofs.Names.{common_steps, ◌≡◌, ◌∙◌, ◌+◌, ◌-◌, ◌*◌, ◌≤◌, ap, arith, length, length-drop, drop}
 use Rattle.fax_feeds.proofs.Names.{bits_in, BitsAt, refl}
 use Rattle.fax_bits.proofs.BitReading.BitLists.{length-bits_in}
-use Rattle.fax_feeds.proofs.Readings.PartsScanned.{kept_short, part_within, short_stays, whole_stays}
+use Rattle.fax_feeds.proofs.Readings.PartsScanned.{kept_short, part_follows, part_within, short_stays, whole_stays}
 use Rattle.fax_feeds.specs.RowFeeds.{Feeding, LineGoesOn}
 use Rattle.fax_feeds.proofs.row_feed.RowFeed.read_on_1d.Goals.{After-continue_runs, After-bits_left}
 use Rattle.fax_feeds.proofs.row_feed.RowFeed.read_on_1d.Goals as goal
@@ -60,7 +60,7 @@ invariant_of-self-then-continue_runs c =
     let left = (goal.at.invariant_of-self-then-continue_runs c).After-bits_left in
     kept_short c.self.invariant at c.continue_runs.ensures
     (kept (goal.at.invariant_of-self-then-continue_runs c).After-continue_runs) _ (reached left at) (inside left at)
-    c.if-continue_runs.true
+    c.if-continue_runs.true (part_follows c.self.inside c.in-Some.part c.self.invariant c.in-Some.is)
 
 pub returns-then-continue_runs : goal.returns-then-continue_runs
 returns-then-continue_runs c =

@@ -4,9 +4,11 @@ use Rattle.fax_bits.proofs.BitReading.BitLists.{length-bits_in}
 use Rattle.fax_feeds.proofs.Readings.FeedsOn.{feed_reads}
 use Rattle.fax_feeds.proofs.Readings.LooksKept.{fresh_look}
 use Rattle.fax_feeds.proofs.Readings.PartsFed.{none_kept}
-use Rattle.fax_feeds.specs.GapsSeen.{nothing_seen}
 use Rattle.fax_feeds.specs.RowFeeds.{Feeding}
 use Rattle.fax_feeds.proofs.row_feed.RowFeed.read_whole_line.Goals.{After-try_line-row}
+use Rattle.fax_feeds.specs.declared.counted_gaps.GapSoFar.{GapSoFar}
+use Rattle.fax_feeds.specs.RowFeeds.{no_gap}
+use Rattle.fax_feeds.proofs.Readings.LooksKept.{none_counted_of}
 use Rattle.fax_feeds.proofs.row_feed.RowFeed.read_whole_line.Goals as goal
 
 -- what begun is
@@ -17,10 +19,9 @@ line_is_at : (c : After-try_line-row) → c.placed_at-reader.result
     ≡ record { bits = bits_in c.self.inside.order c.self.inside.«data».items; place = c.self.inside.place }
 line_is_at c = grind (arith, common_steps)
 
--- of the gap after the line nothing was seen
-at_line_fresh : (c : After-try_line-row) → c.self.inside.look ≡ nothing_seen
-at_line_fresh c =
-    c.self.invariant.line (ap (λ (f : Feeding). is_at_line f.rows.stand) c.self.view_is ∙ c.requires.line)
+-- of the gap after the line nothing is known
+no_gap_here : (c : After-try_line-row) → c.self.inside.gap ≡ no_gap
+no_gap_here c = ap (λ (f : Feeding). f.gap) c.self.view_is ∙ c.requires.gap
 
 pub invariant_of-self : goal.invariant_of-self
 invariant_of-self c =
@@ -28,12 +29,14 @@ invariant_of-self c =
     record {
       within = grind (arith, common_steps, length-bits_in, line_is_at at);
       fit = c.self.invariant.fit;
-      fresh = λ e. absurd (false≢true (sym e ∙ line_begun at));
-      start = λ e. absurd (false≢true (sym e ∙ line_begun at));
-      unended = λ e. absurd (false≢true (sym e ∙ line_begun at));
-      rows = λ e. absurd (false≢true (sym e ∙ line_begun at));
-      seen = fresh_look _ _ (at_line_fresh at);
-      line = λ e. at_line_fresh at;
+      bytes = c.self.invariant.bytes;
+      unbegun = λ e. absurd (false≢true (sym e ∙ line_begun at));
+      seen = fresh_look _ _ (ap (λ (g : GapSoFar). g.look) (no_gap_here at));
+      line = λ e follows. no_gap_here at;
+      over = λ e follows. no_gap_here at;
+      counted = none_counted_of (no_gap_here at);
+      unkept = λ zeros. absurd (false≢true (sym (ap (λ (g : GapSoFar). g.at_zeros) (no_gap_here at)) ∙ zeros));
+      last = λ zeros. absurd (false≢true (sym (ap (λ (g : GapSoFar). g.at_zeros) (no_gap_here at)) ∙ zeros));
       part = grind (arith, common_steps, none_kept);
     }
 
@@ -44,7 +47,7 @@ returns-clause-reads c =
     (record { order = refl; finished = refl; kept = refl; dropped = refl; room = refl }) c.bit_pos-self-inside.ensures.place
     (line_begun at) (line_begun at) c.begin_line.new.ctx c.begin_line.ensures.frame c.begin_line.ensures.width
     (ap (λ (f : Feeding). is_at_line f.rows.stand) c.self.view_is ∙ c.requires.line)
-    (ap (λ (f : Feeding). f.part) c.self.view_is ∙ c.requires.none_kept) refl refl
+    (ap (λ (f : Feeding). f.part) c.self.view_is ∙ c.requires.none_kept) refl refl refl
     (ap (λ (f : Feeding). f.part) c.self.view_is ∙ c.requires.none_kept)
     (omega (arith, c.self.invariant.within, length-bits_in c.self.inside.order c.self.inside.«data».items))
     c.try_line-row.result c.try_line-row.ensures.tries)

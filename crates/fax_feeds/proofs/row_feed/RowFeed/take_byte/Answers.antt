@@ -19,15 +19,17 @@ invariant_of-self c =
     record {
       within = omega (arith, longer, old.within);
       fit = omega (arith, longer, old.fit, c.len-kept.ensures, c.if-self-kept.false);
-      fresh = old.fresh;
-      start = old.start;
-      unended = old.unended;
-      rows = old.rows;
+      unbegun = λ e. grind (arith, common_steps, old.unbegun e);
       seen = seen_there (ap (drop inside.place) (sym (ap (bits_in inside.order) items
           ∙ flat_map-append (bits_of_byte inside.order) inside.«data».items next)))
           (seen_more inside.place (bits_in inside.order inside.«data».items) (bits_in inside.order next)
           (omega (arith, old.within, length-bits_in inside.order inside.«data».items)) old.seen);
+      bytes = old.bytes;
       line = old.line;
+      over = old.over;
+      counted = old.counted;
+      unkept = old.unkept;
+      last = old.last;
       part = grind (arith, common_steps, drop-append-le, length-bits_in, flat_map-append, kept_longer);
     }
 
