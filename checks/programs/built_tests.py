@@ -12,7 +12,7 @@ NAMED = {
     "test_encoder": {
         "callers_tests::refused_memory": (17, 12),
         "conforms_tests::refused_memory": (12, 8),
-        "page_feed_tests::refused_memory": (21, 19),
+        "page_feed_tests::refused_memory": (20, 18),
         "settings_tests::refused_memory": (10, 8),
         "settings_tests::refused_memory_row_by_row": (11, 9),
         "settings_tests::wanting_memory_stays": (1, 1),
