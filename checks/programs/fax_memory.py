@@ -80,11 +80,17 @@ def memory_is_that_of_a_page():
     print(f"  {len(file) >> 20} MB in {MOST_MEMORY >> 20} MB")
 
 
+# How a long strip is read as it comes; where it is copied, if a strict reading takes all of it.
+AS_IT_COMES = [["-f", "pbm"], ["-f", "png"], ["--check"], ["--check", "--json"]]
+COPIED = [["-f", "tiff"], ["-f", "tiff", "--copy"]]
+
+
 def a_long_strip_is_not_in_memory():
-    """A page of one strip of some 20 MB is written as PBM in memory that its picture alone has no room in, also if it is inverted, cut or damaged:
-    what is written and told is that of the page on standard input."""
+    """A page of one strip of some 13 MB is written as PBM and as PNG, checked, and copied into a TIFF file in memory that its picture alone has no
+    room in, also if it is inverted, cut or damaged: what is written and told is that of the page on standard input. A strip that can't be copied
+    is encoded again."""
     fax.encoder()
-    columns, rows = 4095, 18000
+    columns, rows = 4095, 12000
     picture = b"P4\n%d %d\n" % (columns, rows) + random.Random(1).randbytes((columns + 7) // 8 * rows)
     strip = subprocess.run([packing.PROGRAM, "g4", "b"], input=picture, capture_output=True, check=True, timeout=60).stdout
     assert len(strip) > MOST_MEMORY, len(strip)
@@ -94,12 +100,44 @@ def a_long_strip_is_not_in_memory():
         for photometric, data in ((0, strip), (1, strip), (0, strip[: 6 << 20]), (1, damaged)):
             with open(path, "wb") as out:
                 out.write(tiff([fax.page_of({256: columns, 257: rows, 259: 4, 262: photometric, 278: rows}, [data])]))
-            with open(path, "rb") as file:
-                piped = subprocess.run([fax.FAX], stdin=file, capture_output=True, check=False, timeout=60)
-            named = subprocess.run([fax.FAX, path], capture_output=True, check=False, timeout=60, preexec_fn=limited)
-            assert (named.returncode, named.stderr) == (piped.returncode, piped.stderr.replace(b"standard input", path.encode())), (photometric, named.stderr, piped.stderr)
-            assert named.stdout == piped.stdout and (data != strip or named.returncode == 0), (photometric, named.returncode)
-    print(f"  4 files of {len(strip) >> 20} MB in {MOST_MEMORY >> 20} MB")
+            for form in AS_IT_COMES + COPIED:
+                with open(path, "rb") as file:
+                    piped = subprocess.run([fax.FAX, *form], stdin=file, capture_output=True, check=False, timeout=60)
+                limit = limited if form not in COPIED or data == strip else None
+                named = subprocess.run([fax.FAX, *form, path], capture_output=True, check=False, timeout=60, preexec_fn=limit)
+                told = [named.returncode, named.stdout, named.stderr]
+                expected = [piped.returncode, *(it.replace(b"standard input", path.encode()) for it in (piped.stdout, piped.stderr))]
+                assert told == expected, (photometric, form, named.returncode, named.stderr, piped.stderr)
+                assert data != strip or named.returncode == 0, (photometric, form, named.returncode)
+    print(f"  4 files of {len(strip) >> 20} MB in {MOST_MEMORY >> 20} MB, in {len(AS_IT_COMES + COPIED)} forms")
 
 
-CHECKS = [pages_are_those_of_the_whole_file, memory_is_that_of_a_page, a_long_strip_is_not_in_memory]
+def several_long_strips_follow_each_other():
+    """Pages of a long strip, of more than a piece of it, and others among them are copied into one TIFF file: as they are copied from standard input."""
+    encode = fax.encoder()
+    columns, rows = 4095, 1100
+    picture = b"P4\n%d %d\n" % (columns, rows) + random.Random(2).randbytes((columns + 7) // 8 * rows)
+    kinds = {("g4", "b"): {259: 4}, ("g4", "br"): {259: 4, 266: 2}, ("1d", "l"): {259: 3}}
+    long = []
+    for words, tags in kinds.items():
+        strip = subprocess.run([packing.PROGRAM, *words], input=picture, capture_output=True, check=True, timeout=60).stdout
+        assert len(strip) > MOST_READ_WHOLE, (words, len(strip))
+        long += [fax.page_of({256: columns, 257: rows, 262: 0, 278: rows, **tags}, [strip + odd]) for odd in (b"", b"\0")]
+    file = tiff([long[0], made_page(encode, PICTURE, Rule()), *long[1:]])
+    with tempfile.TemporaryDirectory() as folder:
+        path = f"{folder}/file"
+        with open(path, "wb") as out:
+            out.write(file)
+        for form in (["-f", "tiff"], ["-f", "tiff", "--copy"], ["-f", "tiff", "--resolution", "204x98"], ["-f", "tiff", "-p", "1-3"]):
+            piped = subprocess.run([fax.FAX, *form], input=file, capture_output=True, check=False, timeout=60)
+            named = subprocess.run([fax.FAX, *form, path], capture_output=True, check=False, timeout=60)
+            made = subprocess.run([fax.FAX, *form, "-o", f"{folder}/made.tif", path], capture_output=True, check=False, timeout=60)
+            told = (piped.returncode, piped.stderr.replace(b"standard input", path.encode()))
+            assert {(it.returncode, it.stderr) for it in (named, made)} == {told}, (form, told, named.stderr, made.stderr)
+            with open(f"{folder}/made.tif", "rb") as out:
+                assert piped.stdout == named.stdout == out.read(), form
+            os.remove(f"{folder}/made.tif")
+    print(f"  {len(long) + 1} pages")
+
+
+CHECKS = [pages_are_those_of_the_whole_file, memory_is_that_of_a_page, a_long_strip_is_not_in_memory, several_long_strips_follow_each_other]

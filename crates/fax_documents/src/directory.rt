@@ -81,6 +81,23 @@ impl<'a> Directory<'a> {
         Ok(made)
     }
 
+    /// Makes the directory of a page of one strip, which has so many bytes: it isn't among those of the page, where an empty one stands for it.
+    pub(crate) fn of_strip(
+        alloc: Global,
+        is_big: bool,
+        page: &Page<'a>,
+        coding: Coding,
+        length: u64,
+    ) -> Result<Directory<'a>, AllocError> {
+        let mut made = Directory::of(alloc, is_big, page, coding)?;
+        for entry in made.entries.iter_mut() {
+            if entry.tag == 279 {
+                entry.value = Value::Here(length);
+            }
+        }
+        Ok(made)
+    }
+
     /// Makes the directory of a page that is carried along.
     pub(crate) fn of_carried(
         alloc: Global,

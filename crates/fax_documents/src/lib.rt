@@ -7,6 +7,7 @@
 mod coding;
 mod directory;
 mod error;
+mod one_strip;
 mod output;
 mod page;
 mod pdf;

@@ -18,9 +18,9 @@ use tiff_split::CarriedPage;
 /// Writes a TIFF file, a page at a time: of each its directory first, and then its strips.
 #[derive(Drop)]
 pub struct TiffWriter {
-    is_big: bool,
+    pub(crate) is_big: bool,
     /// How many bytes were written, an even number.
-    place: u64,
+    pub(crate) place: u64,
 }
 
 /// What a file begins with: the lowest bytes first, and a directory after this (TIFF 6.0, section 2).
@@ -130,7 +130,7 @@ impl TiffWriter {
     }
 
     /// Returns the most bytes that the file may have.
-    fn most(&self) -> u64 {
+    pub(crate) fn most(&self) -> u64 {
         if self.is_big { MOST_BIG } else { MOST }
     }
 }

@@ -2,6 +2,7 @@
 
 ghost use Rattle.std.specs.Prelude.{◌≤◌};
 
+use crate::apart::strict_settings;
 use crate::ends::{begins_with_eol, ends_with_eofb, highest_first};
 use crate::own_texts::OwnTexts;
 use crate::strict::is_whole_strip;
@@ -95,7 +96,7 @@ fn are_strips(page: &Page<'_>, first: &Part) -> bool {
 }
 
 /// Returns whether settings are those of Group 4.
-fn is_group4(settings: DecodeSettings) -> bool {
+pub(crate) fn is_group4(settings: DecodeSettings) -> bool {
     matches!(settings.encoding, EncodingMode::Group4)
 }
 
@@ -106,11 +107,13 @@ fn has_eols(page: &Page<'_>, part: &Part) -> bool {
 
 /// Returns whether a target has strips as a part is, beside others that have EOLs or don't.
 fn has_kind(page: &Page<'_>, part: &Part, target: Target, are_eols: bool) -> bool {
-    if has_eols(page, part) != are_eols {
-        return false;
-    }
-    let is_aligned = part.settings.rows_are_byte_aligned;
-    match (target, part.settings.encoding) {
+    has_eols(page, part) == are_eols && has_strips(target, part.settings, are_eols)
+}
+
+/// Returns whether a target has strips that are encoded so, with EOLs or without.
+pub(crate) fn has_strips(target: Target, settings: DecodeSettings, are_eols: bool) -> bool {
+    let is_aligned = settings.rows_are_byte_aligned;
+    match (target, settings.encoding) {
         (Target::Pdf, _) => true,
         (Target::Tiff, EncodingMode::Group4) => !is_aligned,
         (Target::Tiff, EncodingMode::Group3_1D) => are_eols != is_aligned,
@@ -139,11 +142,7 @@ fn is_whole_part(
     if !bits_fit(data) {
         return Ok(false);
     }
-    let settings = DecodeSettings {
-        end_of_block: is_group4(part.settings),
-        end_of_line: false,
-        ..part.settings
-    };
+    let settings = strict_settings(part.settings);
     let is_whole = is_whole_strip(alloc, data, page.order, settings)?;
     if is_whole {
         let row = u64::from(settings.columns.div_ceil(8));

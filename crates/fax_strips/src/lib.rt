@@ -1,6 +1,7 @@
 //! Pages as the strips of TIFF and PDF files: their own data where a strict reading takes all of it, and else their pictures encoded.
 #![tactic(auto)]
 
+mod apart;
 mod copied;
 mod encoded;
 mod ends;
@@ -8,6 +9,7 @@ mod own_texts;
 mod strict;
 mod strip_page;
 
+pub use apart::{StripEnds, page_apart, strict_settings};
 pub use copied::{Target, copy_strips};
 pub use encoded::encode_picture;
 pub use own_texts::OwnTexts;

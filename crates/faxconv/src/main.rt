@@ -2,6 +2,7 @@
 #![tactic(auto)]
 
 mod carried;
+mod copied_strip;
 mod guess;
 mod long_strip;
 mod output;

@@ -14,7 +14,7 @@ use faxconv_lib::names::name_of_picture;
 use faxconv_lib::options::{Encoding, Rotation};
 use faxconv_lib::{Action, Format, NewFile, Status};
 use faxconv_out::{
-    AddedPage, Document, Drawing, Unwritten, exchanged, put_picture, resolution_of_dots,
+    AddedPage, Document, Drawing, StripFile, Unwritten, exchanged, put_picture, resolution_of_dots,
 };
 use std::alloc::AllocError;
 use std::io::ErrorKind;
@@ -174,6 +174,18 @@ impl<'a, 'b, 'c> Run<'a, 'b, 'c> {
             page.resolution = Some(resolution_of_dots(dots));
         }
         self.add_page(AddedPage::Fax(page))
+    }
+
+    /// Adds a page whose only strip is copied from its file to the document.
+    pub(crate) fn add_apart(
+        &mut self,
+        mut page: StripPage,
+        strip: StripFile,
+    ) -> Result<Status, AllocError> {
+        if let Some(dots) = self.options.resolution {
+            page.resolution = Some(resolution_of_dots(dots));
+        }
+        self.add_page(AddedPage::Apart(page, strip))
     }
 
     /// Adds a page to the document, which is begun with the first one.
@@ -352,6 +364,7 @@ impl<'a, 'b, 'c> Run<'a, 'b, 'c> {
             Unwritten::Size => "the picture has no size that a file of this format has",
             Unwritten::TooLong => "the document is too large",
             Unwritten::Write => "can't be written",
+            Unwritten::Read => "a strip that is copied can't be read",
         };
         self.teller.tell(Some(name), text);
         Ok(Status::CannotGoOn)

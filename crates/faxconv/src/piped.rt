@@ -191,7 +191,7 @@ impl<'a, 'b, 'c> Run<'a, 'b, 'c> {
         self.write_if_wanted(status, picture, output)
     }
 
-    /// Writes the white rows after so many, and gives the file its name.
+    /// Writes what is left after so many rows, and gives the file its name.
     pub(crate) fn finish_rows(
         &mut self,
         mut out: RowsOut<'a>,
@@ -199,7 +199,7 @@ impl<'a, 'b, 'c> Run<'a, 'b, 'c> {
         status: Status,
         output: Output,
     ) -> Result<Status, AllocError> {
-        if let Err(why) = out.put_white(rows) {
+        if let Err(why) = out.put_rest(rows) {
             out.discard();
             return self.cannot_write_rows(output, why);
         }

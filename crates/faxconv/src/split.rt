@@ -18,6 +18,8 @@ pub(crate) const MOST_READ_WHOLE: u64 = 1 << 20;
 #[derive(Drop)]
 pub(crate) struct SplitReading<'f> {
     pub(crate) file: &'f File,
+    /// How many bytes it has.
+    pub(crate) size: u64,
     pub(crate) pages: SplitPages<'f>,
     /// Its pages that aren't fax.
     carrier: Carrier,
@@ -61,6 +63,7 @@ impl<'a, 'b, 'c> Run<'a, 'b, 'c> {
     fn do_split_pages(&mut self, name: &str, file: &File, size: u64) -> Result<Status, SplitError> {
         let mut reading = SplitReading {
             file,
+            size,
             pages: SplitPages::open(self.rt.alloc(), file, size)?,
             carrier: Carrier::new(self.rt.alloc(), size),
             allowance: Allowance::of_file(size as usize),

@@ -15,6 +15,6 @@ pub use pdf::PdfEntries;
 pub use raw::{MOST_BYTES, RawPage, can_be_piped, page_of, piece_of, read_raw, written_page};
 pub use raw_reading::{RawEnd, RawReading};
 pub use source::{Content, Entry, Source};
-pub use strip::options_of_strip;
+pub use strip::{options_of_strip, takes_all};
 pub use texts::{text_of_carried, text_of_no_picture, too_large};
 pub use tiff::{TiffEntries, content_of};

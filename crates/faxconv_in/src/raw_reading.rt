@@ -145,6 +145,19 @@ impl RawReading {
         }
     }
 
+    /// Keeps no rows from now on.
+    pub fn keep_no_rows(&mut self) {
+        self.taken = u64::MAX;
+    }
+
+    /// Returns whether data that is finished is as many rows as its settings have and nothing else, by a reading that goes alone.
+    pub fn is_whole(&self) -> bool {
+        let feed = &self.leading.feed;
+        matches!(self.leading.end, Some(Ok(())))
+            && feed.bytes_read() as u64 == self.bytes
+            && feed.rows_read() == u64::from(feed.settings().rows)
+    }
+
     /// Begins again with a lenient reading if the strict one went alone over data that is finished, and failed where that may go on.
     /// Returns whether it does: then the data is to be fed again from its start, and finished. Rows that were taken aren't kept again.
     pub fn begin_again(&mut self, raw: &RawOptions) -> Result<bool, AllocError> {

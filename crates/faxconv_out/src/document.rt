@@ -1,6 +1,7 @@
 //! A document that is being written: the pages of all files in one.
 
 use crate::picture::Unwritten;
+use crate::strip_file::StripFile;
 use fax_documents::{DocumentError, PdfWriter, TiffWriter};
 use fax_strips::{StripPage, Target};
 use faxconv_lib::NewFile;
@@ -31,6 +32,8 @@ enum Writer {
 pub enum AddedPage {
     /// Fax data.
     Fax(StripPage),
+    /// Fax data of which the only strip is copied from its file, so that it isn't in memory. A PDF file takes none.
+    Apart(StripPage, StripFile),
     /// A page of a TIFF file that isn't fax, as it is. A PDF file takes none.
     Carried(CarriedPage),
 }
@@ -261,6 +264,10 @@ fn put_page<W: Write>(
                 Writer::Pdf(pdf) => pdf.put_page(out, &page),
             }
         }
+        AddedPage::Apart(page, strip) => match writer {
+            Writer::Tiff(tiff) => return put_apart(alloc, tiff, out, (page, strip), is_last),
+            Writer::Pdf(_) => Err(DocumentError::Encoding),
+        },
         AddedPage::Carried(page) => match writer {
             Writer::Tiff(tiff) => tiff.put_carried(alloc, out, page, is_last),
             Writer::Pdf(_) => Err(DocumentError::Encoding),
@@ -268,6 +275,23 @@ fn put_page<W: Write>(
     };
     match written {
         Ok(()) => Ok(()),
+        Err(error) => Err(why_unwritten(error)),
+    }
+}
+
+/// Writes a page whose strip is copied from its file.
+fn put_apart<W: Write>(
+    alloc: Global,
+    writer: &mut TiffWriter,
+    out: &mut W,
+    apart: (&StripPage, &StripFile),
+    is_last: bool,
+) -> Result<(), Unwritten> {
+    let (page, strip) = apart;
+    let slices = page.slices(alloc)?;
+    let page = page.page(slices.as_slice());
+    match writer.put_page_without_strip(alloc, out, &page, strip.len(), is_last) {
+        Ok(()) => strip.put(alloc, out),
         Err(error) => Err(why_unwritten(error)),
     }
 }

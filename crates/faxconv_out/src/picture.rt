@@ -21,6 +21,8 @@ pub enum Unwritten {
     TooLong,
     /// The writer failed.
     Write,
+    /// A strip that is copied can't be read.
+    Read,
 }
 
 /// A picture that is written.
@@ -90,7 +92,7 @@ fn put_colors<W: Write>(
 }
 
 /// Returns why a picture isn't written as PNG.
-fn why_no_png(error: PngError) -> Unwritten {
+pub(crate) fn why_no_png(error: PngError) -> Unwritten {
     match error {
         PngError::Size => Unwritten::Size,
         PngError::OutOfMemory => Unwritten::OutOfMemory,
@@ -125,7 +127,7 @@ pub fn put_pbm_head<W: Write>(
 }
 
 /// Returns how many pixels a metre has.
-fn density_of(resolution: Option<Resolution>) -> Option<Density> {
+pub(crate) fn density_of(resolution: Option<Resolution>) -> Option<Density> {
     let resolution = resolution?;
     Some(Density {
         across: pixels_of_metre(resolution.across, resolution.unit)?,

@@ -1,7 +1,10 @@
-//! A PBM picture whose rows are written as they come.
+//! A PBM or PNG picture whose rows are written as they come.
 
-use crate::picture::{Unwritten, put_pbm_head};
-use faxconv_lib::NewFile;
+use crate::picture::{Unwritten, density_of, put_pbm_head, why_no_png};
+use fax_documents::Resolution;
+use faxconv_lib::{Format, NewFile};
+use png_write::PngRows;
+use std::alloc::Global;
 use std::io;
 use std::io::Write;
 
@@ -24,6 +27,12 @@ enum Place {
 pub struct RowsOut<'a> {
     rt: &'a HostRuntime,
     place: Place,
+    /// What makes it a PNG picture, once its head is written.
+    png: Option<PngRows>,
+    /// Its format: PNG, or else PBM.
+    pub format: Format,
+    /// How many pixels a unit has, which PNG says.
+    pub resolution: Option<Resolution>,
     /// How many columns it has.
     pub columns: u32,
     /// How many rows it has in the end, 0 if that isn't known: then they are kept.
@@ -35,11 +44,14 @@ pub struct RowsOut<'a> {
 }
 
 impl<'a> RowsOut<'a> {
-    /// Returns a picture of which nothing is written.
+    /// Returns a PBM picture of which nothing is written.
     pub fn new(rt: &'a HostRuntime, columns: u32, height: u32) -> RowsOut<'a> {
         RowsOut {
             rt,
             place: Place::None,
+            png: None,
+            format: Format::Pbm,
+            resolution: None,
             columns,
             height,
             is_large: false,
@@ -55,18 +67,24 @@ impl<'a> RowsOut<'a> {
     /// Writes the head, to a file or else to standard output.
     pub fn open(&mut self, file: Option<NewFile>) -> Result<(), Unwritten> {
         let alloc = self.rt.alloc();
-        let (columns, height) = (self.columns, self.height);
+        let head = Head {
+            columns: self.columns,
+            height: self.height,
+            format: self.format,
+            resolution: self.resolution,
+        };
         match file {
             None => {
                 self.place = Place::Standard;
-                put_pbm_head(alloc, &mut self.rt.stdout(), columns, height)
+                self.png = put_head(alloc, &mut self.rt.stdout(), head)?;
             }
             Some(mut file) => {
-                let written = put_pbm_head(alloc, &mut file, columns, height);
+                let written = put_head(alloc, &mut file, head);
                 self.place = Place::File(file);
-                written
+                self.png = written?;
             }
         }
+        Ok(())
     }
 
     /// Writes packed rows.
@@ -81,13 +99,26 @@ impl<'a> RowsOut<'a> {
     fn put_shown(&mut self, rows: &[u8]) -> Result<(), Unwritten> {
         match &mut self.place {
             Place::None => Ok(()),
-            Place::File(file) => put_bytes(file, rows),
-            Place::Standard => put_bytes(&mut self.rt.stdout(), rows),
+            Place::File(file) => put_rows(file, &mut self.png, rows),
+            Place::Standard => put_rows(&mut self.rt.stdout(), &mut self.png, rows),
+        }
+    }
+
+    /// Writes white rows after so many, and what the picture ends with.
+    pub fn put_rest(&mut self, rows: u64) -> Result<(), Unwritten> {
+        self.put_white(rows)?;
+        let Some(png) = self.png.take() else {
+            return Ok(());
+        };
+        match &mut self.place {
+            Place::None => Ok(()),
+            Place::File(file) => put_end(file, png),
+            Place::Standard => put_end(&mut self.rt.stdout(), png),
         }
     }
 
     /// Writes white rows after so many.
-    pub fn put_white(&mut self, rows: u64) -> Result<(), Unwritten> {
+    fn put_white(&mut self, rows: u64) -> Result<(), Unwritten> {
         let width = (self.columns.div_ceil(8) as usize).max(1);
         let each = (WHITE_BYTES / width).max(1);
         let mut white: Vec<u8> = Vec::new(self.rt.alloc());
@@ -133,6 +164,58 @@ fn invert(rows: &mut [u8], columns: u32) {
         } else {
             0xff
         };
+    }
+}
+
+/// What comes before the rows of a picture.
+#[derive(Clone, Copy)]
+struct Head {
+    columns: u32,
+    height: u32,
+    format: Format,
+    resolution: Option<Resolution>,
+}
+
+/// Writes what comes before the rows of a picture. Returns what takes them, if it is PNG.
+fn put_head<W: Write>(
+    alloc: Global,
+    out: &mut W,
+    head: Head,
+) -> Result<Option<PngRows>, Unwritten> {
+    if !matches!(head.format, Format::Png) {
+        put_pbm_head(alloc, out, head.columns, head.height)?;
+        return Ok(None);
+    }
+    let density = density_of(head.resolution);
+    match PngRows::begin(alloc, out, head.columns, head.height, density) {
+        Ok(png) => Ok(Some(png)),
+        Err(error) => Err(why_no_png(error)),
+    }
+}
+
+/// Writes rows as they are shown.
+fn put_rows<W: Write>(
+    out: &mut W,
+    png: &mut Option<PngRows>,
+    rows: &[u8],
+) -> Result<(), Unwritten> {
+    let Some(png) = png else {
+        return put_bytes(out, rows);
+    };
+    match png.put(out, rows) {
+        Ok(()) => Ok(()),
+        Err(error) => Err(why_no_png(error)),
+    }
+}
+
+/// Writes what a PNG picture ends with.
+fn put_end<W: Write>(out: &mut W, png: PngRows) -> Result<(), Unwritten> {
+    if let Err(error) = png.finish(out) {
+        return Err(why_no_png(error));
+    }
+    match out.flush() {
+        Ok(()) => Ok(()),
+        Err(_) => Err(Unwritten::Write),
     }
 }
 

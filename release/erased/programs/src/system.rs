@@ -277,6 +277,10 @@ pub mod fs {
         pub fn metadata(&self) -> Result<Metadata> {
             self.0.metadata()
         }
+
+        pub fn try_clone(&self) -> Result<File> {
+            self.0.try_clone().map(File)
+        }
     }
 
     impl OpenOptions {
