@@ -44,6 +44,20 @@ use std::mem;
 /// A row with fewer changes doesn't show whether vertical modes are best drawn several at a time.
 const MANY_CHANGES: usize = 16;
 
+/// A line of fewer bits for two changes repeats much of the row above it: other ways are best then.
+const BITS_OF_TWO_CHANGES: usize = 7;
+
+/// A row is dense only if it has a change for so many pixels, or for fewer.
+const PIXELS_OF_A_CHANGE: usize = 4;
+
+/// Returns whether the row of a line of so many bits is dense: it can't be foreseen then where the modes of the next line lead.
+#[inline(always)]
+fn is_dense(bits: usize, changes: usize, columns: u32) -> bool {
+    changes >= MANY_CHANGES
+        && changes >= columns as usize / PIXELS_OF_A_CHANGE
+        && bits / BITS_OF_TWO_CHANGES >= changes / 2
+}
+
 /// Exchanges two lists of changes: two empty ones stay as they are. Each is moved by its fields: if one load took a length with what is
 /// beside it, it would wait until the store of that length, which was just before, is done.
 #[inline(always)]
@@ -86,6 +100,8 @@ pub struct DecoderContext {
     tables: Tables,
     /// Whether the last line with many changes suits drawing by groups: it has few bits for each.
     suits_groups: bool,
+    /// Whether the last line that was drawn by its modes has a dense row.
+    is_dense: bool,
     ticks: Ticks,
 }
 
@@ -131,6 +147,7 @@ impl DecoderContext {
             settings,
             tables: Tables::new(alloc)?,
             suits_groups: false,
+            is_dense: false,
             ticks: Ticks::new(),
         })
     }
@@ -587,6 +604,7 @@ impl DecoderContext {
             places: self.ref_changes.as_slice(),
             tables: &self.tables,
             by_groups: self.suits_groups,
+            one_by_one: self.is_dense,
         };
         let reached = draw_modes(window, &mut self.coding_changes, &line, &mut self.ticks);
         take_ends(&mut self.ref_changes);
@@ -611,10 +629,12 @@ impl DecoderContext {
         self.draw_modes_at_hand(&mut window);
         let start = reader.bit_pos();
         go_to(reader, &window);
+        let bits = reader.bit_pos().saturating_sub(start);
         let changes = self.coding_changes.len();
         if changes >= MANY_CHANGES {
-            self.suits_groups = reader.bit_pos().saturating_sub(start) / 4 < changes;
+            self.suits_groups = bits / 4 < changes;
         }
+        self.is_dense = is_dense(bits, changes, self.settings.columns);
     }
 
     /// Draws a white line under a white row, which is V0 alone, and returns whether there is one here; otherwise nothing
