@@ -12,18 +12,19 @@ use Rattle.fax_lines.specs.declared.dense_rows.NearMode.{NearMode}
 
 -- auxiliary: where no such mode is
 abbrev pub no_near_row : List ℕ
-no_near_row = 0 ∷ 0 ∷ 0 ∷ 0 ∷ []
+no_near_row = 0 ∷ 0 ∷ 3 ∷ 0 ∷ []
 
 -- The row of a look-up for a mode and the number of its bits: the number, its distance from the change that it is near and
--- three more, how many changes after b1 that is, and how many it stores. No other mode is near a change (T.4, 4.2.1.3).
+-- three more, how many changes after b1 that is and three more, and how many it stores. No other mode is near a change (T.4,
+-- 4.2.1.3).
 abbrev pub near_row : Option Mode × ℕ → List ℕ
 near_row (None, width) = no_near_row
 near_row (Some Horizontal, width) = no_near_row
-near_row (Some Pass, width) = width ∷ 3 ∷ 1 ∷ 0 ∷ []
-near_row (Some (Vertical (pos distance)), width) = width ∷ (distance + 3) ∷ 0 ∷ 1 ∷ []
-near_row (Some (Vertical (negsuc zero)), width) = width ∷ 2 ∷ 0 ∷ 1 ∷ []
-near_row (Some (Vertical (negsuc (suc zero))), width) = width ∷ 1 ∷ 0 ∷ 1 ∷ []
-near_row (Some (Vertical (negsuc (suc (suc zero)))), width) = width ∷ 0 ∷ 0 ∷ 1 ∷ []
+near_row (Some Pass, width) = width ∷ 3 ∷ 4 ∷ 0 ∷ []
+near_row (Some (Vertical (pos distance)), width) = width ∷ (distance + 3) ∷ 3 ∷ 1 ∷ []
+near_row (Some (Vertical (negsuc zero)), width) = width ∷ 2 ∷ 3 ∷ 1 ∷ []
+near_row (Some (Vertical (negsuc (suc zero))), width) = width ∷ 1 ∷ 3 ∷ 1 ∷ []
+near_row (Some (Vertical (negsuc (suc (suc zero)))), width) = width ∷ 0 ∷ 3 ∷ 1 ∷ []
 near_row (Some (Vertical (negsuc (suc (suc (suc far))))), width) = no_near_row
 
 -- that for seven bits
@@ -52,3 +53,8 @@ pub record IsPassNear (mode : NearMode) (window : AtHand) : Type 0 where
 -- one of both
 abbrev pub IsNearMode : NearMode → AtHand → Type 0
 IsNearMode mode window = IsVerticalNear mode window ⊎ IsPassNear mode window
+
+-- the bits at hand stay as they are, or some of them are passed
+abbrev pub StaysOrMoves : AtHand → AtHand → Type 0
+StaysOrMoves before after =
+    (after ≡ before) ⊎ ((before.at.place < after.at.place) × (before.at.place < length before.at.bits))

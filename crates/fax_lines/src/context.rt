@@ -50,14 +50,6 @@ const BITS_OF_TWO_CHANGES: usize = 7;
 /// A row is dense only if it has a change for so many pixels, or for fewer.
 const PIXELS_OF_A_CHANGE: usize = 4;
 
-/// Returns whether the row of a line of so many bits is dense: it can't be foreseen then where the modes of the next line lead.
-#[inline(always)]
-fn is_dense(bits: usize, changes: usize, columns: u32) -> bool {
-    changes >= MANY_CHANGES
-        && changes >= columns as usize / PIXELS_OF_A_CHANGE
-        && bits / BITS_OF_TWO_CHANGES >= changes / 2
-}
-
 /// Exchanges two lists of changes: two empty ones stay as they are. Each is moved by its fields: if one load took a length with what is
 /// beside it, it would wait until the store of that length, which was just before, is done.
 #[inline(always)]
@@ -100,7 +92,7 @@ pub struct DecoderContext {
     tables: Tables,
     /// Whether the last line with many changes suits drawing by groups: it has few bits for each.
     suits_groups: bool,
-    /// Whether the last line that was drawn by its modes has a dense row.
+    /// Whether the last line with many changes has a dense row: it can't be foreseen where the modes of the next one lead.
     is_dense: bool,
     ticks: Ticks,
 }
@@ -582,7 +574,7 @@ impl DecoderContext {
 
     /// Draws modes from the start of a line as long as they are usual.
     #[inline(always)]
-    fn draw_modes_at_hand(&mut self, window: &mut Window<'_>)
+    fn draw_modes_at_hand(&mut self, window: &mut Window<'_>, one_by_one: bool)
         requires few { window.old.left ≤ 64 }
         requires start { IsAtStart self.old }
         ensures { DrawsUsualModes self.old self.new window.old.at window.new.at }
@@ -604,7 +596,7 @@ impl DecoderContext {
             places: self.ref_changes.as_slice(),
             tables: &self.tables,
             by_groups: self.suits_groups,
-            one_by_one: self.is_dense,
+            one_by_one,
         };
         let reached = draw_modes(window, &mut self.coding_changes, &line, &mut self.ticks);
         take_ends(&mut self.ref_changes);
@@ -615,9 +607,10 @@ impl DecoderContext {
         self.passed = reached.index.saturating_sub(1);
     }
 
-    /// Draws usual modes from a reader, in whichever order its bits are.
+    /// Draws usual modes from a reader, in whichever order its bits are: one at a time, or by groups or in turns. Each way is compiled
+    /// by itself, so that a loop doesn't take the registers of another one.
     #[inline(never)]
-    fn draw_modes_of(&mut self, reader: &mut BitReader<'_>)
+    fn draw_modes_of<const ONE_BY_ONE: bool>(&mut self, reader: &mut BitReader<'_>)
         requires { IsAtStart self.old }
         ensures { DrawsUsualModes self.old self.new reader.old reader.new }
     {
@@ -626,15 +619,16 @@ impl DecoderContext {
             self.suits_groups = self.ref_changes.len() >= MANY_CHANGES;
         }
         let mut window = window_at_hand(reader);
-        self.draw_modes_at_hand(&mut window);
+        self.draw_modes_at_hand(&mut window, ONE_BY_ONE);
         let start = reader.bit_pos();
         go_to(reader, &window);
         let bits = reader.bit_pos().saturating_sub(start);
         let changes = self.coding_changes.len();
         if changes >= MANY_CHANGES {
             self.suits_groups = bits / 4 < changes;
+            self.is_dense = changes >= self.settings.columns as usize / PIXELS_OF_A_CHANGE
+                && bits / BITS_OF_TWO_CHANGES >= changes / 2;
         }
-        self.is_dense = is_dense(bits, changes, self.settings.columns);
     }
 
     /// Draws a white line under a white row, which is V0 alone, and returns whether there is one here; otherwise nothing
@@ -708,7 +702,11 @@ impl DecoderContext {
         if self.draw_same_line(reader) {
             return;
         }
-        self.draw_modes_of(reader);
+        if self.is_dense {
+            self.draw_modes_of::<true>(reader);
+            return;
+        }
+        self.draw_modes_of::<false>(reader);
     }
 
     /// Draws the two runs of a horizontal mode (T.4, 4.2.1.3).

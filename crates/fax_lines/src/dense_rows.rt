@@ -3,7 +3,7 @@
 
 ghost use Rattle.std.specs.Prelude.{◌≡◌, ◌+◌, ◌*◌, ◌%◌, ◌<◌, ◌≤◌, true, length, get_or, IfSome, IfNone};
 ghost use Rattle.fax_lines.specs.DrawnModes.{CanDraw, DrawsMode, DrawsOn, KeepsRoom, StaysAsItIs};
-ghost use Rattle.fax_lines.specs.NearModes.{AreNearRows, IsNearMode};
+ghost use Rattle.fax_lines.specs.NearModes.{IsNearMode, StaysOrMoves};
 ghost use Rattle.fax_reading.specs.UsualModes.{AreEnded, changes_in, IsNear};
 
 use crate::modes::{
@@ -28,14 +28,6 @@ struct NearMode {
     stored: usize,
 }
 
-/// Returns the rows of the look-up.
-#[inline(always)]
-fn near_rows() -> &'static [[u8; 4]]
-    ensures { AreNearRows result.now }
-{
-    &NEAR_MODES
-}
-
 /// Returns the vertical mode or pass that is here, if one is.
 #[inline(always)]
 fn near_mode_at_hand(window: &Window<'_>) -> NearMode
@@ -44,16 +36,19 @@ fn near_mode_at_hand(window: &Window<'_>) -> NearMode
     ensures few { result.offset < 256 }
     ensures there { window.now.at.place < length window.now.at.bits }
 {
-    let row = &near_rows()[window.peek_7() as usize];
+    // The rows are read where they are.
+    let rows: &[[u8; 4]] = &NEAR_MODES;
+    let row = &rows[window.peek_7() as usize];
     NearMode {
         width: usize::from(row[0]),
         offset: u32::from(row[1]),
-        ahead: usize::from(row[2]),
+        ahead: usize::from(row[2]) - 3,
         stored: usize::from(row[3]),
     }
 }
 
-/// Returns the index of b1, as `seek_b1` does, with its first two steps taken without a branch.
+/// Returns the index of b1, as `seek_b1` does, with its first two steps taken without a branch: the changes right of a0 are counted,
+/// since a mode's index has three more in the look-up, so that nothing is left to add.
 #[inline(always)]
 fn seek_b1_near(line: &CodingLine<'_>, painted: u32, start: usize, ticks: &mut Ticks) -> usize
     requires ended { AreEnded line.now.columns line.now.places.now }
@@ -65,18 +60,24 @@ fn seek_b1_near(line: &CodingLine<'_>, painted: u32, start: usize, ticks: &mut T
     ensures onward { (start ≤ result) × (result % 2 ≡ start % 2) }
     ensures work { ticks.new + ticks.new + start ≡ ticks.old + ticks.old + result + 2 }
 {
-    let first = change_at(line, start) <= painted;
-    let second = change_at(line, start + 2) <= painted;
-    let steps = usize::from(first) + usize::from(second);
-    tick_times(ticks, steps);
-    seek_b1(line, painted, start + 2 * steps, ticks)
+    let first = change_at(line, start) > painted;
+    let second = change_at(line, start + 2) > painted;
+    let right = usize::from(first) + usize::from(second);
+    tick_times(ticks, 2 - right);
+    let index = start + 4 - 2 * right;
+    // In dense rows b1 is there nearly always.
+    if change_at(line, index) > painted {
+        ticks.tick();
+        return index;
+    }
+    seek_b1(line, painted, index, ticks)
 }
 
 /// Draws a vertical mode, or pass, that leads to a place of the row right of a0, if b1 isn't the first change. Returns how far
 /// the row is drawn then; or `None`, drawing nothing, if there is no such mode.
 #[inline(always)]
 fn draw_near_mode(pen: &mut RowPen<'_>, line: &CodingLine<'_>, stroke: Stroke) -> Option<Stroke>
-    requires enough { 16 ≤ pen.old.window.left }
+    requires enough { 7 ≤ pen.old.window.left }
     requires can { CanDraw line.now stroke pen.old }
     ensures drawn { IfSome result (λ next. DrawsMode line.now stroke pen.old next pen.new) }
     ensures there { IfSome result (λ next. pen.old.window.at.place < length pen.old.window.at.bits) }
@@ -110,6 +111,25 @@ fn draw_near_mode(pen: &mut RowPen<'_>, line: &CodingLine<'_>, stroke: Stroke) -
     })
 }
 
+/// Draws such modes while there are any, and the bits of one are at hand. Returns the stroke that is reached then.
+#[inline(always)]
+fn draw_near_modes(pen: &mut RowPen<'_>, line: &CodingLine<'_>, stroke: Stroke) -> Stroke
+    requires enough { 16 ≤ pen.old.window.left }
+    requires can { CanDraw line.now stroke pen.old }
+    ensures on { DrawsOn line.now stroke pen.old result pen.new }
+    ensures can { CanDraw line.now result pen.new }
+    ensures onward { StaysOrMoves pen.old.window pen.new.window }
+{
+    let mut now = stroke;
+    'modes: while pen.window.left() >= 7 {
+        match draw_near_mode(pen, line, now) {
+            None => return now,
+            Some(next) => now = next,
+        }
+    }
+    now
+}
+
 /// Draws modes while they are of the usual kind, and there is room. Returns the stroke that is reached then.
 #[inline(always)]
 pub(crate) fn draw_one_by_one(pen: &mut RowPen<'_>, line: &CodingLine<'_>, stroke: Stroke) -> Stroke
@@ -121,8 +141,8 @@ pub(crate) fn draw_one_by_one(pen: &mut RowPen<'_>, line: &CodingLine<'_>, strok
         if !refill_if_low(&mut pen.window, &pen.row) {
             return recolored(&pen.row, now);
         }
-        if let Some(next) = draw_near_mode(pen, line, now) {
-            now = next;
+        now = draw_near_modes(pen, line, now);
+        if pen.window.left() < 16 {
             continue;
         }
         let here = recolored(&pen.row, now);
@@ -141,24 +161,24 @@ pub(crate) fn draw_one_by_one(pen: &mut RowPen<'_>, line: &CodingLine<'_>, strok
 }
 
 /// The rows of the look-up, one for each seven bits, the first bit highest: the number of bits of the vertical mode or pass
-/// that they begin with, or 0; how far from its change the mode leads, and three more; how many changes after b1 that is; and
-/// how many changes it stores.
+/// that they begin with, or 0; how far from its change the mode leads, and three more; how many changes after b1 that is,
+/// and three more; and how many changes it stores.
 #[rattlefmt::skip]
 const NEAR_MODES: [[u8; 4]; 128] = [
-    [0, 0, 0, 0], [0, 0, 0, 0], [7, 0, 0, 1], [7, 6, 0, 1], [6, 1, 0, 1], [6, 1, 0, 1], [6, 5, 0, 1], [6, 5, 0, 1],
-    [4, 3, 1, 0], [4, 3, 1, 0], [4, 3, 1, 0], [4, 3, 1, 0], [4, 3, 1, 0], [4, 3, 1, 0], [4, 3, 1, 0], [4, 3, 1, 0],
-    [0, 0, 0, 0], [0, 0, 0, 0], [0, 0, 0, 0], [0, 0, 0, 0], [0, 0, 0, 0], [0, 0, 0, 0], [0, 0, 0, 0], [0, 0, 0, 0],
-    [0, 0, 0, 0], [0, 0, 0, 0], [0, 0, 0, 0], [0, 0, 0, 0], [0, 0, 0, 0], [0, 0, 0, 0], [0, 0, 0, 0], [0, 0, 0, 0],
-    [3, 2, 0, 1], [3, 2, 0, 1], [3, 2, 0, 1], [3, 2, 0, 1], [3, 2, 0, 1], [3, 2, 0, 1], [3, 2, 0, 1], [3, 2, 0, 1],
-    [3, 2, 0, 1], [3, 2, 0, 1], [3, 2, 0, 1], [3, 2, 0, 1], [3, 2, 0, 1], [3, 2, 0, 1], [3, 2, 0, 1], [3, 2, 0, 1],
-    [3, 4, 0, 1], [3, 4, 0, 1], [3, 4, 0, 1], [3, 4, 0, 1], [3, 4, 0, 1], [3, 4, 0, 1], [3, 4, 0, 1], [3, 4, 0, 1],
-    [3, 4, 0, 1], [3, 4, 0, 1], [3, 4, 0, 1], [3, 4, 0, 1], [3, 4, 0, 1], [3, 4, 0, 1], [3, 4, 0, 1], [3, 4, 0, 1],
-    [1, 3, 0, 1], [1, 3, 0, 1], [1, 3, 0, 1], [1, 3, 0, 1], [1, 3, 0, 1], [1, 3, 0, 1], [1, 3, 0, 1], [1, 3, 0, 1],
-    [1, 3, 0, 1], [1, 3, 0, 1], [1, 3, 0, 1], [1, 3, 0, 1], [1, 3, 0, 1], [1, 3, 0, 1], [1, 3, 0, 1], [1, 3, 0, 1],
-    [1, 3, 0, 1], [1, 3, 0, 1], [1, 3, 0, 1], [1, 3, 0, 1], [1, 3, 0, 1], [1, 3, 0, 1], [1, 3, 0, 1], [1, 3, 0, 1],
-    [1, 3, 0, 1], [1, 3, 0, 1], [1, 3, 0, 1], [1, 3, 0, 1], [1, 3, 0, 1], [1, 3, 0, 1], [1, 3, 0, 1], [1, 3, 0, 1],
-    [1, 3, 0, 1], [1, 3, 0, 1], [1, 3, 0, 1], [1, 3, 0, 1], [1, 3, 0, 1], [1, 3, 0, 1], [1, 3, 0, 1], [1, 3, 0, 1],
-    [1, 3, 0, 1], [1, 3, 0, 1], [1, 3, 0, 1], [1, 3, 0, 1], [1, 3, 0, 1], [1, 3, 0, 1], [1, 3, 0, 1], [1, 3, 0, 1],
-    [1, 3, 0, 1], [1, 3, 0, 1], [1, 3, 0, 1], [1, 3, 0, 1], [1, 3, 0, 1], [1, 3, 0, 1], [1, 3, 0, 1], [1, 3, 0, 1],
-    [1, 3, 0, 1], [1, 3, 0, 1], [1, 3, 0, 1], [1, 3, 0, 1], [1, 3, 0, 1], [1, 3, 0, 1], [1, 3, 0, 1], [1, 3, 0, 1],
+    [0, 0, 3, 0], [0, 0, 3, 0], [7, 0, 3, 1], [7, 6, 3, 1], [6, 1, 3, 1], [6, 1, 3, 1], [6, 5, 3, 1], [6, 5, 3, 1],
+    [4, 3, 4, 0], [4, 3, 4, 0], [4, 3, 4, 0], [4, 3, 4, 0], [4, 3, 4, 0], [4, 3, 4, 0], [4, 3, 4, 0], [4, 3, 4, 0],
+    [0, 0, 3, 0], [0, 0, 3, 0], [0, 0, 3, 0], [0, 0, 3, 0], [0, 0, 3, 0], [0, 0, 3, 0], [0, 0, 3, 0], [0, 0, 3, 0],
+    [0, 0, 3, 0], [0, 0, 3, 0], [0, 0, 3, 0], [0, 0, 3, 0], [0, 0, 3, 0], [0, 0, 3, 0], [0, 0, 3, 0], [0, 0, 3, 0],
+    [3, 2, 3, 1], [3, 2, 3, 1], [3, 2, 3, 1], [3, 2, 3, 1], [3, 2, 3, 1], [3, 2, 3, 1], [3, 2, 3, 1], [3, 2, 3, 1],
+    [3, 2, 3, 1], [3, 2, 3, 1], [3, 2, 3, 1], [3, 2, 3, 1], [3, 2, 3, 1], [3, 2, 3, 1], [3, 2, 3, 1], [3, 2, 3, 1],
+    [3, 4, 3, 1], [3, 4, 3, 1], [3, 4, 3, 1], [3, 4, 3, 1], [3, 4, 3, 1], [3, 4, 3, 1], [3, 4, 3, 1], [3, 4, 3, 1],
+    [3, 4, 3, 1], [3, 4, 3, 1], [3, 4, 3, 1], [3, 4, 3, 1], [3, 4, 3, 1], [3, 4, 3, 1], [3, 4, 3, 1], [3, 4, 3, 1],
+    [1, 3, 3, 1], [1, 3, 3, 1], [1, 3, 3, 1], [1, 3, 3, 1], [1, 3, 3, 1], [1, 3, 3, 1], [1, 3, 3, 1], [1, 3, 3, 1],
+    [1, 3, 3, 1], [1, 3, 3, 1], [1, 3, 3, 1], [1, 3, 3, 1], [1, 3, 3, 1], [1, 3, 3, 1], [1, 3, 3, 1], [1, 3, 3, 1],
+    [1, 3, 3, 1], [1, 3, 3, 1], [1, 3, 3, 1], [1, 3, 3, 1], [1, 3, 3, 1], [1, 3, 3, 1], [1, 3, 3, 1], [1, 3, 3, 1],
+    [1, 3, 3, 1], [1, 3, 3, 1], [1, 3, 3, 1], [1, 3, 3, 1], [1, 3, 3, 1], [1, 3, 3, 1], [1, 3, 3, 1], [1, 3, 3, 1],
+    [1, 3, 3, 1], [1, 3, 3, 1], [1, 3, 3, 1], [1, 3, 3, 1], [1, 3, 3, 1], [1, 3, 3, 1], [1, 3, 3, 1], [1, 3, 3, 1],
+    [1, 3, 3, 1], [1, 3, 3, 1], [1, 3, 3, 1], [1, 3, 3, 1], [1, 3, 3, 1], [1, 3, 3, 1], [1, 3, 3, 1], [1, 3, 3, 1],
+    [1, 3, 3, 1], [1, 3, 3, 1], [1, 3, 3, 1], [1, 3, 3, 1], [1, 3, 3, 1], [1, 3, 3, 1], [1, 3, 3, 1], [1, 3, 3, 1],
+    [1, 3, 3, 1], [1, 3, 3, 1], [1, 3, 3, 1], [1, 3, 3, 1], [1, 3, 3, 1], [1, 3, 3, 1], [1, 3, 3, 1], [1, 3, 3, 1],
 ];

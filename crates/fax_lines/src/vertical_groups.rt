@@ -12,13 +12,13 @@ ghost use Rattle.fax_reading.specs.Rows.{opposite};
 ghost use Rattle.fax_reading.specs.UsualModes.{AreEnded, changes_in, IsB1, TurnsFrom};
 
 use crate::modes::{
-    CodingLine, Stroke, draw_horizontal, draw_pass, draw_vertical, mode_at_hand, next_color,
-    refill_if_low, seek_b1,
+    CodingLine, Stroke, change_at, draw_horizontal, draw_pass, draw_vertical, mode_at_hand,
+    next_color, refill_if_low, seek_b1,
 };
 use crate::pen::RowPen;
 use crate::regular_places::regular_places;
 use crate::run_pairs::push_change;
-use fax_bits::codes::tick_times;
+use fax_bits::codes::{Ticks, tick_times};
 use fax_bits::mode_groups::{ModeGroup, group_at_hand};
 
 /// Returns a stroke with the colour that the number of changes says, so that a loop needn't keep it.
@@ -132,6 +132,22 @@ fn draw_regular(
     }
 }
 
+/// Returns the index of b1 after a vertical mode, whose place is right of a0.
+#[inline(always)]
+fn b1_after(line: &CodingLine<'_>, stroke: Stroke, place: u32, ticks: &mut Ticks) -> usize
+    requires ended { AreEnded line.now.columns line.now.places.now }
+    requires within { stroke.index ≤ length (changes_in line.now.places.now) + 1 }
+    requires at { IsB1 line.now.columns (changes_in line.now.places.now) stroke.painted stroke.index stroke.color }
+    requires inside { (stroke.painted < place) × (place < line.now.columns) }
+    ensures at { IsB1 line.now.columns (changes_in line.now.places.now) place result (opposite stroke.color) }
+    ensures work { (ticks.old ≤ ticks.new) × (ticks.new + stroke.index ≤ ticks.old + result + 1) }
+{
+    if stroke.index > 0 && change_at(line, stroke.index - 1) > place {
+        return stroke.index - 1;
+    }
+    seek_b1(line, place, stroke.index + 1, ticks)
+}
+
 /// Draws the mode that is here, whose group this is. Returns `None`, and draws nothing, if it isn't of the usual kind.
 #[inline(always)]
 fn draw_mode_of_group(
@@ -195,11 +211,15 @@ fn draw_first_modes(
     let painted = painted_by(&pen.row, start, count, stroke.painted);
     if painted < place && place < line.columns {
         pen.row.truncate(start + count + 1);
-        let color = next_color(&pen.row);
         pen.window.pass(modes.group.first_width(count + 1));
         tick_times(&mut pen.ticks, 2 * count + 2);
-        // The change before that of the mode may be b1.
-        let index = seek_b1(line, place, stroke.index + count - 1, &mut pen.ticks);
+        let before = Stroke {
+            painted,
+            index: stroke.index + count,
+            color: next_color(&pen.row).opposite(),
+        };
+        let index = b1_after(line, before, place, &mut pen.ticks);
+        let color = next_color(&pen.row);
         return Some(Stroke {
             painted: place,
             index,

@@ -11,19 +11,19 @@ use Rattle.fax_bits.specs.LookUps.{seven_bits}
 use Rattle.fax_bits.specs.ModeGroups.{distance_of}
 use Rattle.fax_bits.specs.ReaderSteps.{AreThere}
 use Rattle.fax_bits.proofs.CodeWords.LookedUpModes.{mode_stands}
-use Rattle.fax_lines.specs.DrawnModes.{DrawsMode, IsAtStroke, IsNextMode, pen_here}
+use Rattle.fax_lines.specs.DrawnModes.{DrawsMode, DrawsOn, IsAtStroke, IsNextMode, KeepsRoom, StaysAsItIs, pen_here}
 use Rattle.fax_lines.proofs.Names.{Color, GoesOn2d, IsB1, IsStroke, pen_at, row_in}
 use Rattle.fax_lines.specs.declared.dense_rows.NearMode.{NearMode}
 use Rattle.fax_lines.specs.declared.pen.RowPen.{RowPen}
 use Rattle.fax_lines.proofs.DrawingLines.RegularModes.{named_by, one_color}
-use Rattle.fax_lines.proofs.DrawingLines.UsualModes.{draws_mode, draws_vertical, left_stroke, pass_on, pass_stroke}
+use Rattle.fax_lines.proofs.DrawingLines.UsualModes.{draws_mode, draws_vertical, keeps_on, left_stroke, pass_on, pass_stroke}
 use Rattle.fax_lines.proofs.DrawingLines.UsualStrokes.{pixels-pending}
 use Rattle.fax_reading.proofs.PixelRows.B1ByParity.{after_pass, ends_at_b1, turns_alike, turns_next}
+use Rattle.std.proofs.Common.{ltb}
 use Rattle.std.proofs.Math.Dec.{leb}
-use Rattle.std.proofs.lemmas.Bool.{le-leb}
-use Rattle.std.proofs.lemmas.Bool.Decides.{leb_tells}
+use Rattle.std.proofs.lemmas.Bool.{le-ltb, lt-ltb}
 use Rattle.std.specs.Int.{from_bool}
-use Rattle.fax_lines.specs.NearModes.{AreNearRows, near_row, near_row_of, IsNearMode, IsPassNear, IsVerticalNear}
+use Rattle.fax_lines.specs.NearModes.{AreNearRows, near_row, near_row_of, IsNearMode, IsPassNear, IsVerticalNear, StaysOrMoves}
 use Rattle.fax_reading.proofs.PixelRows.B1ByParity.{near_up, rising}
 
 -- ---- The rows of a look-up.
@@ -81,30 +81,48 @@ module _ {window : AtHand} {mode : NearMode} (there : AreThere window) (enough :
   -- by what its bits say
   near_found : (found : Option Mode × ℕ) → found ≡ mode_in (padded 7 (here window.at))
       → mode.width ≡ get_or (near_row found) 0 0
-      → mode.offset ≡ get_or (near_row found) 1 0 → mode.ahead ≡ get_or (near_row found) 2 0
+      → mode.offset ≡ get_or (near_row found) 1 0 → mode.ahead + 3 ≡ get_or (near_row found) 2 0
       → mode.stored ≡ get_or (near_row found) 3 0 → IsNearMode mode window
   near_found (None, width) e is offset ahead stored = absurd (omega (arith, is, some))
   near_found (Some Horizontal, width) e is offset ahead stored = absurd (omega (arith, is, some))
   near_found (Some Pass, width) e is offset ahead stored =
       let next = is_next mode.width there enough few some (rw (← is) at e) refl in
-      inr (record { next = next; at = offset; ahead = ahead; stored = stored })
+      inr (record { next = next; at = offset; ahead = omega (arith, ahead); stored = stored })
   near_found (Some (Vertical (pos distance)), width) e is offset ahead stored =
       let far : pos distance ≡ distance_of mode.offset = omega (arith, ints, offset) in
       let next = is_next mode.width there enough few some (rw (← is) at e) (ap Vertical far) in
-      inl (record { next = next; ahead = ahead; stored = stored })
+      inl (record { next = next; ahead = omega (arith, ahead); stored = stored })
   near_found (Some (Vertical (negsuc zero)), width) e is offset ahead stored =
       let far : negsuc 0 ≡ distance_of mode.offset = omega (arith, ints, offset) in
       let next = is_next mode.width there enough few some (rw (← is) at e) (ap Vertical far) in
-      inl (record { next = next; ahead = ahead; stored = stored })
+      inl (record { next = next; ahead = omega (arith, ahead); stored = stored })
   near_found (Some (Vertical (negsuc (suc zero))), width) e is offset ahead stored =
       let far : negsuc 1 ≡ distance_of mode.offset = omega (arith, ints, offset) in
       let next = is_next mode.width there enough few some (rw (← is) at e) (ap Vertical far) in
-      inl (record { next = next; ahead = ahead; stored = stored })
+      inl (record { next = next; ahead = omega (arith, ahead); stored = stored })
   near_found (Some (Vertical (negsuc (suc (suc zero)))), width) e is offset ahead stored =
       let far : negsuc 2 ≡ distance_of mode.offset = omega (arith, ints, offset) in
       let next = is_next mode.width there enough few some (rw (← is) at e) (ap Vertical far) in
-      inl (record { next = next; ahead = ahead; stored = stored })
+      inl (record { next = next; ahead = omega (arith, ahead); stored = stored })
   near_found (Some (Vertical (negsuc (suc (suc (suc far))))), width) e is offset ahead stored = absurd (omega (arith, is, some))
+
+-- the third number of each row is three at least
+three_in : (found : Option Mode × ℕ) → 3 ≤ get_or (near_row found) 2 0
+three_in (None, width) = omega arith
+three_in (Some Horizontal, width) = omega arith
+three_in (Some Pass, width) = omega arith
+three_in (Some (Vertical (pos distance)), width) = omega arith
+three_in (Some (Vertical (negsuc zero)), width) = omega arith
+three_in (Some (Vertical (negsuc (suc zero))), width) = omega arith
+three_in (Some (Vertical (negsuc (suc (suc zero)))), width) = omega arith
+three_in (Some (Vertical (negsuc (suc (suc (suc far))))), width) = omega arith
+
+three_in_row : (number : ℕ) → 3 ≤ get_or (near_row_of number) 2 0
+unfolding near_row_of
+three_in_row number = three_in (mode_in (seven_bits number))
+
+pub three_at : {rows : List (List ℕ)} (number : ℕ) → AreNearRows rows → number < 128 → 3 ≤ get_or (get_or rows number []) 2 0
+three_at number are lt = rw (are.each number lt) (three_in_row number)
 
 -- a row of a look-up says which it is
 near_row_is : (number : ℕ) {here : Bits} → seven_bits number ≡ here → near_row_of number ≡ near_row (mode_in here)
@@ -114,7 +132,7 @@ near_row_is number e = ap (λ (bits : Bits). near_row (mode_in bits)) e
 pub near_here : {rows : List (List ℕ)} {number : ℕ} {window : AtHand} (mode : NearMode) → AreNearRows rows → number < 128
     → AreThere window → 7 ≤ window.left → seven_bits number ≡ padded 7 (here window.at)
     → mode.width ≡ get_or (get_or rows number []) 0 0 → mode.offset ≡ get_or (get_or rows number []) 1 0
-    → mode.ahead ≡ get_or (get_or rows number []) 2 0 → mode.stored ≡ get_or (get_or rows number []) 3 0 → 0 < mode.width
+    → mode.ahead + 3 ≡ get_or (get_or rows number []) 2 0 → mode.stored ≡ get_or (get_or rows number []) 3 0 → 0 < mode.width
     → IsNearMode mode window
 near_here {rows} {number} {window} mode are lt there enough bits width offset ahead stored some =
     let row = are.each number lt ∙ near_row_is number bits in
@@ -126,26 +144,26 @@ near_here {rows} {number} {window} mode are lt there enough bits width offset ah
 -- after two comparisons, the second of which is of the second next change, it is near: two steps of two, or one, or none
 pub near_twice : (columns : ℕ) (places : List ℕ) → AreChanges columns places → (painted start first second a b : ℕ)
     → 0 < painted → IsNear columns places painted start → first ≡ get_or places start columns → second ≡ get_or places (start + 2) columns
-    → a ≡ from_bool (leb first painted) → b ≡ from_bool (leb second painted)
-    → IsNear columns places painted (start + 2 * (a + b))
+    → a ≡ from_bool (ltb painted first) → b ≡ from_bool (ltb painted second)
+    → IsNear columns places painted (start + 4 - 2 * (a + b))
 near_twice columns places ascend painted start first second a b some near is is2 by by2 =
     let up = rising columns places ascend start (start + 2) (omega arith) in
-    elim (leb_tells second painted) [
-      | inl far ↦
-          let one : b ≡ 1 = rw far.0 at by2 in
-          let also : a ≡ 1 = rw (le-leb first painted (omega (arith, up, is, is2, far.1))) at by in
-          let sum : start + 2 + 2 ≡ start + 2 * (a + b) = omega (arith, one, also) in
-          rw (← sum) (near_up columns places ascend painted (start + 2) some (omega (arith, is2, far.1)))
-      | inr not_far ↦
-          let none : b ≡ 0 = rw not_far.0 at by2 in
-          elim (leb_tells first painted) [
-            | inl one ↦
-                let once : a ≡ 1 = rw one.0 at by in
-                let sum : start + 2 ≡ start + 2 * (a + b) = omega (arith, once, none) in
-                rw (← sum) (near_up columns places ascend painted start some (omega (arith, is, one.1)))
-            | inr here ↦
-                let no : a ≡ 0 = rw here.0 at by in
-                let sum : start ≡ start + 2 * (a + b) = omega (arith, no, none) in
+    elim (cases_lt painted second) [
+      | inr far ↦
+          let none : b ≡ 0 = rw (le-ltb painted second far) at by2 in
+          let neither : a ≡ 0 = rw (le-ltb painted first (omega (arith, up, is, is2, far))) at by in
+          let sum : start + 2 + 2 ≡ start + 4 - 2 * (a + b) = omega (arith, none, neither) in
+          rw (← sum) (near_up columns places ascend painted (start + 2) some (omega (arith, is2, far)))
+      | inl not_far ↦
+          let one : b ≡ 1 = rw (lt-ltb painted second not_far) at by2 in
+          elim (cases_lt painted first) [
+            | inr passed ↦
+                let no : a ≡ 0 = rw (le-ltb painted first passed) at by in
+                let sum : start + 2 ≡ start + 4 - 2 * (a + b) = omega (arith, no, one) in
+                rw (← sum) (near_up columns places ascend painted start some (omega (arith, is, passed)))
+            | inl here ↦
+                let both : a ≡ 1 = rw (lt-ltb painted first here) at by in
+                let sum : start ≡ start + 4 - 2 * (a + b) = omega (arith, both, one) in
                 rw (← sum) near
           ]
     ]
@@ -246,3 +264,20 @@ module _ {line : CodingLine} {stroke next : Stroke} {before after : RowPen} {mod
   pub draws_near : IsNearMode mode before.window → DrawsMode line stroke before next after
   draws_near (inl is) = draws_vertical_near is
   draws_near (inr is) = draws_pass_near is
+
+-- ---- How far the bits at hand are passed.
+pub moves_first : {before now after : AtHand} → StaysOrMoves before now → now.at.place < after.at.place
+    → now.at.place < length now.at.bits → StaysOrMoves before after
+moves_first (inl same) on there = rw same at inr (on, there)
+moves_first {before} {now} {after} (inr moved) on there = inr (omega (arith, moved.0, on), moved.1)
+
+-- what is drawn so far, where nothing is drawn after it
+pub stays_drawn : {line : CodingLine} {a b : Stroke} {first pen same : RowPen} → DrawsOn line a first b pen → StaysAsItIs pen same
+    → KeepsRoom pen same → DrawsOn line a first b same
+stays_drawn on stays kept = record {
+  drawn = record {
+    drawn = rw (stays.0, stays.1, stays.2) on.drawn.drawn;
+    reached = rw stays.1 on.drawn.reached;
+  };
+  kept = keeps_on on.kept kept;
+}

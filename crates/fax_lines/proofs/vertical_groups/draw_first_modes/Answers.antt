@@ -1,13 +1,13 @@
 use Rattle.fax_lines.proofs.Names.{common_steps}
 use Rattle.std.specs.Prelude.{length, vec_len, vec_capacity, get_or, take, ◌<◌, ◌≤◌, ◌∷◌, ◌++◌}
 use Rattle.std.proofs.Math.Seq.{take-append-add, drop-append_seam}
-use Rattle.fax_lines.proofs.Names.{◌≡◌, ◌∙◌, ◌+◌, ◌%◌, ℕ, List, Color, TurnsFrom, opposite, suc, ap, sym, refl, arith}
+use Rattle.fax_lines.proofs.Names.{◌≡◌, ◌∙◌, ◌+◌, ℕ, List, Color, TurnsFrom, opposite, suc, ap, sym, refl, arith}
 use Rattle.fax_lines.proofs.Names.{BitsAt, length-append, moved}
 use Rattle.std.proofs.lemmas.List.{length-take-le}
 use Rattle.fax_lines.proofs.DrawingLines.GroupMasks.{set_before_first}
 use Rattle.fax_lines.proofs.DrawingLines.RegularModes.{draws_first, draws_next, first_inside, first_reached}
-use Rattle.fax_lines.proofs.DrawingLines.RegularModes.{stored_at}
-use Rattle.fax_reading.proofs.PixelRows.B1ByParity.{ends_at_b1, turns_alike, turns_before, turns_next}
+use Rattle.fax_lines.proofs.DrawingLines.RegularModes.{one_color, stored_at}
+use Rattle.fax_reading.proofs.PixelRows.B1ByParity.{turns_before}
 use Rattle.fax_reading.proofs.PixelRows.ReferencePlaces.{opposite_twice}
 use Rattle.fax_lines.specs.DrawnModes.{first_clear}
 use Rattle.fax_bits.specs.ModeGroups.{VerticalWord, width_of, words_of}
@@ -69,47 +69,34 @@ module _ (c : After-painted_by-painted) where
   colored_before {count} color e turns =
       grind (arith, common_steps, length-take-le, length-append, n, places, few, row, begin, turns_before)
 
-pub seek_b1-index-requires-clause-within : goal.seek_b1-index-requires-clause-within
-seek_b1-index-requires-clause-within c =
-    let at = (goal.at.seek_b1-index-requires-clause-within c).After-painted_by-painted in
-    let colored = colored_before at _ (omega (arith, c.truncate.ensures.len, room at)) c.next_color-color.ensures.turns in
+pub b1_after-index-requires-clause-within : goal.b1_after-index-requires-clause-within
+b1_after-index-requires-clause-within c =
+    let at = (goal.at.b1_after-index-requires-clause-within c).After-painted_by-painted in
+    let colored = colored_before at _ (omega (arith, c.truncate.ensures.len, room at)) c.next_color.ensures.turns in
     omega (arith, (first_reached c.requires.can c.requires.here (n at) (within at) (set at) _ colored).near)
 
-pub seek_b1-index-requires-clause-near : goal.seek_b1-index-requires-clause-near
-seek_b1-index-requires-clause-near c =
-    let at = (goal.at.seek_b1-index-requires-clause-near c).After-painted_by-painted in
-    let colored = colored_before at _ (omega (arith, c.truncate.ensures.len, room at)) c.next_color-color.ensures.turns in
-    let inside = first_inside c.requires.can c.requires.here (n at) (within at) (set at) in
-    let reached = (first_reached c.requires.can c.requires.here (n at) (within at) (set at) _ colored).at inside in
-    let right = c.if-painted-place.true in
-    record {
-      left = λ k before. (
-        omega (arith, right),
-        omega (arith, painted_is at, right, (reached.near.left k (omega (arith, before))).1),
-      );
-    }
+pub b1_after-index-requires-clause-at : goal.b1_after-index-requires-clause-at
+b1_after-index-requires-clause-at c =
+    let at = (goal.at.b1_after-index-requires-clause-at c).After-painted_by-painted in
+    let colored = colored_before at _ (omega (arith, c.truncate.ensures.len, room at)) c.next_color.ensures.turns in
+    let here = c.requires.here in
+    rw (painted_is at, c.opposite.ensures) ((first_reached c.requires.can here (n at) (within at) (set at) _ colored).at
+    (first_inside c.requires.can here (n at) (within at) (set at)))
 
 pub returns-then-place-line-clause-drawn : goal.returns-then-place-line-clause-drawn
 returns-then-place-line-clause-drawn c =
     let at = (goal.at.returns-then-place-line-clause-drawn c).After-painted_by-painted in
     let items = kept at (suc (n at)) c.truncate.ensures.items (omega arith) in
-    let color = opposite c.next_color-color.result in
-    let colored = colored_before at _ (omega (arith, c.truncate.ensures.len, room at)) c.next_color-color.ensures.turns in
-    let inside = first_inside c.requires.can c.requires.here (n at) (within at) (set at) in
-    let reached = (first_reached c.requires.can c.requires.here (n at) (within at) (set at) color colored).at inside in
-    let seek = c.seek_b1-index.ensures in
-    let width = c.first_width.ensures in
-    let after = c.requires.here.after in
-    let index : ℕ = c.args.stroke.index + n at in
-    let parity : c.seek_b1-index.result % 2 ≡ (index + 1) % 2 = omega (arith, seek.onward.1, after) in
-    let b1 = ends_at_b1 _ _ c.requires.can.ended.lawful _ c.seek_b1-index.result (opposite color)
-    (turns_alike _ (index + 1) (opposite color) parity (turns_next index color reached.turns)) seek.near seek.right in
+    let colored = colored_before at _ (omega (arith, c.truncate.ensures.len, room at)) c.next_color.ensures.turns in
+    let turned = one_color _ _ _ c.next_color-color.ensures.turns c.next_color.ensures.turns in
     draws_next c.requires.can c.requires.here (n at) (within at) (set at)
-    (omega (arith, room at, c.truncate.ensures.len, c.truncate.ensures.capacity, c.pass.ensures.left, width.some))
-    color c.requires.some colored (sym (opposite_twice c.next_color-color.result))
-    (passed at width.value c.pass.ensures.moved) (omega (arith, c.tick_times.ensures, seek.work, seek.onward.0))
-    (omega (arith, c.tick_times.ensures, seek.work, seek.onward.0, after)) (place_is at)
-    (omega (arith, painted_is at, c.if-painted-place.true)) (omega (arith, c.if-place-line.true)) b1 items
+    (omega (arith, room at, c.truncate.ensures.len, c.truncate.ensures.capacity, c.pass.ensures.left, c.first_width.ensures.some))
+    (opposite c.next_color.result) c.requires.some colored (turned ∙ sym (opposite_twice c.next_color.result))
+    (passed at c.first_width.ensures.value c.pass.ensures.moved)
+    (omega (arith, c.tick_times.ensures, c.b1_after-index.ensures.work.0))
+    (omega (arith, c.tick_times.ensures, c.b1_after-index.ensures.work.1, c.requires.here.after)) (place_is at)
+    (omega (arith, painted_is at, c.if-painted-place.true)) (omega (arith, c.if-place-line.true))
+    (rw c.opposite.ensures at c.b1_after-index.ensures.at) items
 
 pub returns-clause-drawn : goal.returns-clause-drawn
 returns-clause-drawn c =
@@ -118,7 +105,7 @@ returns-clause-drawn c =
     let width = c.first_width-2.ensures in
     draws_first c.requires.can c.requires.here (n at) (within at) (set at)
     (omega (arith, room at, c.truncate-2.ensures.len, c.truncate-2.ensures.capacity, c.pass-2.ensures.left, width.some))
-    (omega (arith, c.if-count-eq0.false)) (painted_is at) refl c.next_color.ensures.turns items
+    (omega (arith, c.if-count-eq0.false)) (painted_is at) refl c.next_color-2.ensures.turns items
     (c.pass-2.ensures.moved ∙ ap (λ (w : ℕ). moved w c.args.pen.now.window.at) width.value)
     (omega (arith, c.tick_times-2.ensures))
 
