@@ -517,15 +517,6 @@ impl DecoderContext {
         go_on_with(reader, &window);
     }
 
-    /// Returns whether plain calls are likely to draw the next runs of a row at less cost: it has few more.
-    #[inline(always)]
-    fn suits_plain_calls(&self) -> bool {
-        if is_wide(self.settings.columns) {
-            return reference_row(self).len() < 2 && self.coding_changes.len() < 4;
-        }
-        reference_row(self).len() < 7 && self.coding_changes.len() < 6
-    }
-
     /// Draws pairs of runs as long as they are usual, from a white one on, or none, if plain calls suit. No call is made where the row
     /// is full or black is next.
     #[inline(always)]
@@ -540,14 +531,18 @@ impl DecoderContext {
         if self.pixels_decoded == self.settings.columns {
             return;
         }
-        if self.suits_plain_calls() {
-            return;
-        }
+        // Plain calls draw the next runs at less cost if these are likely to be few.
+        let above = reference_row(self).len();
+        let drawn = self.coding_changes.len();
         if is_wide(self.settings.columns) {
-            self.draw_long_runs_of(reader);
+            if above >= 2 || drawn >= 4 {
+                self.draw_long_runs_of(reader);
+            }
             return;
         }
-        self.draw_runs_of(reader);
+        if above >= 7 || drawn >= 6 {
+            self.draw_runs_of(reader);
+        }
     }
 
     /// Draws the first runs of a line as long as they are usual: from the reader's own window, if few are likely, since the row before

@@ -1,5 +1,4 @@
 -- Modes that lead to a place near a change: the rows of their look-up, and where b1 is after one.
-use Rattle.fax_lines.proofs.Names.{common_steps}
 use Rattle.fax_lines.proofs.Names.{◌≡◌, ℕ, zero, suc, ◌+◌, ◌*◌, ◌<◌, ◌≤◌, Bool, true, List, [], ◌∷◌, length, get_or, refl}
 use Rattle.fax_lines.proofs.Names.{arith, ints, and_parts, leb-true}
 use Rattle.fax_lines.proofs.Names.{AreChanges, IsNear, ap, subst}
@@ -11,7 +10,7 @@ use Rattle.fax_bits.specs.LookUps.{seven_bits}
 use Rattle.fax_bits.specs.ModeGroups.{distance_of}
 use Rattle.fax_bits.specs.ReaderSteps.{AreThere}
 use Rattle.fax_bits.proofs.CodeWords.LookedUpModes.{mode_stands}
-use Rattle.fax_lines.specs.DrawnModes.{DrawsMode, DrawsOn, IsAtStroke, IsNextMode, KeepsRoom, StaysAsItIs, pen_here}
+use Rattle.fax_lines.specs.DrawnModes.{DrawsMode, DrawsNothing, DrawsOn, IsAtStroke, IsNextMode, KeepsRoom, StaysAsItIs, pen_here}
 use Rattle.fax_lines.proofs.Names.{Color, GoesOn2d, IsB1, IsStroke, pen_at, row_in}
 use Rattle.fax_lines.specs.declared.dense_rows.NearMode.{NearMode}
 use Rattle.fax_lines.specs.declared.pen.RowPen.{RowPen}
@@ -143,7 +142,8 @@ near_here {rows} {number} {window} mode are lt there enough bits width offset ah
 
 -- after two comparisons, the second of which is of the second next change, it is near: two steps of two, or one, or none
 pub near_twice : (columns : ℕ) (places : List ℕ) → AreChanges columns places → (painted start first second a b : ℕ)
-    → 0 < painted → IsNear columns places painted start → first ≡ get_or places start columns → second ≡ get_or places (start + 2) columns
+    → 0 < painted → IsNear columns places painted start → first ≡ get_or places start columns
+    → second ≡ get_or places (start + 2) columns
     → a ≡ from_bool (ltb painted first) → b ≡ from_bool (ltb painted second)
     → IsNear columns places painted (start + 4 - 2 * (a + b))
 near_twice columns places ascend painted start first second a b some near is is2 by by2 =
@@ -268,16 +268,21 @@ module _ {line : CodingLine} {stroke next : Stroke} {before after : RowPen} {mod
 -- ---- How far the bits at hand are passed.
 pub moves_first : {before now after : AtHand} → StaysOrMoves before now → now.at.place < after.at.place
     → now.at.place < length now.at.bits → StaysOrMoves before after
-moves_first (inl same) on there = rw same at inr (on, there)
-moves_first {before} {now} {after} (inr moved) on there = inr (omega (arith, moved.0, on), moved.1)
+moves_first (inl same) on there = inr (rw same at on, rw same at there)
+moves_first (inr first) on there = inr (omega (arith, first.0, on), first.1)
 
 -- what is drawn so far, where nothing is drawn after it
-pub stays_drawn : {line : CodingLine} {a b : Stroke} {first pen same : RowPen} → DrawsOn line a first b pen → StaysAsItIs pen same
-    → KeepsRoom pen same → DrawsOn line a first b same
-stays_drawn on stays kept = record {
+pub nothing_drawn : {line : CodingLine} {a b : Stroke} {first pen same : RowPen} → DrawsOn line a first b pen
+    → DrawsNothing pen same → KeepsRoom pen same → DrawsOn line a first b same
+nothing_drawn on none kept = record {
   drawn = record {
-    drawn = rw (stays.0, stays.1, stays.2) on.drawn.drawn;
-    reached = rw stays.1 on.drawn.reached;
+    drawn = rw (none.at, none.items, none.count) on.drawn.drawn;
+    reached = rw none.items on.drawn.reached;
   };
   kept = keeps_on on.kept kept;
 }
+
+pub stays_drawn : {line : CodingLine} {a b : Stroke} {first pen same : RowPen} → DrawsOn line a first b pen
+    → StaysAsItIs pen same → KeepsRoom pen same → DrawsOn line a first b same
+stays_drawn on stays kept =
+    nothing_drawn on (record { at = ap (λ (w : AtHand). w.at) stays.0; items = stays.1; count = stays.2 }) kept

@@ -1,5 +1,5 @@
 use Rattle.fax_lines.proofs.Names.{common_steps}
-use Rattle.fax_lines.proofs.Names.{◌≡◌, ◌∙◌, ◌+◌, ◌++◌, ◌∷◌, [], take, length, arith, ap}
+use Rattle.fax_lines.proofs.Names.{◌≡◌, length, arith}
 use Rattle.std.proofs.Math.Seq.{take-append-add}
 use Rattle.fax_reading.proofs.PixelRows.ReferencePlaces.{end_within}
 use Rattle.fax_lines.proofs.DrawingLines.NearModes.{draws_near}

@@ -10,8 +10,8 @@ the_rows : AreNearRows NEAR_MODES
 unfolding near_row_of seven_bits
 the_rows = near_rows_agree NEAR_MODES refl refl refl
 
-pub overflow_sub : goal.overflow_sub
-overflow_sub c = omega (arith, c.from-3.ensures, three_at c.peek_7.result the_rows c.peek_7.ensures.few)
+pub overflow_sub-result : goal.overflow_sub-result
+overflow_sub-result c = omega (arith, c.from-3.ensures, three_at c.peek_7.result the_rows c.peek_7.ensures.few)
 
 pub returns-clause-near : goal.returns-clause-near
 returns-clause-near c =
