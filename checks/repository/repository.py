@@ -8,6 +8,7 @@ import sys
 from pathlib import Path
 from types import ModuleType
 
+from gate.built import with_libraries
 from gate.edit import edits_in, kit
 from gate.source import Source
 from repository import clauses, places
@@ -273,6 +274,8 @@ def only_what_users_call_is_passed_on():
         assert len(others) == len(found) and all(place.startswith(f"{name}:") for place in others), others
         with open("crates.txt", encoding="utf-8") as file:
             above = [line.split(":")[0].split()[0] for line in file if not line.startswith("#") and crate in line.partition(":")[2].split()]
+        # what the decoder and others stand on may be named by crates that don't stand on the decoder
+        above = [name for name in above if name in places.DECODER or crate not in places.DECODER or "hayro_ccitt" in with_libraries(name)]
         assert above == crates, above
 
 

@@ -8,7 +8,7 @@ ghost use Rattle.fax_encode.specs.Packed.{packed};
 ghost use Rattle.fax_encode.specs.Chosen.{AreRows};
 ghost use Rattle.fax_encode.specs.Refusals.{RefusesFirstUnlawful};
 
-use crate::{BitmapSink, EncodeError, encode_1d, encode_g4};
+use fax_encode::{BitmapSink, EncodeError, encode_1d, encode_g4};
 use hayro_ccitt::{DecodeSettings, DecoderContext, EncodingMode, bits_fit, decode};
 use std::alloc::Global;
 

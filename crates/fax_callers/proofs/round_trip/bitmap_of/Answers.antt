@@ -1,6 +1,6 @@
 use Rattle.fax_encode.proofs.Names.{ℕ, sym, ap, subst, DecodeSettings, bits_of, Context, IsClosedPicture, rows_of}
 use Rattle.fax_encode.proofs.PackedRows.{packed_from}
-use Rattle.fax_encode.proofs.round_trip.bitmap_of.Goals as goal
+use Rattle.fax_callers.proofs.round_trip.bitmap_of.Goals as goal
 
 pub returns-in-Ok-decode-clause-packed : goal.returns-in-Ok-decode-clause-packed
 returns-in-Ok-decode-clause-packed c lists count are closed =
