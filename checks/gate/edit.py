@@ -28,7 +28,7 @@ class Edit:
 
     def __init__(self, crate, file, source):
         self.crate, self.file, self.source, self.name = crate, file, source, os.path.basename(file)[: -len(".edit")]
-        self.text = Path(file).read_text(encoding="utf-8")
+        self.text, self.must_fail = Path(file).read_text(encoding="utf-8"), os.path.basename(os.path.dirname(file)) == FOLDERS[0]
         found = re.search(r"^breaks: ([\w:]+): (\S+)$", self.text, re.MULTILINE)
         self.function, self.clause = (found[1], found[2]) if found else ("", "")
         self.goals = re.findall(r"^search: (\S+)$", self.text, re.MULTILINE)

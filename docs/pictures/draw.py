@@ -54,8 +54,8 @@ def layers():
     def height(name):
         return 1 + max((height(below) for below in found[name][1] if below in found), default=-1)
 
-    below = found["hayro_ccitt"][1]
-    shown = [it for it, (_, uses) in found.items() if it in (*below, "hayro_ccitt") or "hayro_ccitt" in uses and not it.startswith("test_")]
+    decoder = {*found["hayro_ccitt"][1], "hayro_ccitt"}
+    shown = [it for it, (_, uses) in found.items() if it in decoder or decoder & {*uses} and not it.startswith("test_")]
     rows = [[it for it in shown if height(it) == level] for level in sorted(set(map(height, shown)))]
     parts, wide, tall = [], 900, 44
     for level, names in enumerate(rows):
@@ -64,7 +64,7 @@ def layers():
         for place, name in enumerate(names):
             x = 16 + place * (each + 8)
             parts.append(rect(x, y, each, tall, "main" if name == "hayro_ccitt" else "box"))
-            if level > height("hayro_ccitt"):
+            if len(names) > 1:
                 parts.append(text(x + each / 2, y + 27, name, "code", "middle"))
             else:
                 parts += [text(x + 14, y + 27, name, "code"), text(x + 180, y + 27, found[name][0], "small")]

@@ -6,16 +6,16 @@ unfoldable pub use Rattle.fax_bitmap.specs.Painting.{joined_pixels, turned_after
 pub use Rattle.fax_bitmap.specs.Scanning.{differences, ones_from}
 pub use Rattle.fax_bitmap.specs.declared.painting.Brush.{Brush}
 pub use Rattle.fax_bitmap.specs.declared.pixel_words.TheConstants.{ONES_BEFORE, ONES_FROM}
-pub use Rattle.hayro_ccitt.proofs.BitReading.BitLists.{length-bits_of, length-low_bits}
-pub use Rattle.hayro_ccitt.proofs.BitReading.WordRanges.{low_bits_below}
-pub use Rattle.hayro_ccitt.proofs.BitReading.ZerosPassed.{one_times, some_number}
-pub use Rattle.hayro_ccitt.proofs.PixelRows.ChangesAndPixels.{AreChanges-changes, changes-recursive, last_pixel-same}
-pub use Rattle.hayro_ccitt.proofs.PixelRows.ChangesAndPixels.{length-pixels, pixels-changes}
-pub use Rattle.hayro_ccitt.proofs.PixelRows.RowChanges.{changes_from, changes_from-append, changes_from-same}
-pub use Rattle.hayro_ccitt.specs.Bits.{Bits, bit_of, bits_of, bits_of_byte, low_bits}
-pub use Rattle.hayro_ccitt.specs.Rows.{AreChanges, AscendFrom, Row, changes, last_pixel, pixels, pixels_from, white_row}
-pub use Rattle.hayro_ccitt.specs.BitOrder.TheVariants.{HighestFirst}
-pub use Rattle.hayro_ccitt.specs.Color.TheVariants.{Black, White}
+pub use Rattle.fax_bits.proofs.BitReading.BitLists.{length-bits_of, length-low_bits}
+pub use Rattle.fax_bits.proofs.BitReading.WordRanges.{low_bits_below}
+pub use Rattle.fax_bits.proofs.BitReading.ZerosPassed.{one_times, some_number}
+pub use Rattle.fax_reading.proofs.PixelRows.ChangesAndPixels.{AreChanges-changes, changes-recursive, last_pixel-same}
+pub use Rattle.fax_reading.proofs.PixelRows.ChangesAndPixels.{length-pixels, pixels-changes}
+pub use Rattle.fax_reading.proofs.PixelRows.RowChanges.{changes_from, changes_from-append, changes_from-same}
+pub use Rattle.fax_bits.specs.Bits.{Bits, bit_of, bits_of, bits_of_byte, low_bits}
+pub use Rattle.fax_reading.specs.Rows.{AreChanges, AscendFrom, Row, changes, last_pixel, pixels, pixels_from, white_row}
+pub use Rattle.fax_bits.specs.declared.bit_reader.BitOrder.TheVariants.{HighestFirst}
+pub use Rattle.fax_bits.specs.declared.codes.Color.TheVariants.{Black, White}
 pub use Rattle.std.proofs.Common.{Bool, List, OnOk, [], add-one, ap, append_assoc, arith, cond, drop, eqb, false, get_or, inl}
 pub use Rattle.std.proofs.Common.{inr, length, map, nat_eq, not, refl, vec_capacity, vec_len, replicate, rules, set, subst, suc}
 pub use Rattle.std.proofs.Common.{sym, take, take_all, true, zero, ℕ, ◌%◌, ◌*◌, ◌++◌, ◌+◌, ◌-◌, ◌/◌, ◌<◌, ◌==◌, ◌^◌, ◌∙◌, ◌∷◌}

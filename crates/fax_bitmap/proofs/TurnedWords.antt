@@ -15,7 +15,7 @@ use Rattle.fax_words.proofs.WordBytes.{bits_of-take}
 use Rattle.fax_bitmap.proofs.PaintedWords.{kept_at, turned_bit_at}
 use Rattle.fax_words.proofs.RunsWritten.{left_of_end}
 use Rattle.fax_bitmap.proofs.Names.{AreChanges, get_or_default, ◌/◌, ◌*◌, ◌<◌}
-use Rattle.hayro_ccitt.proofs.PixelRows.ChangesAndPixels.{turned_at, turned_at-even}
+use Rattle.fax_reading.proofs.PixelRows.ChangesAndPixels.{turned_at, turned_at-even}
 
 -- ---- the table of ones
 is_entry : ℕ → Bool

@@ -1,8 +1,8 @@
 -- Packed rows: bitmaps of one bit a pixel.
 use Rattle.std.specs.Prelude.{◌≡◌, ℕ, zero, suc, ◌+◌, ◌/◌, Bool, true, false, not, List, [], ◌∷◌, ◌++◌, length, map, take, drop}
 use Rattle.std.specs.Prelude.{flat_map, replicate}
-use Rattle.hayro_ccitt.specs.Bits.{Bits, bits_of, low_bits}
-use Rattle.hayro_ccitt.specs.Rows.{Row, pixels}
+use Rattle.fax_bits.specs.Bits.{Bits, bits_of, low_bits}
+use Rattle.fax_reading.specs.Rows.{Row, pixels}
 use Rattle.fax_words.specs.Chosen.{filled_up}
 
 -- the bits of packed rows: each row's pixels from the left, 1 for black, and zeros up to a whole byte

@@ -1,8 +1,8 @@
 -- A row that is being painted.
 use Rattle.std.specs.Prelude.{◌≡◌, ◌+◌, ◌-◌, ◌*◌, ◌/◌, ◌%◌, ◌^◌, ◌<◌, ◌≤◌, ℕ, zero, suc, List, [], ◌∷◌, ◌++◌, Bool, true, false}
 use Rattle.std.specs.Prelude.{length, map, not, take, replicate}
-use Rattle.hayro_ccitt.specs.Bits.{Bits, bit_of, bits_of, low_bits}
-use Rattle.hayro_ccitt.specs.Rows.{AreChanges}
+use Rattle.fax_bits.specs.Bits.{Bits, bit_of, bits_of, low_bits}
+use Rattle.fax_reading.specs.Rows.{AreChanges}
 use Rattle.fax_bitmap.specs.declared.painting.Brush.{Brush}
 
 -- memory has as many bytes as a row that has these changes (T.4, 4.1.1)

@@ -1,8 +1,8 @@
 -- Pixels that are scanned for changes.
 use Rattle.std.specs.Prelude.{ℕ, suc, Bool, not, List, [], ◌∷◌, cond}
 use mathlib.Core.Bool.{beq}
-use Rattle.hayro_ccitt.specs.Bits.{Bits}
-use Rattle.hayro_ccitt.specs.Rows.{Row}
+use Rattle.fax_bits.specs.Bits.{Bits}
+use Rattle.fax_reading.specs.Rows.{Row}
 
 -- for each pixel whether it differs from the one before it; the first is compared with a given pixel
 abbrev pub differences : Bool → Row → Bits

@@ -2,8 +2,8 @@
 
 ghost use Rattle.std.specs.Prelude.{IsTrue, ◌≡◌, ◌+◌, ◌*◌, ◌^◌, ◌<◌, ◌≤◌, ◌++◌, false, map, length, replicate, take};
 ghost use Rattle.std.specs.Prelude.{IfOk, OnOk, get_or, slice_index, vec_capacity, vec_len};
-ghost use Rattle.hayro_ccitt.specs.Bits.{bits_of, bit_of, low_bits};
-ghost use Rattle.hayro_ccitt.specs.Rows.{AreChanges, pixels};
+ghost use Rattle.fax_bits.specs.Bits.{bits_of, bit_of, low_bits};
+ghost use Rattle.fax_reading.specs.Rows.{AreChanges, pixels};
 ghost use Rattle.fax_words.specs.Chosen.{rows_of};
 ghost use Rattle.fax_bitmap.specs.Packed.{AreFirstPixels, bytes_of_row, in_black, shown};
 ghost use Rattle.fax_words.specs.Chosen.{AreRows};

@@ -1,12 +1,13 @@
 //! A sink that packs rows into a bitmap.
 
 ghost use Rattle.std.specs.Prelude.{◌≡◌, ◌++◌, OnOk, OnErr};
-ghost use Rattle.hayro_ccitt.specs.Bits.{bits_of};
-ghost use Rattle.hayro_ccitt.specs.Rows.{AreChanges, pixels};
+ghost use Rattle.fax_bits.specs.Bits.{bits_of};
+ghost use Rattle.fax_reading.specs.Rows.{AreChanges, pixels};
 ghost use Rattle.fax_words.specs.Chosen.{filled_up};
 
 use crate::painting::paint_row;
-use hayro_ccitt::{DecodeError, Decoder};
+use fax_bits::DecodeError;
+use fax_lines::Decoder;
 use std::alloc::{AllocError, Global};
 use std::marker::Model;
 
@@ -78,7 +79,7 @@ impl BitmapSink {
 }
 
 impl Decoder for BitmapSink {
-    ghost use Rattle.hayro_ccitt.specs.Bits.{Bits, bits_of};
+    ghost use Rattle.fax_bits.specs.Bits.{Bits, bits_of};
     ghost use Rattle.fax_bitmap.specs.Packed.{with_packed_row};
 
     ghost Meaning = { Bits };
@@ -91,7 +92,7 @@ impl Decoder for BitmapSink {
 
     ghost has_refused = { λ sink. sink.has_refused };
 
-    fn push_row(&mut self, changes: &[u32]) -> hayro_ccitt::Result<()> {
+    fn push_row(&mut self, changes: &[u32]) -> fax_bits::Result<()> {
         match self.add_row(changes) {
             Ok(()) => Ok(()),
             Err(_) => {

@@ -1,8 +1,8 @@
 //! Painting a row by its black runs: each is turned black in a white row. That is fast where runs are few.
 
 ghost use Rattle.std.specs.Prelude.{◌≡◌, ◌+◌, ◌-◌, ◌*◌, ◌/◌, ◌^◌, ◌≤◌, ◌<◌, ◌++◌, true, drop, get_or, length, replicate, take};
-ghost use Rattle.hayro_ccitt.specs.Bits.{Bits, bits_of};
-ghost use Rattle.hayro_ccitt.specs.Rows.{AreChanges, pixels};
+ghost use Rattle.fax_bits.specs.Bits.{Bits, bits_of};
+ghost use Rattle.fax_reading.specs.Rows.{AreChanges, pixels};
 ghost use Rattle.fax_bitmap.specs.Packed.{AreFirstPixels, IsPackedRow};
 ghost use Rattle.fax_bitmap.specs.Painting.{FitsRow, TurnsBlack, then_white};
 

@@ -1,9 +1,9 @@
 //! Painting rows: a row's changes become packed pixels, 64 at a time.
 
 ghost use Rattle.std.specs.Prelude.{◌≡◌, ◌+◌, ◌-◌, ◌*◌, ◌/◌, ◌%◌, ◌<◌, ◌≤◌, ◌++◌, not, length, replicate, take};
-ghost use Rattle.hayro_ccitt.specs.BitOrder.TheVariants.{HighestFirst};
-ghost use Rattle.hayro_ccitt.specs.Bits.{Bits, bits_of, bits_of_byte, low_bits};
-ghost use Rattle.hayro_ccitt.specs.Rows.{AreChanges, pixels};
+ghost use Rattle.fax_bits.specs.declared.bit_reader.BitOrder.TheVariants.{HighestFirst};
+ghost use Rattle.fax_bits.specs.Bits.{Bits, bits_of, bits_of_byte, low_bits};
+ghost use Rattle.fax_reading.specs.Rows.{AreChanges, pixels};
 ghost use Rattle.fax_bitmap.specs.Packed.{IsPackedRow};
 ghost use Rattle.fax_bitmap.specs.Painting.{FitsRow, under, MovesTo, StandsAt};
 

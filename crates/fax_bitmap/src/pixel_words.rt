@@ -1,8 +1,8 @@
 //! Words of 64 pixels, the leftmost in the highest bit.
 
 ghost use Rattle.std.specs.Prelude.{◌≡◌, ◌+◌, ◌-◌, ◌^◌, ◌<◌, ◌≤◌, ◌++◌, true, false, length, get_or, replicate, take, drop};
-ghost use Rattle.hayro_ccitt.specs.BitOrder.TheVariants.{HighestFirst};
-ghost use Rattle.hayro_ccitt.specs.Bits.{bits_of, bits_of_byte, low_bits};
+ghost use Rattle.fax_bits.specs.declared.bit_reader.BitOrder.TheVariants.{HighestFirst};
+ghost use Rattle.fax_bits.specs.Bits.{bits_of, bits_of_byte, low_bits};
 ghost use Rattle.fax_bitmap.specs.Packed.{AreFirstPixels};
 
 /// Returns a word of pixels of one colour.

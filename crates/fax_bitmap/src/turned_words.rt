@@ -3,8 +3,8 @@
 //! are neither few nor dense.
 
 ghost use Rattle.std.specs.Prelude.{◌≡◌, ◌+◌, ◌-◌, ◌*◌, ◌/◌, ◌%◌, ◌<◌, ◌≤◌, ◌++◌, false, drop, length, map, replicate, take};
-ghost use Rattle.hayro_ccitt.specs.Bits.{bit_of, bits_of, low_bits};
-ghost use Rattle.hayro_ccitt.specs.Rows.{AreChanges, pixels};
+ghost use Rattle.fax_bits.specs.Bits.{bit_of, bits_of, low_bits};
+ghost use Rattle.fax_reading.specs.Rows.{AreChanges, pixels};
 ghost use Rattle.fax_bitmap.specs.Packed.{IsPackedRow};
 ghost use Rattle.fax_bitmap.specs.Painting.{FitsRow, joined_pixels, plain_pixels, turned_after, turned_at_all, turned_from};
 

@@ -1,5 +1,6 @@
 //! Small callers of the decoder, each with a contract of its own that follows from the decoder's: they count black pixels,
-//! keep the first rows, make a bitmap of a strip, and find where consecutive pages end and from which row on damage is over.
+//! keep the first rows, make a bitmap of a strip or of rows that are encoded before, and find where consecutive pages end and from
+//! which row on damage is over.
 //!
 //! Each accepts data of at most `(usize::MAX - 64) / 8` bytes, as [`hayro_ccitt::decode`] does; [`hayro_ccitt::bits_fit`] tests
 //! it.
@@ -15,6 +16,7 @@ mod page_feed;
 mod page_search;
 mod pages;
 mod pages_by;
+mod round_trip;
 mod rtc;
 mod strip;
 
@@ -27,4 +29,5 @@ pub use page_feed::{PageFed, PageFeed};
 pub use page_search::PageSearch;
 pub use pages::{group4_pages, page_end, page_ends};
 pub use pages_by::{group3_pages, page_end_by, page_ends_by};
+pub use round_trip::{bitmap_by_group3, bitmap_by_group4};
 pub use strip::strip_to_bitmap;

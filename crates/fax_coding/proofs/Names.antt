@@ -6,30 +6,30 @@ pub use Rattle.fax_words.specs.Chosen.{word_of_length, word_of_mode}
 pub use Rattle.fax_coding.specs.Coding.{AreAllLeft, AreLeft, IsAbove, IsNear, color_after, place_of}
 pub use Rattle.fax_words.specs.Writing.{IsWord, all_bits}
 pub use Rattle.fax_words.specs.declared.words.Word.{Word}
-pub use Rattle.hayro_ccitt.proofs.BitReading.BitLists.{length-low_bits}
-pub use Rattle.hayro_ccitt.proofs.PixelRows.B1ByParity.{rising, turned_before, turns_before, turns_by, turns_next, turns_second}
-pub use Rattle.hayro_ccitt.proofs.PixelRows.ChangePlaces.{a1_next, a2_least, a2_next, b2_above}
-pub use Rattle.hayro_ccitt.proofs.PixelRows.ChangesAndPixels.{AreChanges-changes, AscendFrom-wider, changes-pixels, length-pixels}
-pub use Rattle.hayro_ccitt.proofs.PixelRows.ChangesAndPixels.{pixels-changes, pixels_from-first}
-pub use Rattle.hayro_ccitt.proofs.PixelRows.ReferencePlaces.{IsSplit, a1_is, b1_is, b2_after_b1, in_list_if_below, next_change}
-pub use Rattle.hayro_ccitt.proofs.PixelRows.ReferencePlaces.{turned}
-pub use Rattle.hayro_ccitt.proofs.Readings.Gathered.{gathered_turn}
-pub use Rattle.hayro_ccitt.proofs.Readings.Repeated.{Shrinks}
-pub use Rattle.hayro_ccitt.specs.Bits.{Bits, low_bits}
-pub use Rattle.hayro_ccitt.specs.CodeLists.{Code, mode_codes}
-pub use Rattle.hayro_ccitt.specs.CodeReading.{Has}
-pub use Rattle.hayro_ccitt.specs.Encodings.{ClosesWithEols, EncodesLine1D, EncodesLine2D, EncodesRows, EncodesRowsWithEols}
-pub use Rattle.hayro_ccitt.specs.Encodings.{Spells, eol, padding}
-pub use Rattle.hayro_ccitt.specs.Repetition.{Turn}
-pub use Rattle.hayro_ccitt.specs.Rows.{AreChanges, AscendFrom, Row, a1, a2, b1, b2, changes, is_black, is_change, least_below}
-pub use Rattle.hayro_ccitt.specs.Rows.{opposite, pixels, pixels_from}
-pub use Rattle.hayro_ccitt.specs.Runs.{codes_of}
-pub use Rattle.hayro_ccitt.specs.UsualModes.{TurnsFrom}
-pub use Rattle.hayro_ccitt.specs.Color.{Color}
-pub use Rattle.hayro_ccitt.specs.Color.TheVariants.{Black, White}
-pub use Rattle.hayro_ccitt.specs.Mode.{Mode}
-pub use Rattle.hayro_ccitt.specs.Mode.TheVariants.{Horizontal, Pass, Vertical}
-pub use Rattle.hayro_ccitt.specs.EncodingMode.TheVariants.{Group3_1D, Group4}
+pub use Rattle.fax_bits.proofs.BitReading.BitLists.{length-low_bits}
+pub use Rattle.fax_reading.proofs.PixelRows.B1ByParity.{rising, turned_before, turns_before, turns_by, turns_next, turns_second}
+pub use Rattle.fax_reading.proofs.PixelRows.ChangePlaces.{a1_next, a2_least, a2_next, b2_above}
+pub use Rattle.fax_reading.proofs.PixelRows.ChangesAndPixels.{AreChanges-changes, AscendFrom-wider, changes-pixels, length-pixels}
+pub use Rattle.fax_reading.proofs.PixelRows.ChangesAndPixels.{pixels-changes, pixels_from-first}
+pub use Rattle.fax_reading.proofs.PixelRows.ReferencePlaces.{IsSplit, a1_is, b1_is, b2_after_b1, in_list_if_below, next_change}
+pub use Rattle.fax_reading.proofs.PixelRows.ReferencePlaces.{turned}
+pub use Rattle.fax_bits.proofs.Repetition.Gathered.{gathered_turn}
+pub use Rattle.fax_bits.proofs.Repetition.Repeated.{Shrinks}
+pub use Rattle.fax_bits.specs.Bits.{Bits, low_bits}
+pub use Rattle.fax_bits.specs.CodeLists.{Code, mode_codes}
+pub use Rattle.fax_bits.specs.CodeReading.{Has}
+pub use Rattle.fax_reading.specs.Encodings.{ClosesWithEols, EncodesLine1D, EncodesLine2D, EncodesRows, EncodesRowsWithEols}
+pub use Rattle.fax_reading.specs.Encodings.{Spells, eol, padding}
+pub use Rattle.fax_bits.specs.Repetition.{Turn}
+pub use Rattle.fax_reading.specs.Rows.{AreChanges, AscendFrom, Row, a1, a2, b1, b2, changes, is_black, is_change, least_below}
+pub use Rattle.fax_reading.specs.Rows.{opposite, pixels, pixels_from}
+pub use Rattle.fax_bits.specs.Runs.{codes_of}
+pub use Rattle.fax_reading.specs.UsualModes.{TurnsFrom}
+pub use Rattle.fax_bits.specs.declared.codes.Color.{Color}
+pub use Rattle.fax_bits.specs.declared.codes.Color.TheVariants.{Black, White}
+pub use Rattle.fax_bits.specs.declared.codes.Mode.{Mode}
+pub use Rattle.fax_bits.specs.declared.codes.Mode.TheVariants.{Horizontal, Pass, Vertical}
+pub use Rattle.fax_bits.specs.declared.settings.EncodingMode.TheVariants.{Group3_1D, Group4}
 pub use Rattle.std.proofs.Common.{Bool, List, OnOk, [], ap, append_assoc, arith, cond, drop, eqb, false, get_or, inl, inr, leb}
 pub use Rattle.std.proofs.Common.{length, ltb, not, refl, replicate, subst, suc, sym, true, zero, ℕ, ◌%◌, ◌&&◌, ◌*◌, ◌++◌, ◌+◌}
 pub use Rattle.std.proofs.Common.{◌-◌, ◌/◌, ◌<◌, ◌^◌, ◌||◌, ◌∙◌, ◌∷◌, ◌≡◌, ◌≢◌, ◌≤◌, ◌⊎◌}

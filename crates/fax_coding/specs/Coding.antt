@@ -1,9 +1,9 @@
 -- How far an encoder has come in a line.
 use Rattle.std.specs.Prelude.{◌≡◌, ℕ, ◌+◌, ◌%◌, ◌==◌, ◌<◌, ◌≤◌, List, length, get_or, if◌then◌else◌}
-use Rattle.hayro_ccitt.specs.Color.{Color}
-use Rattle.hayro_ccitt.specs.Color.TheVariants.{White, Black}
-use Rattle.hayro_ccitt.specs.Rows.{AreChanges, pixels, b1, b2}
-use Rattle.hayro_ccitt.specs.UsualModes.{TurnsFrom}
+use Rattle.fax_bits.specs.declared.codes.Color.{Color}
+use Rattle.fax_bits.specs.declared.codes.Color.TheVariants.{White, Black}
+use Rattle.fax_reading.specs.Rows.{AreChanges, pixels, b1, b2}
+use Rattle.fax_reading.specs.UsualModes.{TurnsFrom}
 use Rattle.fax_coding.specs.declared.group4.Above.{Above}
 use Rattle.fax_coding.specs.declared.group4.Coding.{Coding}
 use Rattle.fax_words.specs.Chosen.{Place}

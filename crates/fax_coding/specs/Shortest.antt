@@ -1,13 +1,13 @@
 -- The shortest encoding of a picture (T.4, 4.1.1 and 4.2.1.3; T.6, 2.2).
 use Rattle.std.specs.Prelude.{◌≡◌, ℕ, zero, suc, ◌-◌, ◌*◌, ◌/◌, ◌==◌, ◌≤◌, Bool, ◌&&◌, ◌||◌, nat_le, nat_lt, List, [], ◌∷◌, ◌++◌}
 use Rattle.std.specs.Prelude.{length, if◌then◌else◌}
-use Rattle.hayro_ccitt.specs.Color.{Color}
-use Rattle.hayro_ccitt.specs.Color.TheVariants.{White, Black}
-use Rattle.hayro_ccitt.specs.Mode.{Mode}
-use Rattle.hayro_ccitt.specs.Mode.TheVariants.{Pass, Horizontal, Vertical}
-use Rattle.hayro_ccitt.specs.Bits.{Bits}
-use Rattle.hayro_ccitt.specs.Rows.{Row, white_row, opposite, changes, b1, b2, a1, a2}
-use Rattle.hayro_ccitt.specs.Encodings.{Spells, EncodesLine2D, IsPicture, PictureT6, padding, eol}
+use Rattle.fax_bits.specs.declared.codes.Color.{Color}
+use Rattle.fax_bits.specs.declared.codes.Color.TheVariants.{White, Black}
+use Rattle.fax_bits.specs.declared.codes.Mode.{Mode}
+use Rattle.fax_bits.specs.declared.codes.Mode.TheVariants.{Pass, Horizontal, Vertical}
+use Rattle.fax_bits.specs.Bits.{Bits}
+use Rattle.fax_reading.specs.Rows.{Row, white_row, opposite, changes, b1, b2, a1, a2}
+use Rattle.fax_reading.specs.Encodings.{Spells, EncodesLine2D, IsPicture, PictureT6, padding, eol}
 use Rattle.fax_words.specs.Chosen.{word_of_length, word_of_mode, chosen_rest, Place, vertical_mode}
 use Rattle.fax_words.specs.Chosen.{is_near, place_after, is_coded}
 use Rattle.fax_words.specs.Chosen.{chosen_run, chosen_line_2d}

@@ -1,12 +1,12 @@
 -- How a two-dimensional line continues from a change with the fewest bits (T.4, 4.2.1.3; T.6, 2.2).
 use Rattle.std.specs.Prelude.{◌≡◌, ℕ, zero, suc, ◌+◌, ◌-◌, ◌<◌, ◌≤◌, Bool, true, false, List, [], ◌∷◌, ◌++◌, length, get_or}
 use Rattle.std.specs.Prelude.{if◌then◌else◌}
-use Rattle.hayro_ccitt.specs.Color.{Color}
-use Rattle.hayro_ccitt.specs.Color.TheVariants.{White}
-use Rattle.hayro_ccitt.specs.Mode.{Mode}
-use Rattle.hayro_ccitt.specs.Mode.TheVariants.{Pass, Horizontal}
-use Rattle.hayro_ccitt.specs.Bits.{Bits}
-use Rattle.hayro_ccitt.specs.Rows.{AreChanges, Row, opposite, pixels, a1, b1, b2}
+use Rattle.fax_bits.specs.declared.codes.Color.{Color}
+use Rattle.fax_bits.specs.declared.codes.Color.TheVariants.{White}
+use Rattle.fax_bits.specs.declared.codes.Mode.{Mode}
+use Rattle.fax_bits.specs.declared.codes.Mode.TheVariants.{Pass, Horizontal}
+use Rattle.fax_bits.specs.Bits.{Bits}
+use Rattle.fax_reading.specs.Rows.{AreChanges, Row, opposite, pixels, a1, b1, b2}
 use Rattle.fax_coding.specs.declared.group4.Coding.{Coding}
 use Rattle.fax_coding.specs.declared.shortest_lines.Ahead.{Ahead}
 use Rattle.fax_coding.specs.declared.shortest_lines.Way.{Way}

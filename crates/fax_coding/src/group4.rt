@@ -3,8 +3,8 @@
 ghost use Rattle.std.specs.Prelude.{◌≡◌, ◌≢◌, ◌+◌, ◌<◌, ◌≤◌, ◌++◌, [], length};
 ghost use Rattle.std.specs.Prelude.{get_or, IfOk, OnOk, MatchOption, if◌then◌else◌, true};
 ghost use Rattle.std.specs.Prelude.{false};
-ghost use Rattle.hayro_ccitt.specs.Rows.{AreChanges, pixels, opposite, b1, b2};
-ghost use Rattle.hayro_ccitt.specs.Encodings.{padding};
+ghost use Rattle.fax_reading.specs.Rows.{AreChanges, pixels, opposite, b1, b2};
+ghost use Rattle.fax_reading.specs.Encodings.{padding};
 ghost use Rattle.fax_words.specs.Chosen.{bits_at, chosen_from, place_after, chosen_mode};
 ghost use Rattle.fax_words.specs.Chosen.{word_of_mode, chosen_line_2d, is_near};
 ghost use Rattle.fax_words.specs.Chosen.{vertical_mode};
@@ -12,12 +12,12 @@ ghost use Rattle.fax_coding.specs.Coding.{AreAllLeft, AreBelow, IsAbove, IsCoded
 ghost use Rattle.fax_words.specs.Writing.{all_bits, WritesHorizontal};
 
 use crate::runs::{put_code_word, put_joined, put_runs};
+use fax_bits::codes::Color;
+use fax_lines::changes::change_or_end;
 use fax_words::bit_writer::BitWriter;
 use fax_words::words::{
     below_word, horizontal_word, one_word, pass_word, terminating_word, vertical_word, with_word,
 };
-use hayro_ccitt::changes::change_or_end;
-use hayro_ccitt::codes::Color;
 use std::alloc::AllocError;
 
 /// How far a line is coded: the first position right of a0, how many changes of the row are left of that position, and an

@@ -1,15 +1,15 @@
 //! Runs of one colour, and one-dimensional lines (T.4, 4.1).
 
 ghost use Rattle.std.specs.Prelude.{◌≡◌, ◌+◌, ◌*◌, ◌^◌, ◌<◌, ◌≤◌, ◌++◌, OnOk, length, nat_le};
-ghost use Rattle.hayro_ccitt.specs.Bits.{low_bits};
-ghost use Rattle.hayro_ccitt.specs.Rows.{AreChanges, opposite};
+ghost use Rattle.fax_bits.specs.Bits.{low_bits};
+ghost use Rattle.fax_reading.specs.Rows.{AreChanges, opposite};
 ghost use Rattle.fax_words.specs.Chosen.{chosen_rest, chosen_run, chosen_runs};
 ghost use Rattle.fax_coding.specs.Shortest.{first_makeup, shortest_run, shortest_runs_1d};
 ghost use Rattle.fax_words.specs.Writing.{all_bits};
 
+use fax_bits::codes::Color;
 use fax_words::bit_writer::BitWriter;
 use fax_words::words::{Joined, Word, makeup_word, one_word, terminating_word, with_word};
-use hayro_ccitt::codes::Color;
 use std::alloc::AllocError;
 
 /// Writes a word.

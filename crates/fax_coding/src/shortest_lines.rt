@@ -3,8 +3,8 @@
 
 ghost use Rattle.std.specs.Prelude.{◌≡◌, ℕ, ◌+◌, ◌-◌, ◌*◌, ◌%◌, ◌^◌, ◌<◌, ◌≤◌, ◌++◌, ◌&&◌, length, nat_le, IfOk, OnOk};
 ghost use Rattle.std.specs.Prelude.{if◌then◌else◌, true, false};
-ghost use Rattle.hayro_ccitt.specs.Mode.TheVariants.{Horizontal};
-ghost use Rattle.hayro_ccitt.specs.Rows.{AreChanges, b1, b2, pixels, opposite};
+ghost use Rattle.fax_bits.specs.declared.codes.Mode.TheVariants.{Horizontal};
+ghost use Rattle.fax_reading.specs.Rows.{AreChanges, b1, b2, pixels, opposite};
 ghost use Rattle.fax_words.specs.Chosen.{word_of_mode, vertical_mode, is_near};
 ghost use Rattle.fax_coding.specs.Coding.{place_of, IsAbove, IsNear, IsNotLeft, color_after};
 ghost use Rattle.fax_coding.specs.Shortest.{shortest_run, shortest_line_2d};
@@ -15,10 +15,10 @@ ghost use Rattle.fax_words.specs.Writing.{all_bits, IsWord};
 
 use crate::group4::{Above, Coding, b2_left_of, color_after, find_above};
 use crate::runs::{put_code_word, put_shortest_run, shortest_run_bits};
+use fax_bits::codes::Color;
+use fax_lines::changes::change_or_end;
 use fax_words::bit_writer::BitWriter;
 use fax_words::words::{Word, below_word, horizontal_word, pass_word, vertical_word};
-use hayro_ccitt::changes::change_or_end;
-use hayro_ccitt::codes::Color;
 use std::alloc::AllocError;
 
 /// How a line is coded from a change on with the fewest bits: first this many passes, then the word of vertical mode, or else

@@ -1,8 +1,8 @@
 -- What the tags of a TIFF and the keys of a PDF say of how rows are encoded.
 use Rattle.std.specs.Prelude.{ℕ, ◌+◌, ℤ, pos, negsuc, Bool, true, false, Option, Some, None, if◌then◌else◌}
-use Rattle.hayro_ccitt.specs.DecodeSettings.{DecodeSettings}
-use Rattle.hayro_ccitt.specs.EncodingMode.{EncodingMode}
-use Rattle.hayro_ccitt.specs.EncodingMode.TheVariants.{Group4, Group3_1D, Group3_2D}
+use Rattle.fax_bits.specs.declared.settings.DecodeSettings.{DecodeSettings}
+use Rattle.fax_bits.specs.declared.settings.EncodingMode.{EncodingMode}
+use Rattle.fax_bits.specs.declared.settings.EncodingMode.TheVariants.{Group4, Group3_1D, Group3_2D}
 use Rattle.fax_documents.specs.declared.coding.Coding.{Coding}
 use Rattle.fax_documents.specs.declared.coding.FaxKeys.{FaxKeys}
 

@@ -3,7 +3,7 @@
 ghost use Rattle.std.specs.Prelude.{◌≡◌};
 ghost use Rattle.fax_documents.specs.Codings.{coding_of, fax_keys_of};
 
-use hayro_ccitt::{DecodeSettings, EncodingMode};
+use fax_bits::{DecodeSettings, EncodingMode};
 
 /// What a TIFF's tags say of how rows are encoded (TIFF 6.0, section 11).
 #[derive(Clone, Copy, Debug, PartialEq, Eq)]

@@ -4,7 +4,7 @@ ghost use Rattle.std.specs.Prelude.{◌≤◌};
 
 use crate::coding::Coding;
 use crate::page::Page;
-use hayro_ccitt::bit_reader::BitOrder;
+use fax_bits::bit_reader::BitOrder;
 use std::alloc::{AllocError, Global};
 use tiff_read::{Ratio, ResolutionUnit};
 use tiff_split::{CarriedEntry, CarriedPage};

@@ -4,8 +4,8 @@ ghost use Rattle.std.specs.Prelude.{◌≡◌, ◌↔◌, IsTrue};
 ghost use Rattle.fax_documents.specs.Pages.{HasSize, rows_each};
 
 use crate::resolution::Resolution;
-use hayro_ccitt::DecodeSettings;
-use hayro_ccitt::bit_reader::BitOrder;
+use fax_bits::DecodeSettings;
+use fax_bits::bit_reader::BitOrder;
 use tiff_read::Texts;
 
 /// A page: a picture whose rows are in strips, one below the other.

@@ -9,7 +9,7 @@ use crate::error::DocumentError;
 use crate::output::put;
 use crate::page::Page;
 use crate::resolution::{Resolution, points_of};
-use hayro_ccitt::bit_reader::BitOrder;
+use fax_bits::bit_reader::BitOrder;
 use std::alloc::{AllocError, Global};
 use std::io::Write;
 use tiff_read::{Ratio, ResolutionUnit};

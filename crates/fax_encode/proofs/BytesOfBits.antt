@@ -3,7 +3,7 @@ use Rattle.fax_encode.proofs.Names.{◌≡◌, ℕ, ◌+◌, ◌*◌, ◌<◌, B
 use Rattle.fax_encode.proofs.Names.{ap, ◌∙◌, arith, All, agree_below_at, eqb-true, All-head, All-tail, take-append_seam}
 use Rattle.fax_encode.proofs.Names.{drop-append_seam, BitOrder, HighestFirst, LowestFirst, Bits, bits_in, bits_of_byte}
 use Rattle.fax_encode.proofs.Names.{length-bits_in}
-use Rattle.hayro_ccitt.proofs.BitReading.BitLists.{length-bits_of_byte}
+use Rattle.fax_bits.proofs.BitReading.BitLists.{length-bits_of_byte}
 
 -- the number of some bits
 number : BitOrder → ℕ → Bits → ℕ

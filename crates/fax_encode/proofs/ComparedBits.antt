@@ -8,8 +8,8 @@ use Rattle.std.proofs.Common.{Result, Ok, Err, IfOk, OnOk, OnErr, IsErr, eqb, no
 use Rattle.std.specs.Result.{is_ok}
 use Rattle.std.proofs.lemmas.Option.{get_or_from_slice_get}
 use mathlib.Core.Bool.{beq}
-use Rattle.hayro_ccitt.specs.DecodeError.{DecodeError}
-use Rattle.hayro_ccitt.specs.Bits.{Bits, BitsAt, bit_of, here, low_bits}
+use Rattle.fax_bits.specs.declared.error.DecodeError.{DecodeError}
+use Rattle.fax_bits.specs.Bits.{Bits, BitsAt, bit_of, here, low_bits}
 use Rattle.fax_encode.specs.Comparing.{Compares, CountsBits, IsPassed, bits_of_mode, bits_of_runs}
 use Rattle.fax_encode.specs.Procedure.{StandsUpTo, tag_of_line}
 use Rattle.fax_encode.specs.declared.procedure.CodedMode.{CodedMode}

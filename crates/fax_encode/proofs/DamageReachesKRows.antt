@@ -16,7 +16,7 @@ use Rattle.fax_encode.proofs.ChosenBySettings.{line_encodes, lines_with_eols_enc
 use Rattle.fax_encode.proofs.Names.{Effort, line_2d}
 use Rattle.fax_encode.proofs.LinesOfPictures.{lines_pushed, rows_are_chosen}
 use Rattle.fax_encode.proofs.Names.{lines_left}
-use Rattle.hayro_ccitt.proofs.DamagedLines.DamageByK.{eol_before_lines}
+use Rattle.fax_reading.proofs.DamagedLines.DamageByK.{eol_before_lines}
 
 -- ---- Fewer rows
 

@@ -22,51 +22,51 @@ pub use Rattle.fax_encode.specs.declared.bit_order.TheConstants.{TURNED}
 pub use Rattle.fax_encode.specs.declared.settings.Effort.{Effort}
 pub use Rattle.fax_encode.specs.declared.settings.Effort.TheVariants.{Procedure, Shortest}
 pub use Rattle.fax_encode.specs.declared.settings.EncodeSettings.{EncodeSettings}
-pub use Rattle.hayro_ccitt.proofs.BitReading.BitLists.{bits_are_whole, drop_some, length-bits_in, length-bits_of, length-low_bits}
-pub use Rattle.hayro_ccitt.proofs.BitReading.SoughtEols.{zeros_end}
-pub use Rattle.hayro_ccitt.proofs.BitReading.WordRanges.{low_bits-append}
-pub use Rattle.hayro_ccitt.proofs.DamagedLines.DamageByK.{encoded_follows, locality_by_k}
-pub use Rattle.hayro_ccitt.proofs.DamagedLines.EncodedBodies.{encoded_lines_are_bodies}
-pub use Rattle.hayro_ccitt.proofs.DamagedLines.LineTails.{drop_at}
-pub use Rattle.hayro_ccitt.proofs.EncodedPictures.PicturesT4.{body_end, rows_t4_end, closed_picture_t4, eol_before, eol_stands}
-pub use Rattle.hayro_ccitt.proofs.EncodedPictures.PicturesT4.{eols_here_one, eols_here_two, limited_t4_end, matches_itself}
-pub use Rattle.hayro_ccitt.proofs.EncodedPictures.PicturesT4.{six_tagged}
-pub use Rattle.hayro_ccitt.proofs.EncodedPictures.PictureLines.{ended_with, plain_ends}
-pub use Rattle.hayro_ccitt.proofs.EncodedPictures.PicturesOfEachKind.{closed_pictures}
-pub use Rattle.hayro_ccitt.proofs.EncodedPictures.PicturesT6.{closed_picture_t6}
-pub use Rattle.hayro_ccitt.proofs.PixelRows.ChangePlaces.{a1_next, a2_least}
-pub use Rattle.hayro_ccitt.proofs.PixelRows.ChangesAndPixels.{changes-pixels, length-pixels}
-pub use Rattle.hayro_ccitt.proofs.PixelRows.ReferencePlaces.{b2_after_b1}
-pub use Rattle.hayro_ccitt.proofs.PixelRows.StepsOnRows.{over_rows}
-pub use Rattle.hayro_ccitt.proofs.BitReading.ConsecutiveEols.{eols-none, eols-some, eols_with_tags-none, eols_with_tags-some}
-pub use Rattle.hayro_ccitt.proofs.Readings.TurnsMoveOn.{eols_here_counted}
-pub use Rattle.hayro_ccitt.specs.Answers.{meaning_after}
-pub use Rattle.hayro_ccitt.specs.Bits.{AreWholeBytes, Bits, bits_in, bits_of, bits_of_byte, low_bits}
-pub use Rattle.hayro_ccitt.specs.CodeLists.{mode_codes}
-pub use Rattle.hayro_ccitt.specs.CodeReading.{Has}
-pub use Rattle.hayro_ccitt.specs.Context.{Context}
-pub use Rattle.hayro_ccitt.specs.Encodings.{ClosesWithEols, EncodesLine, EncodesLine1D, EncodesLine2D, EncodesRows}
-pub use Rattle.hayro_ccitt.specs.Encodings.{EncodesRowsWithEols, IsPicture, PictureT6, eol, padding, tag_of}
-pub use Rattle.hayro_ccitt.specs.EndOfLine.{after_eol, all_eols, eols, eols_with_tags, one_more, pass_last_tag, past_tag}
-pub use Rattle.hayro_ccitt.specs.EndOfLine.{tagged_eols}
-pub use Rattle.hayro_ccitt.specs.Locality.{EndAlike, IsEolAt}
-pub use Rattle.hayro_ccitt.specs.LocalityByK.{ComeBefore1D, IsTaggedBody, RowsDiffer, SameBut}
-pub use Rattle.hayro_ccitt.specs.Pictures.{BeginsWithPictureT4, BeginsWithPictureT6, BeginsWithRowsAndEolsT4, BeginsWithRowsT4}
-pub use Rattle.hayro_ccitt.specs.Pictures.{BeginsWithRowsT6, IsClosedPicture}
-pub use Rattle.hayro_ccitt.specs.PlainReading.{Ending, Reading, end_of, ending_after, eols_here, first_gap, plain}
-pub use Rattle.hayro_ccitt.specs.Rows.{AreChanges, AscendFrom, HaveWidth, Row, a1, a2, b1, b2, changes, opposite, pixels}
-pub use Rattle.hayro_ccitt.specs.Rows.{white_row}
-pub use Rattle.hayro_ccitt.specs.Settings.{AreSettings}
-pub use Rattle.hayro_ccitt.specs.BitOrder.{BitOrder}
-pub use Rattle.hayro_ccitt.specs.BitOrder.TheVariants.{HighestFirst, LowestFirst}
-pub use Rattle.hayro_ccitt.specs.Color.{Color}
-pub use Rattle.hayro_ccitt.specs.Color.TheVariants.{White}
-pub use Rattle.hayro_ccitt.specs.Mode.{Mode}
-pub use Rattle.hayro_ccitt.specs.Mode.TheVariants.{Horizontal, Vertical}
-pub use Rattle.hayro_ccitt.specs.DecodeError.{DecodeError}
-pub use Rattle.hayro_ccitt.specs.DecodeSettings.{DecodeSettings}
-pub use Rattle.hayro_ccitt.specs.EncodingMode.{EncodingMode}
-pub use Rattle.hayro_ccitt.specs.EncodingMode.TheVariants.{Group3_1D, Group3_2D, Group4}
+pub use Rattle.fax_bits.proofs.BitReading.BitLists.{bits_are_whole, drop_some, length-bits_in, length-bits_of, length-low_bits}
+pub use Rattle.fax_bits.proofs.BitReading.SoughtEols.{zeros_end}
+pub use Rattle.fax_bits.proofs.BitReading.WordRanges.{low_bits-append}
+pub use Rattle.fax_reading.proofs.DamagedLines.DamageByK.{encoded_follows, locality_by_k}
+pub use Rattle.fax_reading.proofs.DamagedLines.EncodedBodies.{encoded_lines_are_bodies}
+pub use Rattle.fax_reading.proofs.DamagedLines.LineTails.{drop_at}
+pub use Rattle.fax_reading.proofs.EncodedPictures.PicturesT4.{body_end, rows_t4_end, closed_picture_t4, eol_before, eol_stands}
+pub use Rattle.fax_reading.proofs.EncodedPictures.PicturesT4.{eols_here_one, eols_here_two, limited_t4_end, matches_itself}
+pub use Rattle.fax_reading.proofs.EncodedPictures.PicturesT4.{six_tagged}
+pub use Rattle.fax_reading.proofs.EncodedPictures.PictureLines.{ended_with, plain_ends}
+pub use Rattle.fax_reading.proofs.EncodedPictures.PicturesOfEachKind.{closed_pictures}
+pub use Rattle.fax_reading.proofs.EncodedPictures.PicturesT6.{closed_picture_t6}
+pub use Rattle.fax_reading.proofs.PixelRows.ChangePlaces.{a1_next, a2_least}
+pub use Rattle.fax_reading.proofs.PixelRows.ChangesAndPixels.{changes-pixels, length-pixels}
+pub use Rattle.fax_reading.proofs.PixelRows.ReferencePlaces.{b2_after_b1}
+pub use Rattle.fax_reading.proofs.PixelRows.StepsOnRows.{over_rows}
+pub use Rattle.fax_bits.proofs.BitReading.ConsecutiveEols.{eols-none, eols-some, eols_with_tags-none, eols_with_tags-some}
+pub use Rattle.fax_reading.proofs.Readings.TurnsMoveOn.{eols_here_counted}
+pub use Rattle.fax_reading.specs.Answers.{meaning_after}
+pub use Rattle.fax_bits.specs.Bits.{AreWholeBytes, Bits, bits_in, bits_of, bits_of_byte, low_bits}
+pub use Rattle.fax_bits.specs.CodeLists.{mode_codes}
+pub use Rattle.fax_bits.specs.CodeReading.{Has}
+pub use Rattle.fax_reading.specs.Context.{Context}
+pub use Rattle.fax_reading.specs.Encodings.{ClosesWithEols, EncodesLine, EncodesLine1D, EncodesLine2D, EncodesRows}
+pub use Rattle.fax_reading.specs.Encodings.{EncodesRowsWithEols, IsPicture, PictureT6, eol, padding, tag_of}
+pub use Rattle.fax_bits.specs.EndOfLine.{after_eol, all_eols, eols, eols_with_tags, one_more, pass_last_tag, past_tag}
+pub use Rattle.fax_bits.specs.EndOfLine.{tagged_eols}
+pub use Rattle.fax_reading.specs.Locality.{EndAlike, IsEolAt}
+pub use Rattle.fax_reading.specs.LocalityByK.{ComeBefore1D, IsTaggedBody, RowsDiffer, SameBut}
+pub use Rattle.fax_reading.specs.Pictures.{BeginsWithPictureT4, BeginsWithPictureT6, BeginsWithRowsAndEolsT4, BeginsWithRowsT4}
+pub use Rattle.fax_reading.specs.Pictures.{BeginsWithRowsT6, IsClosedPicture}
+pub use Rattle.fax_reading.specs.PlainReading.{Ending, Reading, end_of, ending_after, eols_here, first_gap, plain}
+pub use Rattle.fax_reading.specs.Rows.{AreChanges, AscendFrom, HaveWidth, Row, a1, a2, b1, b2, changes, opposite, pixels}
+pub use Rattle.fax_reading.specs.Rows.{white_row}
+pub use Rattle.fax_reading.specs.Settings.{AreSettings}
+pub use Rattle.fax_bits.specs.declared.bit_reader.BitOrder.{BitOrder}
+pub use Rattle.fax_bits.specs.declared.bit_reader.BitOrder.TheVariants.{HighestFirst, LowestFirst}
+pub use Rattle.fax_bits.specs.declared.codes.Color.{Color}
+pub use Rattle.fax_bits.specs.declared.codes.Color.TheVariants.{White}
+pub use Rattle.fax_bits.specs.declared.codes.Mode.{Mode}
+pub use Rattle.fax_bits.specs.declared.codes.Mode.TheVariants.{Horizontal, Vertical}
+pub use Rattle.fax_bits.specs.declared.error.DecodeError.{DecodeError}
+pub use Rattle.fax_bits.specs.declared.settings.DecodeSettings.{DecodeSettings}
+pub use Rattle.fax_bits.specs.declared.settings.EncodingMode.{EncodingMode}
+pub use Rattle.fax_bits.specs.declared.settings.EncodingMode.TheVariants.{Group3_1D, Group3_2D, Group4}
 pub use Rattle.std.proofs.Common.{Bool, Err, IfOk, IfSome, List, OnOk, Result, Some, [], ap, append_assoc, arith, below_more}
 pub use Rattle.std.proofs.Common.{cond, drop, eqb, false, get_or, inl, inr, leb, length, map, not, refl, vec_len, replicate}
 pub use Rattle.std.proofs.Common.{rules, set, subst, suc, sym, take, true, zero, ℕ, ◌%◌, ◌&&◌, ◌*◌, ◌++◌, ◌+◌, ◌-◌, ◌/◌, ◌<◌, ◌^◌}

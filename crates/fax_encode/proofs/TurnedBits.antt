@@ -1,7 +1,7 @@
 -- Bytes with their bits in the other order.
 use Rattle.fax_encode.proofs.Names.{◌≡◌, ℕ, zero, suc, ◌+◌, ◌<◌, Bool, true, ◌&&◌, List, [], ◌∷◌, length, get_or, refl, ap, ◌∙◌}
 use Rattle.fax_encode.proofs.Names.{arith, and_parts, HighestFirst, LowestFirst, bits_of_byte, TURNED}
-use Rattle.hayro_ccitt.proofs.BitReading.WhiteWordsListed.{same_bits, same_bits-true}
+use Rattle.fax_bits.proofs.BitReading.WhiteWordsListed.{same_bits, same_bits-true}
 
 -- whether a table has the bytes from one on with their bits in the other order
 are_turned : ℕ → List ℕ → Bool

@@ -1,9 +1,9 @@
 -- Bits of some data that are compared with those that the coding procedure writes.
 use Rattle.std.specs.Prelude.{◌≡◌, ◌≢◌, ℕ, ◌+◌, ◌-◌, ◌≤◌, Bool, true, false, Option, None, Some, List, [], ◌∷◌, ◌++◌, length}
 use Rattle.std.specs.Prelude.{if◌then◌else◌}
-use Rattle.hayro_ccitt.specs.Bits.{Bits, BitsAt, here, low_bits}
-use Rattle.hayro_ccitt.specs.Color.{Color}
-use Rattle.hayro_ccitt.specs.Rows.{opposite, pixels}
+use Rattle.fax_bits.specs.Bits.{Bits, BitsAt, here, low_bits}
+use Rattle.fax_bits.specs.declared.codes.Color.{Color}
+use Rattle.fax_reading.specs.Rows.{opposite, pixels}
 use Rattle.fax_encode.specs.Chosen.{chosen_mode, chosen_run, place_after}
 use Rattle.fax_encode.specs.Coding.{AreAllLeft, IsNear, place_of}
 use Rattle.fax_coding.specs.declared.group4.Coding.{Coding}

@@ -1,26 +1,26 @@
 -- The laws of the chosen encoding.
 use Rattle.std.specs.Prelude.{◌≡◌, ℕ, suc, ◌%◌, ◌^◌, ◌<◌, ◌≤◌, Bool, true, false, List, [], ◌∷◌, ◌++◌, length, take, drop, ◌+◌}
 use Rattle.std.specs.Prelude.{Ok, All, if◌then◌else◌}
-use Rattle.hayro_ccitt.specs.EncodingMode.{EncodingMode}
-use Rattle.hayro_ccitt.specs.EncodingMode.TheVariants.{Group4, Group3_1D, Group3_2D}
-use Rattle.hayro_ccitt.specs.DecodeSettings.{DecodeSettings}
-use Rattle.hayro_ccitt.specs.Answers.{meaning_after}
-use Rattle.hayro_ccitt.specs.Bits.{Bits, AreWholeBytes, bits_in, bits_of}
-use Rattle.hayro_ccitt.specs.Locality.{EndAlike}
-use Rattle.hayro_ccitt.specs.LocalityByK.{IsTaggedBody, RowsDiffer}
-use Rattle.hayro_ccitt.specs.Rows.{Row, HaveWidth, white_row, pixels}
-use Rattle.hayro_ccitt.specs.Encodings.{IsPicture, PictureT6, PictureT4, EncodesLine1D, EncodesLine2D, EncodesRows}
-use Rattle.hayro_ccitt.specs.Encodings.{EncodesLine, EncodesRowsWithEols, eol, padding, tag_of}
-use Rattle.hayro_ccitt.specs.Encodings.{ClosesWithEols}
-use Rattle.hayro_ccitt.specs.BitOrder.TheVariants.{HighestFirst}
-use Rattle.hayro_ccitt.specs.PlainReading.{plain}
+use Rattle.fax_bits.specs.declared.settings.EncodingMode.{EncodingMode}
+use Rattle.fax_bits.specs.declared.settings.EncodingMode.TheVariants.{Group4, Group3_1D, Group3_2D}
+use Rattle.fax_bits.specs.declared.settings.DecodeSettings.{DecodeSettings}
+use Rattle.fax_reading.specs.Answers.{meaning_after}
+use Rattle.fax_bits.specs.Bits.{Bits, AreWholeBytes, bits_in, bits_of}
+use Rattle.fax_reading.specs.Locality.{EndAlike}
+use Rattle.fax_reading.specs.LocalityByK.{IsTaggedBody, RowsDiffer}
+use Rattle.fax_reading.specs.Rows.{Row, HaveWidth, white_row, pixels}
+use Rattle.fax_reading.specs.Encodings.{IsPicture, PictureT6, PictureT4, EncodesLine1D, EncodesLine2D, EncodesRows}
+use Rattle.fax_reading.specs.Encodings.{EncodesLine, EncodesRowsWithEols, eol, padding, tag_of}
+use Rattle.fax_reading.specs.Encodings.{ClosesWithEols}
+use Rattle.fax_bits.specs.declared.bit_reader.BitOrder.TheVariants.{HighestFirst}
+use Rattle.fax_reading.specs.PlainReading.{plain}
 use Rattle.fax_encode.specs.Chosen.{chosen_t6, chosen_t4, filled_up, rows_of}
 use Rattle.fax_encode.specs.Packed.{packed, shown, with_packed_row}
 use Rattle.fax_encode.specs.Chosen.{AreRows}
 use Rattle.fax_encode.specs.RowByRow.{no_rows, with_rows}
 use Rattle.fax_encode.specs.declared.settings.Effort.{Effort}
 use Rattle.fax_encode.specs.declared.settings.Effort.TheVariants.{Procedure, Shortest}
-use Rattle.hayro_ccitt.specs.Color.TheVariants.{White}
+use Rattle.fax_bits.specs.declared.codes.Color.TheVariants.{White}
 use Rattle.fax_encode.specs.declared.settings.EncodeSettings.{EncodeSettings}
 use Rattle.fax_encode.specs.Settings.{chosen, chosen_line, chosen_lines, chosen_lines_with_eols, chosen_eols, fill_of, needs_row}
 use Rattle.fax_encode.specs.Settings.{left_after, line_1d, with_end, decode_settings_for}

@@ -1,10 +1,10 @@
 -- A line as the coding procedure writes it, of a kind that is given (T.4, 4.1 and 4.2; T.6, 2.2).
 use Rattle.std.specs.Prelude.{◌≡◌, ◌≢◌, ℕ, ◌<◌, Bool, not, [], ◌∷◌, ◌++◌, length, slice_get, take, if◌then◌else◌}
-use Rattle.hayro_ccitt.specs.EncodingMode.{EncodingMode}
-use Rattle.hayro_ccitt.specs.EncodingMode.TheVariants.{Group4, Group3_1D, Group3_2D}
-use Rattle.hayro_ccitt.specs.Bits.{Bits}
-use Rattle.hayro_ccitt.specs.Encodings.{padding}
-use Rattle.hayro_ccitt.specs.Rows.{Row}
+use Rattle.fax_bits.specs.declared.settings.EncodingMode.{EncodingMode}
+use Rattle.fax_bits.specs.declared.settings.EncodingMode.TheVariants.{Group4, Group3_1D, Group3_2D}
+use Rattle.fax_bits.specs.Bits.{Bits}
+use Rattle.fax_reading.specs.Encodings.{padding}
+use Rattle.fax_reading.specs.Rows.{Row}
 use Rattle.fax_encode.specs.Chosen.{chosen_line_1d, chosen_line_2d}
 
 -- the tag before a line: 1 before a one-dimensional one in two-dimensional Group 3, and 0 before the others (T.4, 4.2.2)

@@ -1,7 +1,7 @@
 -- What an encoder refuses, and how it says so.
 use Rattle.std.specs.Prelude.{◌≡◌, ◌≢◌, ℕ, ◌<◌, ◌↔◌, true, List, ◌++◌, length, get_or, codes, decimal, []}
 use Rattle.std.specs.Prelude.{Option, Some, None, Result, Err}
-use Rattle.hayro_ccitt.specs.Rows.{AreChanges}
+use Rattle.fax_reading.specs.Rows.{AreChanges}
 use Rattle.fax_encode.specs.declared.error.EncodeError.{EncodeError}
 use Rattle.fax_encode.specs.declared.error.EncodeError.TheVariants.{NoColumns, NoRows, NotARow, OutOfMemory}
 use Rattle.fax_encode.specs.RowByRow.{RowsEncoded}

@@ -1,7 +1,7 @@
 -- A picture that is encoded row by row (T.4, 4.1 and 4.2; T.6, 2.2).
 use Rattle.std.specs.Prelude.{◌≡◌, ℕ, ◌+◌, ◌-◌, ◌^◌, min, Bool, false, List, [], ◌∷◌, ◌++◌, length}
-use Rattle.hayro_ccitt.specs.Bits.{Bits}
-use Rattle.hayro_ccitt.specs.Rows.{Row, white_row}
+use Rattle.fax_bits.specs.Bits.{Bits}
+use Rattle.fax_reading.specs.Rows.{Row, white_row}
 use Rattle.fax_encode.specs.declared.settings.EncodeSettings.{EncodeSettings}
 use Rattle.fax_encode.specs.Settings.{chosen_part, left_after}
 

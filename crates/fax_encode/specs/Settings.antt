@@ -1,13 +1,13 @@
 -- The encoding that is chosen, by settings (T.4, 4.1 and 4.2; T.6, 2.2).
 use Rattle.std.specs.Prelude.{◌≡◌, ℕ, zero, suc, ◌+◌, ◌-◌, ◌%◌, Bool, true, false, not, ◌&&◌, nat_le, nat_lt, List, [], ◌∷◌, ◌++◌}
 use Rattle.std.specs.Prelude.{length, if◌then◌else◌}
-use Rattle.hayro_ccitt.specs.EncodingMode.{EncodingMode}
-use Rattle.hayro_ccitt.specs.EncodingMode.TheVariants.{Group4, Group3_1D, Group3_2D}
-use Rattle.hayro_ccitt.specs.DecodeSettings.{DecodeSettings}
-use Rattle.hayro_ccitt.specs.BitOrder.TheVariants.{HighestFirst}
-use Rattle.hayro_ccitt.specs.Bits.{Bits}
-use Rattle.hayro_ccitt.specs.Rows.{Row, white_row}
-use Rattle.hayro_ccitt.specs.Encodings.{padding, eol, tag_of}
+use Rattle.fax_bits.specs.declared.settings.EncodingMode.{EncodingMode}
+use Rattle.fax_bits.specs.declared.settings.EncodingMode.TheVariants.{Group4, Group3_1D, Group3_2D}
+use Rattle.fax_bits.specs.declared.settings.DecodeSettings.{DecodeSettings}
+use Rattle.fax_bits.specs.declared.bit_reader.BitOrder.TheVariants.{HighestFirst}
+use Rattle.fax_bits.specs.Bits.{Bits}
+use Rattle.fax_reading.specs.Rows.{Row, white_row}
+use Rattle.fax_reading.specs.Encodings.{padding, eol, tag_of}
 use Rattle.fax_encode.specs.declared.settings.EncodeSettings.{EncodeSettings}
 use Rattle.fax_encode.specs.declared.settings.Effort.{Effort}
 use Rattle.fax_encode.specs.declared.settings.Effort.TheVariants.{Procedure, Shortest}

@@ -1,7 +1,7 @@
 -- The lines of white rows below white ones, as an encoder keeps them: bookkeeping of its own.
 use Rattle.std.specs.Prelude.{◌≡◌, ℕ, ◌^◌, ◌<◌, ◌≤◌, false}
-use Rattle.hayro_ccitt.specs.Bits.{low_bits}
-use Rattle.hayro_ccitt.specs.Rows.{white_row}
+use Rattle.fax_bits.specs.Bits.{low_bits}
+use Rattle.fax_reading.specs.Rows.{white_row}
 use Rattle.fax_encode.specs.declared.settings.EncodeSettings.{EncodeSettings}
 use Rattle.fax_encode.specs.declared.white_rows.WhiteLine.{WhiteLine}
 use Rattle.fax_encode.specs.declared.white_rows.WhiteLines.{WhiteLines}

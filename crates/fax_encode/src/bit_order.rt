@@ -1,10 +1,10 @@
 //! Encoded bytes in either order of bits.
 
 ghost use Rattle.std.specs.Prelude.{◌≡◌, ◌<◌, length, get_or};
-ghost use Rattle.hayro_ccitt.specs.BitOrder.TheVariants.{HighestFirst, LowestFirst};
-ghost use Rattle.hayro_ccitt.specs.Bits.{bits_in, bits_of, bits_of_byte, low_first_bits_of};
+ghost use Rattle.fax_bits.specs.declared.bit_reader.BitOrder.TheVariants.{HighestFirst, LowestFirst};
+ghost use Rattle.fax_bits.specs.Bits.{bits_in, bits_of, bits_of_byte, low_first_bits_of};
 
-use hayro_ccitt::bit_reader::BitOrder;
+use fax_bits::bit_reader::BitOrder;
 
 /// Each byte with its bits in the other order.
 #[rattlefmt::skip]

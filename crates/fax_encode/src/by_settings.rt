@@ -1,7 +1,7 @@
 //! Encoding by settings: pictures of lists of changes, and of a bitmap.
 
 ghost use Rattle.std.specs.Prelude.{◌≡◌, ◌≢◌, ◌<◌, ◌≤◌, ◌↔◌, ℕ, [], true, map, length, Err, IfOk, OnOk};
-ghost use Rattle.hayro_ccitt.specs.Bits.{bits_in};
+ghost use Rattle.fax_bits.specs.Bits.{bits_in};
 ghost use Rattle.fax_encode.specs.Chosen.{filled_up, rows_of};
 ghost use Rattle.fax_encode.specs.Packed.{bytes_of_row, shown};
 ghost use Rattle.fax_encode.specs.Chosen.{AreRows};
@@ -15,8 +15,8 @@ use crate::rows::first_unlawful;
 use crate::white_rows::{WhiteRows, lines_for, put_white_lines, white_rows};
 use crate::{EncodeError, EncodeSettings};
 use fax_bitmap::bitmap_rows::scan_row;
+use fax_bits::EncodingMode;
 use fax_words::bit_writer::BitWriter;
-use hayro_ccitt::EncodingMode;
 use std::alloc::{AllocError, Global};
 use std::mem;
 

@@ -1,7 +1,7 @@
 //! Pictures that are closed: Group 4 with EOFB, and one-dimensional Group 3 with EOLs and RTC.
 
 ghost use Rattle.std.specs.Prelude.{◌≡◌, ◌≢◌, ◌<◌, ◌↔◌, ℕ, false, true, map, length, Err, IfOk};
-ghost use Rattle.hayro_ccitt.specs.Bits.{bits_of};
+ghost use Rattle.fax_bits.specs.Bits.{bits_of};
 ghost use Rattle.fax_encode.specs.Chosen.{chosen_t4, chosen_t6, filled_up, rows_of};
 ghost use Rattle.fax_encode.specs.Packed.{bytes_of_row, shown};
 ghost use Rattle.fax_encode.specs.Chosen.{AreRows};
@@ -9,8 +9,8 @@ ghost use Rattle.fax_encode.specs.Refusals.{RefusesFirstUnlawful};
 ghost use Rattle.fax_encode.specs.Settings.{group3_settings, group4_settings};
 
 use crate::{Effort, EncodeError, EncodeSettings, encode, encode_bitmap};
-use hayro_ccitt::EncodingMode;
-use hayro_ccitt::bit_reader::BitOrder;
+use fax_bits::EncodingMode;
+use fax_bits::bit_reader::BitOrder;
 use std::alloc::Global;
 
 /// Group 4 with EOFB.

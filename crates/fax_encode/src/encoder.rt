@@ -1,8 +1,8 @@
 //! Encoding row by row.
 
 ghost use Rattle.std.specs.Prelude.{◌≡◌, ◌≢◌, ◌<◌, ◌≤◌, ◌↔◌, ℕ, true, false, length, Err, IfOk, OnOk, OnErr, IsOk, take};
-ghost use Rattle.hayro_ccitt.specs.Bits.{bits_in, bits_of};
-ghost use Rattle.hayro_ccitt.specs.Rows.{AreChanges, pixels, white_row};
+ghost use Rattle.fax_bits.specs.Bits.{bits_in, bits_of};
+ghost use Rattle.fax_reading.specs.Rows.{AreChanges, pixels, white_row};
 ghost use Rattle.fax_encode.specs.Chosen.{filled_up};
 ghost use Rattle.fax_encode.specs.Packed.{bytes_of_row, in_black};
 ghost use Rattle.fax_encode.specs.Refusals.{FailsToPush};
@@ -46,7 +46,7 @@ pub struct Encoder {
 
 impl Model for Encoder {
     ghost use Rattle.std.specs.Prelude.{◌≡◌, ◌≢◌, ◌<◌, true, false, length, IfSome};
-    ghost use Rattle.hayro_ccitt.specs.Rows.{AreChanges, pixels};
+    ghost use Rattle.fax_reading.specs.Rows.{AreChanges, pixels};
     ghost use Rattle.fax_encode.specs.RowByRow.{RowsEncoded};
     ghost use Rattle.fax_encode.specs.WhiteRows.{AreWhiteLines};
     ghost use Rattle.fax_encode.specs.Writing.{all_bits};

@@ -1,7 +1,7 @@
 //! Encoding by settings: what belongs to each line, and what follows the last one.
 
 ghost use Rattle.std.specs.Prelude.{◌≡◌, ◌++◌, [], false, true, ◌∷◌, length, nat_le, IfOk, OnOk, if◌then◌else◌};
-ghost use Rattle.hayro_ccitt.specs.Rows.{AreChanges, pixels};
+ghost use Rattle.fax_reading.specs.Rows.{AreChanges, pixels};
 ghost use Rattle.fax_encode.specs.Settings.{chosen_line, chosen_part, has_eols, left_after, line_1d, line_2d, names_encoding};
 ghost use Rattle.fax_encode.specs.Settings.{names_group3};
 ghost use Rattle.fax_encode.specs.Settings.{with_end};
@@ -10,11 +10,11 @@ ghost use Rattle.fax_encode.specs.Settings.{EndsWhereAligned};
 
 use crate::group3::{put_closing_eols, put_eol, put_filled_eol};
 use crate::{Effort, EncodeSettings};
+use fax_bits::EncodingMode;
 use fax_coding::group4::{put_line, put_padding};
 use fax_coding::runs::{put_row, put_shortest_row, shortest_takes_at_least, takes_at_least};
 use fax_coding::shortest_lines::{Way, put_shortest_line};
 use fax_words::bit_writer::BitWriter;
-use hayro_ccitt::EncodingMode;
 use std::alloc::AllocError;
 
 /// A row to be written and the one before it, each given by its changes.

@@ -1,12 +1,12 @@
 //! One-dimensional Group 3 (T.4, 4.1).
 
 ghost use Rattle.std.specs.Prelude.{◌≡◌, ◌<◌, ◌++◌, length, OnOk};
-ghost use Rattle.hayro_ccitt.specs.Encodings.{eol, tag_of};
+ghost use Rattle.fax_reading.specs.Encodings.{eol, tag_of};
 ghost use Rattle.fax_encode.specs.Settings.{chosen_eols, fill_of};
 ghost use Rattle.fax_encode.specs.Writing.{all_bits};
 
+use fax_bits::EncodingMode;
 use fax_words::bit_writer::BitWriter;
-use hayro_ccitt::EncodingMode;
 use std::alloc::AllocError;
 
 /// Writes an end-of-line code without fill: eleven zeros and a one (T.4, 4.1.2).

@@ -1,23 +1,23 @@
 //! Whether the line that the coding procedure writes for a row is next in some data (T.4, 4.1 and 4.2; T.6, 2.2).
 
 ghost use Rattle.std.specs.Prelude.{◌≡◌, ◌+◌, ◌-◌, ◌*◌, ◌<◌, ◌≤◌, ◌++◌, ◌∷◌, [], true, false, length};
-ghost use Rattle.hayro_ccitt.specs.Bits.{here, low_bits};
-ghost use Rattle.hayro_ccitt.specs.Encodings.{padding};
-ghost use Rattle.hayro_ccitt.specs.Rows.{AreChanges, pixels, opposite};
+ghost use Rattle.fax_bits.specs.Bits.{here, low_bits};
+ghost use Rattle.fax_reading.specs.Encodings.{padding};
+ghost use Rattle.fax_reading.specs.Rows.{AreChanges, pixels, opposite};
 ghost use Rattle.fax_encode.specs.Chosen.{bits_at, chosen_line_2d, chosen_rest, chosen_run, chosen_runs};
 ghost use Rattle.fax_encode.specs.Coding.{IsAbove, IsCodedTo, IsNear, color_after, place_of};
 ghost use Rattle.fax_encode.specs.Comparing.{Compares, CountsBits, IsOneModeOn, bits_of_mode, bits_of_runs};
 ghost use Rattle.fax_encode.specs.Procedure.{StandsUpTo, line_by_procedure, part_by_procedure, tag_of_line};
 
 use crate::encoding::RowBelow;
+use fax_bits::EncodingMode;
+use fax_bits::bit_reader::BitReader;
+use fax_bits::codes::{Color, Ticks};
 use fax_coding::group4::{Above, Coding, above_after_vertical, b2_left_of, color_after};
+use fax_lines::changes::change_or_end;
 use fax_words::words::{
     Word, below_word, horizontal_word, makeup_word, pass_word, terminating_word, vertical_word,
 };
-use hayro_ccitt::EncodingMode;
-use hayro_ccitt::bit_reader::BitReader;
-use hayro_ccitt::changes::change_or_end;
-use hayro_ccitt::codes::{Color, Ticks};
 
 /// A kind of line.
 #[derive(Clone, Copy)]

@@ -1,7 +1,7 @@
 //! Lists of changes, tested before they are encoded.
 
 ghost use Rattle.std.specs.Prelude.{◌↔◌, IsTrue, MatchOption, map};
-ghost use Rattle.hayro_ccitt.specs.Rows.{AreChanges};
+ghost use Rattle.fax_reading.specs.Rows.{AreChanges};
 ghost use Rattle.fax_encode.specs.Chosen.{AreRows};
 ghost use Rattle.fax_encode.specs.Refusals.{IsFirstUnlawful};
 

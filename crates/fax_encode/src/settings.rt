@@ -1,7 +1,7 @@
 //! The settings of encoding: how the lines are encoded, and what precedes and follows them.
 
-use hayro_ccitt::EncodingMode;
-use hayro_ccitt::bit_reader::BitOrder;
+use fax_bits::EncodingMode;
+use fax_bits::bit_reader::BitOrder;
 
 /// How much is done to find the words of a line (T.4, 4.1.1 and 4.2.1.3). Every decoder reads either.
 #[derive(Copy, Clone, Debug, PartialEq, Eq)]

@@ -2,8 +2,8 @@
 
 ghost use Rattle.std.specs.Prelude.{◌≡◌, ◌*◌, ◌^◌, ◌<◌, ◌≤◌, ◌++◌, List};
 ghost use Rattle.std.specs.Prelude.{false, length, replicate, take, IfOk, IfSome, OnOk};
-ghost use Rattle.hayro_ccitt.specs.Bits.{bits_of};
-ghost use Rattle.hayro_ccitt.specs.Rows.{Row, white_row};
+ghost use Rattle.fax_bits.specs.Bits.{bits_of};
+ghost use Rattle.fax_reading.specs.Rows.{Row, white_row};
 ghost use Rattle.fax_encode.specs.Settings.{chosen_part, left_after, lines_left};
 ghost use Rattle.fax_encode.specs.WhiteRows.{IsWhiteLine, AreWhiteLines};
 ghost use Rattle.fax_encode.specs.Writing.{all_bits};
@@ -12,11 +12,11 @@ ghost use Rattle.fax_encode.specs.Settings.{EndsWhereAligned};
 use crate::EncodeSettings;
 use crate::encoding::{RowBelow, put_part};
 use fax_bitmap::bitmap_rows::zero_bytes;
+use fax_bits::EncodingMode;
 use fax_coding::runs::put_joined;
 use fax_coding::shortest_lines::Way;
 use fax_words::bit_writer::BitWriter;
 use fax_words::words::Joined;
-use hayro_ccitt::EncodingMode;
 use std::alloc::{AllocError, Global};
 
 /// The line of a white row below a white one, with what belongs to it, and how many lines after it may be two-dimensional.

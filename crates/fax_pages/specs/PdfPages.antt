@@ -1,7 +1,7 @@
 -- What a page of a PDF file is: a fax image.
 use Rattle.std.specs.Prelude.{ℕ, ◌≡◌, ◌+◌, ◌≤◌, ◌⊎◌, false, ◌==◌, ◌&&◌, ◌||◌, not, if◌then◌else◌, min}
 use Rattle.std.specs.Prelude.{List, [], ◌∷◌, length, slice_get, Option, None, Some, IsNone}
-use Rattle.hayro_ccitt.specs.BitOrder.TheVariants.{HighestFirst}
+use Rattle.fax_bits.specs.declared.bit_reader.BitOrder.TheVariants.{HighestFirst}
 use Rattle.pdf_read.specs.declared.image.FaxImage.{FaxImage}
 use Rattle.fax_pages.specs.Keys.{columns_shown, is_inverted_by_keys, settings_of_keys}
 use Rattle.fax_pages.specs.Pages.{bytes_of}

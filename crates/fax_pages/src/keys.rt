@@ -3,7 +3,7 @@
 ghost use Rattle.std.specs.Prelude.{◌≡◌};
 ghost use Rattle.fax_pages.specs.Keys.{columns_shown, encoding_of_k, is_inverted_by_keys, rows_of_keys, settings_of_keys};
 
-use hayro_ccitt::{DecodeSettings, EncodingMode};
+use fax_bits::{DecodeSettings, EncodingMode};
 use pdf_read::FaxParameters;
 
 /// Returns how the lines are encoded.

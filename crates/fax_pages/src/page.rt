@@ -3,8 +3,8 @@
 ghost use Rattle.std.specs.Prelude.{◌≡◌, slice_range};
 ghost use Rattle.fax_pages.specs.Pages.{bytes_of};
 
-use hayro_ccitt::DecodeSettings;
-use hayro_ccitt::bit_reader::BitOrder;
+use fax_bits::DecodeSettings;
+use fax_bits::bit_reader::BitOrder;
 use tiff_read::{Ratio, ResolutionUnit, Texts};
 
 /// What the parts of a page are.

@@ -8,7 +8,7 @@ ghost use Rattle.fax_pages.specs.PdfPages.{number_of_image, own_bytes, refusal_o
 use crate::keys::{columns_shown, is_inverted_by_keys, settings_of_keys};
 use crate::page::{Page, PageBytes, Part, PartKind, Resolution};
 use crate::refused::{Found, Refusal, RefusedPage};
-use hayro_ccitt::bit_reader::BitOrder;
+use fax_bits::bit_reader::BitOrder;
 use paid_cursor::Cursor;
 use pdf_read::{FaxData, FaxImage, Pdf, PdfError};
 use std::alloc::{AllocError, Global};

@@ -4,8 +4,8 @@ ghost use Rattle.std.specs.Prelude.{◌≡◌, ◌≤◌, length, IfOk};
 ghost use Rattle.fax_pages.specs.Raw.{IsRawPage, header_bytes};
 
 use crate::page::{Page, PageBytes, Part, PartKind, Resolution};
-use hayro_ccitt::DecodeSettings;
-use hayro_ccitt::bit_reader::BitOrder;
+use fax_bits::DecodeSettings;
+use fax_bits::bit_reader::BitOrder;
 use std::alloc::{AllocError, Global};
 use tiff_read::{NO_TEXTS, ResolutionUnit};
 

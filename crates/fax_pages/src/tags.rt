@@ -3,8 +3,8 @@
 ghost use Rattle.std.specs.Prelude.{◌≡◌};
 ghost use Rattle.fax_pages.specs.Tags.{encoding_of_tags, is_fax_compression, order_of_tags, settings_of_tags};
 
-use hayro_ccitt::bit_reader::BitOrder;
-use hayro_ccitt::{DecodeSettings, EncodingMode};
+use fax_bits::bit_reader::BitOrder;
+use fax_bits::{DecodeSettings, EncodingMode};
 use tiff_read::Picture;
 
 /// Returns whether a Compression is one of fax data.

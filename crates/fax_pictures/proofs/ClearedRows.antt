@@ -5,7 +5,7 @@ use Rattle.fax_encode.proofs.Names.{length-append, length-take, length-bits_of, 
 use Rattle.fax_encode.proofs.Names.{Bits, bits_of, low_bits, low_bits-append, filled_up, bytes_of_row}
 use Rattle.std.proofs.Common.{set}
 use Rattle.std.proofs.lemmas.Nat.{pow_pos}
-use Rattle.hayro_ccitt.proofs.BitReading.WordRanges.{low_bits_joined}
+use Rattle.fax_bits.proofs.BitReading.WordRanges.{low_bits_joined}
 use Rattle.fax_encode.proofs.WrittenBits.{bits_of-push, low_bits_mod, zero_bits}
 
 -- the low bits of a byte, made zeros

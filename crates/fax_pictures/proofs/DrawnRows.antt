@@ -1,16 +1,17 @@
 -- Rows drawn pixel by pixel.
-use Rattle.hayro_ccitt.proofs.Names.{◌≡◌, ℕ, suc, ◌+◌, ◌<◌, Bool, true, false, not, List, [], ◌∷◌, ◌++◌}
-use Rattle.hayro_ccitt.proofs.Names.{length, get_or, refl, sym, ap, ◌∙◌, subst, arith}
-use Rattle.hayro_ccitt.proofs.Names.{beq, cond, append-nil, ◌≢◌}
+use Rattle.std.proofs.Common.{◌≡◌, ℕ, suc, ◌+◌, ◌<◌, Bool, true, false, not, List, [], ◌∷◌, ◌++◌}
+use Rattle.std.proofs.Common.{length, get_or, refl, sym, ap, ◌∙◌, subst, arith}
+use mathlib.Core.Bool.{beq}
+use Rattle.std.proofs.Common.{cond, append-nil, ◌≢◌}
 use Rattle.std.specs.Prelude.{map}
 use Rattle.std.specs.List.{range_with_len}
 use Rattle.std.proofs.lemmas.List.{get_or_default, get_or-map, same_lists}
 use Rattle.std.proofs.lemmas.List.FromFn.{get_or-map-range_with_len, length-map-range_with_len, map-range_with_len_more}
 use Rattle.fax_pictures.specs.Pictures.{Picture}
-use Rattle.hayro_ccitt.specs.Rows.{AreChanges, Row, changes, last_pixel, pixels}
-use Rattle.hayro_ccitt.proofs.PixelRows.ChangesAndPixels.{AreChanges-changes, changes-recursive, last_pixel-append}
-use Rattle.hayro_ccitt.proofs.PixelRows.ChangesAndPixels.{pixels-changes}
-use Rattle.hayro_ccitt.proofs.PixelRows.RowChanges.{changes_from, changes_from-append}
+use Rattle.fax_reading.specs.Rows.{AreChanges, Row, changes, last_pixel, pixels}
+use Rattle.fax_reading.proofs.PixelRows.ChangesAndPixels.{AreChanges-changes, changes-recursive, last_pixel-append}
+use Rattle.fax_reading.proofs.PixelRows.ChangesAndPixels.{pixels-changes}
+use Rattle.fax_reading.proofs.PixelRows.RowChanges.{changes_from, changes_from-append}
 
 -- The changes of the first pixels of a row, and the colour of the last of them.
 pub record AreDrawn (pixel : ℕ → Bool) (x : ℕ) (places : List ℕ) (before : Bool) : Type 0 where

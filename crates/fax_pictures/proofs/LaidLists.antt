@@ -4,7 +4,7 @@ use Rattle.std.proofs.Common.{set, refl, sym, ap, ◌∙◌, arith, inl, inr}
 use Rattle.std.proofs.Common.{length-append, length-take, length-drop}
 use Rattle.std.proofs.lemmas.Bool.{cases_lt}
 use Rattle.std.proofs.lemmas.List.{get_or-drop, get_or-take, same_lists, get_or_append_left, get_or-append_right}
-use Rattle.hayro_ccitt.specs.Rows.{Row}
+use Rattle.fax_reading.specs.Rows.{Row}
 use Rattle.fax_pictures.specs.Pictures.{laid_over, with_row_at}
 
 pub with_row_at-set : (k : ℕ) (row : Row) (rows : List Row) → k < length rows → with_row_at k row rows ≡ set rows k row

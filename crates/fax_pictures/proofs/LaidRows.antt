@@ -5,7 +5,7 @@ use Rattle.std.proofs.Common.{length-take}
 use Rattle.std.proofs.lemmas.List.{length-set}
 use Rattle.std.proofs.lemmas.Bool.{cases_eq}
 use Rattle.std.proofs.lemmas.List.{get_or-take, get_or-set_same, get_or-set_other}
-use Rattle.hayro_ccitt.specs.Rows.{Row}
+use Rattle.fax_reading.specs.Rows.{Row}
 use Rattle.fax_pictures.specs.Pictures.{laid_over, with_row_at, LieOver, Picture}
 use Rattle.fax_pictures.proofs.LaidLists.{with_row_at-set}
 

@@ -2,8 +2,8 @@
 use Rattle.fax_encode.proofs.Names.{◌≡◌, ℕ, zero, suc, ◌-◌, ◌<◌, Bool, true, false, not, List, [], ◌∷◌, ◌++◌}
 use Rattle.fax_encode.proofs.Names.{length, get_or, map, ◌⊎◌, inl, inr, replicate, refl, sym, ap, ◌∙◌, arith}
 use Rattle.fax_encode.proofs.Names.{drop}
-use Rattle.hayro_ccitt.specs.Rows.{AreChanges, Row, pixels, pixels_from}
-use Rattle.hayro_ccitt.proofs.PixelRows.ChangesAndPixels.{AscendFrom-wider}
+use Rattle.fax_reading.specs.Rows.{AreChanges, Row, pixels, pixels_from}
+use Rattle.fax_reading.proofs.PixelRows.ChangesAndPixels.{AscendFrom-wider}
 
 -- pixels of one colour
 other_colour : (n : ℕ) (color : Bool) → replicate n (not color) ≡ map not (replicate n color)

@@ -13,8 +13,8 @@ use Rattle.fax_encode.proofs.ScannedRows.{length-row, shown-row, shown-none}
 use Rattle.fax_encode.proofs.PackedRows.{packed_is_shown}
 use Rattle.fax_encode.proofs.Names.{map, rows_of, pixels, HighestFirst, bits_of_byte}
 use Rattle.fax_pictures.proofs.LaidLists.{take-laid_over}
-use Rattle.hayro_ccitt.specs.Rows.{HaveWidth, white_row}
-use Rattle.hayro_ccitt.specs.Encodings.{padding}
+use Rattle.fax_reading.specs.Rows.{HaveWidth, white_row}
+use Rattle.fax_reading.specs.Encodings.{padding}
 use Rattle.std.proofs.lemmas.List.Elements.{All-append, All-drop, All-take}
 use Rattle.std.proofs.Math.Nat.{div-mul-le_self, mul-div_cancel, mul-le-mul_right}
 use Rattle.fax_pictures.specs.Pictures.{ArePacked, HasRoom, laid_over, with_row_at}

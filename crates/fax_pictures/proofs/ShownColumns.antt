@@ -1,13 +1,13 @@
 -- Pictures turned a part of a row after another.
-use Rattle.hayro_ccitt.proofs.Names.{◌≡◌, ℕ, ◌+◌, ◌-◌, ◌*◌, ◌/◌, ◌%◌, ◌<◌, Bool, true, false, List, []}
-use Rattle.hayro_ccitt.proofs.Names.{length, get_or, refl, sym, ap, ◌∙◌, subst, arith, ◌≢◌}
+use Rattle.std.proofs.Common.{◌≡◌, ℕ, ◌+◌, ◌-◌, ◌*◌, ◌/◌, ◌%◌, ◌<◌, Bool, true, false, List, []}
+use Rattle.std.proofs.Common.{length, get_or, refl, sym, ap, ◌∙◌, subst, arith, ◌≢◌}
 use Rattle.std.proofs.Common.{◌⊎◌, inl, inr, set}
 use Rattle.std.specs.Prelude.{map}
 use Rattle.std.specs.List.{range_with_len}
 use Rattle.std.proofs.lemmas.Bool.{cases_eq, cases_lt}
 use Rattle.std.proofs.lemmas.List.{get_or_default, same_lists, length-set, get_or-set_same, get_or-set_other}
 use Rattle.std.proofs.lemmas.List.FromFn.{get_or-map-range_with_len, length-map-range_with_len}
-use Rattle.hayro_ccitt.specs.Rows.{Row, pixel}
+use Rattle.fax_reading.specs.Rows.{Row, pixel}
 use Rattle.fax_pictures.specs.Pictures.{Picture, laid_over, with_row_at}
 use Rattle.fax_pictures.specs.Turned.{HasSizeTurned, IsInBlock, IsShownAt, Shows, column_shown, columns_turned, counted}
 use Rattle.fax_pictures.specs.Turned.{is_across}

@@ -6,7 +6,7 @@ use Rattle.std.proofs.Math.Nat.{div-div-eq-div-mul, pow-le-pow_right, pow-suc}
 use Rattle.std.proofs.lemmas.Bool.{cases_eq, cases_lt}
 use Rattle.std.proofs.lemmas.List.{get_or-set_same, get_or-set_other}
 use Rattle.std.proofs.lemmas.Nat.{or_shifted}
-use Rattle.hayro_ccitt.specs.Bits.{bit_of}
+use Rattle.fax_bits.specs.Bits.{bit_of}
 
 -- a bit behind others
 pub pushed : (bits b i : ℕ) → i < 8 → bits < 2 ^ i → b < 2 → bit_or (bits * 2 % 256) b ≡ 2 * bits + b

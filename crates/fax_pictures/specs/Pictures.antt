@@ -1,8 +1,8 @@
 -- Pictures in memory.
 use Rattle.std.specs.Prelude.{◌≡◌, ◌⊎◌, ℕ, suc, ◌+◌, ◌-◌, ◌*◌, ◌<◌, ◌≤◌, not, List, [], ◌∷◌, ◌++◌, length, take, drop, map}
 use Rattle.std.specs.Prelude.{codes, get_or}
-use Rattle.hayro_ccitt.specs.Bits.{bits_of}
-use Rattle.hayro_ccitt.specs.Rows.{Row}
+use Rattle.fax_bits.specs.Bits.{bits_of}
+use Rattle.fax_reading.specs.Rows.{Row}
 use Rattle.fax_encode.specs.Packed.{bytes_of_row, packed, shown}
 use Rattle.fax_pictures.specs.declared.error.PictureError.{PictureError}
 use Rattle.fax_pictures.specs.declared.error.PictureError.TheVariants.{Size, OutOfMemory}

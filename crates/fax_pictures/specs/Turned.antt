@@ -2,7 +2,7 @@
 -- section 8).
 use Rattle.std.specs.Prelude.{ℕ, ◌+◌, ◌-◌, ◌≡◌, ◌<◌, ◌≤◌, Bool, ◌&&◌, ◌||◌, ◌==◌, [], length, map, get_or, nat_lt, if◌then◌else◌}
 use Rattle.std.specs.List.{range_with_len}
-use Rattle.hayro_ccitt.specs.Rows.{Row, pixel}
+use Rattle.fax_reading.specs.Rows.{Row, pixel}
 use Rattle.fax_pictures.specs.Pictures.{Picture}
 
 -- Whether the first row of the data is shown as a column: with 5 to 8.

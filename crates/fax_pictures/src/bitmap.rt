@@ -2,8 +2,8 @@
 
 ghost use Rattle.std.specs.Prelude.{◌≡◌, ◌↔◌, ◌<◌, ◌≤◌, ◌+◌, ◌-◌, ◌*◌, ◌%◌, ℕ, length, [], ◌++◌, drop, replicate, take, get_or};
 ghost use Rattle.std.specs.Prelude.{Err, IfOk, OnErr, OnOk};
-ghost use Rattle.hayro_ccitt.specs.Bits.{bit_of, bits_of};
-ghost use Rattle.hayro_ccitt.specs.Rows.{AreChanges, pixel, pixels, white_row};
+ghost use Rattle.fax_bits.specs.Bits.{bit_of, bits_of};
+ghost use Rattle.fax_reading.specs.Rows.{AreChanges, pixel, pixels, white_row};
 ghost use Rattle.fax_encode.specs.Chosen.{filled_up};
 ghost use Rattle.fax_encode.specs.Packed.{bytes_of_row, packed};
 ghost use Rattle.fax_pictures.specs.Pictures.{HasRoom, laid_over, with_row_at};

@@ -1,7 +1,7 @@
 //! Rows laid over a picture, and black and white exchanged.
 
 ghost use Rattle.std.specs.Prelude.{◌≡◌, ◌<◌, ◌*◌, ◌%◌, length, map, not, IfOk, OnOk};
-ghost use Rattle.hayro_ccitt.specs.Rows.{AreChanges, pixels};
+ghost use Rattle.fax_reading.specs.Rows.{AreChanges, pixels};
 ghost use Rattle.fax_encode.specs.Packed.{shown};
 ghost use Rattle.fax_pictures.specs.Pictures.{LieOver, inverted};
 

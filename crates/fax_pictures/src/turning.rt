@@ -2,8 +2,8 @@
 
 ghost use Rattle.std.specs.Prelude.{◌≡◌, ◌↔◌, ◌<◌, ◌≤◌, ◌+◌, ◌-◌, ◌*◌, ◌/◌, ◌%◌, ℕ, true, [], length, get_or, slice_index};
 ghost use Rattle.std.specs.Prelude.{Err, IfOk, OnOk};
-ghost use Rattle.hayro_ccitt.specs.Bits.{bit_of};
-ghost use Rattle.hayro_ccitt.specs.Rows.{AreChanges, pixel, pixels};
+ghost use Rattle.fax_bits.specs.Bits.{bit_of};
+ghost use Rattle.fax_reading.specs.Rows.{AreChanges, pixel, pixels};
 ghost use Rattle.fax_pictures.specs.Pictures.{HasRoom};
 ghost use Rattle.fax_pictures.specs.Turned.{columns_turned, counted, is_across, is_column_last, is_row_last, pixel_shown};
 ghost use Rattle.fax_pictures.specs.Turned.{column_shown, rows_turned, turned, turned_row};

@@ -4,10 +4,10 @@ use Rattle.std.specs.Prelude.{None, option_and_then, if◌then◌else◌, codes,
 use Rattle.std.specs.List.{list_all}
 use Rattle.std.specs.Char.{is_ascii_digit}
 use Rattle.std.specs.Str.Parse.{digits_value}
-use Rattle.hayro_ccitt.specs.EncodingMode.{EncodingMode}
-use Rattle.hayro_ccitt.specs.EncodingMode.TheVariants.{Group4, Group3_1D, Group3_2D}
-use Rattle.hayro_ccitt.specs.BitOrder.{BitOrder}
-use Rattle.hayro_ccitt.specs.BitOrder.TheVariants.{HighestFirst, LowestFirst}
+use Rattle.fax_bits.specs.declared.settings.EncodingMode.{EncodingMode}
+use Rattle.fax_bits.specs.declared.settings.EncodingMode.TheVariants.{Group4, Group3_1D, Group3_2D}
+use Rattle.fax_bits.specs.declared.bit_reader.BitOrder.{BitOrder}
+use Rattle.fax_bits.specs.declared.bit_reader.BitOrder.TheVariants.{HighestFirst, LowestFirst}
 
 -- the encoding that an argument names
 abbrev pub mode_of : List ℕ → Option EncodingMode

@@ -1,7 +1,7 @@
 -- What a reader supplied, and what a writer took.
 use Rattle.std.specs.Prelude.{◌≡◌, ◌≢◌, ℕ, List, ◌++◌, Option, IfSome, Result, Err, IfOk}
 use Rattle.std.specs.Io.KnownBytes.{Appends, Consumes, IsAtEnd}
-use Rattle.hayro_ccitt.specs.Bits.{BitsFit}
+use Rattle.fax_bits.specs.Bits.{BitsFit}
 use Rattle.fax_program.specs.declared.fault.RunFault.{RunFault}
 use Rattle.fax_program.specs.declared.fault.RunFault.TheVariants.{TooLong, Write}
 

@@ -6,8 +6,8 @@ ghost use Rattle.std.specs.List.{list_all};
 ghost use Rattle.fax_program.specs.Arguments.{order_with, mode_of, number_of, are_digits, times, has_flag, is_first_arg};
 ghost use Rattle.fax_program.specs.Arguments.{is_only_arg, are_flags, are_apart};
 
-use hayro_ccitt::EncodingMode;
-use hayro_ccitt::bit_reader::BitOrder;
+use fax_bits::EncodingMode;
+use fax_bits::bit_reader::BitOrder;
 
 /// Returns the order of bits that the flags select.
 pub fn order_with(flags: &[u8]) -> BitOrder

@@ -2,7 +2,7 @@
 
 ghost use Rattle.std.specs.Prelude.{◌≡◌, ◌↔◌, ◌≢◌, IfOk, IfErr, OnOk, OnErr, IfSome, true, false, Err};
 ghost use Rattle.std.specs.Io.KnownBytes.{Appends, IsAtEnd};
-ghost use Rattle.hayro_ccitt.specs.Bits.{BitsFit};
+ghost use Rattle.fax_bits.specs.Bits.{BitsFit};
 ghost use Rattle.fax_program.specs.Devices.{AppendsFront, WasRead};
 
 use crate::device::Device;
@@ -15,7 +15,7 @@ use std::io::{Read, Write};
 /// # Errors
 ///
 /// `Read` if the reader fails, `Memory` if an allocation fails, and `TooLong` if there are more bytes than
-/// `hayro_ccitt::bits_fit` holds of.
+/// `fax_bits::bits_fit` holds of.
 pub fn read_all<R: Read>(
     alloc: Global,
     reader: &mut Device<R>,
@@ -52,7 +52,7 @@ pub fn read_all<R: Read>(
 /// The most bytes that are read at once.
 const READ_AT_ONCE: usize = 65536;
 
-/// The most bytes that `hayro_ccitt::bits_fit` holds of.
+/// The most bytes that `fax_bits::bits_fit` holds of.
 const MOST_BYTES: usize = (usize::MAX - 64) / 8;
 
 /// Writes bytes until all of them are written.

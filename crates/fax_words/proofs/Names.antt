@@ -2,16 +2,17 @@
 pub use Rattle.fax_words.specs.Chosen.{chosen_rest, chosen_run, chosen_runs, filled_up, word_of_length}
 pub use Rattle.fax_words.specs.Writing.{IsWord, Written, all_bits}
 pub use Rattle.fax_words.specs.declared.words.Word.{Word}
-pub use Rattle.hayro_ccitt.proofs.BitReading.BitLists.{drop_some, length-bits_of, length-low_bits}
-pub use Rattle.hayro_ccitt.proofs.BitReading.WordRanges.{low_bits-append, low_bits_below}
-pub use Rattle.hayro_ccitt.proofs.PixelRows.ChangesAndPixels.{AscendFrom-wider}
-pub use Rattle.hayro_ccitt.specs.Bits.{Bits, bit_of, bits_of, bits_of_byte, low_bits}
-pub use Rattle.hayro_ccitt.specs.Encodings.{padding}
-pub use Rattle.hayro_ccitt.specs.Rows.{AscendFrom, opposite}
-pub use Rattle.hayro_ccitt.specs.BitOrder.TheVariants.{HighestFirst}
-pub use Rattle.hayro_ccitt.specs.Color.{Color}
-pub use Rattle.hayro_ccitt.specs.Color.TheVariants.{Black, White}
-pub use Rattle.hayro_ccitt.specs.TableConstants.{BLACK_MAKEUP, BLACK_TERMINATING, COMMON_MAKEUP, WHITE_MAKEUP, WHITE_TERMINATING}
+pub use Rattle.fax_bits.proofs.BitReading.BitLists.{drop_some, length-bits_of, length-low_bits}
+pub use Rattle.fax_bits.proofs.BitReading.WordRanges.{low_bits-append, low_bits_below}
+pub use Rattle.fax_reading.proofs.PixelRows.ChangesAndPixels.{AscendFrom-wider}
+pub use Rattle.fax_bits.specs.Bits.{Bits, bit_of, bits_of, bits_of_byte, low_bits}
+pub use Rattle.fax_reading.specs.Encodings.{padding}
+pub use Rattle.fax_reading.specs.Rows.{AscendFrom, opposite}
+pub use Rattle.fax_bits.specs.declared.bit_reader.BitOrder.TheVariants.{HighestFirst}
+pub use Rattle.fax_bits.specs.declared.codes.Color.{Color}
+pub use Rattle.fax_bits.specs.declared.codes.Color.TheVariants.{Black, White}
+pub use Rattle.fax_bits.specs.declared.tables.TheConstants.{BLACK_MAKEUP, BLACK_TERMINATING, COMMON_MAKEUP, WHITE_MAKEUP}
+pub use Rattle.fax_bits.specs.declared.tables.TheConstants.{WHITE_TERMINATING}
 pub use Rattle.std.proofs.Common.{Bool, List, OnOk, [], ap, append_assoc, arith, drop, eqb, false, get_or, leb, length, ltb, refl}
 pub use Rattle.std.proofs.Common.{vec_len, replicate, subst, suc, sym, take, true, zero, ℕ, ◌%◌, ◌&&◌, ◌*◌, ◌++◌, ◌+◌, ◌-◌, ◌/◌}
 pub use Rattle.std.proofs.Common.{◌<◌, ◌^◌, ◌∙◌, ◌∷◌, ◌≡◌, ◌≤◌}

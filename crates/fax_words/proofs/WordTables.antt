@@ -3,7 +3,7 @@ use Rattle.fax_words.proofs.Names.{◌≡◌, ℕ, ◌+◌, ◌*◌, ◌^◌, �
 use Rattle.fax_words.proofs.Names.{sym, subst, agree_below_at, leb-true, ltb-true, and_parts, Color, White}
 use Rattle.fax_words.proofs.Names.{Black, WHITE_TERMINATING, BLACK_TERMINATING, WHITE_MAKEUP, BLACK_MAKEUP, COMMON_MAKEUP, Bits}
 use Rattle.fax_words.proofs.Names.{low_bits, Word, word_of_length, IsWord}
-use Rattle.hayro_ccitt.proofs.BitReading.WhiteWordsListed.{same_bits, same_bits-true}
+use Rattle.fax_bits.proofs.BitReading.WhiteWordsListed.{same_bits, same_bits-true}
 
 -- whether an entry is a word
 is_word : Bits → ℕ × ℕ × ℕ → Bool

@@ -5,7 +5,7 @@ use Rattle.fax_words.proofs.Names.{mul-mod_left, flat_map-append, append-nil, le
 use Rattle.fax_words.proofs.Names.{or_shifted, pow-add, mul-add-lt, bit_at_above}
 use Rattle.fax_words.proofs.Names.{padding, filled_up, length-bits_of, length-low_bits, HighestFirst, Bits, bit_of, bits_of}
 use Rattle.fax_words.proofs.Names.{bits_of_byte, low_bits, low_bits-append, low_bits_below}
-use Rattle.hayro_ccitt.proofs.BitReading.WordRanges.{low_bits_joined}
+use Rattle.fax_bits.proofs.BitReading.WordRanges.{low_bits_joined}
 use Rattle.std.proofs.lemmas.Nat.{pow_pos}
 
 divided : (n d : ℕ) → 0 < d → n / d * d + n % d ≡ n

@@ -1,16 +1,16 @@
 -- The encoding that an encoder chooses among those of a picture (T.4, 4.1 and 4.2.1.3; T.6, 2.2).
 use Rattle.std.specs.Prelude.{ℕ, suc, ◌+◌, ◌-◌, ◌/◌, ◌%◌, ◌==◌, Bool, true, false, ◌&&◌, nat_le, nat_lt, List, [], ◌∷◌, ◌++◌}
 use Rattle.std.specs.Prelude.{length, replicate, flat_map, map, pos, negsuc, if◌then◌else◌, All}
-use Rattle.hayro_ccitt.specs.Color.{Color}
-use Rattle.hayro_ccitt.specs.Color.TheVariants.{White}
-use Rattle.hayro_ccitt.specs.Mode.{Mode}
-use Rattle.hayro_ccitt.specs.Mode.TheVariants.{Pass, Horizontal, Vertical}
-use Rattle.hayro_ccitt.specs.Bits.{Bits}
-use Rattle.hayro_ccitt.specs.CodeLists.{Code, mode_codes}
-use Rattle.hayro_ccitt.specs.Runs.{codes_of}
-use Rattle.hayro_ccitt.specs.Repetition.{Turn, gathered}
-use Rattle.hayro_ccitt.specs.Rows.{AreChanges, Row, white_row, opposite, changes, pixels, b1, b2, a1, a2}
-use Rattle.hayro_ccitt.specs.Encodings.{padding, eol}
+use Rattle.fax_bits.specs.declared.codes.Color.{Color}
+use Rattle.fax_bits.specs.declared.codes.Color.TheVariants.{White}
+use Rattle.fax_bits.specs.declared.codes.Mode.{Mode}
+use Rattle.fax_bits.specs.declared.codes.Mode.TheVariants.{Pass, Horizontal, Vertical}
+use Rattle.fax_bits.specs.Bits.{Bits}
+use Rattle.fax_bits.specs.CodeLists.{Code, mode_codes}
+use Rattle.fax_bits.specs.Runs.{codes_of}
+use Rattle.fax_bits.specs.Repetition.{Turn, gathered}
+use Rattle.fax_reading.specs.Rows.{AreChanges, Row, white_row, opposite, changes, pixels, b1, b2, a1, a2}
+use Rattle.fax_reading.specs.Encodings.{padding, eol}
 
 -- ---- code words
 

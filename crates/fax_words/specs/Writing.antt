@@ -1,9 +1,9 @@
 -- Bits that are written one after another.
 use Rattle.std.specs.Prelude.{◌≡◌, ℕ, ◌^◌, ◌<◌, ◌≤◌, List, ◌++◌}
-use Rattle.hayro_ccitt.specs.Bits.{Bits, bits_of, low_bits}
-use Rattle.hayro_ccitt.specs.Color.{Color}
-use Rattle.hayro_ccitt.specs.Mode.TheVariants.{Horizontal}
-use Rattle.hayro_ccitt.specs.Rows.{opposite}
+use Rattle.fax_bits.specs.Bits.{Bits, bits_of, low_bits}
+use Rattle.fax_bits.specs.declared.codes.Color.{Color}
+use Rattle.fax_bits.specs.declared.codes.Mode.TheVariants.{Horizontal}
+use Rattle.fax_reading.specs.Rows.{opposite}
 use Rattle.fax_words.specs.Chosen.{chosen_run, word_of_mode}
 use Rattle.fax_words.specs.declared.words.Word.{Word}
 

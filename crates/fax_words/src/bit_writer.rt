@@ -2,7 +2,7 @@
 
 ghost use Rattle.std.specs.Prelude.{◌≡◌, ◌+◌, ◌-◌, ◌*◌, ◌%◌, ◌^◌, ◌<◌, ◌≤◌, ◌++◌, [], None, OnOk, IfOk, IfSome, length, take};
 ghost use Rattle.std.specs.Int.{to_be_bytes, w64};
-ghost use Rattle.hayro_ccitt.specs.Bits.{bits_of, low_bits};
+ghost use Rattle.fax_bits.specs.Bits.{bits_of, low_bits};
 ghost use Rattle.fax_words.specs.Writing.{all_bits};
 ghost use Rattle.fax_words.specs.Chosen.{filled_up};
 
@@ -21,7 +21,7 @@ pub struct BitWriter {
 
 impl Model for BitWriter {
     ghost use Rattle.std.specs.Prelude.{◌≡◌, ◌<◌, ◌≤◌, ◌-◌, ◌%◌, length};
-    ghost use Rattle.hayro_ccitt.specs.Bits.{low_bits};
+    ghost use Rattle.fax_bits.specs.Bits.{low_bits};
     ghost use Rattle.fax_words.specs.Writing.{Written};
 
     ghost Value = { Written };
@@ -41,7 +41,7 @@ pub struct Mark {
 
 impl Model for Mark {
     ghost use Rattle.std.specs.Prelude.{◌≡◌, ◌<◌, ◌≤◌, ◌-◌, ◌%◌};
-    ghost use Rattle.hayro_ccitt.specs.Bits.{low_bits};
+    ghost use Rattle.fax_bits.specs.Bits.{low_bits};
     ghost use Rattle.fax_words.specs.Writing.{Marked};
 
     ghost Value = { Marked };

@@ -1,13 +1,13 @@
 //! The code words of runs and of modes, as numbers with a number of bits.
 
 ghost use Rattle.std.specs.Prelude.{◌≡◌, ◌+◌, ◌-◌, ◌*◌, ◌^◌, ◌<◌, ◌≤◌, ◌++◌, MatchOption, true, false, pos, length, get_or};
-ghost use Rattle.hayro_ccitt.specs.Bits.{low_bits};
-ghost use Rattle.hayro_ccitt.specs.Mode.TheVariants.{Pass, Horizontal, Vertical};
+ghost use Rattle.fax_bits.specs.Bits.{low_bits};
+ghost use Rattle.fax_bits.specs.declared.codes.Mode.TheVariants.{Pass, Horizontal, Vertical};
 ghost use Rattle.fax_words.specs.Chosen.{word_of_length, word_of_mode, vertical_mode, is_near};
 ghost use Rattle.fax_words.specs.Writing.{IsWord};
 
-use hayro_ccitt::codes::Color;
-use hayro_ccitt::tables::{
+use fax_bits::codes::Color;
+use fax_bits::tables::{
     BLACK_MAKEUP, BLACK_TERMINATING, COMMON_MAKEUP, WHITE_MAKEUP, WHITE_TERMINATING,
 };
 

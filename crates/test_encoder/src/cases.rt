@@ -14,13 +14,12 @@ ghost use Rattle.fax_encode.specs.Settings.{names_encoding};
 
 use crate::same;
 use fax_callers::{
-    FirstRows, count_black, decode_first_rows, group3_pages, group4_pages, is_blank, page_end,
-    page_end_by, page_ends, page_ends_by, strip_to_bitmap,
+    FirstRows, bitmap_by_group3, bitmap_by_group4, count_black, decode_first_rows, group3_pages,
+    group4_pages, is_blank, page_end, page_end_by, page_ends, page_ends_by, strip_to_bitmap,
 };
 use fax_encode::{
-    BitmapSink, Effort, EncodeError, EncodeSettings, Encoder, bitmap_by_group3, bitmap_by_group4,
-    encode, encode_1d, encode_bitmap, encode_bitmap_1d, encode_bitmap_g4, encode_g4,
-    names_encoding, rows_of_bitmap,
+    BitmapSink, Effort, EncodeError, EncodeSettings, Encoder, encode, encode_1d, encode_bitmap,
+    encode_bitmap_1d, encode_bitmap_g4, encode_g4, names_encoding, rows_of_bitmap,
 };
 use hayro_ccitt::bit_reader::BitOrder;
 use hayro_ccitt::{DecodeSettings, DecoderContext, EncodingMode, bits_fit};

@@ -4,9 +4,8 @@
 //! one-dimensional with its EOL, and as many below a white row; below a row like itself it is eight times V0.
 
 use crate::same;
-use fax_encode::{
-    BitmapSink, bitmap_by_group3, bitmap_by_group4, encode_1d, encode_g4, rows_of_bitmap,
-};
+use fax_callers::{bitmap_by_group3, bitmap_by_group4};
+use fax_encode::{BitmapSink, encode_1d, encode_g4, rows_of_bitmap};
 use std::alloc::AllocGlobal;
 use std::process::Abort;
 

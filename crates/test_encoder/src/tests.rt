@@ -3,9 +3,10 @@
 
 use crate::cases::{check, says};
 use crate::same;
+use fax_callers::{bitmap_by_group3, bitmap_by_group4};
 use fax_encode::{
-    BitmapSink, EncodeError, bitmap_by_group3, bitmap_by_group4, encode_1d, encode_bitmap_1d,
-    encode_bitmap_g4, encode_g4, fill_all, paint_row, rows_of_bitmap,
+    BitmapSink, EncodeError, encode_1d, encode_bitmap_1d, encode_bitmap_g4, encode_g4, fill_all,
+    paint_row, rows_of_bitmap,
 };
 use hayro_ccitt::{
     DecodeError, DecodeSettings, Decoder, DecoderContext, EncodingMode, bits_fit, decode,

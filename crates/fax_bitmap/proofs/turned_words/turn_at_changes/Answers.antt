@@ -6,7 +6,7 @@ use Rattle.fax_bitmap.proofs.TurnedWords.{all_places_turned, change_inside, odd_
 use Rattle.fax_bitmap.proofs.TurnedWords.{even_ends_white, joined_zeros}
 use Rattle.fax_bitmap.proofs.TurnedWords.{one_turned, plain_turned, turned_is_row}
 use Rattle.fax_bitmap.proofs.turned_words.turn_at_changes.Goals as goal
-use Rattle.hayro_ccitt.proofs.PixelRows.ChangesAndPixels.{turned_at}
+use Rattle.fax_reading.proofs.PixelRows.ChangesAndPixels.{turned_at}
 
 pub turn_following-requires : goal.turn_following-requires
 turn_following-requires c = change_inside _ _ c.changes.done c.changes-test.true c.requires.changes c.changes.invariant.room

@@ -6,7 +6,7 @@ use Rattle.fax_words.proofs.RunsWritten.{left_of_end}
 use Rattle.fax_coding.proofs.ModesBelow.{IsBelow, all_below}
 use Rattle.fax_coding.proofs.group4.put_all_below.Goals.{After-from}
 use Rattle.fax_coding.proofs.group4.put_all_below.Goals as goal
-use Rattle.hayro_ccitt.proofs.BitReading.WordRanges.{ones_below}
+use Rattle.fax_bits.proofs.BitReading.WordRanges.{ones_below}
 use Rattle.fax_coding.proofs.Names.{get_or_default}
 
 below : (c : After-from) → IsBelow c.args._columns c.args.reference.now c.args.changes.now c.requires.coded.reference

@@ -1,5 +1,5 @@
 use Rattle.std.proofs.Common.{ℕ, ◌≡◌, ◌-◌, ap, arith}
-use Rattle.hayro_ccitt.specs.Bits.{low_bits}
+use Rattle.fax_bits.specs.Bits.{low_bits}
 use Rattle.fax_encode.proofs.ComparedBits.{all_compared, compares_on, none_consumed, moves_on, next_low, stops, whole_length}
 use Rattle.fax_encode.proofs.procedure.pass_code_word.Goals as goal
 

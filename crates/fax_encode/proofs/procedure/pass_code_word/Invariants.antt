@@ -1,5 +1,5 @@
 use Rattle.std.proofs.Common.{◌≡◌, ◌+◌, ◌-◌, ◌≤◌}
-use Rattle.hayro_ccitt.specs.Bits.{low_bits}
+use Rattle.fax_bits.specs.Bits.{low_bits}
 use Rattle.fax_encode.specs.Comparing.{IsPassed}
 use Rattle.fax_encode.proofs.procedure.pass_code_word.Given as goal
 

@@ -1,6 +1,6 @@
 use Rattle.fax_encode.proofs.Names.{◌≡◌, ◌-◌, ◌∙◌, ℕ, Bool, [], cond, ap, arith, length, refl, false, true}
 use Rattle.fax_encode.proofs.Names.{Bits, padding, pixels}
-use Rattle.hayro_ccitt.specs.Bits.{BitsAt}
+use Rattle.fax_bits.specs.Bits.{BitsAt}
 use Rattle.fax_encode.specs.Comparing.{Compares}
 use Rattle.fax_encode.specs.Procedure.{line_by_procedure, part_by_procedure}
 use Rattle.fax_encode.proofs.ComparedBits.{all_compared, compares_on, if_few, keeps_bits, last_compared, moves_on, none_passed}

@@ -1,6 +1,6 @@
 use Rattle.std.proofs.Common.{◌≡◌, ◌-◌, ◌*◌, ◌/◌, ◌%◌, ◌<◌, ℕ, length}
 use Rattle.std.specs.Prelude.{slice_index}
-use Rattle.hayro_ccitt.specs.Bits.{bit_of}
+use Rattle.fax_bits.specs.Bits.{bit_of}
 use Rattle.fax_pictures.proofs.turning.bits_down.Given as goal
 
 abbrev pub invariant-loop-index : goal.invariant-loop-index

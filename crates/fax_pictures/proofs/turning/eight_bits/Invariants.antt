@@ -1,6 +1,6 @@
 use Rattle.std.proofs.Common.{◌≡◌, ◌+◌, ◌-◌, ◌^◌, ◌<◌, ℕ, suc}
 use Rattle.std.specs.Prelude.{slice_index}
-use Rattle.hayro_ccitt.specs.Bits.{bit_of}
+use Rattle.fax_bits.specs.Bits.{bit_of}
 use Rattle.fax_pictures.proofs.turning.eight_bits.Given as goal
 
 abbrev pub invariant-loop-i : goal.invariant-loop-i

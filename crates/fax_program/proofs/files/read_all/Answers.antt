@@ -1,6 +1,6 @@
 use Rattle.std.proofs.Common.{ℕ, ◌+◌, ◌≤◌, List, ◌++◌, length, take, arith, rules, length-append, length-take}
 use Rattle.std.proofs.KnownBytes.{Consumes-trans}
-use Rattle.hayro_ccitt.specs.Bits.{BitsFit}
+use Rattle.fax_bits.specs.Bits.{BitsFit}
 use Rattle.fax_program.proofs.files.read_all.Goals as goal
 
 -- bytes fit, and as many more as there is room for

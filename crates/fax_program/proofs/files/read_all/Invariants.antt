@@ -1,6 +1,6 @@
 use Rattle.std.proofs.Common.{◌≡◌, ◌-◌, ◌^◌, length, vec_len}
 use Rattle.std.specs.Io.KnownBytes.{Consumes}
-use Rattle.hayro_ccitt.specs.Bits.{BitsFit}
+use Rattle.fax_bits.specs.Bits.{BitsFit}
 use Rattle.fax_program.proofs.files.read_all.Given as goal
 
 -- what was read, and that it fits

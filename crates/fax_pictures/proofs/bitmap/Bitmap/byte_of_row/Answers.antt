@@ -1,9 +1,9 @@
 use Rattle.std.proofs.Common.{arith, ◌≡◌, ◌+◌, ◌-◌, ◌*◌, ◌/◌, ◌%◌, ℕ, List, false, get_or, sym, ap, ◌∙◌}
 use Rattle.std.proofs.lemmas.List.{get_or-take}
-use Rattle.hayro_ccitt.specs.BitOrder.TheVariants.{HighestFirst}
-use Rattle.hayro_ccitt.specs.Bits.{bit_of, bits_of}
-use Rattle.hayro_ccitt.specs.Rows.{Row}
-use Rattle.hayro_ccitt.proofs.BitReading.WindowWords.{get_or-bits_in}
+use Rattle.fax_bits.specs.declared.bit_reader.BitOrder.TheVariants.{HighestFirst}
+use Rattle.fax_bits.specs.Bits.{bit_of, bits_of}
+use Rattle.fax_reading.specs.Rows.{Row}
+use Rattle.fax_bits.proofs.BitReading.WindowWords.{get_or-bits_in}
 use Rattle.fax_pictures.proofs.bitmap.Bitmap.byte_of_row.Goals as goal
 
 pub returns : goal.returns

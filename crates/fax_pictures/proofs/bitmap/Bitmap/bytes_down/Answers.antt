@@ -1,7 +1,7 @@
 use Rattle.std.proofs.Common.{arith, ◌≡◌, ◌+◌, ◌-◌, ◌*◌, ◌<◌, ℕ, [], length, get_or, ap, ◌∙◌}
 use Rattle.std.proofs.lemmas.List.{length-set}
-use Rattle.hayro_ccitt.specs.Bits.{bit_of}
-use Rattle.hayro_ccitt.specs.Rows.{pixel}
+use Rattle.fax_bits.specs.Bits.{bit_of}
+use Rattle.fax_reading.specs.Rows.{pixel}
 use Rattle.fax_pictures.specs.Turned.{counted, is_row_last}
 use Rattle.fax_pictures.proofs.TurnedBytes.{one_more_set}
 use Rattle.fax_pictures.proofs.bitmap.Bitmap.bytes_down.Goals as goal

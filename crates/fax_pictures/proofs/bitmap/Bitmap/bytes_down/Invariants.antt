@@ -1,7 +1,7 @@
 use Rattle.std.proofs.Common.{◌≡◌, ◌+◌, ◌-◌, ◌*◌, ◌<◌, ℕ, [], length, get_or}
 use Rattle.std.specs.Prelude.{slice_index}
-use Rattle.hayro_ccitt.specs.Bits.{bit_of}
-use Rattle.hayro_ccitt.specs.Rows.{pixel}
+use Rattle.fax_bits.specs.Bits.{bit_of}
+use Rattle.fax_reading.specs.Rows.{pixel}
 use Rattle.fax_pictures.specs.Turned.{counted, is_row_last}
 use Rattle.fax_pictures.proofs.bitmap.Bitmap.bytes_down.Given as goal
 

@@ -3,7 +3,7 @@ use Rattle.fax_encode.proofs.Names.{sym, ap, ◌∙◌, bits_of, Row}
 use Rattle.std.proofs.lemmas.List.{get_or-take}
 use Rattle.std.proofs.lemmas.Nat.Bits.{shr_and_one}
 use Rattle.fax_encode.proofs.Names.{HighestFirst}
-use Rattle.hayro_ccitt.proofs.BitReading.WindowWords.{get_or-bits_in}
+use Rattle.fax_bits.proofs.BitReading.WindowWords.{get_or-bits_in}
 use Rattle.std.specs.Prelude.{nat_eq}
 use Rattle.fax_pictures.proofs.bitmap.Bitmap.is_black.Goals as goal
 

@@ -1,7 +1,7 @@
 use Rattle.fax_encode.proofs.Names.{◌≡◌, ◌*◌, ◌+◌, ◌<◌, ◌≤◌, ◌++◌, ℕ, List, length, take, drop, sym}
 use Rattle.fax_encode.proofs.Names.{ap, ◌∙◌, subst, arith, bits_of}
 use Rattle.fax_encode.proofs.Names.{Row, filled_up, bytes_of_row, shown, length-pixels, AreChanges}
-use Rattle.hayro_ccitt.specs.Rows.{pixels}
+use Rattle.fax_reading.specs.Rows.{pixels}
 use Rattle.std.proofs.lemmas.List.{with_items_is}
 use Rattle.fax_pictures.specs.Pictures.{ArePacked, Picture, with_row_at}
 use Rattle.fax_pictures.proofs.PackedPictures.{inside_bytes, row_is_held, rows_counted}

@@ -1,8 +1,8 @@
 use Rattle.std.proofs.Common.{arith, ◌≡◌, ◌+◌, ◌*◌, ◌<◌, ℕ, List, ap, ◌∙◌}
-use Rattle.hayro_ccitt.specs.BitOrder.TheVariants.{HighestFirst}
-use Rattle.hayro_ccitt.specs.Bits.{bits_of}
-use Rattle.hayro_ccitt.proofs.BitReading.BitLists.{length-bits_of}
-use Rattle.hayro_ccitt.proofs.BitReading.WindowWords.{get_or-bits_in}
+use Rattle.fax_bits.specs.declared.bit_reader.BitOrder.TheVariants.{HighestFirst}
+use Rattle.fax_bits.specs.Bits.{bits_of}
+use Rattle.fax_bits.proofs.BitReading.BitLists.{length-bits_of}
+use Rattle.fax_bits.proofs.BitReading.WindowWords.{get_or-bits_in}
 use Rattle.fax_pictures.specs.Turned.{counted, is_column_last}
 use Rattle.fax_pictures.proofs.ShownColumns.{column_laid}
 use Rattle.fax_pictures.proofs.bitmap.Bitmap.show_byte.Goals as goal

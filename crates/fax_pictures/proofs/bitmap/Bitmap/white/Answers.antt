@@ -1,6 +1,6 @@
 use Rattle.fax_encode.proofs.Names.{◌≡◌, ◌*◌, ◌≤◌, ◌<◌, ℕ, List, replicate, sym, ap, ◌∙◌}
 use Rattle.fax_encode.proofs.Names.{subst, arith, Row, bytes_of_row, shown}
-use Rattle.hayro_ccitt.specs.Rows.{white_row}
+use Rattle.fax_reading.specs.Rows.{white_row}
 use Rattle.fax_pictures.specs.Pictures.{ArePacked, HasRoom, Picture}
 use Rattle.fax_pictures.proofs.PackedPictures.{white_is_held}
 use Rattle.fax_pictures.proofs.bitmap.Bitmap.white.Goals as goal

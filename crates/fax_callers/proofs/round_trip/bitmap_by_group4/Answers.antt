@@ -1,0 +1,22 @@
+use Rattle.fax_encode.proofs.Names.{◌<◌, ℕ, List, map, refl, ap, ◌∙◌, arith, inl, inr, cases_eq, err_from_is_err_and, bits_of}
+use Rattle.fax_encode.proofs.Names.{IsClosedPicture}
+use Rattle.fax_encode.proofs.PackedRows.{same_refusals}
+use Rattle.fax_encode.proofs.RoundTrip.{begins_with_chosen_t6}
+use Rattle.fax_callers.proofs.round_trip.bitmap_by_group4.Goals as goal
+
+pub returns-clause-packed : goal.returns-clause-packed
+returns-clause-packed c =
+    let columns : ℕ = c.args.columns in
+    let lists : List (List ℕ) = map (λ row. row.items) c.args.rows.now in
+    let wide : 0 < columns = elim (cases_eq columns 0)
+    [ inl none ↦ absurd (let refused = c.in_ok-encoded.ensures.no_columns.1 none in cc) | inr some ↦ omega arith ] in
+    let are = c.in_ok-encoded.ensures.rows in
+    let stand = ap bits_of c.as_slice.ensures.value ∙ c.in_ok-encoded.ensures.encoded in
+    let packed = rw c.settings_to_the_end-settings.ensures at c.bitmap_of.ensures.packed in
+    packed lists _ are (IsClosedPicture.by_eofb _ (begins_with_chosen_t6 _ columns lists _
+    (record { columns_are = refl; end_of_block = refl; no_limit = refl }) refl wide are stand) refl)
+
+pub returns-in_err-encoded-clause-not_a_row : goal.returns-in_err-encoded-clause-not_a_row
+returns-in_err-encoded-clause-not_a_row c =
+    let answer = err_from_is_err_and c.from_residual.result c.from_residual.ensures.1 in
+    rw (answer.1, answer.2) (same_refusals _ _ _ c.in_err-encoded.ensures.not_a_row)
