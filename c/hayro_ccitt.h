@@ -216,9 +216,10 @@ uint32_t hayro_ccitt_feed_rows_packed(hayro_ccitt_row_feed *feed, uint8_t *bitma
                                       hayro_ccitt_row *row);
 
 /* Copies the bytes that were fed and aren't consumed, and stores in `count` how many they are: after HAYRO_CCITT_NO_ROW, those after
- * the image. A byte of which a bit was read is consumed. After HAYRO_CCITT_REFUSED there was no room, and none is copied, nor after
- * HAYRO_CCITT_NEEDS_MORE: then a gap waits for more data, and only the number of its bits is kept. The bytes after them keep their
- * values. HAYRO_CCITT_NOT_TAKEN means that the feed isn't open; `count` is 0. The feed stays as it is. */
+ * the image. A byte of which a bit was read is consumed. After HAYRO_CCITT_NEEDS_MORE a gap waits for more data, and only the number of
+ * its bits is kept: none is copied, whatever room there is. After HAYRO_CCITT_REFUSED there was no room for them, and none is copied.
+ * The bytes after them keep their values. HAYRO_CCITT_NOT_TAKEN means that the feed isn't open; `count` is 0. The feed stays as it
+ * is. */
 uint32_t hayro_ccitt_feed_unused(hayro_ccitt_row_feed *feed, uint8_t *bytes, size_t length, size_t *count);
 
 /* Closes a feed, and frees its memory. Returns HAYRO_CCITT_OK, or HAYRO_CCITT_NOT_TAKEN if it isn't open: then it does nothing. */

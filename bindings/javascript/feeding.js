@@ -193,11 +193,13 @@ export class RowFeed {
         if (at === 0) {
             return this.#unused;
         }
-        calls.hayro_ccitt_feed_unused(at, 0, 0, at + COUNT);
+        if (calls.hayro_ccitt_feed_unused(at, 0, 0, at + COUNT) !== REFUSED) {
+            return new Uint8Array();
+        }
         const length = readNumber(at + COUNT);
         return lend(length, (copy) => {
-            const status = calls.hayro_ccitt_feed_unused(at, copy, length, at + COUNT);
-            return bytesAt(copy, status === OK ? length : 0).slice();
+            calls.hayro_ccitt_feed_unused(at, copy, length, at + COUNT);
+            return bytesAt(copy, length).slice();
         });
     }
 

@@ -91,15 +91,15 @@ static void unused_is_after(struct going *it, uint64_t bytes_read) {
     size_t count = 7, left = it->fed - bytes_read;
     must(bytes_read <= it->fed, "what was read was fed");
     uint8_t *bytes = lend(left);
-    if (left > 0) {
-        must(hayro_ccitt_feed_unused(&it->feed, bytes, left - 1, &count) == HAYRO_CCITT_REFUSED && count == left, "no room for what is unused");
-        must(is_untouched_after(bytes, 0, left), "nothing is copied without room");
-    }
+    uint32_t without_room = left == 0 ? HAYRO_CCITT_OK : hayro_ccitt_feed_unused(&it->feed, bytes, left - 1, &count);
+    must(left == 0 || (count == left && is_untouched_after(bytes, 0, left)), "nothing is copied without room");
     uint32_t status = hayro_ccitt_feed_unused(&it->feed, bytes, left, &count);
     must(count == left, "how much is unused");
     if (status == HAYRO_CCITT_NEEDS_MORE) {
+        must(left == 0 || without_room == status, "what isn't kept needs no room");
         must(!it->has_ended && is_untouched_after(bytes, 0, left), "what is unused is known at the end");
     } else {
+        must(left == 0 || without_room == HAYRO_CCITT_REFUSED, "no room for what is unused");
         must(status == HAYRO_CCITT_OK && are_same(bytes, it->data + bytes_read, left), "the bytes that are unused");
     }
     take_back(bytes);

@@ -41,10 +41,11 @@ class Feeding(Reading):
         kept."""
         count = ctypes.c_size_t()
         with self._lock:
-            c.LIBRARY.hayro_ccitt_feed_unused(self._reader, None, 0, count)
+            if c.LIBRARY.hayro_ccitt_feed_unused(self._reader, None, 0, count) != c.REFUSED:
+                return b""
             copy = room_for(count.value)
-            status = c.LIBRARY.hayro_ccitt_feed_unused(self._reader, copy, count.value, count)
-        return copy.raw if status == c.OK else b""
+            c.LIBRARY.hayro_ccitt_feed_unused(self._reader, copy, count.value, count)
+        return copy.raw
 
     def _feed(self, data: Data) -> bool:
         """Feeds bytes. Returns whether they were fed: they aren't if the data is finished or the reader is closed."""

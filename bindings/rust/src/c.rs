@@ -115,8 +115,8 @@ impl Feed {
         (status, count)
     }
 
-    /// Copies the bytes that were fed and aren't consumed if there is room for all of them, and returns the status and how many there
-    /// are.
+    /// Copies the bytes that were fed and aren't consumed if they are kept and there is room for all of them, and returns the status
+    /// and how many there are.
     pub(crate) fn unused(&mut self, bytes: &mut [u8]) -> (u32, usize) {
         let mut count = 0;
         let status = hayro_ccitt_feed_unused(&mut self.reader, bytes, &mut count);

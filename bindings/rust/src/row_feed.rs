@@ -230,14 +230,17 @@ impl RowFeed {
     /// of the image they are what follows it. There are none where a gap waits for more data, of which only the number of bits is
     /// kept. If an allocation fails here, the program ends.
     pub fn unused(&mut self) -> Vec<u8> {
-        let mut bytes = zeros(self.unused_count());
-        if self.feed.unused(&mut bytes).0 != c::OK {
-            bytes.clear();
+        let (status, count) = self.feed.unused(&mut []);
+        if status != c::REFUSED {
+            return Vec::new(); // There are none, or they aren't kept.
         }
+        let mut bytes = zeros(count);
+        self.feed.unused(&mut bytes);
         bytes
     }
 
     /// Returns the number of bytes that were fed and aren't consumed.
+    #[cfg(feature = "std")]
     pub(crate) fn unused_count(&mut self) -> usize {
         self.feed.unused(&mut []).1
     }

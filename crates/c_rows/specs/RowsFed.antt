@@ -6,7 +6,7 @@ use Rattle.hayro_ccitt.specs.DecodeError.{DecodeError}
 use Rattle.hayro_ccitt.specs.DecodeSettings.{DecodeSettings}
 use Rattle.hayro_ccitt.specs.Bits.{AreWholeBytes, Bits, bits_in}
 use Rattle.hayro_ccitt.specs.RowFeeds.{Feeding as RowsFed, ComeNext, FeedsRow, HoldsMore, IsFeedOf, completed}
-use Rattle.hayro_ccitt.specs.RowFeeds.{unused, unused_size}
+use Rattle.hayro_ccitt.specs.RowFeeds.{keeps_unused, unused, unused_size}
 use Rattle.hayro_ccitt.specs.RowsRead.{ended}
 use Rattle.hayro_ccitt.specs.Fed.{Fed}
 use Rattle.hayro_ccitt.specs.Fed.TheVariants.{Row, NeedsMore, End}
@@ -85,14 +85,15 @@ pub record FinishesFeed (old new : Feeding) : Type 0 where
   pub same : new ≡ record old { rows = record old.rows { finished = true } }
 
 -- What a call leaves in the caller's memory to which the bytes are written that were fed and aren't consumed: these, of whatever
--- data those fed are a beginning; what follows them is unchanged. The count is theirs in any case. None are written where there
--- is no room for all of them, or, before the end of the image, where some of them aren't kept.
+-- data those fed are a beginning; what follows them is unchanged. The count is theirs in any case. None are written where some
+-- of them aren't kept, which is so only before the end of the image, or where there is no room for all of them.
 pub record GivesUnused (feed : RowsFed) (before after : List ℕ) (count status : ℕ) : Type 0 where
   pub statuses : (status ≡ OK) ⊎ (status ≡ REFUSED) ⊎ (status ≡ NEEDS_MORE)
   pub size : 8 * count ≡ unused_size feed
   pub given : status ≡ OK → (whole : Bits) (tried : ℕ) → IsFeedOf whole tried feed
       → bits_in feed.order (take count after) ≡ unused (completed whole feed)
   pub rest : drop count after ≡ drop count before
-  pub refused : (status ≡ REFUSED) ↔ (length after < count)
-  pub waits : status ≡ NEEDS_MORE → ended feed.rows.stand ≡ None
+  pub waits : (status ≡ NEEDS_MORE) ↔ (keeps_unused feed ≡ false)
+  pub refused : (status ≡ REFUSED) ↔ ((keeps_unused feed ≡ true) × (length after < count))
+  pub unended : status ≡ NEEDS_MORE → ended feed.rows.stand ≡ None
   pub unwritten : status ≢ OK → after ≡ before

@@ -288,20 +288,22 @@ impl Feeding {
     }
 
     /// Writes the bytes that were fed and aren't consumed if there is room for them, and returns the status. `count` is how many
-    /// there are. `NEEDS_MORE` says that a gap waits for more data, and only the number of its bits is kept: then none are written.
+    /// there are. `NEEDS_MORE` says that a gap waits for more data, and only the number of its bits is kept: then none are written,
+    /// whatever room there is.
     pub fn give_unused(&self, bytes: &mut [u8], count: &mut usize) -> u32
         ensures { GivesUnused self.now.rows bytes.old bytes.new count.new result }
     {
         let left = self.rows.unused_len();
         *count = left;
+        if !self.rows.keeps_unused() {
+            return status::NEEDS_MORE;
+        }
         if left > bytes.len() {
             return status::REFUSED;
         }
-        if self.rows.copy_unused(&mut bytes[..left]) {
-            status::OK
-        } else {
-            status::NEEDS_MORE
-        }
+        // All of them are kept.
+        let _ = self.rows.copy_unused(&mut bytes[..left]);
+        status::OK
     }
 
     /// Reports the last row to C: what was reported before, if that still holds.

@@ -18,12 +18,14 @@ pub mod GapsNear
 pub mod GapsSeen
 pub mod GapsSoFar
 pub mod LooksKept
+pub mod NearEols
 pub mod OpenBits
 pub mod PartsFed
 pub mod PartsScanned
 pub mod RowsDrawn
 pub mod RowsFed
 pub mod RowsPassed
+pub mod SettledGaps
 pub mod WhiteRowsFed
 pub mod ZerosFed
 pub mod ZerosRead

@@ -8,10 +8,8 @@ use Rattle.fax_reading.specs.Context.{Context}
 use Rattle.fax_bits.specs.declared.settings.DecodeSettings.{DecodeSettings}
 use Rattle.fax_rows.specs.FrontsCounted.{CountsFront, PassesFront, TakesNoRow}
 use Rattle.fax_rows.specs.RowsTried.{front_is_settled}
-use Rattle.fax_rows.specs.declared.gap_count.GapCount.{GapCount}
-use Rattle.fax_rows.specs.declared.gap_count.GapStep.{GapStep}
 use Rattle.fax_rows.specs.declared.row_reader.RowState.{RowState}
-use Rattle.fax_rows.specs.GapsCounted.{CountsEol, IsTidy, KeepsRows, StandsInGap, StepLeaves, StepSays, left_before}
+use Rattle.fax_rows.specs.GapsCounted.{IsTidy, StandsInGap, left_before}
 use Rattle.fax_rows.specs.RowsRead.{IsStanding, ReachesNextLine, is_at_line, seen}
 use Rattle.fax_feeds.specs.declared.counted_gaps.GapSoFar.{GapSoFar}
 use Rattle.fax_feeds.specs.GapsSeen.{IsSeen, nothing_seen, rules_for}
@@ -19,27 +17,6 @@ use Rattle.fax_bits.specs.declared.settings.EncodingMode.TheVariants.{Group3_2D}
 use Rattle.fax_bits.specs.declared.error.DecodeError.TheVariants.{InvalidCode}
 use Rattle.std.specs.Prelude.{◌*◌, ◌≢◌, IfErr}
 use Rattle.fax_feeds.specs.RowFeeds.{LacksEol, LieIn, PassesEol, no_gap}
-
--- What a call leaves that goes on in a gap after a row, of which this was counted: each bit that is looked at is a tick, and
--- few of them are beyond where the call came.
-pub record CountsOn (is_last : Bool) (rows kept : RowState) (count next : GapCount) (old new : Context) (before after : BitsAt)
-    (step : GapStep) : Type 0 where
-  pub extra : ℕ
-  pub held : new.held ≡ old.held
-  pub ticks : new.ticks ≡ old.ticks + extra
-  pub space : new.space ≡ old.space
-  pub near : extra + before.place ≤ after.place + 16
-  pub onward : before.place ≤ after.place
-  pub same_bits : after.bits ≡ before.bits
-  pub within : after.place ≤ length after.bits
-  pub says : StepSays is_last count next (here before) (here after) step
-  pub same : KeepsRows step rows kept
-  pub eol : step ≡ GapStep.Passed true → is_last ≡ false → old.held.has_eols ≡ true
-      → CountsEol old.held.settings count (here before) (here after)
-  pub line : step ≡ GapStep.Passed true → is_at_line kept.stand ≡ true
-  pub leaves : (from : ℕ) (whole : Bits) (dropped : ℕ) → LieIn whole dropped is_last before.bits
-      → (in_gap : StandsInGap from rows old whole (dropped + before.place) count)
-      → StepLeaves step (from + extra) rows kept new whole in_gap.start dropped next before after
 
 -- ---- The gap before the next line
 

@@ -2,10 +2,10 @@
 use Rattle.std.specs.Prelude.{◌≡◌, ◌+◌, ◌==◌, ℕ, suc, Bool, true, false, not, ◌&&◌, [], ◌∷◌, ◌++◌, length, nat_le, if◌then◌else◌}
 use Rattle.fax_bits.specs.declared.settings.DecodeSettings.{DecodeSettings}
 use Rattle.fax_bits.specs.declared.settings.EncodingMode.{EncodingMode}
-use Rattle.fax_bits.specs.declared.settings.EncodingMode.TheVariants.{Group4, Group3_1D, Group3_2D}
 use Rattle.fax_bits.specs.Bits.{Bits}
 use Rattle.fax_reading.specs.Context.{Held}
 use Rattle.fax_reading.specs.PlainReading.{limit_met}
+use Rattle.fax_rows.specs.GapsCounted.{ends_at_two, has_tags}
 use Rattle.fax_feeds.specs.declared.gap_look.GapLook.{GapLook}
 use Rattle.fax_feeds.specs.declared.gap_look.GapRules.{GapRules}
 use Rattle.fax_feeds.specs.declared.gap_look.GapStage.{GapStage}
@@ -17,18 +17,6 @@ abbrev pub nothing_seen : GapLook
 nothing_seen = record { stage = Start; zeros = 0; bits = 0 }
 
 -- ---- On what it depends: not part of the trusted specification
-
--- tags follow EOLs (T.4, 4.2.2)
-abbrev pub has_tags : EncodingMode → Bool
-has_tags Group3_2D = true
-has_tags Group3_1D = false
-has_tags Group4 = false
-
--- two EOLs end the data: EOFB (T.6, 2.4.1.1)
-abbrev pub ends_at_two : EncodingMode → Bool → Bool
-ends_at_two Group3_2D end_of_block = false
-ends_at_two Group3_1D end_of_block = false
-ends_at_two Group4 end_of_block = end_of_block
 
 -- after a row: an EOL that is missing is sought in a lenient reading (T.4, 4.1.2)
 abbrev pub rules_after_row : DecodeSettings → ℕ → Bool → GapRules

@@ -1,6 +1,6 @@
 -- Rows from data that comes in pieces: what is kept of it, what is seen of a reading, and which data it is a reading of.
 use Rattle.std.specs.Prelude.{◌≡◌, ◌≢◌, ◌≤◌, ◌<◌, ◌+◌, ◌*◌, ◌/◌, ◌%◌, ◌^◌, ℕ, Bool, true, false, ◌++◌, [], not, ◌&&◌, ◌⊎◌}
-use Rattle.std.specs.Prelude.{◌-◌, take, if◌then◌else◌}
+use Rattle.std.specs.Prelude.{◌-◌, ◌||◌, ◌==◌, take, if◌then◌else◌}
 use Rattle.std.specs.Prelude.{vec_capacity, List, max, drop, length, replicate, ◌∷◌, Option, None, Some, Result, Ok, Err, IfErr}
 use Rattle.fax_bits.specs.declared.bit_reader.BitOrder.{BitOrder}
 use Rattle.fax_bits.specs.declared.codes.Color.TheVariants.{White}
@@ -724,6 +724,10 @@ pub record PushesRows {M : Type 0} (step : M → List ℕ → M) (before after :
 -- the bits of the bytes that were fed and aren't consumed: a byte of which a bit was read is
 abbrev pub unused : Feeding → Bits
 unused feed = drop (8 * ((feed.place + 7) / 8)) feed.kept
+
+-- Their bytes are kept: no bits of the gap that is next were counted, or they are those with which the data ends.
+abbrev pub keeps_unused : Feeding → Bool
+keeps_unused feed = feed.gap.at_zeros || (feed.gap.passed == 0)
 
 -- how many they are, also of those of a gap that were counted
 abbrev pub unused_size : Feeding → ℕ

@@ -4,8 +4,8 @@ ghost use Rattle.std.specs.Prelude.{◌≡◌, ◌+◌, ◌<◌, ◌^◌, [], No
 ghost use Rattle.fax_reading.specs.Context.{fresh};
 ghost use Rattle.fax_rows.specs.GapsCounted.{left_before};
 ghost use Rattle.fax_bits.specs.Bits.{here};
-ghost use Rattle.fax_rows.specs.GapsCounted.{CanGoOn};
-ghost use Rattle.fax_feeds.specs.CountedGaps.{ComesCounted, ComesFirst, CountsOn};
+ghost use Rattle.fax_rows.specs.GapsCounted.{CanGoOn, IsTidy};
+ghost use Rattle.fax_feeds.specs.CountedGaps.{ComesCounted, ComesFirst};
 ghost use Rattle.fax_feeds.specs.RowFeeds.{no_gap};
 ghost use Rattle.fax_rows.specs.RowsRead.{ended, is_at_line};
 ghost use Rattle.fax_feeds.specs.GapsSeen.{IsSeen, nothing_seen, rules_for};
@@ -57,27 +57,15 @@ pub(crate) fn bits_left(count: &GapCount) -> usize
     count.zeros.saturating_add(tags)
 }
 
-/// Returns whether no bit of a gap was counted.
-fn nothing_counted(gap: &GapSoFar) -> bool
-    ensures { result ≡ true → gap.now ≡ record no_gap { look = gap.now.look } }
+/// Returns whether no bit of a gap was counted or looked at, whose zeros don't end the data.
+fn nothing_known(gap: &GapSoFar) -> bool
+    requires tidy { IsTidy gap.now.count }
+    requires some { gap.now.at_zeros ≡ false }
+    ensures counted { result ≡ true → gap.now ≡ record no_gap { look = gap.now.look } }
+    ensures looked { result ≡ true → gap.now.look.bits ≡ 0 }
 {
     let count = &gap.count;
-    count.eols == 0 && !count.tag && count.zeros == 0 && gap.passed == 0 && !gap.at_zeros
-}
-
-/// Goes on in the gap before the next line, of which this was counted, and passes it if no data that follows can change it.
-pub(crate) fn count_on_in_gap(
-    rows: &mut RowState,
-    ctx: &mut DecoderContext,
-    count: &mut GapCount,
-    reader: &mut BitReader<'_>,
-    is_last: bool,
-) -> GapStep
-    requires on { CanGoOn count.old (here reader.old) }
-    requires after { rows.old.stand ≡ Stand.AfterRow }
-    ensures { CountsOn is_last rows.old rows.new count.old count.new ctx.old ctx.new reader.old reader.new result }
-{
-    step_in_gap(rows, ctx, count, reader, is_last)
+    gap.passed == 0 && gap.look.bits == 0 && count.eols == 0 && count.zeros == 0
 }
 
 /// Passes what is before the first line, of which this is known, if no data that follows can change it. Returns whether there is a
@@ -115,9 +103,11 @@ pub(crate) fn come_to_first_line(
     }
 }
 
-/// Passes the gap before the next line, if there is one here, of which this is known, if no data that follows can change it, where
-/// so many bits came before those of the reader. Returns whether there is a line after it, or `None` if more data is needed.
-pub(crate) fn come_to_counted_line(
+/// Passes the gap here, of which this is known, as `come_to_counted_line` does: its bits are counted as they come, or, where its EOL
+/// is missing, looked at.
+#[cold]
+#[inline(never)]
+fn come_by_counts(
     rows: &mut RowState,
     ctx: &mut DecoderContext,
     gap: &mut GapSoFar,
@@ -125,8 +115,7 @@ pub(crate) fn come_to_counted_line(
     is_last: bool,
     dropped: usize,
 ) -> Result<Option<bool>>
-    requires unended { ended rows.old.stand ≡ None }
-    requires line { is_at_line rows.old.stand ≡ true → gap.old ≡ no_gap }
+    requires after { rows.old.stand ≡ Stand.AfterRow }
     requires on { CanGoOn gap.old.count (here reader.old) }
     requires seen { IsSeen (rules_for true ctx.old.held) gap.old.look (here reader.old) }
     requires fits { dropped + length reader.old.bits + 64 < 2 ^ 64 }
@@ -135,17 +124,10 @@ pub(crate) fn come_to_counted_line(
     ensures { ComesCounted is_last dropped rows.old rows.new gap.old gap.new ctx.old ctx.new reader.old reader.new result }
 {
     let before = reader.bit_pos();
-    if is_at_line(rows.stand) {
-        return Ok(Some(true));
-    }
     if gap.look.bits > 0 {
         return pass_settled_gap(rows, ctx, &mut gap.look, reader, is_last, dropped + before);
     }
-    let rules = rules_after_row(ctx);
-    if nothing_counted(gap) && is_settled_at_once(&rules, reader) {
-        return pass_settled_gap(rows, ctx, &mut gap.look, reader, is_last, dropped + before);
-    }
-    let step = count_on_in_gap(rows, ctx, &mut gap.count, reader, is_last);
+    let step = step_in_gap(rows, ctx, &mut gap.count, reader, is_last);
     let place = reader.bit_pos();
     match step {
         GapStep::Waits => {
@@ -168,4 +150,35 @@ pub(crate) fn come_to_counted_line(
             pass_settled_gap(rows, ctx, &mut gap.look, reader, is_last, dropped + place)
         }
     }
+}
+
+/// Passes the gap before the next line, if there is one here, of which this is known, if no data that follows can change it, where
+/// so many bits came before those of the reader. Returns whether there is a line after it, or `None` if more data is needed.
+#[inline(always)]
+pub(crate) fn come_to_counted_line(
+    rows: &mut RowState,
+    ctx: &mut DecoderContext,
+    gap: &mut GapSoFar,
+    reader: &mut BitReader<'_>,
+    is_last: bool,
+    dropped: usize,
+) -> Result<Option<bool>>
+    requires unended { ended rows.old.stand ≡ None }
+    requires line { is_at_line rows.old.stand ≡ true → gap.old ≡ no_gap }
+    requires on { CanGoOn gap.old.count (here reader.old) }
+    requires seen { IsSeen (rules_for true ctx.old.held) gap.old.look (here reader.old) }
+    requires fits { dropped + length reader.old.bits + 64 < 2 ^ 64 }
+    requires missed { 0 < gap.old.look.bits → gap.old ≡ record no_gap { look = gap.old.look } }
+    requires some { gap.old.at_zeros ≡ false }
+    ensures { ComesCounted is_last dropped rows.old rows.new gap.old gap.new ctx.old ctx.new reader.old reader.new result }
+{
+    let before = reader.bit_pos();
+    if is_at_line(rows.stand) {
+        return Ok(Some(true));
+    }
+    let rules = rules_after_row(ctx);
+    if nothing_known(gap) && is_settled_at_once(&rules, reader) {
+        return of_settled_gap(rows.pass_gap_here(ctx, reader, dropped + before));
+    }
+    come_by_counts(rows, ctx, gap, reader, is_last, dropped)
 }

@@ -1,9 +1,7 @@
 //! Looking at a gap between rows as its bits come, each once.
 
-ghost use Rattle.std.specs.Prelude.{◌≡◌, ◌≤◌, ◌+◌, false, true, length, None, Some};
+ghost use Rattle.std.specs.Prelude.{◌≡◌, ◌≤◌, ◌+◌, false, true, length};
 ghost use Rattle.fax_bits.specs.Bits.{here};
-ghost use Rattle.fax_bits.specs.EndOfLine.{after_eol};
-ghost use Rattle.fax_reading.specs.GapsContinued.{after_line_tag, holds_one};
 ghost use Rattle.fax_feeds.specs.GapsSeen.{LooksOn, is_settled, nothing_seen, rules_after_row, stage_after};
 ghost use Rattle.fax_feeds.specs.GapsSeen.{stage_following};
 
@@ -86,62 +84,22 @@ fn stage_after(rules: &GapRules, stage: GapStage, zeros: usize) -> GapStage
     }
 }
 
-/// Returns whether a one is among the next eleven bits, so that there is no EOL here.
-#[inline(always)]
-fn holds_near_one(reader: &BitReader<'_>) -> bool
-    ensures near { result ≡ true → after_eol 0 (here reader.now) ≡ None }
-    ensures one { result ≡ true → holds_one (here reader.now) ≡ true }
-{
-    let next = reader.peek_u32();
-    if next >> 21 == 0 {
-        return false;
-    }
-    true
-}
-
-/// Passes an EOL here (T.4, 4.1.2) that ends among the next 32 bits, and returns whether there is one.
-#[inline(always)]
-fn pass_near_eol(reader: &mut BitReader<'_>) -> bool
-    ensures eol { result ≡ true → after_eol 0 (here reader.old) ≡ Some (here reader.new) }
-{
-    let next = reader.peek_u32();
-    let zeros = next.leading_zeros() as usize;
-    if zeros < 11 || zeros == 32 {
-        return false;
-    }
-    // The zeros and the one are there to be consumed.
-    let _ = reader.consume(zeros + 1);
-    true
-}
-
-/// Passes a tag of one here, if there is one (T.4, 4.2.2).
-#[inline(always)]
-fn pass_tag_of_one(reader: &mut BitReader<'_>)
-    ensures { here reader.new ≡ after_line_tag (1, here reader.old) }
-{
-    let mut after = copy(reader);
-    if let Ok(1) = after.read_bit() {
-        *reader = after;
-    }
-}
-
-/// Returns whether the next bits alone, as far as a window has them, settle the gap: no EOL is here nor sought, or one is, and
-/// none after it and its tag. Nothing is counted.
+/// Returns whether the next 32 bits alone settle the gap: no EOL is here nor sought, or one is, and after it and its tag there is
+/// none. Nothing is counted.
 #[inline(always)]
 pub(crate) fn is_settled_at_once(rules: &GapRules, reader: &BitReader<'_>) -> bool
     ensures { result ≡ true → is_settled (stage_following rules.now GapStage.Start 0 (here reader.now)) ≡ true }
 {
-    if holds_near_one(reader) {
+    let next = reader.peek_u32();
+    let zeros = next.leading_zeros();
+    if zeros < 11 {
         return !rules.seeks;
     }
-    let mut after = copy(reader);
-    if !pass_near_eol(&mut after) {
+    if zeros > 20 {
         return false;
     }
-    if rules.has_tags {
-        pass_tag_of_one(&mut after);
-    }
-    holds_near_one(&after)
+    // After the EOL and a bit, which may be its tag, there is a one among ten bits.
+    (next >> (20 - zeros)) % 1024 != 0
 }
 
 impl GapLook {

@@ -16,7 +16,8 @@ ghost use Rattle.fax_feeds.specs.RowFeeds.{is_unread};
 ghost use Rattle.fax_feeds.specs.RowFeeds.{HoldsMore, KeepsPart, LineGoesOn, Scans, ScansLine, StaysShort, line_answer};
 ghost use Rattle.fax_reading.specs.Continuations.{is_short};
 ghost use Rattle.fax_feeds.specs.RowFeeds.{IsPartOf1d, line_of_feed, says_short, of_settled_gap};
-ghost use Rattle.fax_feeds.specs.RowFeeds.{CountsRow, Feeding, FeedsRow, PassesRows, PushesRows, unused, unused_size};
+ghost use Rattle.fax_feeds.specs.RowFeeds.{CountsRow, Feeding, FeedsRow, PassesRows, PushesRows, keeps_unused, unused};
+ghost use Rattle.fax_feeds.specs.RowFeeds.{unused_size};
 ghost use Rattle.fax_reading.specs.Rows.{AreChanges, changes};
 ghost use Rattle.fax_lines.specs.SinkStates.{state_of};
 ghost use Rattle.fax_rows.specs.WhiteLines.{AreKnown};
@@ -266,9 +267,10 @@ fn can_take_row(ctx: &DecoderContext) -> bool
     rows < u64::MAX && ctx.damaged_rows() <= rows
 }
 
-/// Passes the gap before the next line, which begins at this offset of the data, if no data that follows can change it.
-/// Returns whether there is a line after it, or `None` if more data is needed.
-#[inline(always)]
+/// Passes the gap here, which begins at this offset of the data, if no data that follows can change it: its bits are looked at, each
+/// once. Returns whether there is a line after it, or `None` if more data is needed.
+#[cold]
+#[inline(never)]
 pub(crate) fn pass_settled_gap(
     rows: &mut RowState,
     ctx: &mut DecoderContext,
@@ -277,16 +279,12 @@ pub(crate) fn pass_settled_gap(
     is_last: bool,
     gap_start: usize,
 ) -> Result<Option<bool>>
-    requires unended { ended rows.old.stand ≡ None }
+    requires after { rows.old.stand ≡ Stand.AfterRow }
     requires seen { IsSeen (rules_for true ctx.old.held) look.old (here reader.old) }
-    requires line { is_at_line rows.old.stand ≡ true → look.old ≡ nothing_seen }
     ensures { ComesOn is_last gap_start rows.old rows.new look.old look.new ctx.old ctx.new reader.old reader.new result }
 {
     // An offset is known to be within the data once it is read.
     let _start = reader.bit_pos();
-    if is_at_line(rows.stand) {
-        return Ok(Some(true));
-    }
     if gap_waits(ctx, look, reader, is_last) {
         return Ok(None);
     }
@@ -1188,15 +1186,25 @@ impl RowFeed {
         write_zeros(bytes);
     }
 
+    /// Returns whether the bytes that were fed and aren't consumed are kept. They aren't where bits of the gap that is next were
+    /// counted, and more data may follow: then only their number is kept. At the end of the image they are.
+    pub fn keeps_unused(&self) -> bool
+        ensures kept { result ≡ keeps_unused self.now }
+        ensures unended { result ≡ false → ended self.now.rows.stand ≡ None }
+    {
+        self.gap.at_zeros || self.gap.passed == 0
+    }
+
     /// Writes the bytes that were fed and aren't consumed, which are as many as [`unused_len`](RowFeed::unused_len) returns, and
-    /// returns true. At the end of the image they are what was fed after it. Returns false and writes nothing where a gap waits for
-    /// more data of whose bits only the number is kept.
+    /// returns true. At the end of the image they are what was fed after it. Returns false and writes nothing where they aren't kept,
+    /// as [`keeps_unused`](RowFeed::keeps_unused) says.
     pub fn copy_unused(&self, bytes: &mut [u8]) -> bool
         requires long { 8 * length bytes.old ≡ unused_size self.now }
         ensures copied { result ≡ true → (whole : Bits) (tried : ℕ) → IsFeedOf whole tried self.now
             → bits_in self.now.order bytes.new ≡ unused (completed whole self.now) }
         ensures unwritten { result ≡ false → bytes.new ≡ bytes.old }
-        ensures waits { result ≡ false → ended self.now.rows.stand ≡ None }
+        ensures kept { result ≡ keeps_unused self.now }
+        ensures unended { result ≡ false → ended self.now.rows.stand ≡ None }
     {
         if self.gap.at_zeros {
             self.write_zeros_left(bytes);

@@ -248,8 +248,8 @@ pub extern "C" fn hayro_ccitt_feed_rows_changes(
 /// Copies the bytes that were fed and aren't consumed to the front of `bytes`; after the end of the image they are what follows
 /// it. `count` is how many there are. The bytes after them keep their values, and the reading doesn't change.
 ///
-/// `REFUSED` says that there is no room for them; `NEEDS_MORE`, that a gap waits for more data, and only the number of its bits is
-/// kept: then none is copied. `NOT_TAKEN` says that the reader isn't open: then `count` is 0.
+/// `NEEDS_MORE` says that a gap waits for more data, and only the number of its bits is kept: then none is copied, whatever room
+/// there is. `REFUSED` says that there is no room for them; `NOT_TAKEN`, that the reader isn't open: then `count` is 0.
 #[unsafe(no_mangle)]
 pub extern "C" fn hayro_ccitt_feed_unused(
     alloc: Global,

@@ -169,7 +169,8 @@ impl Owned {
     }
 
     /// Writes the bytes that were fed and aren't consumed if there is room for them, and returns the status. `count` is how many
-    /// there are. `NEEDS_MORE` says that a gap waits for more data, and only the number of its bits is kept: then none are written.
+    /// there are. `NEEDS_MORE` says that a gap waits for more data, and only the number of its bits is kept: then none are written,
+    /// whatever room there is.
     pub(crate) fn give_unused(&self, bytes: &mut [u8], count: &mut usize) -> u32
         requires feeds { is_feeding self.now ≡ true }
         ensures { IfFeeding self.now (λ feeding. GivesUnused feeding.rows bytes.old bytes.new count.new result) }

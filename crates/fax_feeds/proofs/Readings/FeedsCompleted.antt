@@ -1,5 +1,5 @@
 -- A feed with all bits that were fed, where the reading is.
-use Rattle.fax_feeds.proofs.Names.{◌≡◌, ◌∙◌, ◌+◌, ◌-◌, ◌≤◌, ◌++◌, ap, sym, subst}
+use Rattle.fax_feeds.proofs.Names.{◌≡◌, ◌∙◌, ◌+◌, ◌≤◌, ◌++◌, ap, sym, subst}
 use Rattle.fax_feeds.proofs.Names.{false≢true, arith, length, drop, take, ℕ, Bool, true, false, [], ◌∷◌, refl, Some, Group3_2D}
 use Rattle.fax_feeds.proofs.Names.{Bits, length-drop, length-append, drop-drop, append_assoc}
 use Rattle.std.proofs.Math.Seq.{drop-length, length-take-le}

@@ -14,7 +14,7 @@ use Rattle.fax_feeds.specs.RowFeeds.{StandsIn, came}
 use Rattle.fax_feeds.specs.RowFeeds.{PassesEol, completed, fed_bits, fed_over, gap_rules, offset_of, zeros_left}
 use Rattle.fax_feeds.proofs.Readings.FeedsCompleted.{at_within, full_gap, full_is_plain, full_long, gap_long}
 use Rattle.fax_feeds.proofs.Readings.FeedsCompleted.{knows_passed}
-use Rattle.fax_feeds.proofs.Readings.RowsFed.{place_within}
+use Rattle.fax_feeds.proofs.Readings.RowsFed.{after_none, place_within}
 use Rattle.std.proofs.Common.{◌<◌, cond}
 
 -- The parts of a counted call that a feed makes.
@@ -240,15 +240,12 @@ module _ {whole : Bits} {tried : ℕ} {old new : Feeding} {before after : BitsAt
           )) (λ zeros. (on.known.zeros zeros).2);
     }
 
-    plain_place : (n : ℕ) → 0 + n ≡ n
-    plain_place n = omega arith
-
     passed_reaches : ReachesNextLine (fed_over whole (completed whole old)) (fed_over whole (completed whole new)) (came answer)
     passed_reaches = subst (λ (n : ℕ). ReachesNextLine (seen old.rows old.ctx (record { bits = whole; place = n }))
-        (fed_over whole (completed whole new)) (came answer)) (sym (plain_place (offset_of old)))
+        (fed_over whole (completed whole new)) (came answer)) (sym (after_none (offset_of old)))
         (subst (λ (n : ℕ). ReachesNextLine (seen old.rows old.ctx (record { bits = whole; place = offset_of old }))
         (seen new.rows new.ctx (record { bits = whole; place = n })) (came answer))
-        (sym new_offset ∙ sym (plain_place (offset_of new)))
+        (sym new_offset ∙ sym (after_none (offset_of new)))
         (subst (ReachesNextLine (seen old.rows old.ctx (record { bits = whole; place = offset_of old }))
         (seen new.rows new.ctx (record { bits = whole; place = comes.place }))) (sym said) comes.reaches))
 

@@ -1,6 +1,6 @@
 -- What a call leaves of a feed at a line, of one with all bits that were fed.
-use Rattle.fax_feeds.proofs.Names.{◌≡◌, ◌∙◌, ◌+◌, ◌-◌, ◌≤◌, ◌++◌, ◌&&◌, inl, inr, ap, sym, subst}
-use Rattle.fax_feeds.proofs.Names.{arith, length, drop, take, true, false, ℕ, [], Ok, Err}
+use Rattle.fax_feeds.proofs.Names.{◌≡◌, ◌∙◌, ◌+◌, ◌≤◌, ◌++◌, ◌&&◌, inl, inr, ap, sym, subst}
+use Rattle.fax_feeds.proofs.Names.{arith, length, drop, take, true, false, ℕ, Ok, Err}
 use Rattle.fax_feeds.proofs.Names.{Result}
 use Rattle.fax_feeds.proofs.Names.{Bits, DecodeError, IfErr-weaker, ReadsNext, RowsRead, front_of}
 use Rattle.fax_feeds.proofs.Names.{is_at_line}

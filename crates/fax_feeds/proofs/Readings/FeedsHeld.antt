@@ -1,5 +1,5 @@
 -- Rows from data that comes in pieces: a feed of which bytes are dropped, and to which bytes are fed.
-use Rattle.fax_feeds.proofs.Names.{common_steps, ◌≡◌, ◌∙◌, ◌+◌, ◌-◌, ◌*◌, ◌≤◌, ◌++◌, ℕ, Bool, true, false}
+use Rattle.fax_feeds.proofs.Names.{common_steps, ◌≡◌, ◌∙◌, ◌+◌, ◌*◌, ◌≤◌, ◌++◌, ℕ, Bool, true, false}
 use Rattle.fax_feeds.proofs.Names.{sym, ap, subst}
 use Rattle.fax_feeds.proofs.Names.{arith, drop, length, length-append, length-drop, append_assoc, false≢true, zero, suc, [], ◌∷◌}
 use Rattle.fax_feeds.proofs.Names.{Bits, Context, bits_in, List, refl}

@@ -28,7 +28,7 @@ use Rattle.fax_feeds.specs.RowFeeds.{StandsIn, completed, fed_bits, fed_over, fe
 use Rattle.fax_feeds.proofs.Readings.FeedTurns.{within_bits}
 use Rattle.fax_feeds.proofs.Readings.FeedsCompleted.{full_gap, full_is_plain, full_long, knows_passed}
 use Rattle.fax_feeds.proofs.Readings.FeedsOn.{at_front, front_reaches, front_stood}
-use Rattle.fax_feeds.proofs.Readings.RowsFed.{place_within}
+use Rattle.fax_feeds.proofs.Readings.RowsFed.{after_none, place_within}
 
 -- A feed of which nothing was read, and this reader of its bits.
 pub record IsFrontBy (f : Inside) (reader : BitsAt) : Type 0 where
@@ -67,6 +67,10 @@ module _ {f : Inside} {before : BitsAt} (by : IsFrontBy f before) {whole : Bits}
   all_known = full_long fed
 
 -- ---- It is counted
+
+none_said : (o : Option Bool) → ◌≡◌ {A = Result (Option Bool) DecodeError} (Ok o) (Ok None) → o ≡ None
+none_said None e = refl
+none_said (Some line) e = absurd cc
 
 module _ {f : Inside} {before after : BitsAt} {ctx : Context} {gap : GapSoFar} {place : ℕ} {answer : Option Bool}
     (by : IsFrontBy f before) (there : place ≡ after.place)
@@ -248,7 +252,7 @@ module _ {f : Inside} {before after : BitsAt} {ctx : Context} {gap : GapSoFar} {
       let kept = by.kept in
       let none = unbegun_none f.part _ _ _ _ _ by.unbegun kept.part in
       let lawful = passed_lawful {at = f.dropped + place} {rows = record f.rows { stand = stand }} {held = ctx.held}
-      (λ e. some (some_answer answer e)) on.known in
+      (λ e. some (none_said answer e)) on.known in
       record {
         within = omega (arith, after_within, length-bits_in f.order f.«data».items);
         fit = kept.fit;
@@ -262,10 +266,6 @@ module _ {f : Inside} {before after : BitsAt} {ctx : Context} {gap : GapSoFar} {
         last = lawful.last;
         part = none_kept f.part _ _ _ _ _ _ _ _ _ none kept.part;
       }
-    where
-      some_answer : (o : Option Bool) → ◌≡◌ {A = Result (Option Bool) DecodeError} (Ok o) (Ok None) → o ≡ None
-      some_answer None e = refl
-      some_answer (Some b) e = absurd cc
 
   -- it is passed
   module _ (line : Bool) (stand : Stand) (stand_is : stand ≡ stand_after (Ok (not line))) (is : answer ≡ Some line) where
@@ -304,20 +304,13 @@ module _ {f : Inside} {before after : BitsAt} {ctx : Context} {gap : GapSoFar} {
             (record { bits = whole; place = n })) (sym passed_at) stood;
         known = knows_passed whole (feeding_of passed) (omega (arith, first.place_is, there))
             (place_within fed.lie place after_within)
-            (on.known.passed (λ none. let never : Some line ≡ None = sym is ∙ some_of answer none in cc))
+            (on.known.passed (λ none. let never : Some line ≡ None = sym is ∙ none_said answer none in cc))
             (λ zeros. (
               (on.known.zeros zeros).0,
               ap (λ (n : ℕ). drop n whole) passed_at ∙ (first.zeros zeros).0,
               (first.zeros zeros).1,
             )) (λ zeros. on.unlooked);
       }
-        where
-          some_of : (o : Option Bool) → ◌≡◌ {A = Result (Option Bool) DecodeError} (Ok o) (Ok None) → o ≡ None
-          some_of None e = refl
-          some_of (Some b) e = absurd cc
-
-      place_of : (n : ℕ) → 0 + n ≡ n
-      place_of n = omega arith
 
       reaches_first : ReachesNextLine (fed_over whole (completed whole (feeding_of f)))
           (fed_over whole (completed whole (feeding_of passed))) (line_first stand)
@@ -327,10 +320,10 @@ module _ {f : Inside} {before after : BitsAt} {ctx : Context} {gap : GapSoFar} {
           (subst (λ (n : ℕ). ReachesNextLine (seen f.rows f.ctx (record { bits = whole; place = n }))
           (seen (record f.rows { stand = stand_after (Ok (not line)) }) ctx
           (record { bits = whole; place = 0 + offset_of (feeding_of passed) })) (line_first (stand_after (Ok (not line)))))
-          (sym (place_of (offset_of (feeding_of f))))
+          (sym (after_none (offset_of (feeding_of f))))
           (subst (λ (n : ℕ). ReachesNextLine (seen f.rows f.ctx (record { bits = whole; place = offset_of (feeding_of f) }))
           (seen (record f.rows { stand = stand_after (Ok (not line)) }) ctx (record { bits = whole; place = n }))
-          (line_first (stand_after (Ok (not line))))) (sym passed_at ∙ sym (place_of (offset_of (feeding_of passed))))
+          (line_first (stand_after (Ok (not line))))) (sym passed_at ∙ sym (after_none (offset_of (feeding_of passed))))
           (front_reaches (feeding_of f) (feeding_of (record passed {
             rows = record f.rows {
               stand = stand_after (Ok (not line));
@@ -470,17 +463,14 @@ module _ {f : Inside} {before after : BitsAt} {ctx : Context} {place : ℕ} {sta
           (λ zeros. ap (λ (g : GapSoFar). g.look) none_known);
     }
 
-    place_is : (n : ℕ) → 0 + n ≡ n
-    place_is n = omega arith
-
     reaches_end : ReachesNextLine (fed_over whole (completed whole (feeding_of f)))
         (fed_over whole (completed whole (feeding_of ended_feed))) (line_first stand)
     reaches_end = subst (λ (n : ℕ). ReachesNextLine (seen f.rows f.ctx (record { bits = whole; place = n }))
         (seen (record f.rows { stand = stand }) ctx (record { bits = whole; place = 0 + offset_of (feeding_of ended_feed) }))
-        (line_first stand)) (sym (place_is (offset_of (feeding_of f))))
+        (line_first stand)) (sym (after_none (offset_of (feeding_of f))))
         (subst (λ (n : ℕ). ReachesNextLine (seen f.rows f.ctx (record { bits = whole; place = offset_of (feeding_of f) }))
         (seen (record f.rows { stand = stand }) ctx (record { bits = whole; place = n })) (line_first stand))
-        (sym ended_at ∙ sym (place_is (offset_of (feeding_of ended_feed))))
+        (sym ended_at ∙ sym (after_none (offset_of (feeding_of ended_feed))))
         (front_reaches (feeding_of f) (feeding_of ended_feed) f.ctx stand 0 refl refl (omega arith) after.place at_whole
         none_taken takes.settings first.counts unfailed at_line (front by fed)))
 

@@ -1,5 +1,5 @@
 -- What is before the first line, of which the first bits were counted.
-use Rattle.fax_feeds.proofs.Names.{◌≡◌, ◌≢◌, ◌∙◌, ◌+◌, ◌≤◌, ◌<◌, ◌++◌, ◌||◌, [], ap, sym, subst, refl, arith, length, drop}
+use Rattle.fax_feeds.proofs.Names.{◌≡◌, ◌≢◌, ◌∙◌, ◌≤◌, ◌<◌, ◌++◌, ◌||◌, [], ap, sym, subst, refl, arith, length, drop}
 use Rattle.fax_feeds.proofs.Names.{true, false, not, ltb, ℕ, Bool, Ok, Bits, Context, DecodeSettings, EncodingMode, Held}
 use Rattle.fax_feeds.proofs.Names.{Group3_1D, Group3_2D, Group4, at_end, length-drop, stand_after}
 use Rattle.fax_reading.specs.Context.{fresh}

@@ -1,12 +1,15 @@
 -- A gap that is looked at bit by bit: it is found to be settled exactly if its definition says so.
-use Rattle.fax_feeds.proofs.Names.{common_steps, ◌≡◌, ◌∙◌, ◌+◌, ◌≤◌, ◌++◌, ◌∷◌, ◌&&◌, ◌||◌, [], ℕ, zero, suc, Bool, true, false}
+use Rattle.fax_feeds.proofs.Names.{common_steps, ◌≡◌, ◌∙◌, ◌+◌, ◌<◌, ◌≤◌, ◌++◌, ◌∷◌, ◌&&◌, ◌||◌, [], ℕ, zero, suc, Bool}
+use Rattle.fax_feeds.proofs.Names.{true, false}
 use Rattle.fax_feeds.proofs.Names.{not, cond, leb, eqb, replicate, Option, None, Some, refl, sym, ap, arith, length}
 use Rattle.fax_feeds.proofs.Names.{length-append, append-nil, append_assoc, drop, length-replicate, ne_eqb, Bits, EncodingMode}
 use Rattle.fax_feeds.proofs.Names.{Group4, Group3_1D, Group3_2D, DecodeSettings, after_eol, all_eols, next_eol, at_end, eols_by}
-use Rattle.fax_feeds.proofs.Names.{limit_met}
+use Rattle.fax_feeds.proofs.Names.{get_or, limit_met}
+use Rattle.fax_bits.proofs.Names.{lt-leb}
 use Rattle.fax_bits.specs.EndOfLine.{eols, eols_with_tags, one_more, past_tag}
-use Rattle.fax_reading.specs.GapsContinued.{after_line_tag, holds_one, eols_are_settled, next_eols_are_settled, gap_is_settled}
-use Rattle.fax_feeds.specs.GapsSeen.{IsSeen, LooksTo, bits_needed, ends_at_two, has_tags, is_settled, nothing_seen}
+use Rattle.fax_reading.specs.GapsContinued.{holds_one, eols_are_settled, next_eols_are_settled, gap_is_settled}
+use Rattle.fax_rows.specs.GapsCounted.{ends_at_two, has_tags}
+use Rattle.fax_feeds.specs.GapsSeen.{IsSeen, LooksTo, bits_needed, is_settled, nothing_seen}
 use Rattle.fax_feeds.specs.GapsSeen.{one_eol_more, rules_after_row, stage_after, stage_following, zeros_after}
 use Rattle.fax_feeds.specs.declared.gap_look.GapLook.{GapLook}
 use Rattle.fax_feeds.specs.declared.gap_look.GapRules.{GapRules}
@@ -516,28 +519,27 @@ pub settled_at_one : (rules : GapRules) (here : Bits) → rules.seeks ≡ false 
     → is_settled (stage_following rules Start 0 here) ≡ true
 settled_at_one rules here unsought none one = start_settles rules 0 here unsought none ∙ one
 
--- where one is after an EOL and its tag, no EOL is
-settled_after_tag : (rules : GapRules) (here : Bits) → after_eol 0 here ≡ None → holds_one here ≡ true
-    → is_settled (stage_following rules AfterTag 0 here) ≡ true
-settled_after_tag rules here none one = tag_settles rules 0 here none ∙ one
+-- a one after few zeros is no EOL
+one_settles : (rules : GapRules) (seen k : ℕ) (here : Bits) → seen + k < 11 → get_or here k false ≡ true
+    → is_settled (stage_following rules AfterTag seen here) ≡ true
+one_settles rules seen k [] few one = absurd cc
+one_settles rules seen k (true ∷ here) few one =
+    let none : leb 11 seen ≡ false = lt-leb 11 seen (omega (arith, few)) in
+    rw (none) (settled_stays rules 0 here)
+one_settles rules seen zero (false ∷ here) few one = absurd cc
+one_settles rules seen (suc k) (false ∷ here) few one = one_settles rules (suc seen) k here (omega (arith, few)) one
 
--- the bits after an EOL are those after the tag of one of its line
-tag_of_one : (here : Bits) → after_line_tag (1, here) ≡ following_one here
-tag_of_one [] = refl
-tag_of_one (false ∷ here) = refl
-tag_of_one (true ∷ here) = refl
+-- an EOL is here, and after a bit, which may be its tag, a one among ten bits
+pub settled_after_eol : (rules : GapRules) (here rest : Bits) (k : ℕ) → after_eol 0 here ≡ Some rest → k < 10
+    → get_or rest (suc k) false ≡ true → is_settled (stage_following rules Start 0 here) ≡ true
+settled_after_eol rules here rest k eol few one = ap is_settled (eol_seen rules Start 0 here rest eol) ∙ by_tag rest one
+  where
+    by_has_tags : (has_tags : Bool) (rest : Bits) → get_or rest k false ≡ true
+        → is_settled (stage_following rules (cond has_tags AfterTag Settled) 0 rest) ≡ true
+    by_has_tags true rest one = one_settles rules 0 k rest (omega (arith, few)) one
+    by_has_tags false rest one = settled_stays rules 0 rest
 
--- an EOL is here without a tag, and none after it
-pub settled_after_eol : (rules : GapRules) (here rest : Bits) → after_eol 0 here ≡ Some rest → rules.has_tags ≡ false
-    → after_eol 0 rest ≡ None → holds_one rest ≡ true → is_settled (stage_following rules Start 0 here) ≡ true
-settled_after_eol rules here rest eol tags none one =
-    ap is_settled (eol_seen rules Start 0 here rest eol) ∙ no_tag rules rest tags ∙ settled_after_tag rules rest none one
-
--- or with one
-pub settled_after_tagged : (rules : GapRules) (here rest after : Bits) → after_eol 0 here ≡ Some rest → rules.has_tags ≡ true
-    → after ≡ after_line_tag (1, rest) → after_eol 0 after ≡ None → holds_one after ≡ true
-    → is_settled (stage_following rules Start 0 here) ≡ true
-settled_after_tagged rules here rest after eol tags is none one =
-    let tag : after ≡ following_one rest = is ∙ tag_of_one rest in
-    ap is_settled (eol_seen rules Start 0 here rest eol) ∙ one_tag rules rest tags
-    ∙ ap (λ (b : Bits). is_settled (stage_following rules AfterTag 0 b)) (sym tag) ∙ settled_after_tag rules after none one
+    by_tag : (rest : Bits) → get_or rest (suc k) false ≡ true → is_settled (stage_following rules AfterEol 0 rest) ≡ true
+    by_tag [] one = absurd cc
+    by_tag (false ∷ rest) one = zero_no_tag rules 0 rest ∙ one_settles rules 1 k rest (omega (arith, few)) one
+    by_tag (true ∷ rest) one = by_has_tags rules.has_tags rest one

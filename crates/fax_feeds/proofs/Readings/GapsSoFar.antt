@@ -12,7 +12,7 @@ use Rattle.fax_rows.proofs.Readings.GapsCounted.{counted_then, stands, zero_alik
 use Rattle.fax_rows.specs.declared.gap_count.GapStep.{GapStep}
 use Rattle.fax_feeds.proofs.Names.{◌≢◌, ◌-◌, ◌<◌, ◌∷◌, ◌&&◌, not, leb, eqb, inl, inr, cases_lt, append_assoc, drop}
 use Rattle.fax_feeds.proofs.Names.{common_steps}
-use Rattle.fax_feeds.proofs.Names.{DecodeSettings, EncodingMode, Group3_1D, Group3_2D, Group4, IfErr, InvalidCode, is_at_line}
+use Rattle.fax_feeds.proofs.Names.{DecodeSettings, EncodingMode, Group3_1D, Group3_2D, Group4, is_at_line}
 use Rattle.fax_feeds.proofs.Names.{at_end, eols_here, limit_met, misses_eol}
 use Rattle.std.proofs.lemmas.Bool.{leb-true}
 use Rattle.std.proofs.lemmas.List.{replicate-append-replicate}
@@ -20,7 +20,8 @@ use Rattle.fax_feeds.specs.GapsSeen.{IsSeen, nothing_seen, rules_for}
 use Rattle.fax_reading.specs.GapsContinued.{gap_is_settled}
 use Rattle.fax_feeds.specs.declared.counted_gaps.GapSoFar.{GapSoFar}
 use Rattle.fax_feeds.specs.declared.gap_look.GapLook.{GapLook}
-use Rattle.fax_feeds.specs.CountedGaps.{CameSoFar, ComesCounted, CountsOn, PassesNear, StandsSoFar}
+use Rattle.fax_feeds.specs.CountedGaps.{CameSoFar, ComesCounted, PassesNear, StandsSoFar}
+use Rattle.fax_feeds.proofs.Readings.GapsCountedOn.{CountsOn}
 use Rattle.fax_feeds.specs.RowFeeds.{ComesOn, LacksEol, LieIn, PassesEol, no_gap, of_settled_gap}
 use Rattle.fax_feeds.proofs.Readings.RowsFed.{place_within, stands_later, stays_at_line}
 use Rattle.fax_feeds.proofs.Names.{Stand, AtLine, AfterRow, AtEnd, AtFault, ended}
@@ -274,17 +275,6 @@ eol_is_passed settings gone count before after start is eol =
 -- what is held is the same
 pub same_frame : (old new : Held) → new ≡ old → new ≡ record old { has_eols = new.has_eols; repairs = new.repairs }
 same_frame old new is = subst (λ (h : Held). h ≡ record old { has_eols = h.has_eols; repairs = h.repairs }) (sym is) refl
-
--- no line was reached, or one was
-pub unsettled_line : (r : Result Bool DecodeError) → of_settled_gap r ≡ Ok (Some true) → r ≡ Ok true
-unsettled_line (Ok true) e = refl
-unsettled_line (Ok false) e = absurd cc
-unsettled_line (Err error) e = absurd cc
-
-pub settled_code : (r : Result Bool DecodeError) → IfErr r (λ e. e ≡ InvalidCode)
-    → IfErr (of_settled_gap r) (λ e. e ≡ InvalidCode)
-settled_code (Ok line) code = tt
-settled_code (Err error) code = code
 
 pub no_bits : (bits : Bits) → length bits ≡ 0 → bits ≡ []
 no_bits [] none = refl

@@ -35,6 +35,10 @@ module _ {whole kept : Bits} {dropped : ℕ} {finished : Bool} (lie : LieIn whol
   place_within place within =
       omega (arith, within, lie.within, ap length lie.bits, length-drop dropped whole, length-append kept lie.more)
 
+-- where no bits come before
+pub after_none : (n : ℕ) → 0 + n ≡ n
+after_none n = omega arith
+
 -- ---- Work that was counted for a try that is left
 
 later_at_line : (from more : ℕ) (settings : DecodeSettings) (bits : Bits) (held : Held) (rest : Bits) (ticks : ℕ)
@@ -72,6 +76,24 @@ pub stands_later : (from more : ℕ) (rows : RowState) (old new : Context) (at :
 stands_later from more rows old new at held ticks stands = grind (arith, common_steps, later_paid)
 
 -- ---- The gap before the next line
+
+-- what came of a gap that was passed
+pub came_said : (r : Result Bool DecodeError) → came (of_settled_gap r) ≡ r
+came_said (Ok line) = refl
+came_said (Err error) = refl
+
+pub passed_some : (r : Result Bool DecodeError) → of_settled_gap r ≡ Ok None → ⊥
+passed_some (Ok line) e = cc
+passed_some (Err error) e = cc
+
+pub line_said : (r : Result Bool DecodeError) → of_settled_gap r ≡ Ok (Some true) → r ≡ Ok true
+line_said (Ok true) e = refl
+line_said (Ok false) e = absurd cc
+line_said (Err error) e = absurd cc
+
+pub code_said : (r : Result Bool DecodeError) → IfErr r (λ e. e ≡ InvalidCode) → IfErr (of_settled_gap r) (λ e. e ≡ InvalidCode)
+code_said (Ok line) code = tt
+code_said (Err error) code = code
 
 -- at a line there is none
 pub stays_at_line : (from : ℕ) (rows : RowState) (ctx : Context) (at : BitsAt) → is_at_line rows.stand ≡ true
@@ -131,15 +153,11 @@ module _ (is_last : Bool) (gap_start : ℕ) (rows kept : RowState) (old mid new 
       unended no_line later in
       let said = subst (λ (r : Result Bool DecodeError). ReachesNextLine (seen rows mid
       (record { bits = whole; place = gap_start }))
-      (seen kept new (record { bits = whole; place = dropped + after.place })) r) (sym (came_is answer ∙ gap.said))
+      (seen kept new (record { bits = whole; place = dropped + after.place })) r) (sym (came_said answer ∙ gap.said))
       (subst (λ (r : RowState). ReachesNextLine (seen rows mid (record { bits = whole; place = gap_start }))
       (seen r new (record { bits = whole; place = dropped + after.place })) (line_after gap.over)) (sym gap.kept_is) reaches) in
       from_before said
     where
-      came_is : (r : Result Bool DecodeError) → came (of_settled_gap r) ≡ r
-      came_is (Ok line) = refl
-      came_is (Err e) = refl
-
       from_before : {r : Result Bool DecodeError} → ReachesNextLine (seen rows mid (record { bits = whole; place = gap_start }))
           (seen kept new (record { bits = whole; place = dropped + after.place })) r → ReachesNextLine
           (seen rows old (record { bits = whole; place = gap_start }))
@@ -156,11 +174,6 @@ pub waits_not : (is_last settled : Bool) → (not is_last && not settled) ≡ fa
 waits_not true settled e = inl refl
 waits_not false true e = inr refl
 waits_not false false e = absurd cc
-
--- a gap that was passed didn't wait
-pub passed_some : (r : Result Bool DecodeError) → of_settled_gap r ≡ Ok None → ⊥
-passed_some (Ok line) e = cc
-passed_some (Err error) e = cc
 
 -- where a line is said to be here, it is
 pub said_line : (over : Result Bool DecodeError) (r : Result Bool DecodeError) → r ≡ line_after over → of_settled_gap r ≡ Ok

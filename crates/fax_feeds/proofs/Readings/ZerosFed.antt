@@ -1,7 +1,7 @@
 -- What is read of the zeros with which the data ends, of which a feed keeps the number alone.
-use Rattle.fax_feeds.proofs.Names.{◌≡◌, ◌≢◌, ◌∙◌, ◌+◌, ◌-◌, ◌≤◌, ◌<◌, ◌++◌, [], ap, sym, subst, refl, arith}
+use Rattle.fax_feeds.proofs.Names.{◌≡◌, ◌∙◌, ◌+◌, ◌≤◌, ◌<◌, ◌++◌, [], ap, sym, subst, refl, arith}
 use Rattle.fax_feeds.proofs.Names.{length, drop}
-use Rattle.fax_feeds.proofs.Names.{take, true, false, ℕ, Bool, Ok, Err, Some, None, Result, Bits, Context}
+use Rattle.fax_feeds.proofs.Names.{take, true, false, ℕ, Bool, Ok, None, Result, Bits, Context}
 use Rattle.fax_feeds.proofs.Names.{Held, White}
 use Rattle.fax_feeds.proofs.Names.{DecodeError, DecodeSettings, Group3_2D, InvalidCode, IfErr, IsStanding, ReachesNextLine}
 use Rattle.fax_feeds.proofs.Names.{and_parts}
@@ -20,6 +20,7 @@ use Rattle.fax_feeds.proofs.Names.{length-append}
 use Rattle.std.proofs.lemmas.List.{take-append-drop}
 use Rattle.fax_feeds.proofs.Readings.FeedsFramed.{moved}
 use Rattle.fax_feeds.proofs.Readings.FeedsOn.{feed_reads, line_feeds}
+use Rattle.fax_feeds.proofs.Readings.RowsFed.{after_none, came_said, code_said, line_said, passed_some}
 
 -- A feed that has come to the zeros with which the data ends.
 pub record IsAtZeros (whole : Bits) (tried : ℕ) (feed : Feeding) : Type 0 where
@@ -224,35 +225,16 @@ module _ {whole : Bits} {tried : ℕ} {feed : Feeding} (at : IsAtZeros whole tri
       };
     }
 
-    came_is : (r : Result Bool DecodeError) → came (of_settled_gap r) ≡ r
-    came_is (Ok line) = refl
-    came_is (Err error) = refl
-
-    some : (r : Result Bool DecodeError) → of_settled_gap r ≡ Ok None → ⊥
-    some (Ok line) e = cc
-    some (Err error) e = cc
-
-    line_is : (r : Result Bool DecodeError) → of_settled_gap r ≡ Ok (Some true) → r ≡ Ok true
-    line_is (Ok true) e = refl
-    line_is (Ok false) e = absurd cc
-    line_is (Err error) e = absurd cc
-
-    code_is : (r : Result Bool DecodeError) → IfErr r (λ e. e ≡ InvalidCode) → IfErr (of_settled_gap r) (λ e. e ≡ InvalidCode)
-    code_is (Ok line) is = tt
-    code_is (Err error) is = is
-
-    place_is : (n : ℕ) → 0 + n ≡ n
-    place_is n = omega arith
-
     reaches_mid : ReachesNextLine (fed_over whole (completed whole feed)) (fed_over whole (completed whole mid))
         (came (of_settled_gap passed))
     reaches_mid = subst (λ (n : ℕ). ReachesNextLine (seen feed.rows feed.ctx (record { bits = whole; place = n }))
-        (fed_over whole (completed whole mid)) (came (of_settled_gap passed))) (sym (place_is (offset_of feed)))
+        (fed_over whole (completed whole mid)) (came (of_settled_gap passed))) (sym (after_none (offset_of feed)))
         (subst (λ (n : ℕ). ReachesNextLine (seen feed.rows feed.ctx (record { bits = whole; place = offset_of feed }))
         (seen new.rows new.ctx (record { bits = whole; place = n })) (came (of_settled_gap passed)))
-        (same_place ∙ sym (place_is (offset_of feed)))
+        (same_place ∙ sym (after_none (offset_of feed)))
         (subst (ReachesNextLine (seen feed.rows feed.ctx (record { bits = whole; place = offset_of feed }))
-        (seen new.rows new.ctx (record { bits = whole; place = passed_here.place }))) (sym (came_is passed)) passed_here.reaches))
+        (seen new.rows new.ctx (record { bits = whole; place = passed_here.place }))) (sym (came_said passed))
+        passed_here.reaches))
 
     zeros_come_mid : (comes : ComesInFeed whole tried (completed whole feed) (completed whole mid) (of_settled_gap passed))
         × IsFeedOf whole (tried + comes.extra) mid
@@ -260,15 +242,15 @@ module _ {whole : Bits} {tried : ℕ} {feed : Feeding} (at : IsAtZeros whole tri
       record {
         extra = 0;
         looks = record { line = λ line. refl; within = λ none. absurd (omega (arith, none)) };
-        looked = λ e. absurd (some passed e);
+        looked = λ e. absurd (passed_some passed e);
         keeps = record { order = refl; finished = refl; kept = refl; dropped = refl; room = refl };
         begun = at.begun;
         within = omega (arith, full_long at.fed, all_fed);
         space = space;
-        waits = λ e. absurd (some passed e);
+        waits = λ e. absurd (passed_some passed e);
         comes = λ other. reaches_mid;
         stands = full_is_plain mid_fed;
-        line = λ e. stand (line_is passed e);
+        line = λ e. stand (line_said passed e);
         counts = omega (arith, ticks);
         reaches = λ e. record {
           counts = omega (arith, ticks);
@@ -283,7 +265,7 @@ module _ {whole : Bits} {tried : ℕ} {feed : Feeding} (at : IsAtZeros whole tri
           space = space;
           settings = ap (λ (h : Held). h.settings) frame;
         };
-        only_code = code_is passed code;
+        only_code = code_said passed code;
       },
       mid_fed,
     )

@@ -440,6 +440,7 @@ fn a_gap_that_waits_is_not_unused(rt: HostRuntime) {
     let mut feed = RowFeed::new(rt.alloc(), BitOrder::HighestFirst, settings).expect(&rt, "memory");
     feeds_alike(&rt, &mut feed, 0x00, 3);
     assert!(rt; feed.unused_len() == 3);
+    same(&rt, feed.keeps_unused(), false);
     let mut bytes = [0xEEu8; 3];
     same(&rt, feed.copy_unused(&mut bytes), false);
     same(&rt, bytes, [0xEE; 3]);

@@ -1,5 +1,5 @@
-use Rattle.fax_feeds.proofs.Names.{◌≡◌, ◌≢◌, ◌∙◌, ◌+◌, ◌≤◌, ◌<◌, ◌++◌, [], ap, sym, subst, refl, arith, length, drop}
-use Rattle.fax_feeds.proofs.Names.{true, false, ℕ, Bits}
+use Rattle.fax_feeds.proofs.Names.{◌≡◌, ◌∙◌, ◌+◌, ◌≤◌, ◌<◌, ◌++◌, [], ap, sym, subst, refl, arith, length, drop}
+use Rattle.fax_feeds.proofs.Names.{true, ℕ, Bits}
 use Rattle.fax_feeds.proofs.Names.{false≢true}
 use Rattle.fax_feeds.proofs.Names.{◌⊎◌, inl, inr}
 use Rattle.fax_rows.specs.declared.gap_count.GapStep.{GapStep}
@@ -9,7 +9,7 @@ use Rattle.std.proofs.lemmas.Bool.{false_from_ne_true}
 use Rattle.std.specs.Prelude.{◌^◌}
 use Rattle.fax_feeds.specs.declared.counted_gaps.GapSoFar.{GapSoFar}
 use Rattle.fax_feeds.specs.declared.gap_look.GapLook.{GapLook}
-use Rattle.fax_feeds.specs.RowFeeds.{LieIn, no_gap}
+use Rattle.fax_feeds.specs.RowFeeds.{LieIn}
 use Rattle.fax_feeds.proofs.Readings.FrontsSoFar.{front_takes, front_ticks, zeros_first, zeros_within}
 use Rattle.fax_feeds.proofs.Readings.GapsCountedOn.{lies_at}
 use Rattle.fax_feeds.proofs.Readings.RowsFed.{from_place, place_within}

@@ -1,5 +1,5 @@
 use Rattle.fax_feeds.proofs.Names.{common_steps}
-use Rattle.fax_feeds.proofs.Names.{rules, ◌≡◌, ◌∙◌, sym, refl, arith, length, ◌≤◌, true}
+use Rattle.fax_feeds.proofs.Names.{rules, ◌≡◌, ◌∙◌, sym, refl, arith, length, ◌≤◌}
 use Rattle.fax_feeds.proofs.Readings.RowsFed.{left_is, left_not, line_step_stands, line_step_reads, none_read, read_after}
 use Rattle.fax_rows.specs.RowsTried.{rows_after_line}
 use Rattle.fax_feeds.specs.RowFeeds.{line_answer}

@@ -1,6 +1,6 @@
-use Rattle.fax_feeds.proofs.Names.{common_steps, ◌≡◌, ◌∙◌, ◌+◌, ap, sym, subst, arith, true, false}
+use Rattle.fax_feeds.proofs.Names.{common_steps, ◌≡◌, ◌∙◌, ◌+◌, ap, sym, subst, arith}
 use Rattle.fax_feeds.proofs.Names.{BitsAt}
-use Rattle.fax_feeds.proofs.Names.{Some, Option, Ok, Bool, drop, not, stand_after, DecodeSettings}
+use Rattle.fax_feeds.proofs.Names.{Option, Ok, Bool, drop, not, stand_after, DecodeSettings}
 use Rattle.fax_feeds.proofs.Readings.FeedTurns.{can_go_on}
 use Rattle.fax_feeds.proofs.Readings.FrontsFed.{IsFrontBy, leaves, narrow_first, narrow_kept, passed_kept, passes_first}
 use Rattle.fax_feeds.proofs.Readings.FrontsFed.{waiting_kept, waits_first}

@@ -1,4 +1,4 @@
-use Rattle.fax_feeds.proofs.Names.{◌∙◌, ◌+◌, sym, ap, subst, refl, is_some, ended, true, false}
+use Rattle.fax_feeds.proofs.Names.{◌∙◌, ◌+◌, sym, ap, subst, refl, is_some, ended}
 use Rattle.fax_feeds.proofs.Readings.FeedsCompleted.{full_is_plain}
 use Rattle.fax_feeds.proofs.Readings.FeedsFramed.{next_of}
 use Rattle.fax_feeds.proofs.Readings.FeedsOn.{feeds_on, first_line_is, front_ends_feeds, front_waits_feeds, unbegun_looks}

@@ -1,4 +1,4 @@
-use Rattle.fax_feeds.proofs.Names.{◌∙◌, ◌-◌, ap, sym, arith, false≢true, refl, true, false, is_at_line}
+use Rattle.fax_feeds.proofs.Names.{◌∙◌, ap, sym, arith, false≢true, refl, is_at_line}
 use Rattle.fax_feeds.proofs.Readings.ZerosRead.{KeepsZeros, zeros_full, zeros_kept, zeros_line_row}
 use Rattle.fax_feeds.specs.RowFeeds.{Feeding}
 use Rattle.fax_feeds.proofs.row_feed.RowFeed.read_line_of_zeros.Goals.{After-can_take_row}

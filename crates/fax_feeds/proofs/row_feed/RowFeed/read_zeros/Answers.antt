@@ -1,6 +1,6 @@
-use Rattle.fax_feeds.proofs.Names.{◌≡◌, ◌∙◌, ◌-◌, ap, sym, subst, true, false, is_at_line}
+use Rattle.fax_feeds.proofs.Names.{◌≡◌, ◌∙◌, ap, sym, subst, false, is_at_line}
 use Rattle.fax_feeds.proofs.Names.{ended, None}
-use Rattle.fax_feeds.proofs.Readings.GapsSoFar.{unsettled_line}
+use Rattle.fax_feeds.proofs.Readings.RowsFed.{line_said}
 use Rattle.fax_feeds.proofs.Readings.ZerosRead.{KeepsZeros, zeros_gap_row, zeros_row_on}
 use Rattle.fax_feeds.specs.RowFeeds.{Feeding, feeding_of, offset_of}
 use Rattle.fax_feeds.proofs.row_feed.RowFeed.read_zeros.Goals.{After-is_some_line}
@@ -54,4 +54,4 @@ returns c =
     rw (← c.self.view_is)
     (zeros_row_on (keeps at) (unended at) (away at) (count_is at) (passes at) call.ensures.frame.held call.ensures.frame.ticks
     call.ensures.frame.space (λ e. ap is_at_line (call.ensures.stand e)) call.ensures.only_code is
-    (ap is_at_line (call.ensures.stand (unsettled_line call.result is))) c.read_line_of_zeros-2.ensures)
+    (ap is_at_line (call.ensures.stand (line_said call.result is))) c.read_line_of_zeros-2.ensures)
