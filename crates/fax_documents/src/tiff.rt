@@ -1,10 +1,10 @@
 //! A TIFF file, a page at a time.
 
-ghost use Rattle.std.specs.Prelude.{◌≡◌, ◌≢◌, ◌↔◌, ◌⊎◌, Err, IfErr, IsSome, OnOk};
+ghost use Rattle.std.specs.Prelude.{◌≡◌, ◌≢◌, ◌↔◌, ◌⊎◌, Err, IfErr, IfOk, IsSome, OnOk, map};
 ghost use Rattle.std.specs.Io.KnownBytes.{Appends, Keeps};
 ghost use Rattle.fax_documents.specs.Codings.{coding_of};
 ghost use Rattle.fax_documents.specs.Pages.{HasSize};
-ghost use Rattle.fax_documents.specs.Tiff.{head_of};
+ghost use Rattle.fax_documents.specs.Tiff.{AppendsPage, even_bytes, head_of, laid_out};
 
 use crate::coding::coding_of;
 use crate::directory::{Directory, Places, even};
@@ -68,6 +68,7 @@ impl TiffWriter {
     ) -> Result<(), DocumentError>
         ensures size { (result ≡ Err DocumentError.Size) ↔ (¬ HasSize page.now) }
         ensures encoding { OnOk result (IsSome (coding_of page.now.settings page.now.eols_end_at_bytes)) }
+        ensures written { OnOk result (AppendsPage (W.contents out.old) (W.contents out.new) (map (λ strip. strip.now) page.now.strips.now)) }
         ensures unwritten { IfErr result (λ error. (error ≡ DocumentError.Write) ⊎ (Keeps (W.contents out.old) (W.contents out.new))) }
     {
         if !page.has_size() {
@@ -94,6 +95,7 @@ impl TiffWriter {
         page: &CarriedPage,
         is_last: bool,
     ) -> Result<(), DocumentError>
+        ensures written { OnOk result (AppendsPage (W.contents out.old) (W.contents out.new) (map (λ strip. strip.items) page.now.strips.items)) }
         ensures unwritten { IfErr result (λ error. (error ≡ DocumentError.Write) ⊎ (Keeps (W.contents out.old) (W.contents out.new))) }
     {
         let strips = slices_of(alloc, page)?;
@@ -110,6 +112,7 @@ impl TiffWriter {
         is_last: bool,
     ) -> Result<(), DocumentError>
         ensures only { IfErr result (λ error. error ≢ DocumentError.Size) }
+        ensures written { OnOk result (AppendsPage (W.contents out.old) (W.contents out.new) (map (λ part. part.now) parts.now)) }
         ensures unwritten { IfErr result (λ error. (error ≡ DocumentError.Write) ⊎ (Keeps (W.contents out.old) (W.contents out.new))) }
     {
         let strips = self.place.saturating_add(directory.len());
@@ -136,9 +139,11 @@ impl TiffWriter {
 }
 
 /// Returns the strips or tiles of a page.
-fn slices_of(alloc: Global, page: &CarriedPage) -> Result<Vec<&[u8]>, AllocError> {
+fn slices_of(alloc: Global, page: &CarriedPage) -> Result<Vec<&[u8]>, AllocError>
+    ensures { IfOk result (λ slices. map (λ slice. slice.now) slices.items ≡ map (λ strip. strip.items) page.now.strips.items) }
+{
     let mut slices = Vec::new(alloc);
-    for strip in &page.strips {
+    'slices: for strip in &page.strips {
         slices.push(strip.as_slice())?;
     }
     Ok(slices)
@@ -155,13 +160,23 @@ fn strips_len(strips: &[&[u8]]) -> u64 {
 
 /// Writes strips, each up to an even offset.
 fn put_strips<W: Write>(out: &mut W, strips: &[&[u8]]) -> Result<(), DocumentError>
+    ensures written { OnOk result (Appends (W.contents out.old) (W.contents out.new) (laid_out (map (λ strip. strip.now) strips.now))) }
     ensures only { IfErr result (λ error. error ≡ DocumentError.Write) }
 {
-    for strip in strips {
-        put(out, strip)?;
-        if strip.len() % 2 == 1 {
-            put(out, b"\0")?;
-        }
+    'strips: for strip in strips {
+        put_strip(out, strip)?;
+    }
+    Ok(())
+}
+
+/// Writes a strip, up to an even offset.
+fn put_strip<W: Write>(out: &mut W, strip: &[u8]) -> Result<(), DocumentError>
+    ensures written { OnOk result (Appends (W.contents out.old) (W.contents out.new) (even_bytes strip.now)) }
+    ensures only { IfErr result (λ error. error ≡ DocumentError.Write) }
+{
+    put(out, strip)?;
+    if strip.len() % 2 == 1 {
+        put(out, b"\0")?;
     }
     Ok(())
 }

@@ -1,6 +1,5 @@
 pub mod GroupMasks
 pub mod LinesAtOnce
-pub mod NearModes
 pub mod PairsOfRuns
 pub mod RegularLanes
 pub mod RegularModes

@@ -11,7 +11,6 @@ ghost use Rattle.fax_reading.specs.Rows.{AreChanges};
 
 pub mod changes;
 pub mod context;
-mod dense_rows;
 mod modes;
 mod pen;
 mod regular_places;
