@@ -174,8 +174,27 @@ def speed():
     return picture(left + wide + 40, bottom + 30, "Cost in proportion to others, of 1: shorter is less", parts)
 
 
+def peers():
+    """The milliseconds of a page in each decoder, from bench/peers.tsv."""
+    head, *rows = [line.split("\t") for line in (ROOT / "bench/peers.tsv").read_text(encoding="utf-8").splitlines()]
+    parts, left, wide, bar, y = [], 110, 600, 18, 14
+    longest = max(float(time) for _, *times in rows for time in times)
+    for page, *times in rows:
+        parts.append(text(16, y + 14, page))
+        y += 24
+        for place, (name, time) in enumerate(zip(head[1:], times)):
+            length = max(float(time) / longest * wide, 1)
+            parts += [text(left - 10, y + 12, name, "small", "end"), rect(left, y, length, bar - 4, "second" if place else "first")]
+            parts.append(text(left + length + 8, y + 12, time, "small"))
+            y += bar
+        y += 14
+    parts.append(text(16, y + 6, "MuPDF, Ghostscript, poppler and pdf.js: the time by which their programs take longer for a page more.", "small"))
+    return picture(left + wide + 70, y + 20, "Milliseconds in which a page of Group 4 becomes a bitmap: shorter is less", parts)
+
+
 def pictures(faxrows):
-    return {"layers.svg": layers(), "byte.svg": life_of_a_byte(), "damage.svg": damage(faxrows), "speed.svg": speed()}
+    drawn = {"layers.svg": layers(), "byte.svg": life_of_a_byte(), "damage.svg": damage(faxrows)}
+    return {**drawn, "speed.svg": speed(), "peers.svg": peers()}
 
 
 if __name__ == "__main__":
