@@ -1,3 +1,4 @@
 mod LaidParts
+mod OtherKeys
 mod PartReadings
 mod StrictReadings

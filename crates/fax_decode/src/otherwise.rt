@@ -1,9 +1,9 @@
 //! Images of PDF files whose keys are false.
 
-ghost use Rattle.std.specs.Prelude.{◌≡◌, ◌≤◌, IfOk, IfSome, IsTrue};
+ghost use Rattle.std.specs.Prelude.{◌≡◌, ◌+◌, ◌≤◌, IfOk, IfSome, IsFalse, IsTrue, None, Ok};
 ghost use Rattle.hayro_ccitt.specs.Bits.{bits_in};
 ghost use Rattle.fax_decode.specs.Drawn.{data_of, settings_in};
-ghost use Rattle.fax_decode.specs.Otherwise.{TakesAll, with_keys};
+ghost use Rattle.fax_decode.specs.Otherwise.{IsWholeByNoKeys, IsWholePart, TakesAll, most_picture, with_keys};
 
 use crate::allowance::Allowance;
 use crate::page::{bytes_of_rows, is_decoded, most_rows, settings_within, with_all_rows};
@@ -25,24 +25,43 @@ pub fn by_other_keys(
 ) -> Result<Option<Part>, AllocError>
     ensures all { IfOk result (λ found. IfSome found
         (λ part. TakesAll (settings_in page.now.rows part) (bits_in page.now.order (data_of page.now part)))) }
+    ensures none { result ≡ Ok None → IsWholeByNoKeys page.now allowance.old.pictures }
     ensures least { allowance.new.pictures ≤ allowance.old.pictures }
 {
     let Some(part) = page.parts.first() else {
         return Ok(None);
     };
-    let has_eols = part.settings.end_of_line;
     let is_aligned = part.settings.rows_are_byte_aligned;
+    let turned = with_keys(part, false, !is_aligned);
+    if !part.settings.end_of_line {
+        return if_whole(alloc, page, turned, allowance);
+    }
     let without = with_keys(part, false, is_aligned);
-    if has_eols && takes_all(alloc, page, &without, allowance)? {
-        return Ok(Some(without));
+    if let Some(found) = if_whole(alloc, page, without, allowance)? {
+        return Ok(Some(found));
     }
-    let otherwise = with_keys(part, has_eols, !is_aligned);
-    if takes_all(alloc, page, &otherwise, allowance)? {
-        return Ok(Some(otherwise));
+    let otherwise = with_keys(part, true, !is_aligned);
+    if let Some(found) = if_whole(alloc, page, otherwise, allowance)? {
+        return Ok(Some(found));
     }
-    let both = with_keys(part, false, !is_aligned);
-    if has_eols && takes_all(alloc, page, &both, allowance)? {
-        return Ok(Some(both));
+    if_whole(alloc, page, turned, allowance)
+}
+
+/// Returns a part, if a strict reading takes its data, with all rows of the page.
+fn if_whole(
+    alloc: Global,
+    page: &Page<'_>,
+    part: Part,
+    allowance: &mut Allowance,
+) -> Result<Option<Part>, AllocError>
+    ensures all { IfOk result (λ found. IfSome found
+        (λ it. TakesAll (settings_in page.now.rows it) (bits_in page.now.order (data_of page.now it)))) }
+    ensures none { result ≡ Ok None → most_picture page.now part ≤ allowance.old.pictures → ¬ IsWholePart page.now part }
+    ensures most { allowance.old.pictures ≤ allowance.new.pictures + most_picture page.now part }
+    ensures least { allowance.new.pictures ≤ allowance.old.pictures }
+{
+    if takes_all(alloc, page, &part, allowance)? {
+        return Ok(Some(part));
     }
     Ok(None)
 }
@@ -70,15 +89,21 @@ fn takes_all(
 ) -> Result<bool, AllocError>
     ensures all { IfOk result (λ it. IsTrue it
         → TakesAll (settings_in page.now.rows part.now) (bits_in page.now.order (data_of page.now part.now))) }
+    ensures no { IfOk result (λ it. IsFalse it → most_picture page.now part.now ≤ allowance.old.pictures
+        → ¬ IsWholePart page.now part.now) }
+    ensures most { allowance.old.pictures ≤ allowance.new.pictures + most_picture page.now part.now }
     ensures least { allowance.new.pictures ≤ allowance.old.pictures }
 {
     let settings = settings_within(part, page.rows);
+    if page.rows_are_words {
+        return Ok(false);
+    }
+    if !is_decoded(page, part, settings, page.rows) {
+        return Ok(false);
+    }
     let data = page.data(part);
     let bytes = bytes_of_rows(settings.columns, most_rows(data, settings.rows));
-    if page.rows_are_words
-        || !is_decoded(page, part, settings, page.rows)
-        || !allowance.pay_picture(bytes)
-    {
+    if !allowance.pay_picture(bytes) {
         return Ok(false);
     }
     allowance.pay_data(data.len() as u64);

@@ -1,1 +1,2 @@
 mod LaidOut
+mod Written

@@ -1,8 +1,11 @@
 //! A PDF file, a page at a time (ISO 32000-1).
 
 ghost use Rattle.std.specs.Prelude.{◌≡◌, ◌↔◌, Err, IfErr, OnOk, length};
+ghost use Rattle.std.specs.Io.KnownBytes.{Appends};
+ghost use Rattle.std.specs.List.{flat_map};
 ghost use Rattle.fax_documents.specs.Errors.{FailsLate};
 ghost use Rattle.fax_documents.specs.Pages.{HasSize};
+ghost use Rattle.fax_documents.specs.Pdf.{AppendsSome, AppendsStream};
 
 use crate::coding::fax_keys_of;
 use crate::error::DocumentError;
@@ -69,6 +72,7 @@ impl PdfWriter {
     pub fn put_page<W: Write>(&mut self, out: &mut W, page: &Page<'_>) -> Result<(), DocumentError>
         ensures size { (result ≡ Err DocumentError.Size) ↔ (¬ HasSize page.now) }
         ensures encoding { OnOk result (length page.now.strips.now ≡ 1) }
+        ensures written { OnOk result (AppendsStream (W.contents out.old) (W.contents out.new) (flat_map (λ strip. strip.now) page.now.strips.now)) }
     {
         if !page.has_size() {
             return Err(DocumentError::Size);
@@ -137,6 +141,7 @@ impl PdfWriter {
 
     /// Writes bytes, and counts them.
     fn put<W: Write>(&mut self, out: &mut W, bytes: &[u8]) -> Result<(), DocumentError>
+        ensures written { OnOk result (Appends (W.contents out.old) (W.contents out.new) bytes.now) }
         ensures only { IfErr result FailsLate }
     {
         put(out, bytes)?;
@@ -154,6 +159,7 @@ impl PdfWriter {
 
     /// Begins the next object.
     fn begin_object<W: Write>(&mut self, out: &mut W) -> Result<(), DocumentError>
+        ensures written { OnOk result (AppendsSome (W.contents out.old) (W.contents out.new)) }
         ensures only { IfErr result FailsLate }
     {
         self.push_offset(self.place)?;
@@ -164,6 +170,7 @@ impl PdfWriter {
 
     /// Writes an object that is a value.
     fn put_object<W: Write>(&mut self, out: &mut W, value: &str) -> Result<(), DocumentError>
+        ensures written { OnOk result (AppendsSome (W.contents out.old) (W.contents out.new)) }
         ensures only { IfErr result FailsLate }
     {
         self.begin_object(out)?;
@@ -178,13 +185,15 @@ impl PdfWriter {
         head: &str,
         bytes: &[u8],
     ) -> Result<(), DocumentError>
+        ensures written { OnOk result (AppendsStream (W.contents out.old) (W.contents out.new) bytes.now) }
         ensures only { IfErr result FailsLate }
     {
         let mut length = String::new(self.alloc);
-        write!(length, "/Length {} >>\nstream\n", bytes.len())?;
+        write!(length, "/Length {} >>\n", bytes.len())?;
         self.begin_object(out)?;
         self.put(out, head.as_bytes())?;
         self.put(out, length.as_bytes())?;
+        self.put(out, b"stream\n")?;
         self.put(out, bytes)?;
         self.put(out, b"\nendstream\nendobj\n")
     }

@@ -1,1 +1,2 @@
+pub mod StripPages
 pub mod Strips

@@ -1,3 +1,5 @@
+mod NameBytes
 mod Numbers
 mod Rests
+mod Strings
 mod TokensRead

@@ -1,11 +1,11 @@
 -- Tokens where they are read.
 use Rattle.std.specs.Prelude.{◌≡◌, ◌+◌, ◌-◌, ◌<◌, ℕ, true, false, List, ◌∷◌, drop, take, length, slice_get, slice_range, Some}
-use Rattle.std.proofs.Common.{inl, ◌∙◌, ap, sym, subst, arith, refl}
+use Rattle.std.proofs.Common.{inl, inr, ◌∙◌, ap, sym, subst, arith, refl}
 use Rattle.std.specs.List.{prefix_len}
 use Rattle.std.proofs.lemmas.List.{drop-drop, length-drop}
 use Rattle.paid_cursor.specs.Places.{Place, moved, paid, rest_of}
-use Rattle.pdf_values.specs.Tokens.{after_space, is_regular, span_of, token_start}
-use Rattle.pdf_values.specs.Tokens.{IsLone, IsNameRead, IsTokenRead, IsWordRead, IsWordToken}
+use Rattle.pdf_values.specs.Tokens.{after_digits, after_space, after_string, after_text, is_regular, span_of, token_start}
+use Rattle.pdf_values.specs.Tokens.{BeginsString, IsLone, IsNameRead, IsTokenRead, IsWordRead, IsWordToken}
 use Rattle.pdf_values.specs.declared.tokens.Span.{Span}
 use Rattle.pdf_values.specs.declared.tokens.Token.{Token}
 use Rattle.pdf_values.specs.declared.tokens.Token.TheVariants.{Integer, Real, Name, Text, Word}
@@ -67,6 +67,23 @@ module _ (old now : Place) (first : ℕ) (passed : rest_of now ≡ after_space (
     delimiter = rw (begins, irregular) refl;
     rest = rw one (sym after_first_is);
   }
+
+  -- a string in parentheses, and one of digits
+  pub text_read : (after new : Place) → after ≡ paid 1 (moved 1 now) → first ≡ 40
+      → rest_of new ≡ after_text false 0 (rest_of after)
+      → BeginsString (after_space (rest_of old)) × (rest_of new ≡ after_string (after_space (rest_of old)))
+  text_read after new one opens ends = (
+    inl (first_is ∙ ap (λ (byte : ℕ). Some byte) opens),
+    rw (begins, opens) (ends ∙ ap (λ (p : Place). after_text false 0 (rest_of p)) one),
+  )
+
+  pub digits_read : (after new : Place) → after ≡ paid 1 (moved 1 now) → first ≡ 60
+      → rest_of new ≡ after_digits (rest_of after)
+      → BeginsString (after_space (rest_of old)) × (rest_of new ≡ after_string (after_space (rest_of old)))
+  digits_read after new one opens ends = (
+    inr (first_is ∙ ap (λ (byte : ℕ). Some byte) opens),
+    rw (begins, opens) (ends ∙ ap (λ (p : Place). after_digits (rest_of p)) one),
+  )
 
   module _ (after new : Place) (one : after ≡ paid 1 (moved 1 now)) (bytes : new.bytes ≡ after.bytes) where
     name : new.place ≡ after.place + prefix_len is_regular (rest_of after)

@@ -1,7 +1,7 @@
 -- The tokens of PDF files (ISO 32000-1, 7.2 and 7.3).
 use Rattle.std.specs.Prelude.{◌≡◌, ◌⊎◌, ◌<◌, ◌+◌, ◌-◌, ◌*◌, ◌^◌, ℕ, min}
 use Rattle.std.specs.Prelude.{ℤ, pos, neg_ℤ, Bool, true, false, not, ◌==◌, ◌&&◌, ◌||◌}
-use Rattle.std.specs.Prelude.{if◌then◌else◌, nat_lt, List, [], ◌∷◌, length, drop, take, fold, Some, slice_get}
+use Rattle.std.specs.Prelude.{if◌then◌else◌, nat_lt, List, [], ◌∷◌, length, drop, take, fold, Option, None, Some, is_some, slice_get}
 use Rattle.std.specs.List.{prefix_len}
 use Rattle.paid_cursor.specs.Places.{Place, rest_of}
 use Rattle.pdf_values.specs.declared.tokens.Span.{Span}
@@ -109,17 +109,48 @@ pub record IsLone (bytes left : List ℕ) : Type 0 where
   pub delimiter : prefix_len is_regular bytes ≡ 0
   pub rest : left ≡ drop 1 bytes
 
+-- the value of a hexadecimal digit (7.3.4.3)
+abbrev pub hexadecimal_digit : ℕ → Option ℕ
+hexadecimal_digit byte =
+    if is_digit byte then Some (byte - 48)
+    else if nat_lt 64 byte && nat_lt byte 71 then Some (byte - 55)
+    else if nat_lt 96 byte && nat_lt byte 103 then Some (byte - 87) else None
+
+-- What follows a string in parentheses, of which its first one was read and so many others are open. A byte after a reverse
+-- solidus is neither (7.3.4.2).
+abbrev pub after_text : Bool → ℕ → List ℕ → List ℕ
+after_text is_escaped depth [] = []
+after_text true depth (byte ∷ rest) = after_text false depth rest
+after_text false depth (byte ∷ rest) =
+    if byte == 92 then after_text true depth rest
+    else if byte == 40 then after_text false (depth + 1) rest
+    else if byte == 41 then (if depth == 0 then rest else after_text false (depth - 1) rest)
+    else after_text false depth rest
+
+-- What follows a string of hexadecimal digits, of which its first delimiter was read: the last one ends it, and so does what is
+-- neither a digit nor white space (7.3.4.3).
+abbrev pub after_digits : List ℕ → List ℕ
+after_digits [] = []
+after_digits (byte ∷ rest) =
+    if byte == 62 then rest
+    else if is_some (hexadecimal_digit byte) || is_white_space byte then after_digits rest else byte ∷ rest
+
+-- what follows a string
+abbrev pub after_string : List ℕ → List ℕ
+after_string [] = []
+after_string (first ∷ rest) = if first == 40 then after_text false 0 rest else after_digits rest
+
 -- Bytes begin with the delimiter of a string (7.3.4).
 abbrev pub BeginsString : List ℕ → Type 0
 BeginsString bytes = (slice_get bytes 0 ≡ Some 40) ⊎ (slice_get bytes 0 ≡ Some 60)
 
--- Bytes begin with this token, and others follow: a number or a word, a name, or delimiters (7.2.2 and 7.3). Of a string it is
--- said how it begins. So many bytes come before the bytes among which the token is, and before its first byte and what follows.
+-- Bytes begin with this token, and others follow: a number or a word, a name, a string, or delimiters (7.2.2 and 7.3). So many bytes come before the bytes among which the token is, and before its first byte and what follows.
 abbrev pub IsTokenRead : List ℕ → List ℕ → ℕ → ℕ → ℕ → Token → Type 0
 IsTokenRead bytes rest before start end (Integer number) = IsWordRead bytes rest (span_of before start end) (Integer number)
 IsTokenRead bytes rest before start end (Real number) = IsWordRead bytes rest (span_of before start end) (Real number)
 IsTokenRead bytes rest before start end (Name name) = IsNameRead bytes rest × (name ≡ span_of before (start + 1) end)
-IsTokenRead bytes rest before start end (Text text) = BeginsString bytes × (text ≡ span_of before start end)
+IsTokenRead bytes rest before start end (Text text) =
+    BeginsString bytes × (rest ≡ after_string bytes) × (text ≡ span_of before start end)
 IsTokenRead bytes rest before start end (Word word) =
     IsWordRead bytes rest (span_of before start end) (Word word) ⊎ (IsLone bytes rest × (word ≡ span_of before start end))
 IsTokenRead bytes rest before start end OpenArray = bytes ≡ 91 ∷ rest

@@ -1,8 +1,10 @@
 //! Names, and the keys of dictionaries (ISO 32000-1, 7.3.5 and 7.3.7).
 
-ghost use Rattle.std.specs.Prelude.{◌≡◌, ◌+◌, ◌<◌, ◌≤◌, length, IfSome, OnOk};
+ghost use Rattle.std.specs.Prelude.{◌≡◌, ◌+◌, ◌<◌, ◌≤◌, [], drop, length, Decides, IfSome, IsNone, OnOk};
 ghost use Rattle.paid_cursor.specs.Places.{budget};
+ghost use Rattle.pdf_values.specs.Names.{IsNextByte, bytes_of, code_of, name_bytes};
 ghost use Rattle.pdf_values.specs.Payments.{Pays};
+ghost use Rattle.pdf_values.specs.Tokens.{hexadecimal_digit};
 
 use crate::items::{Item, after_value};
 use crate::tokens::Span;
@@ -19,7 +21,9 @@ pub struct Texts<'t> {
 
 impl<'t> Texts<'t> {
     /// Returns some bytes; none if they aren't there.
-    pub fn bytes(self, span: Span) -> &'t [u8] {
+    pub fn bytes(self, span: Span) -> &'t [u8]
+        ensures { result.now ≡ bytes_of self.entry span }
+    {
         let size = self.file.len();
         let found = if span.start < size {
             self.file.get(span.start..span.end)
@@ -31,8 +35,9 @@ impl<'t> Texts<'t> {
 }
 
 /// Returns the value of a hexadecimal digit.
-fn digit_of(byte: u8) -> Option<u8>
-    ensures { IfSome result (λ digit. digit < 16) }
+pub(crate) fn digit_of(byte: u8) -> Option<u8>
+    ensures value { result ≡ hexadecimal_digit byte }
+    ensures few { IfSome result (λ digit. digit < 16) }
 {
     match byte {
         b'0'..=b'9' => Some(byte - b'0'),
@@ -43,29 +48,60 @@ fn digit_of(byte: u8) -> Option<u8>
 }
 
 /// Returns the byte that `#` and two digits at a place stand for.
-fn code_at(name: &[u8], at: usize) -> Option<u8> {
+fn code_at(name: &[u8], at: usize) -> Option<u8>
+    ensures { result ≡ code_of (drop at name.now) }
+{
     let [b'#', high, low] = *name.get(at..)?.first_chunk::<3>()? else {
         return None;
     };
     Some(digit_of(high)? << 4 | digit_of(low)?)
 }
 
+/// A byte of a name.
+#[derive(Clone, Copy)]
+struct NameByte {
+    byte: u8,
+    /// How many bytes of the name, as it is written, come before the next one.
+    end: usize,
+}
+
+/// Returns the byte of a name that begins at a place, if one does.
+#[tactic(auto, using(crate::proofs::NameBytes::spelled))]
+fn byte_at(name: &[u8], at: usize) -> Option<NameByte>
+    ensures end { IsNone result → name_bytes (drop at name.now) ≡ [] }
+    ensures byte { IfSome result (λ next. IsNextByte name.now at next.byte next.end) }
+{
+    let byte = name.get(at).copied()?;
+    match code_at(name, at) {
+        Some(code) => Some(NameByte {
+            byte: code,
+            end: at.saturating_add(3),
+        }),
+        None => Some(NameByte {
+            byte,
+            end: at.saturating_add(1),
+        }),
+    }
+}
+
 /// Returns whether two names are the same, in each of which `#` and two digits may stand for a byte.
-pub fn is_same_name(one: &[u8], other: &[u8]) -> bool {
+pub fn is_same_name(one: &[u8], other: &[u8]) -> bool
+    ensures { Decides result (name_bytes one.now ≡ name_bytes other.now) }
+{
     let mut at = 0usize;
     let mut there = 0usize;
     'bytes: loop {
-        let (Some(byte), Some(byte_there)) = (one.get(at).copied(), other.get(there).copied())
-        else {
-            return at >= one.len() && there >= other.len();
+        let Some(next) = byte_at(one, at) else {
+            return byte_at(other, there).is_none();
         };
-        let code = code_at(one, at);
-        let code_there = code_at(other, there);
-        if code.unwrap_or(byte) != code_there.unwrap_or(byte_there) {
+        let Some(next_there) = byte_at(other, there) else {
+            return false;
+        };
+        if next.byte != next_there.byte {
             return false;
         }
-        at = at.saturating_add(if code.is_some() { 3 } else { 1 });
-        there = there.saturating_add(if code_there.is_some() { 3 } else { 1 });
+        at = next.end;
+        there = next_there.end;
     }
 }
 

@@ -1,13 +1,14 @@
 //! The tokens of a PDF file, or of a page's content (ISO 32000-1, 7.2).
 
-ghost use Rattle.std.specs.Prelude.{◌≡◌, ◌+◌, ◌-◌, ◌<◌, ◌≤◌, ◌^◌, length, drop, min, Decides, IfOk, OnOk, OnErr};
+ghost use Rattle.std.specs.Prelude.{◌≡◌, ◌+◌, ◌-◌, ◌<◌, ◌≤◌, ◌^◌, false, length, drop, min, Decides, IfOk, OnOk, OnErr};
 ghost use Rattle.std.specs.List.{prefix_len};
 ghost use Rattle.paid_cursor.specs.Places.{budget, rest_of};
 ghost use Rattle.pdf_values.specs.Payments.{Passes};
-ghost use Rattle.pdf_values.specs.Tokens.{IsReal, IsTokenRead, IsWordToken, after_comment, after_space};
+ghost use Rattle.pdf_values.specs.Tokens.{IsReal, IsTokenRead, IsWordToken, after_comment, after_digits, after_space, after_text};
 ghost use Rattle.pdf_values.specs.Tokens.{decimal_number, ends_line, is_digit, is_regular, is_white_space};
 ghost use Rattle.pdf_values.specs.Tokens.{signed_part, span_of, token_start, unsigned};
 
+use crate::names::digit_of;
 use paid_cursor::{Cursor, Stop};
 
 /// Some bytes of a file, or of what its streams were decoded to, which is as if it followed the file.
@@ -115,12 +116,13 @@ pub fn pass_regular(source: &mut Cursor<'_>) -> Result<(), Stop>
 /// Passes the rest of a string in parentheses.
 fn pass_text(source: &mut Cursor<'_>) -> Result<(), Stop>
     ensures passes { Passes source.old source.new }
+    ensures passed { OnOk result (rest_of source.new ≡ after_text false 0 (rest_of source.old)) }
 {
     let mut depth: u64 = 0;
     'text: loop {
         match source.step()? {
             b'\\' => source.pass(1)?,
-            b'(' => depth = depth.saturating_add(1),
+            b'(' => depth = depth.checked_add(1).ok_or(Stop::Spent)?,
             b')' => {
                 if depth == 0 {
                     return Ok(());
@@ -135,11 +137,12 @@ fn pass_text(source: &mut Cursor<'_>) -> Result<(), Stop>
 /// Passes the rest of a string of hexadecimal digits, up to its `>`, or where something else than a digit stands.
 fn pass_digits(source: &mut Cursor<'_>) -> Result<(), Stop>
     ensures passes { Passes source.old source.new }
+    ensures passed { OnOk result (rest_of source.new ≡ after_digits (rest_of source.old)) }
 {
     'digits: loop {
         match source.peek() {
             Some(b'>') => return source.pass(1),
-            Some(byte) if byte.is_ascii_hexdigit() || is_space(byte) => source.pass(1)?,
+            Some(byte) if digit_of(byte).is_some() || is_space(byte) => source.pass(1)?,
             _ => return Ok(()),
         }
     }

@@ -1,10 +1,13 @@
 //! The pages of a file that are carried into another one.
 
+ghost use Rattle.std.specs.Prelude.{◌≡◌, ◌<◌, IfOk, IsOk, IsSome};
+
 use crate::carried::CarriedPage;
 use crate::error::SplitError;
 use crate::ranges::Ranges;
-use crate::split::Split;
+use crate::split::{Split, Table};
 use std::alloc::Global;
+use std::marker::Model;
 
 /// The pages of a file of which some are carried into another one. Its directories are found again, up to the last one of these.
 #[derive(Drop)]
@@ -18,9 +21,19 @@ pub struct Carrier {
     count: u32,
 }
 
+impl Model for Carrier {
+    ghost use Rattle.std.specs.Prelude.{ℕ};
+
+    ghost Value = { ℕ };
+
+    ghost view = { λ c. c.count };
+}
+
 impl Carrier {
     /// Begins with a file of so many bytes, of which nothing is read yet.
-    pub fn new(alloc: Global, size: u64) -> Carrier {
+    pub fn new(alloc: Global, size: u64) -> Carrier
+        ensures { result ≡ 0 }
+    {
         Carrier {
             alloc,
             size,
@@ -38,7 +51,9 @@ impl Carrier {
         &mut self,
         source: &R,
         number: u32,
-    ) -> Result<Result<CarriedPage, &'static str>, SplitError> {
+    ) -> Result<Result<CarriedPage, &'static str>, SplitError>
+        ensures found { IfOk result (λ page. IsOk page → (self.new ≡ number) × (0 < number)) }
+    {
         let mut split = match self.split.take() {
             Some(split) => split,
             None => {
@@ -46,19 +61,32 @@ impl Carrier {
                 Split::open(self.alloc, source, self.size)?
             }
         };
-        let mut found = None;
-        'tables: while self.count < number {
-            found = split.next_table(source)?;
-            if found.is_none() {
-                break;
-            }
-            self.count += 1;
-        }
-        let page = match found {
-            Some(table) => split.carried(source, &table)?,
-            None => Err("its directory isn't found again"),
+        let Some(table) = table_of(&mut split, source, &mut self.count, number)? else {
+            self.split = Some(split);
+            return Ok(Err("its directory isn't found again"));
         };
+        let page = split.carried(source, &table)?;
         self.split = Some(split);
         Ok(page)
     }
+}
+
+/// Finds the directory of a number, after so many were found; `None` if that is behind these, or if there are fewer.
+fn table_of<R: Ranges>(
+    split: &mut Split,
+    source: &R,
+    count: &mut u32,
+    number: u32,
+) -> Result<Option<Table>, SplitError>
+    ensures { IfOk result (λ found. IsSome found → (count.new ≡ number) × (0 < number)) }
+{
+    let mut found = None;
+    'tables: while *count < number {
+        found = split.next_table(source)?;
+        if found.is_none() {
+            return Ok(None);
+        }
+        *count += 1;
+    }
+    Ok(found)
 }

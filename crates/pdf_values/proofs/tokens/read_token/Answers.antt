@@ -1,7 +1,7 @@
 use Rattle.std.proofs.Common.{rules, inr, ap, ◌∙◌, ◌≡◌, ◌+◌, ℕ, List, slice_range, true}
 use Rattle.paid_cursor.specs.Places.{Place}
 use Rattle.pdf_values.specs.Tokens.{is_regular, span_of}
-use Rattle.pdf_values.proofs.TokensRead.{lone, name_read, name_span_is, span_is, word_read}
+use Rattle.pdf_values.proofs.TokensRead.{digits_read, lone, name_read, name_span_is, span_is, text_read, word_read}
 use Rattle.pdf_values.proofs.tokens.read_token.Goals as goal
 
 pub returns-in_ok-pass_regular-in-47-clause-token : goal.returns-in_ok-pass_regular-in-47-clause-token
@@ -59,5 +59,43 @@ returns-in_default-2-clause-token c =
           ∙ ap (λ (to : ℕ). span_of c.args.before c.place-start.result to) c.place-in_default-2.ensures.place
           ∙ span_is c.args.source.now c.pass_space.new.source c.in_ok-first.first c.in_ok-pass_space.ensures.passed same
           c.in_ok-first.ensures.byte c.in_ok-first.ensures.within c.args.before c.place-start.result c.step.new.self.place
+          c.place-start.ensures.place,
+    )
+
+pub returns-in_ok-pass_text-in-40-clause-token : goal.returns-in_ok-pass_text-in-40-clause-token
+returns-in_ok-pass_text-in-40-clause-token c =
+    let old = c.args.source.now in
+    let now = c.pass_space.new.source in
+    let first = c.in_ok-first.first in
+    let passed = c.in_ok-pass_space.ensures.passed in
+    let same : c.pass_space.new.source.bytes ≡ c.args.source.now.bytes = search rules in
+    let is = c.in_ok-first.ensures.byte in
+    let within = c.in_ok-first.ensures.within in
+    let read = text_read old now first passed same is within c.step.new.self c.pass_text.new.source c.in_ok-first.ensures.paid.0
+    c.in-40.is c.in_ok-pass_text-in-40.ensures.passed in (
+      read.0,
+      read.1,
+      c.span_of-in-40.ensures
+          ∙ ap (λ (to : ℕ). span_of c.args.before c.place-start.result to) c.place-in-40.ensures.place
+          ∙ span_is old now first passed same is within c.args.before c.place-start.result c.pass_text.new.source.place
+          c.place-start.ensures.place,
+    )
+
+pub returns-in_ok-pass_digits-in-60-clause-token : goal.returns-in_ok-pass_digits-in-60-clause-token
+returns-in_ok-pass_digits-in-60-clause-token c =
+    let old = c.args.source.now in
+    let now = c.pass_space.new.source in
+    let first = c.in_ok-first.first in
+    let passed = c.in_ok-pass_space.ensures.passed in
+    let same : c.pass_space.new.source.bytes ≡ c.args.source.now.bytes = search rules in
+    let is = c.in_ok-first.ensures.byte in
+    let within = c.in_ok-first.ensures.within in
+    let read = digits_read old now first passed same is within c.step.new.self c.pass_digits.new.source c.in_ok-first.ensures.paid.0
+    c.in-60.is c.in_ok-pass_digits-in-60.ensures.passed in (
+      read.0,
+      read.1,
+      c.span_of-in-60.ensures
+          ∙ ap (λ (to : ℕ). span_of c.args.before c.place-start.result to) c.place-in-60.ensures.place
+          ∙ span_is old now first passed same is within c.args.before c.place-start.result c.pass_digits.new.source.place
           c.place-start.ensures.place,
     )
