@@ -1,6 +1,6 @@
 //! What a file may ask for.
 
-ghost use Rattle.std.specs.Prelude.{◌≡◌, ◌+◌, ◌*◌, ◌^◌, ◌≤◌, IsTrue};
+ghost use Rattle.std.specs.Prelude.{◌≡◌, ◌+◌, ◌*◌, ◌^◌, ◌<◌, ◌≤◌, IsFalse, IsTrue};
 
 /// What is left of what the pages of a file may ask for, in bytes.
 #[derive(Clone, Copy, Debug, PartialEq, Eq)]
@@ -48,6 +48,7 @@ impl Allowance {
     /// Pays for a picture, if so much is left, and returns whether it is.
     pub fn pay_picture(&mut self, bytes: u64) -> bool
         ensures paid { IsTrue result → self.new.pictures + bytes ≡ self.old.pictures }
+        ensures refused { IsFalse result → (self.new.pictures ≡ self.old.pictures) × (self.old.pictures < bytes) }
         ensures least { self.new.pictures ≤ self.old.pictures }
         ensures data { self.new.data ≡ self.old.data }
     {

@@ -1,9 +1,9 @@
 //! Images of PDF files whose keys are false.
 
-ghost use Rattle.std.specs.Prelude.{◌≡◌, ◌≤◌, IfOk, IfSome, IsTrue};
+ghost use Rattle.std.specs.Prelude.{◌≡◌, ◌+◌, ◌≤◌, IfOk, IfSome, IsFalse, IsTrue, None, Ok};
 ghost use Rattle.hayro_ccitt.specs.Bits.{bits_in};
 ghost use Rattle.fax_decode.specs.Drawn.{data_of, settings_in};
-ghost use Rattle.fax_decode.specs.Otherwise.{TakesAll, with_keys};
+ghost use Rattle.fax_decode.specs.Otherwise.{IsWholeByNoKeys, IsWholePart, TakesAll, most_picture, with_keys};
 
 use crate::allowance::Allowance;
 use crate::page::{bytes_of_rows, is_decoded, most_rows, settings_within, with_all_rows};
@@ -25,6 +25,7 @@ pub fn by_other_keys(
 ) -> Result<Option<Part>, AllocError>
     ensures all { IfOk result (λ found. IfSome found
         (λ part. TakesAll (settings_in page.now.rows part) (bits_in page.now.order (data_of page.now part)))) }
+    ensures none { result ≡ Ok None → IsWholeByNoKeys page.now allowance.old.pictures }
     ensures least { allowance.new.pictures ≤ allowance.old.pictures }
 {
     let Some(part) = page.parts.first() else {
@@ -70,6 +71,9 @@ fn takes_all(
 ) -> Result<bool, AllocError>
     ensures all { IfOk result (λ it. IsTrue it
         → TakesAll (settings_in page.now.rows part.now) (bits_in page.now.order (data_of page.now part.now))) }
+    ensures not { IfOk result (λ it. IsFalse it → most_picture page.now part.now ≤ allowance.old.pictures
+        → ¬ IsWholePart page.now part.now) }
+    ensures most { allowance.old.pictures ≤ allowance.new.pictures + most_picture page.now part.now }
     ensures least { allowance.new.pictures ≤ allowance.old.pictures }
 {
     let settings = settings_within(part, page.rows);

@@ -4,7 +4,7 @@ ghost use Rattle.std.specs.Prelude.{◌≡◌, ◌≢◌, ◌↔◌, ◌⊎◌, 
 ghost use Rattle.std.specs.Io.KnownBytes.{Appends, Keeps};
 ghost use Rattle.fax_documents.specs.Codings.{coding_of};
 ghost use Rattle.fax_documents.specs.Pages.{HasSize};
-ghost use Rattle.fax_documents.specs.Tiff.{head_of};
+ghost use Rattle.fax_documents.specs.Tiff.{AppendsPage, even_bytes, head_of, laid_out};
 
 use crate::coding::coding_of;
 use crate::directory::{Directory, Places, even};
@@ -68,6 +68,7 @@ impl TiffWriter {
     ) -> Result<(), DocumentError>
         ensures size { (result ≡ Err DocumentError.Size) ↔ (¬ HasSize page.now) }
         ensures encoding { OnOk result (IsSome (coding_of page.now.settings page.now.eols_end_at_bytes)) }
+        ensures written { OnOk result (AppendsPage (W.contents out.old) (W.contents out.new) page.now.strips.now) }
         ensures unwritten { IfErr result (λ error. (error ≡ DocumentError.Write) ⊎ (Keeps (W.contents out.old) (W.contents out.new))) }
     {
         if !page.has_size() {
@@ -110,6 +111,7 @@ impl TiffWriter {
         is_last: bool,
     ) -> Result<(), DocumentError>
         ensures only { IfErr result (λ error. error ≢ DocumentError.Size) }
+        ensures written { OnOk result (AppendsPage (W.contents out.old) (W.contents out.new) parts.now) }
         ensures unwritten { IfErr result (λ error. (error ≡ DocumentError.Write) ⊎ (Keeps (W.contents out.old) (W.contents out.new))) }
     {
         let strips = self.place.saturating_add(directory.len());
@@ -155,13 +157,23 @@ fn strips_len(strips: &[&[u8]]) -> u64 {
 
 /// Writes strips, each up to an even offset.
 fn put_strips<W: Write>(out: &mut W, strips: &[&[u8]]) -> Result<(), DocumentError>
+    ensures written { OnOk result (Appends (W.contents out.old) (W.contents out.new) (laid_out strips.now)) }
     ensures only { IfErr result (λ error. error ≡ DocumentError.Write) }
 {
-    for strip in strips {
-        put(out, strip)?;
-        if strip.len() % 2 == 1 {
-            put(out, b"\0")?;
-        }
+    'strips: for strip in strips {
+        put_strip(out, strip)?;
+    }
+    Ok(())
+}
+
+/// Writes a strip, up to an even offset.
+fn put_strip<W: Write>(out: &mut W, strip: &[u8]) -> Result<(), DocumentError>
+    ensures written { OnOk result (Appends (W.contents out.old) (W.contents out.new) (even_bytes strip.now)) }
+    ensures only { IfErr result (λ error. error ≡ DocumentError.Write) }
+{
+    put(out, strip)?;
+    if strip.len() % 2 == 1 {
+        put(out, b"\0")?;
     }
     Ok(())
 }

@@ -1,6 +1,6 @@
 -- What is read of a file, by ranges.
 use Rattle.std.specs.Prelude.{ℕ, ◌+◌, ◌-◌, ◌/◌, ◌^◌, ◌≡◌, ◌<◌, ◌≤◌, ◌++◌, Bool, true, false, nat_eq, List, [], ◌∷◌, length}
-use Rattle.std.specs.Prelude.{min, max, nat_le, nat_lt, if◌then◌else◌, ◌*◌, ⊤}
+use Rattle.std.specs.Prelude.{min, max, nat_le, nat_lt, if◌then◌else◌, ◌*◌, ⊤, All}
 use Rattle.std.specs.List.{list_any}
 use Rattle.tiff_read.specs.Numbers.{count_bytes, entry_bytes, offset_bytes}
 use Rattle.tiff_read.specs.declared.form.Form.{Form}
@@ -8,6 +8,8 @@ use Rattle.tiff_read.specs.declared.error.TiffError.{TiffError}
 use Rattle.tiff_read.specs.declared.error.TiffError.TheVariants as tiff
 use Rattle.tiff_split.specs.declared.error.SplitError.{SplitError}
 use Rattle.tiff_split.specs.declared.error.SplitError.TheVariants.{Outside, Loop, Spent, OutOfMemory, Unread}
+use Rattle.tiff_split.specs.declared.one_strip.OneStrip.{OneStrip}
+use Rattle.tiff_split.specs.declared.runs.Range.{Range}
 use Rattle.tiff_split.specs.declared.split.Table.{Table}
 
 -- A file of so many bytes, and how it writes its numbers; where its next directory is, which is 0 if none follows; where
@@ -113,6 +115,15 @@ StopsPage OutOfMemory = ⊤
 StopsPage (Unread error) = ⊤
 StopsPage Outside = ⊥
 StopsPage Loop = ⊥
+
+-- Ranges have no bytes beyond the end of a file of so many.
+abbrev pub AreWithin : ℕ → List Range → Type 0
+AreWithin size ranges = All (λ range. range.end - range.start ≤ size - range.start) ranges
+
+-- All bytes of a strip are in the file, and were paid for.
+pub record IsPaidStrip (old new : Reading) (strip : OneStrip) : Type 0 where
+  pub within : strip.length ≤ old.size - strip.start
+  pub paid : new.left + strip.length ≤ old.left
 
 -- What an error in a page's own file means: there is no memory, or the page says more than it may.
 abbrev pub error_of : TiffError → SplitError

@@ -1,10 +1,13 @@
 //! The pages of a file that are carried into another one.
 
+ghost use Rattle.std.specs.Prelude.{◌≡◌, ◌<◌, IfOk, IsOk};
+
 use crate::carried::CarriedPage;
 use crate::error::SplitError;
 use crate::ranges::Ranges;
 use crate::split::Split;
 use std::alloc::Global;
+use std::marker::Model;
 
 /// The pages of a file of which some are carried into another one. Its directories are found again, up to the last one of these.
 #[derive(Drop)]
@@ -18,9 +21,19 @@ pub struct Carrier {
     count: u32,
 }
 
+impl Model for Carrier {
+    ghost use Rattle.std.specs.Prelude.{ℕ};
+
+    ghost Value = { ℕ };
+
+    ghost view = { λ c. c.count };
+}
+
 impl Carrier {
     /// Begins with a file of so many bytes, of which nothing is read yet.
-    pub fn new(alloc: Global, size: u64) -> Carrier {
+    pub fn new(alloc: Global, size: u64) -> Carrier
+        ensures { result ≡ 0 }
+    {
         Carrier {
             alloc,
             size,
@@ -38,7 +51,9 @@ impl Carrier {
         &mut self,
         source: &R,
         number: u32,
-    ) -> Result<Result<CarriedPage, &'static str>, SplitError> {
+    ) -> Result<Result<CarriedPage, &'static str>, SplitError>
+        ensures found { IfOk result (λ page. IsOk page → (self.new ≡ number) × (0 < number)) }
+    {
         let mut split = match self.split.take() {
             Some(split) => split,
             None => {

@@ -1,6 +1,7 @@
 //! A page of one strip, which isn't in memory.
 
-ghost use Rattle.tiff_split.specs.Reads.{Reads};
+ghost use Rattle.std.specs.Prelude.{◌≡◌, IfErr, IfOk, IfSome};
+ghost use Rattle.tiff_split.specs.Reads.{IsPaidStrip, Reads, StopsPage};
 
 use crate::error::SplitError;
 use crate::ranges::Ranges;
@@ -33,6 +34,8 @@ impl Split {
         table: &Table,
     ) -> Result<Option<OneStrip>, SplitError>
         ensures reads { Reads self.old self.new }
+        ensures strip { IfOk result (λ found. IfSome found (IsPaidStrip self.old self.new)) }
+        ensures why { IfErr result StopsPage }
     {
         let entries = self.entries_of(source, table)?;
         let file = self.file_of_entries(source, entries.as_slice())?;

@@ -1,7 +1,7 @@
 //! A page as a file of its own.
 
-ghost use Rattle.std.specs.Prelude.{IfErr};
-ghost use Rattle.tiff_split.specs.Reads.{Reads, StopsPage};
+ghost use Rattle.std.specs.Prelude.{IfErr, IfOk, IfSome};
+ghost use Rattle.tiff_split.specs.Reads.{AreWithin, Reads, StopsPage};
 
 use crate::allowance::LEAST;
 use crate::entries::Entry;
@@ -128,6 +128,7 @@ impl Split {
         entries: &[Entry],
     ) -> Result<Option<Parts>, SplitError>
         ensures reads { Reads self.old self.new }
+        ensures within { IfOk result (λ found. IfSome found (λ parts. AreWithin self.old.size parts.ranges.items)) }
         ensures why { IfErr result StopsPage }
     {
         let mut tiff = Tiff::open(self.alloc, Cursor::new(file, usize::MAX))?;
@@ -158,6 +159,7 @@ impl Split {
     }
 
     /// Returns the strips or tiles of a page whose places a tag has, by the index of its entry.
+    #[tactic(auto, using(crate::proofs::Ranges::within_more))]
     fn ranges_of(
         &mut self,
         tiff: &mut Tiff<'_>,
@@ -166,6 +168,7 @@ impl Split {
         of_offsets: (u16, usize),
     ) -> Result<Option<Parts>, SplitError>
         ensures reads { Reads self.old self.new }
+        ensures within { IfOk result (λ found. IfSome found (λ parts. AreWithin self.old.size parts.ranges.items)) }
         ensures why { IfErr result StopsPage }
     {
         let (tag, index) = of_offsets;
@@ -235,7 +238,9 @@ impl Split {
 }
 
 /// Returns the range of a file of so many bytes from a place on.
-fn rest_of(alloc: Global, start: u64, size: u64) -> Result<Vec<Range>, AllocError> {
+fn rest_of(alloc: Global, start: u64, size: u64) -> Result<Vec<Range>, AllocError>
+    ensures { IfOk result (λ ranges. AreWithin size ranges.items) }
+{
     let rest = Range { start, end: size };
     vec![in alloc; rest; 1]
 }

@@ -1,8 +1,8 @@
 //! The pages of a TIFF file, of which no more than one is in memory.
 
-ghost use Rattle.std.specs.Prelude.{◌≡◌, ◌<◌, true, false, Ok, Err, None, IfOk, IfErr, IfSome, IsOk, OnErr, OnOk};
+ghost use Rattle.std.specs.Prelude.{◌≡◌, ◌<◌, true, false, Ok, Err, None, IfOk, IfErr, IfSome, IsErr, IsOk, OnErr, OnOk};
 ghost use Rattle.tiff_split.specs.Pages.{Begins, CountsPage, IsNoPage, IsRead, IsSamePage, Pages, StopsPages, is_spent_after};
-ghost use Rattle.tiff_split.specs.Reads.{OpensNot};
+ghost use Rattle.tiff_split.specs.Reads.{IsPaidStrip, OpensNot};
 
 use crate::error::SplitError;
 use crate::one_strip::OneStrip;
@@ -164,12 +164,18 @@ impl<'f> SplitPages<'f> {
         }
     }
 
-    /// Finds the strip of a page that has one, which isn't read.
+    /// Finds the strip of a page that has one, which isn't read; `None` also if more is to be read for it than the file's size allows.
     ///
     /// # Errors
     ///
     /// Those of [`Split::one_strip`] but `Spent`.
-    pub fn one_strip(&mut self, page: &SplitPage) -> Result<Option<OneStrip>, SplitError> {
+    pub fn one_strip(&mut self, page: &SplitPage) -> Result<Option<OneStrip>, SplitError>
+        ensures refused { IsErr page.now.table → (result ≡ Ok None) × (self.new ≡ self.old) }
+        ensures read { IsRead self.old self.new }
+        ensures spent { self.new.is_spent ≡ self.old.is_spent }
+        ensures strip { IfOk result (λ found. IfSome found (IsPaidStrip self.old.reading self.new.reading)) }
+        ensures why { IfErr result StopsPages }
+    {
         let Ok(table) = page.table else {
             return Ok(None);
         };
