@@ -117,10 +117,8 @@ class Trials:
         goals = {(edit.function, goal) for edit in left for goal in edit.goals_of_clause}
         proved, absent = self.threads.submit(1, self.search, crate, goals, left).result() if goals else (set(), set())
         for edit in left:
-            if any((edit.function, goal) not in proved for goal in edit.twins):
-                results[edit] = False, f"the unedited body isn't proved by `search rules`: {', '.join(edit.twins)}"
             # a search that doesn't prove the unedited body's goal shows nothing
-            edit.unshown = {goal for function, goal in goals - proved - absent if function == edit.function} - {*edit.twins}
+            edit.unshown = {goal for function, goal in goals - proved - absent if function == edit.function}
             edit.goals = [goal for goal in edit.goals if goal not in edit.unshown]
             if edit.lacks_twin():
                 results[edit] = False, edit.lacks_twin()

@@ -103,23 +103,13 @@ def thin(path, counts):
 
 
 def answer_named(crate, room, function, goals, clause=None):
-    """Answers these goals of a function: by `search rules` if they are of the clause, or whatever they are of if none is given; by holes,
-    which cost no search, if they are of others, since these don't count. A written answer is left out."""
+    """Answers these goals of a function, which have no written answer: by `search rules` if they are of the clause, or whatever they are
+    of if none is given; by holes, which cost no search, if they are of others, since these don't count."""
     if not goals:
         return
-    path, before = answers_of(room, function), {goal: "c" for goal in goals}
-    if os.path.exists(path):
-        blocks = DECLARED.split(Path(path).read_text(encoding="utf-8"))
-        for goal in goals:
-            for block in [block for block in blocks if block.startswith(f"pub {goal} :")]:
-                blocks.remove(block)
-                if re.search(rf"^{re.escape(goal)} g\b", block, re.MULTILINE):  # of a function with type parameters
-                    before[goal] = "g c"
-        Path(path).write_text("".join(blocks), encoding="utf-8")
     uses = ["use Rattle.std.proofs.Common.{rules}", f"use Rattle.{crate}.proofs.{function.replace('::', '.')}.Goals as goal"]
     answers = {goal: "search rules" if clause is None or names(goal, clause) else "?" for goal in goals}
-    lines = [f"pub {goal} : goal.{goal}\n{goal} {before[goal]} = {by}\n" for goal, by in answers.items()]
-    write_answers(room, function.replace("::", "/"), uses, lines)
+    write_answers(room, function.replace("::", "/"), uses, [f"pub {goal} : goal.{goal}\n{goal} c = {by}\n" for goal, by in answers.items()])
 
 
 def write_answers(room, folder, uses, goals):

@@ -52,11 +52,6 @@ class Edit:
         return [goal for goal in self.goals if names(goal, self.clause)]
 
     @property
-    def twins(self):
-        """The goals of its clause with a written answer that the search replaces."""
-        return [goal for goal in self.goals if goal in self.written]
-
-    @property
     def is_by_answer(self):
         """Whether nothing but a written answer that no longer fits can refuse it."""
         return bool(self.written) and not any(names(goal, self.clause) for goal in self.goals)

@@ -176,7 +176,7 @@ class Lane:
         for edit in edits:
             if not is_alone:
                 self.thin(crate, edit)
-            answer_named(crate.name, f"{self.folder}/room", edit.function, edit.twins if is_alone else edit.goals, edit.clause)
+                answer_named(crate.name, f"{self.folder}/room", edit.function, edit.goals, edit.clause)
         cited = {edit: cited_by(answers_of(f"{self.folder}/room", edit.function), edit.clause) for edit in edits}
         found = {edit: (False, f"it cannot be applied: {why}") for edit, why in bad.items()}
         edits, store = [edit for edit in edits if edit not in bad], self.store(crate)
