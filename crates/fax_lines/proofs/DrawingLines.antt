@@ -1,5 +1,6 @@
 pub mod GroupMasks
 pub mod LinesAtOnce
+pub mod NearModes
 pub mod PairsOfRuns
 pub mod RegularLanes
 pub mod RegularModes

@@ -3,6 +3,7 @@ pub mod ContextView
 pub mod Counting
 pub mod DrawnModes
 pub mod Lending
+pub mod NearModes
 pub mod PassedRows
 pub mod RegularModes
 pub mod RowRecords

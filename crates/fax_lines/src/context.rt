@@ -44,6 +44,12 @@ use std::mem;
 /// A row with fewer changes doesn't show whether vertical modes are best drawn several at a time.
 const MANY_CHANGES: usize = 16;
 
+/// A line of fewer bits for two changes repeats much of the row above it: other ways are best then.
+const BITS_OF_TWO_CHANGES: usize = 7;
+
+/// A row is dense only if it has a change for so many pixels, or for fewer.
+const PIXELS_OF_A_CHANGE: usize = 4;
+
 /// Exchanges two lists of changes: two empty ones stay as they are. Each is moved by its fields: if one load took a length with what is
 /// beside it, it would wait until the store of that length, which was just before, is done.
 #[inline(always)]
@@ -86,6 +92,8 @@ pub struct DecoderContext {
     tables: Tables,
     /// Whether the last line with many changes suits drawing by groups: it has few bits for each.
     suits_groups: bool,
+    /// Whether the last line with many changes has a dense row: it can't be foreseen where the modes of the next one lead.
+    is_dense: bool,
     ticks: Ticks,
 }
 
@@ -131,6 +139,7 @@ impl DecoderContext {
             settings,
             tables: Tables::new(alloc)?,
             suits_groups: false,
+            is_dense: false,
             ticks: Ticks::new(),
         })
     }
@@ -508,15 +517,6 @@ impl DecoderContext {
         go_on_with(reader, &window);
     }
 
-    /// Returns whether plain calls are likely to draw the next runs of a row at less cost: it has few more.
-    #[inline(always)]
-    fn suits_plain_calls(&self) -> bool {
-        if is_wide(self.settings.columns) {
-            return reference_row(self).len() < 2 && self.coding_changes.len() < 4;
-        }
-        reference_row(self).len() < 7 && self.coding_changes.len() < 6
-    }
-
     /// Draws pairs of runs as long as they are usual, from a white one on, or none, if plain calls suit. No call is made where the row
     /// is full or black is next.
     #[inline(always)]
@@ -531,14 +531,18 @@ impl DecoderContext {
         if self.pixels_decoded == self.settings.columns {
             return;
         }
-        if self.suits_plain_calls() {
-            return;
-        }
+        // Plain calls draw the next runs at less cost if these are likely to be few.
+        let above = reference_row(self).len();
+        let drawn = self.coding_changes.len();
         if is_wide(self.settings.columns) {
-            self.draw_long_runs_of(reader);
+            if above >= 2 || drawn >= 4 {
+                self.draw_long_runs_of(reader);
+            }
             return;
         }
-        self.draw_runs_of(reader);
+        if above >= 7 || drawn >= 6 {
+            self.draw_runs_of(reader);
+        }
     }
 
     /// Draws the first runs of a line as long as they are usual: from the reader's own window, if few are likely, since the row before
@@ -565,7 +569,7 @@ impl DecoderContext {
 
     /// Draws modes from the start of a line as long as they are usual.
     #[inline(always)]
-    fn draw_modes_at_hand(&mut self, window: &mut Window<'_>)
+    fn draw_modes_at_hand(&mut self, window: &mut Window<'_>, one_by_one: bool)
         requires few { window.old.left ≤ 64 }
         requires start { IsAtStart self.old }
         ensures { DrawsUsualModes self.old self.new window.old.at window.new.at }
@@ -587,6 +591,7 @@ impl DecoderContext {
             places: self.ref_changes.as_slice(),
             tables: &self.tables,
             by_groups: self.suits_groups,
+            one_by_one,
         };
         let reached = draw_modes(window, &mut self.coding_changes, &line, &mut self.ticks);
         take_ends(&mut self.ref_changes);
@@ -597,9 +602,10 @@ impl DecoderContext {
         self.passed = reached.index.saturating_sub(1);
     }
 
-    /// Draws usual modes from a reader, in whichever order its bits are.
+    /// Draws usual modes from a reader, in whichever order its bits are: one at a time, or by groups or in turns. Each way is compiled
+    /// by itself, so that a loop doesn't take the registers of another one.
     #[inline(never)]
-    fn draw_modes_of(&mut self, reader: &mut BitReader<'_>)
+    fn draw_modes_of<const ONE_BY_ONE: bool>(&mut self, reader: &mut BitReader<'_>)
         requires { IsAtStart self.old }
         ensures { DrawsUsualModes self.old self.new reader.old reader.new }
     {
@@ -608,12 +614,15 @@ impl DecoderContext {
             self.suits_groups = self.ref_changes.len() >= MANY_CHANGES;
         }
         let mut window = window_at_hand(reader);
-        self.draw_modes_at_hand(&mut window);
+        self.draw_modes_at_hand(&mut window, ONE_BY_ONE);
         let start = reader.bit_pos();
         go_to(reader, &window);
+        let bits = reader.bit_pos().saturating_sub(start);
         let changes = self.coding_changes.len();
         if changes >= MANY_CHANGES {
-            self.suits_groups = reader.bit_pos().saturating_sub(start) / 4 < changes;
+            self.suits_groups = bits / 4 < changes;
+            self.is_dense = changes >= self.settings.columns as usize / PIXELS_OF_A_CHANGE
+                && bits / BITS_OF_TWO_CHANGES >= changes / 2;
         }
     }
 
@@ -688,7 +697,11 @@ impl DecoderContext {
         if self.draw_same_line(reader) {
             return;
         }
-        self.draw_modes_of(reader);
+        if self.is_dense {
+            self.draw_modes_of::<true>(reader);
+            return;
+        }
+        self.draw_modes_of::<false>(reader);
     }
 
     /// Draws the two runs of a horizontal mode (T.4, 4.2.1.3).

@@ -11,6 +11,7 @@ ghost use Rattle.fax_reading.specs.Rows.{AreChanges};
 
 pub mod changes;
 pub mod context;
+mod dense_rows;
 mod modes;
 mod pen;
 mod regular_places;

@@ -13,6 +13,7 @@ ghost use Rattle.fax_lines.specs.TwoRunsHere.{AreTwoRunsHere};
 ghost use Rattle.fax_bits.specs.Window.{moved, AtHand};
 
 use crate::changes::{change_or_end, make_room};
+use crate::dense_rows::draw_one_by_one;
 use crate::pen::{RowPen, lay_down, take_up};
 use crate::run_pairs::{
     TwoRuns, drop_open_change, ensure_bits, is_next, pair_at_hand, push_change, push_two,
@@ -37,6 +38,8 @@ pub(crate) struct CodingLine<'a> {
     pub(crate) tables: &'a Tables,
     /// Whether vertical modes are drawn several at a time.
     pub(crate) by_groups: bool,
+    /// Whether modes are drawn one at a time, as those of dense rows.
+    pub(crate) one_by_one: bool,
 }
 
 /// How far a line is drawn: what a mode changes.
@@ -111,7 +114,7 @@ pub(crate) fn mode_at_hand(window: &Window<'_>) -> (Option<Mode>, usize)
 #[inline(always)]
 pub(crate) fn change_at(line: &CodingLine<'_>, index: usize) -> u32
     requires ended { AreEnded line.now.columns line.now.places.now }
-    requires near { index ≤ length (changes_in line.now.places.now) + 1 }
+    requires near { index ≤ length (changes_in line.now.places.now) + 5 }
     ensures { result ≡ get_or (changes_in line.now.places.now) index line.now.columns }
 {
     line.places[index]
@@ -524,7 +527,11 @@ pub(crate) fn next_color(row: &Vec<u32>) -> Color
 
 /// Draws the mode that is here, in a colour. Returns `None`, and draws nothing, if it isn't of the usual kind.
 #[inline(always)]
-fn draw_mode_at_hand(pen: &mut RowPen<'_>, line: &CodingLine<'_>, stroke: Stroke) -> Option<Stroke>
+pub(crate) fn draw_mode_at_hand(
+    pen: &mut RowPen<'_>,
+    line: &CodingLine<'_>,
+    stroke: Stroke,
+) -> Option<Stroke>
     requires enough { 16 ≤ pen.old.window.left }
     requires can { CanDraw line.now stroke pen.old }
     ensures drawn { DrawsSome line.now stroke pen.old result pen.new }
@@ -615,7 +622,8 @@ fn draw_by_colors(pen: &mut RowPen<'_>, line: &CodingLine<'_>, stroke: Stroke) -
     }
 }
 
-/// Draws modes by groups or in turns, as the line's settings say. The pen is a local, so that its fields stay in registers.
+/// Draws modes one at a time, by groups or in turns, as the line's settings say. The pen is a local, so that its fields stay in
+/// registers.
 #[inline(always)]
 fn draw_with_own_pen(
     window: &mut Window<'_>,
@@ -628,7 +636,9 @@ fn draw_with_own_pen(
     ensures { DrawsOn line.now stroke (pen_with window.old row.old ticks.old) result (pen_with window.new row.new ticks.new) }
 {
     let mut pen = take_up(window, row, ticks);
-    let reached = if line.by_groups {
+    let reached = if line.one_by_one {
+        draw_one_by_one(&mut pen, line, stroke)
+    } else if line.by_groups {
         draw_by_groups(&mut pen, line, stroke)
     } else {
         draw_by_colors(&mut pen, line, stroke)

@@ -23,7 +23,7 @@ use fax_bits::mode_groups::{ModeGroup, group_at_hand};
 
 /// Returns a stroke with the colour that the number of changes says, so that a loop needn't keep it.
 #[inline(always)]
-fn recolored(row: &Vec<u32>, stroke: Stroke) -> Stroke
+pub(crate) fn recolored(row: &Vec<u32>, stroke: Stroke) -> Stroke
     requires colored { TurnsFrom (vec_len row.now) stroke.color }
     ensures { result ≡ stroke }
 {

@@ -11,8 +11,14 @@ returns-then-draw_same_line c =
     let same = untouched (goal.at.returns-then-draw_same_line c).After-draw_same_line in
     rw (same.0, same.1) at c.draw_same_line.ensures.draws
 
+pub returns-then-self : goal.returns-then-self
+returns-then-self c =
+    let same = untouched (goal.at.returns-then-self c).After-draw_same_line in
+    let left = c.if-draw_same_line.ensures.unchanged refl in
+    rw (left.0, left.1, same.0, same.1) at c.draw_modes_of.ensures
+
 pub returns : goal.returns
 returns c =
     let same = untouched (goal.at.returns c).After-draw_same_line in
     let left = c.if-draw_same_line.ensures.unchanged refl in
-    rw (left.0, left.1, same.0, same.1) at c.draw_modes_of.ensures
+    rw (left.0, left.1, same.0, same.1) at c.draw_modes_of-2.ensures
