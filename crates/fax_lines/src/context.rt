@@ -569,7 +569,7 @@ impl DecoderContext {
 
     /// Draws modes from the start of a line as long as they are usual.
     #[inline(always)]
-    fn draw_modes_at_hand(&mut self, window: &mut Window<'_>, one_by_one: bool)
+    fn draw_modes_at_hand<const ONE_BY_ONE: bool>(&mut self, window: &mut Window<'_>)
         requires few { window.old.left ≤ 64 }
         requires start { IsAtStart self.old }
         ensures { DrawsUsualModes self.old self.new window.old.at window.new.at }
@@ -591,9 +591,13 @@ impl DecoderContext {
             places: self.ref_changes.as_slice(),
             tables: &self.tables,
             by_groups: self.suits_groups,
-            one_by_one,
         };
-        let reached = draw_modes(window, &mut self.coding_changes, &line, &mut self.ticks);
+        let reached = draw_modes::<ONE_BY_ONE>(
+            window,
+            &mut self.coding_changes,
+            &line,
+            &mut self.ticks,
+        );
         take_ends(&mut self.ref_changes);
         drop_open_change_in_row(&mut self.coding_changes, reached.painted, columns);
         self.pixels_decoded = reached.painted;
@@ -614,7 +618,7 @@ impl DecoderContext {
             self.suits_groups = self.ref_changes.len() >= MANY_CHANGES;
         }
         let mut window = window_at_hand(reader);
-        self.draw_modes_at_hand(&mut window, ONE_BY_ONE);
+        self.draw_modes_at_hand::<ONE_BY_ONE>(&mut window);
         let start = reader.bit_pos();
         go_to(reader, &window);
         let bits = reader.bit_pos().saturating_sub(start);

@@ -38,8 +38,6 @@ pub(crate) struct CodingLine<'a> {
     pub(crate) tables: &'a Tables,
     /// Whether vertical modes are drawn several at a time.
     pub(crate) by_groups: bool,
-    /// Whether modes are drawn one at a time, as those of dense rows.
-    pub(crate) one_by_one: bool,
 }
 
 /// How far a line is drawn: what a mode changes.
@@ -622,10 +620,10 @@ fn draw_by_colors(pen: &mut RowPen<'_>, line: &CodingLine<'_>, stroke: Stroke) -
     }
 }
 
-/// Draws modes one at a time, by groups or in turns, as the line's settings say. The pen is a local, so that its fields stay in
+/// Draws modes one at a time, or by groups or in turns, as the line's settings say. The pen is a local, so that its fields stay in
 /// registers.
 #[inline(always)]
-fn draw_with_own_pen(
+fn draw_with_own_pen<const ONE_BY_ONE: bool>(
     window: &mut Window<'_>,
     row: &mut Vec<u32>,
     line: &CodingLine<'_>,
@@ -636,7 +634,7 @@ fn draw_with_own_pen(
     ensures { DrawsOn line.now stroke (pen_with window.old row.old ticks.old) result (pen_with window.new row.new ticks.new) }
 {
     let mut pen = take_up(window, row, ticks);
-    let reached = if line.one_by_one {
+    let reached = if ONE_BY_ONE {
         draw_one_by_one(&mut pen, line, stroke)
     } else if line.by_groups {
         draw_by_groups(&mut pen, line, stroke)
@@ -656,7 +654,7 @@ pub(crate) fn is_wide(columns: u32) -> bool {
 /// Draws modes from a line's start on, while they are of the usual kind, and makes room as it is needed. Returns the stroke
 /// that is reached then.
 #[inline(always)]
-pub(crate) fn draw_modes(
+pub(crate) fn draw_modes<const ONE_BY_ONE: bool>(
     window: &mut Window<'_>,
     row: &mut Vec<u32>,
     line: &CodingLine<'_>,
@@ -675,7 +673,7 @@ pub(crate) fn draw_modes(
     };
     // Each time the room doubles.
     'rooms: for _ in 0..32 {
-        let reached = draw_with_own_pen(window, row, line, now, ticks);
+        let reached = draw_with_own_pen::<ONE_BY_ONE>(window, row, line, now, ticks);
         if reached.painted == line.columns {
             return reached;
         }

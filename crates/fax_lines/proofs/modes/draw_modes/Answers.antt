@@ -5,7 +5,7 @@ use Rattle.fax_lines.proofs.DrawingLines.UsualModes.{draws_on, filled, same_row_
 use Rattle.fax_lines.proofs.modes.draw_modes.Goals as goal
 
 pub rooms-preserved : goal.rooms-preserved
-rooms-preserved c =
+rooms-preserved g c =
     let own = c.draw_with_own_pen-reached in
     let made = c.make_room.ensures in
     let on = same_row_drawn (draws_on c.rooms.invariant.drawn (filled _ refl).0 own.ensures.drawn) made.same in
@@ -19,18 +19,18 @@ rooms-preserved c =
     }
 
 pub returns-then-reached-line-clause-drawn : goal.returns-then-reached-line-clause-drawn
-returns-then-reached-line-clause-drawn c =
+returns-then-reached-line-clause-drawn g c =
     draws_on c.rooms.invariant.drawn (filled _ refl).0 c.draw_with_own_pen-reached.ensures.drawn
 
 pub returns-then-left-gt64-clause-drawn : goal.returns-then-left-gt64-clause-drawn
-returns-then-left-gt64-clause-drawn c =
+returns-then-left-gt64-clause-drawn g c =
     draws_on c.rooms.invariant.drawn (filled _ refl).0 c.draw_with_own_pen-reached.ensures.drawn
 
 pub returns-then-has_room_for_window-clause-drawn : goal.returns-then-has_room_for_window-clause-drawn
-returns-then-has_room_for_window-clause-drawn c =
+returns-then-has_room_for_window-clause-drawn g c =
     draws_on c.rooms.invariant.drawn (filled _ refl).0 c.draw_with_own_pen-reached.ensures.drawn
 
 pub returns-then-not-make_room-clause-drawn : goal.returns-then-not-make_room-clause-drawn
-returns-then-not-make_room-clause-drawn c =
+returns-then-not-make_room-clause-drawn g c =
     same_row_drawn (draws_on c.rooms.invariant.drawn (filled _ refl).0 c.draw_with_own_pen-reached.ensures.drawn)
     c.make_room.ensures.same

@@ -6,7 +6,7 @@ use Rattle.fax_lines.proofs.modes.draw_modes.Given as goal
 
 -- what is drawn so far, and that the row isn't full
 abbrev pub invariant-rooms : goal.invariant-rooms
-invariant-rooms l = record {
+invariant-rooms g l = record {
   drawn : Draws l.line line_start (pen_with l.fn.window l.fn.row l.fn.ticks) l.now (pen_with l.window l.row l.ticks);
   can : CanDraw l.line l.now (pen_with l.window l.row l.ticks);
   same_bits : l.window.at.bits ≡ l.fn.window.at.bits;
