@@ -592,12 +592,8 @@ impl DecoderContext {
             tables: &self.tables,
             by_groups: self.suits_groups,
         };
-        let reached = draw_modes::<ONE_BY_ONE>(
-            window,
-            &mut self.coding_changes,
-            &line,
-            &mut self.ticks,
-        );
+        let ticks = &mut self.ticks;
+        let reached = draw_modes::<ONE_BY_ONE>(window, &mut self.coding_changes, &line, ticks);
         take_ends(&mut self.ref_changes);
         drop_open_change_in_row(&mut self.coding_changes, reached.painted, columns);
         self.pixels_decoded = reached.painted;
