@@ -87,10 +87,10 @@ def rows_in_pieces():
 # By what factor feeding pieces of 4,096 bytes and reading many rows a call may cost more than one call for the whole data, and than a
 # reader of it, on the pages of cost.tsv, and on those whose rows have few runs; and single bytes more than a reader, on rows of three
 # pages, which have some 3, 20 and 330 bytes a line, and go on a word at a time.
-PIECES = {"changes": 1.21, "packed": 1.15, "next_changes": 1.09, "next_packed": 1.07}
+PIECES = {"changes": 1.14, "packed": 1.1, "next_changes": 1.07, "next_packed": 1.06}
 FEW_RUNS = {
-    "blank": {"changes": 1.56, "packed": 1.32, "next_changes": 0.2, "next_packed": 0.2},
-    "borders": {"changes": 1.69, "packed": 1.52, "next_changes": 1.22, "next_packed": 1.18},
+    "blank": {"changes": 1.48, "packed": 1.26, "next_changes": 0.2, "next_packed": 0.2},
+    "borders": {"changes": 1.41, "packed": 1.31, "next_changes": 1.01, "next_packed": 1.01},
 }
 BYTES = {("blank", 256): 7.7, ("text", 300): 7.4, ("dither", 10): 8.45}
 # the place of a reader, and of single bytes, among the ways of measured_pages.c
